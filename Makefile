@@ -1,0 +1,37 @@
+# idesolve: a solver of interprocedural distributive environment problems, proved with Rattle.
+PREFIX ?= /usr/local
+ARGS ?= once copy examples/copies.ide main
+
+# What the program is built from: an edit of any of these proves it again.
+SOURCES := crates.txt $(shell find crates -path '*/out' -prune -o -type f \( -name '*.rt' -o -name '*.antt' \) -print)
+
+.PHONY: build run test try install bench clean
+
+build: idesolve
+
+# Proves the program with all that it stands on, and builds it.
+idesolve: $(SOURCES)
+	cd crates/ide_cli && rt run -- --help > /dev/null
+	cp crates/ide_cli/out/ide_cli idesolve
+
+# The dump of an example: the value of each variable at each position.
+run: idesolve
+	./idesolve once copy examples/copies.ide main
+
+# The gate: every proof from nothing, the must-fail edits, the tests, and the program's stored run.
+test:
+	rt ci
+
+# Runs the program with no proof, in seconds: make try ARGS='once copy examples/copies.ide main'
+try:
+	scripts/try $(ARGS)
+
+install: idesolve
+	install -D idesolve $(DESTDIR)$(PREFIX)/bin/idesolve
+
+# Times the program on generated texts, and prints a table.
+bench: idesolve
+	bench/run
+
+clean:
+	rm -rf idesolve crates/*/out

@@ -1,0 +1,127 @@
+//! Commands: what each does, and what it prints.
+use crate::words::{Instance, Words, read_words};
+use clap::error::ErrorKind;
+use ide_graph::Graph;
+use ide_instances::CopyConst;
+use ide_service::solve;
+use ide_text::parse;
+use ide_wire::Refused;
+use std::alloc::Global;
+use std::convert::AsStr;
+use std::io::Write;
+use std::rt::Files;
+use std::{fs, io};
+
+/// The status of a run that did what it was asked.
+const DONE: u8 = 0;
+/// The status of a run that was refused, or whose output could not be written.
+const REFUSED: u8 = 1;
+/// The status where the words are none of the program's.
+const WRONG_WORDS: u8 = 2;
+
+/// Why a command has no answer.
+#[derive(Drop)]
+enum Failure<'a> {
+    /// The file of that name cannot be opened or read.
+    CannotRead(&'a str),
+    /// A call was refused.
+    Refused(Refused),
+}
+
+/// Runs the command of a line, whose first word is the program's name, and answers the status.
+/// Nothing is written to `out` before the command has its whole answer.
+pub fn run<R: Files + AllocGlobal, S: AsStr, O: Write, E: Write>(
+    rt: &R,
+    line: &[S],
+    out: &mut O,
+    err: &mut E,
+) -> u8 {
+    let words = match read_words(rt.alloc(), line) {
+        Ok(words) => words,
+        Err(error) => return refuse_words(&error, out, err),
+    };
+    let mut text = Vec::new(rt.alloc());
+    match answer(rt, words, &mut text) {
+        Ok(()) => status_of(DONE, write_out(out, text.as_slice())),
+        Err(Failure::CannotRead(file)) => status_of(REFUSED, writeln!(err, "cannot read {file}")),
+        Err(Failure::Refused(refused)) => status_of(REFUSED, writeln!(err, "{refused}")),
+    }
+}
+
+/// Prints why the words are no command: help on the output, a mistake on the standard error.
+fn refuse_words<O: Write, E: Write>(error: &clap::Error, out: &mut O, err: &mut E) -> u8 {
+    if error.kind() == ErrorKind::OutOfMemory {
+        status_of(REFUSED, writeln!(err, "{}", Refused::NoMemory))
+    } else if error.use_stderr() {
+        status_of(WRONG_WORDS, write!(err, "{error}"))
+    } else {
+        status_of(DONE, write!(out, "{error}"))
+    }
+}
+
+/// The status, unless the text could not be written.
+fn status_of(status: u8, written: io::Result<()>) -> u8 {
+    match written {
+        Ok(()) => status,
+        Err(_) if status == DONE => REFUSED,
+        Err(_) => status,
+    }
+}
+
+/// Writes all of the text.
+fn write_out<O: Write>(out: &mut O, text: &[u8]) -> io::Result<()> {
+    out.write_all(text)?;
+    out.flush()
+}
+
+/// Appends what the command prints.
+fn answer<'a, R: Files + AllocGlobal>(
+    rt: &R,
+    words: Words<'a>,
+    out: &mut Vec<u8>,
+) -> Result<(), Failure<'a>> {
+    match words {
+        Words::Once {
+            instance: Instance::Copy,
+            file,
+            procedure,
+        } => {
+            let text = read_file(rt, file)?;
+            let roots = [procedure.as_bytes()];
+            answered(solve::<CopyConst>(rt.alloc(), text.as_slice(), &roots, out))
+        }
+        Words::Check { file } => {
+            let text = read_file(rt, file)?;
+            answered(check(rt.alloc(), text.as_slice(), out))
+        }
+    }
+}
+
+/// The answer of a call that may be refused.
+fn answered<'a>(answer: Result<(), Refused>) -> Result<(), Failure<'a>> {
+    match answer {
+        Ok(()) => Ok(()),
+        Err(refused) => Err(Failure::Refused(refused)),
+    }
+}
+
+/// The bytes of the file.
+fn read_file<'a, R: Files + AllocGlobal>(rt: &R, file: &'a str) -> Result<Vec<u8>, Failure<'a>> {
+    match fs::read(rt, file) {
+        Ok(bytes) => Ok(bytes),
+        Err(_) => Err(Failure::CannotRead(file)),
+    }
+}
+
+/// Appends the counts of the program that the text spells.
+fn check(alloc: Global, text: &[u8], out: &mut Vec<u8>) -> Result<(), Refused> {
+    let graph = Graph::of(alloc, &parse(alloc, text)?)?;
+    let counts = format!(in alloc;
+        "ok procedures {} nodes {} facts {}\n",
+        graph.procedure_count(),
+        graph.node_count(),
+        graph.fact_count()
+    )?;
+    out.extend_from_slice(counts.as_bytes())?;
+    Ok(())
+}

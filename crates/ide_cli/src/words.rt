@@ -1,0 +1,85 @@
+//! The words of the command line.
+use clap::{Arg, ArgAction, ArgMatches, Command, Error};
+use std::alloc::Global;
+use std::convert::AsStr;
+
+/// A command with its words.
+#[derive(Clone, Copy, PartialEq, Eq, Debug)]
+pub enum Words<'a> {
+    /// `once INSTANCE FILE PROC`
+    Once {
+        instance: Instance,
+        file: &'a str,
+        procedure: &'a str,
+    },
+    /// `check FILE`
+    Check {
+        file: &'a str,
+    },
+}
+
+/// The analyses that a command line may name.
+#[derive(Clone, Copy, PartialEq, Eq, Debug)]
+pub enum Instance {
+    /// `copy`: copy constants.
+    Copy,
+}
+
+/// The names of the analyses.
+static INSTANCES: [&str; 1] = ["copy"];
+
+/// The command of a line whose first word is the program's name. Any other line is an error of
+/// `clap`, as is one that asks for help.
+pub fn read_words<'a, S: AsStr>(alloc: Global, line: &'a [S]) -> Result<Words<'a>, Error> {
+    let command = Command::new(alloc, "idesolve")
+        .about("Solves interprocedural distributive environment problems")
+        .subcommand_required(true)
+        .subcommand(once(alloc)?)?
+        .subcommand(check(alloc)?)?;
+    let matches = command.try_get_matches_from(line)?;
+    match matches.subcommand() {
+        Some(("once", given)) => Ok(Words::Once {
+            instance: Instance::Copy,
+            file: text_of(given, "FILE"),
+            procedure: text_of(given, "PROC"),
+        }),
+        Some((_, given)) => Ok(Words::Check {
+            file: text_of(given, "FILE"),
+        }),
+        None => Ok(Words::Check { file: "" }),
+    }
+}
+
+/// `once INSTANCE FILE PROC`
+fn once<'a>(alloc: Global) -> Result<Command<'a>, Error> {
+    let instance = required(alloc, "INSTANCE", "The analysis").value_parser(INSTANCES.as_slice());
+    Ok(
+        Command::new(alloc, "once")
+            .about("Solves a program text in memory and prints the values")
+            .arg(instance)?
+            .arg(required(alloc, "FILE", "The program text"))?
+            .arg(required(alloc, "PROC", "The root procedure"))?,
+    )
+}
+
+/// `check FILE`
+fn check<'a>(alloc: Global) -> Result<Command<'a>, Error> {
+    Ok(
+        Command::new(alloc, "check")
+            .about("Reads a program text and prints its counts, or its first fault")
+            .arg(required(alloc, "FILE", "The program text"))?,
+    )
+}
+
+/// A word that has to be given.
+fn required<'a>(alloc: Global, name: &'a str, help: &'a str) -> Arg<'a> {
+    Arg::new(alloc, name)
+        .help(help)
+        .required(true)
+        .action(ArgAction::Set)
+}
+
+/// The text of a word that was given.
+fn text_of<'a>(given: &ArgMatches<'a>, name: &str) -> &'a str {
+    given.get_str(name).unwrap_or("")
+}

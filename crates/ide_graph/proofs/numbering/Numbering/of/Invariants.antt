@@ -1,0 +1,9 @@
+use Rattle.std.proofs.Common.{◌≡◌, length}
+use Rattle.ide_graph.specs.Numbered.{IsNumbered}
+use Rattle.ide_graph.proofs.numbering.Numbering.of.Given as goal
+
+abbrev pub invariant-loop-procedure : goal.invariant-loop-procedure
+invariant-loop-procedure l = record {
+  numbered : IsNumbered l.numbering;
+  added : length l.numbering.layouts.items ≡ l.procedure-index;
+}

@@ -1,0 +1,5 @@
+pub mod Building
+pub mod Edges
+pub mod Numbered
+pub mod Supergraph
+pub mod Whole

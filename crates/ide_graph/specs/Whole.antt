@@ -1,0 +1,32 @@
+-- What a graph's fields keep of one another.
+use Rattle.std.specs.Prelude.{◌+◌, ◌<◌, ◌≤◌, ◌^◌, ◌≡◌, min, map, length}
+use Rattle.std.specs.Arc.{arc_value}
+use Rattle.std.specs.List.{All}
+use Rattle.ide_graph.specs.declared.graph.Graph.TheInside.{Inside}
+use Rattle.ide_graph.specs.Edges.{EdgesWithin}
+use Rattle.ide_graph.specs.Numbered.{StandWithin}
+use Rattle.ide_graph.specs.Supergraph.{Supergraph}
+
+-- the counts, and what stands where: numbers of facts stop at the greatest that a fact has
+abbrev pub counts_of : Inside → Supergraph
+counts_of graph = record {
+  procedures = length graph.layouts.items;
+  nodes = length graph.sites.items;
+  facts = min (length graph.globals.names + 2 + graph.most_own) 65536;
+  entries = min (length graph.globals.names + 1) 65535;
+  owners = graph.owners.items;
+  starts = map (λ layout. layout.start) graph.layouts.items;
+  exits = map (λ layout. layout.exit) graph.layouts.items;
+  parameters = map (λ layout. layout.parameter_count) graph.layouts.items;
+  sites = map arc_value graph.sites.items;
+}
+
+-- sites, procedures and names speak of the graph's own nodes, procedures and facts
+pub record IsWhole (graph : Inside) : Type 0 where
+  pub few : length graph.sites.items < 2 ^ 32
+  pub edges : All (λ site. EdgesWithin (length graph.sites.items) (arc_value site)) graph.sites.items
+  pub owners : length graph.owners.items ≡ length graph.sites.items
+  pub owned : All (λ procedure. procedure < length graph.layouts.items) graph.owners.items
+  pub placed : StandWithin (length graph.sites.items) graph.layouts.items
+  pub named : graph.directory ≡ length graph.layouts.items
+  pub own : All (λ layout. length layout.own ≤ graph.most_own) graph.layouts.items

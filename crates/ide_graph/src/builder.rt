@@ -1,0 +1,331 @@
+//! The second pass over a program: the sites of its nodes.
+ghost use Rattle.std.specs.Prelude.{◌≡◌, ◌+◌, ◌-◌, ◌<◌, ◌≤◌, length, IfOk, IfErr, IfSome, OnOk};
+ghost use Rattle.std.specs.List.{All};
+ghost use Rattle.std.specs.Arc.{arc_value};
+ghost use Rattle.ide_wire.specs.declared.refused.Refused.TheVariants.{NoMemory};
+ghost use Rattle.ide_graph.specs.Edges.{EdgesWithin, EndsWithin, IsCallerWithin, AllCallersWithin};
+ghost use Rattle.ide_graph.specs.Numbered.{IsNumbered};
+
+use crate::call::Call;
+use crate::directory::Directory;
+use crate::edge::{EdgeData, EdgeKind, Effect};
+use crate::globals::Globals;
+use crate::numbering::{Numbering, Place, Spot};
+use crate::scope::Scope;
+use crate::site::{Caller, Site};
+use ide_text::{Name, Statement};
+use ide_wire::{Node, Refused};
+use std::alloc::Global;
+use std::mem;
+use std::sync::Arc;
+
+/// What the sites of a program are made from: its names and the numbers that the first pass gave.
+#[derive(Drop)]
+pub(crate) struct Builder<'a, 'p> {
+    pub alloc: Global,
+    pub globals: &'a Globals,
+    pub directory: &'a Directory,
+    pub numbering: &'a Numbering<'p>,
+    /// The last node.
+    pub last: Node,
+}
+
+impl<'a, 'p> Builder<'a, 'p> {
+    ghost use Rattle.ide_graph.specs.Building.{IsReady, AreProcedures, node_count, procedure_count};
+
+    /// A builder over what the first pass found.
+    pub fn new(
+        alloc: Global,
+        globals: &'a Globals,
+        directory: &'a Directory,
+        numbering: &'a Numbering<'p>,
+    ) -> Builder<'a, 'p>
+        requires numbered { IsNumbered numbering.now }
+        requires counted { directory.now ≡ length numbering.now.layouts.items }
+        ensures ready { IsReady result }
+        ensures same { result.numbering ≡ numbering.entry }
+    {
+        let last = (numbering.spots.len() as Node).saturating_sub(1);
+        Builder {
+            alloc,
+            globals,
+            directory,
+            numbering,
+            last,
+        }
+    }
+
+    /// The sites of all nodes, in order. Time grows with the number of edges.
+    pub fn sites(&self) -> Result<Vec<Arc<Site>>, Refused>
+        requires { IsReady self.now }
+        ensures whole { IfOk result (λ sites. length sites.items ≡ node_count self.now) }
+        ensures within { IfOk result (λ sites. All (λ site. EdgesWithin (node_count self.now) (arc_value site)) sites.items) }
+        ensures refused { IfErr result (λ refused. refused ≡ NoMemory) }
+    {
+        let mut callers = self.callers()?;
+        let mut sites = Vec::with_capacity(self.alloc, self.numbering.spots.len())?;
+        for (node, spot) in self.numbering.spots.iter().enumerate() {
+            let site = self.site(node as Node, *spot, &mut callers)?;
+            sites.push(Arc::new(self.alloc, site)?)?;
+        }
+        Ok(sites)
+    }
+
+    /// The callers of each procedure, by ascending call node.
+    fn callers(&self) -> Result<Vec<Vec<Caller>>, Refused>
+        requires { IsReady self.now }
+        ensures whole { IfOk result (λ callers. length callers.items ≡ procedure_count self.now) }
+        ensures within { IfOk result (λ callers. AllCallersWithin (node_count self.now) callers.items) }
+        ensures refused { IfErr result (λ refused. refused ≡ NoMemory) }
+    {
+        let mut callers = self.no_callers()?;
+        for (node, spot) in self.numbering.spots.iter().enumerate() {
+            if let Place::Statement(
+                Statement::Call {
+                    target,
+                    callees,
+                    arguments,
+                },
+            ) = spot.place
+            {
+                let scope = self.scope(*spot);
+                let call = self.call(node as Node, scope, target, callees, arguments)?;
+                self.add_callers(&call, &mut callers)?;
+            }
+        }
+        Ok(callers)
+    }
+
+    /// An empty list of callers for each procedure.
+    fn no_callers(&self) -> Result<Vec<Vec<Caller>>, Refused>
+        ensures whole { IfOk result (λ callers. length callers.items ≡ procedure_count self.now) }
+        ensures within { IfOk result (λ callers. AllCallersWithin (node_count self.now) callers.items) }
+        ensures refused { IfErr result (λ refused. refused ≡ NoMemory) }
+    {
+        let mut callers = Vec::with_capacity(self.alloc, self.numbering.layouts.len())?;
+        for _layout in &self.numbering.layouts {
+            callers.push(Vec::new(self.alloc))?;
+        }
+        Ok(callers)
+    }
+
+    /// Adds a call to the callers of each procedure that it may call.
+    fn add_callers(
+        &self,
+        call: &Call<'a, 'p>,
+        callers: &mut Vec<Vec<Caller>>,
+    ) -> Result<(), Refused>
+        requires ready { IsReady self.now }
+        requires node { call.now.node < node_count self.now }
+        requires callees { AreProcedures self.now call.now.callees.items }
+        requires whole { length callers.old.items ≡ procedure_count self.now }
+        requires within { AllCallersWithin (node_count self.now) callers.old.items }
+        ensures whole { length callers.new.items ≡ procedure_count self.now }
+        ensures within { AllCallersWithin (node_count self.now) callers.new.items }
+        ensures refused { IfErr result (λ refused. refused ≡ NoMemory) }
+    {
+        for callee in &call.callees {
+            callers[*callee].push(Caller {
+                call_node: call.node,
+                call: self.call_edge(call, *callee)?,
+                back: self.edge(call.return_site(), EdgeKind::Return(call.target)),
+            })?;
+        }
+        Ok(())
+    }
+
+    /// The site of a node. An exit takes its procedure's callers.
+    fn site(
+        &self,
+        node: Node,
+        spot: Spot<'p>,
+        callers: &mut Vec<Vec<Caller>>,
+    ) -> Result<Site, Refused>
+        requires ready { IsReady self.now }
+        requires node { node < node_count self.now }
+        requires procedure { spot.procedure < procedure_count self.now }
+        requires whole { length callers.old.items ≡ procedure_count self.now }
+        requires within { AllCallersWithin (node_count self.now) callers.old.items }
+        ensures whole { length callers.new.items ≡ procedure_count self.now }
+        ensures within { AllCallersWithin (node_count self.now) callers.new.items }
+        ensures edges { IfOk result (λ site. EdgesWithin (node_count self.now) site) }
+        ensures refused { IfErr result (λ refused. refused ≡ NoMemory) }
+    {
+        let scope = self.scope(spot);
+        let next = node.saturating_add(1);
+        match spot.place {
+            Place::Start => self.normal(next, scope.enter()),
+            Place::Statement(statement) => self.statement_site(node, scope, statement),
+            Place::ReturnSite => self.normal(next, Effect::Nothing),
+            Place::Exit => Ok(Site::Exit {
+                start: scope.layout.start,
+                callers: mem::replace(&mut callers[spot.procedure as usize], Vec::new(self.alloc)),
+            }),
+        }
+    }
+
+    /// The site of a statement.
+    fn statement_site(
+        &self,
+        node: Node,
+        scope: Scope<'a, 'p>,
+        statement: &'p Statement,
+    ) -> Result<Site, Refused>
+        requires ready { IsReady self.now }
+        requires node { node < node_count self.now }
+        ensures edges { IfOk result (λ site. EdgesWithin (node_count self.now) site) }
+        ensures refused { IfErr result (λ refused. refused ≡ NoMemory) }
+    {
+        let next = node.saturating_add(1);
+        match statement {
+            Statement::Assign(target, expression) => {
+                self.normal(next, scope.assign(target, expression))
+            }
+            Statement::Skip | Statement::At(_) => self.normal(next, Effect::Nothing),
+            Statement::Goto(label) => self.normal(scope.label(label), Effect::Nothing),
+            Statement::Branch(label) => self.branch(next, scope.label(label)),
+            Statement::Call {
+                target,
+                callees,
+                arguments,
+            } => self.call_site(&self.call(node, scope, target, callees, arguments)?),
+            Statement::Return(None) => self.normal(scope.layout.exit, Effect::Nothing),
+            Statement::Return(Some(value)) => {
+                self.normal(scope.layout.exit, scope.give_back(value))
+            }
+        }
+    }
+
+    /// A site with one normal edge.
+    fn normal(&self, end: Node, effect: Effect) -> Result<Site, Refused>
+        requires ready { IsReady self.now }
+        requires some { 0 < node_count self.now }
+        ensures edges { IfOk result (λ site. EdgesWithin (node_count self.now) site) }
+        ensures refused { IfErr result (λ refused. refused ≡ NoMemory) }
+    {
+        let mut edges = Vec::with_capacity(self.alloc, 1)?;
+        edges.push(self.edge(end, EdgeKind::Normal(effect)))?;
+        Ok(Site::Normal(edges))
+    }
+
+    /// The site of a branch: the edges to the next node and to the label's, once if they are one.
+    fn branch(&self, next: Node, label: Node) -> Result<Site, Refused>
+        requires ready { IsReady self.now }
+        requires some { 0 < node_count self.now }
+        ensures edges { IfOk result (λ site. EdgesWithin (node_count self.now) site) }
+        ensures refused { IfErr result (λ refused. refused ≡ NoMemory) }
+    {
+        if next == label {
+            return self.normal(next, Effect::Nothing);
+        }
+        let mut edges = Vec::with_capacity(self.alloc, 2)?;
+        edges.push(self.edge(next.min(label), EdgeKind::Normal(Effect::Nothing)))?;
+        edges.push(self.edge(next.max(label), EdgeKind::Normal(Effect::Nothing)))?;
+        Ok(Site::Normal(edges))
+    }
+
+    /// The site of a call.
+    fn call_site(&self, call: &Call<'a, 'p>) -> Result<Site, Refused>
+        requires ready { IsReady self.now }
+        requires node { call.now.node < node_count self.now }
+        requires callees { AreProcedures self.now call.now.callees.items }
+        ensures edges { IfOk result (λ site. EdgesWithin (node_count self.now) site) }
+        ensures refused { IfErr result (λ refused. refused ≡ NoMemory) }
+    {
+        let mut calls = Vec::with_capacity(self.alloc, call.callees.len())?;
+        for callee in &call.callees {
+            calls.push(self.call_edge(call, *callee)?)?;
+        }
+        Ok(Site::Call {
+            calls,
+            along: self.edge(call.return_site(), EdgeKind::CallToReturn(call.target)),
+        })
+    }
+
+    /// A call statement at a node, with its names looked up.
+    fn call(
+        &self,
+        node: Node,
+        scope: Scope<'a, 'p>,
+        target: &Option<Name>,
+        callees: &[Name],
+        arguments: &'p [Name],
+    ) -> Result<Call<'a, 'p>, Refused>
+        requires { IsReady self.now }
+        ensures node { IfOk result (λ call. call.node ≡ node) }
+        ensures callees { IfOk result (λ call. AreProcedures self.now call.callees.items) }
+        ensures refused { IfErr result (λ refused. refused ≡ NoMemory) }
+    {
+        Ok(Call {
+            node,
+            scope,
+            target: target.as_ref().map(|name| scope.fact(name)),
+            callees: self.callees(callees)?,
+            arguments,
+        })
+    }
+
+    /// The procedures of these names, each once in ascending order. A parsed program declares them
+    /// all; a name that is not declared is left out.
+    fn callees(&self, names: &[Name]) -> Result<Vec<usize>, Refused>
+        requires { IsReady self.now }
+        ensures callees { IfOk result (λ callees. AreProcedures self.now callees.items) }
+        ensures refused { IfErr result (λ refused. refused ≡ NoMemory) }
+    {
+        let mut callees = Vec::with_capacity(self.alloc, names.len())?;
+        for name in names {
+            if let Some(callee) = self.directory.find(name.as_bytes()) {
+                callees.push(callee)?;
+            }
+        }
+        callees.sort_unstable();
+        callees.dedup();
+        Ok(callees)
+    }
+
+    /// The call edge to a procedure, with each argument's fact and its parameter's.
+    fn call_edge(&self, call: &Call<'a, 'p>, callee: usize) -> Result<EdgeData, Refused>
+        requires ready { IsReady self.now }
+        requires some { 0 < node_count self.now }
+        requires callee { callee < procedure_count self.now }
+        ensures within { IfOk result (λ edge. EndsWithin (node_count self.now) edge) }
+        ensures refused { IfErr result (λ refused. refused ≡ NoMemory) }
+    {
+        let layout = &self.numbering.layouts[callee];
+        let mut passed = Vec::with_capacity(self.alloc, call.arguments.len())?;
+        for (index, argument) in call.arguments.iter().enumerate() {
+            if index < layout.parameter_count {
+                passed.push((call.scope.fact(argument), self.globals.own_fact(index)))?;
+            }
+        }
+        Ok(self.edge(layout.start, EdgeKind::Call(passed)))
+    }
+
+    /// An edge. A parsed program has a node wherever an edge ends; one past them all would end at
+    /// the last.
+    fn edge(&self, end: Node, kind: EdgeKind) -> EdgeData
+        requires ready { IsReady self.now }
+        requires some { 0 < node_count self.now }
+        ensures { EndsWithin (node_count self.now) result }
+    {
+        EdgeData {
+            end: end.min(self.last),
+            globals: self.globals.count(),
+            kind,
+        }
+    }
+
+    /// What the names of a node's statement stand for.
+    fn scope(&self, spot: Spot<'p>) -> Scope<'a, 'p>
+        requires ready { IsReady self.now }
+        requires procedure { spot.procedure < procedure_count self.now }
+        ensures { result.layout.now.start < node_count self.now }
+    {
+        let procedure = spot.procedure as usize;
+        Scope {
+            globals: self.globals,
+            layout: &self.numbering.layouts[procedure],
+            labels: &self.numbering.labels[procedure],
+        }
+    }
+}

@@ -1,0 +1,65 @@
+//! The names of a program's procedures.
+ghost use Rattle.std.specs.Prelude.{◌≡◌, ◌<◌, length, IfOk, IfSome, IfErr};
+ghost use Rattle.ide_wire.specs.declared.refused.Refused.TheVariants.{NoMemory};
+
+use ide_text::Procedure;
+use ide_wire::Refused;
+use indexmap::IndexMap;
+use std::alloc::Global;
+use std::marker::Model;
+
+/// The procedures of a program by their names, each found in constant time. Contracts see how
+/// many procedures there are.
+#[derive(Drop)]
+pub(crate) struct Directory {
+    indices: IndexMap<Vec<u8>, usize>,
+    procedure_count: usize,
+}
+
+impl Model for Directory {
+    ghost use Rattle.std.specs.Prelude.{ℕ, ◌<◌};
+    ghost use Rattle.std.specs.List.{All};
+    ghost use Rattle.std.specs.Map.{values_of};
+
+    ghost Value = { ℕ };
+
+    ghost view = { λ d. d.procedure_count };
+
+    ghost invariant = { λ d. All (λ index. index < d.procedure_count) (values_of d.indices.entries) };
+}
+
+impl Directory {
+    /// The names of these procedures. Of two with one name it has the first.
+    pub fn of(alloc: Global, procedures: &[Procedure]) -> Result<Directory, Refused>
+        ensures counted { IfOk result (λ directory. directory ≡ length procedures.now) }
+        ensures refused { IfErr result (λ refused. refused ≡ NoMemory) }
+    {
+        let mut directory = Directory {
+            indices: IndexMap::with_capacity(alloc, procedures.len())?,
+            procedure_count: procedures.len(),
+        };
+        for (index, procedure) in procedures.iter().enumerate() {
+            directory.add(alloc, procedure.name.as_bytes(), index)?;
+        }
+        Ok(directory)
+    }
+
+    /// The index of the procedure of that name.
+    pub fn find(&self, name: &[u8]) -> Option<usize>
+        ensures within { IfSome result (λ index. index < self.now) }
+    {
+        self.indices.get(name).copied()
+    }
+
+    /// Gives a name its procedure, unless it has one.
+    fn add(&mut self, alloc: Global, name: &[u8], index: usize) -> Result<(), Refused>
+        requires { index < self.old }
+        ensures counted { self.new ≡ self.old }
+        ensures refused { IfErr result (λ refused. refused ≡ NoMemory) }
+    {
+        if !self.indices.contains_key(name) {
+            self.indices.insert(name.to_vec(alloc)?, index)?;
+        }
+        Ok(())
+    }
+}

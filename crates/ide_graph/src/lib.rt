@@ -1,0 +1,27 @@
+//! The interprocedural supergraph of a program, after Sagiv, Reps and Horwitz (Precise
+//! Interprocedural Dataflow Analysis with Applications to Constant Propagation, Theoretical
+//! Computer Science 167, 1996): one start and one exit node for each procedure, a call node and a
+//! return site for each call, and normal, call, return and call-to-return edges.
+//!
+//! [`Graph::of`] makes the graph of a program; [`Graph::site`] gives what stands at a node, with
+//! the edges out of it. Edges are plain data, so that a flow function needs nothing but its edge.
+#![tactic(auto)]
+
+mod builder;
+mod call;
+mod directory;
+mod edge;
+mod globals;
+mod graph;
+mod layout;
+mod names;
+mod numbering;
+mod scope;
+mod site;
+
+pub use edge::{EdgeData, EdgeKind, Effect};
+pub use graph::Graph;
+pub use site::{Caller, Site};
+
+#[cfg(test)]
+mod tests;

@@ -1,0 +1,135 @@
+//! The first pass over a program: its nodes in order, with the procedures' places and labels.
+ghost use Rattle.std.specs.Prelude.{◌≡◌, ◌+◌, ◌<◌, ◌≤◌, ◌^◌, length, IfOk, IfErr, OnOk};
+ghost use Rattle.ide_wire.specs.declared.refused.Refused.TheVariants.{NoMemory};
+ghost use Rattle.ide_graph.specs.Numbered.{BelongTo, IsNumbered};
+
+use crate::layout::Layout;
+use ide_text::{Procedure, Statement};
+use ide_wire::{Node, Refused};
+use indexmap::IndexMap;
+use std::alloc::Global;
+
+/// What stands at a node of the program.
+#[derive(Clone, Copy)]
+pub(crate) enum Place<'a> {
+    Start,
+    /// A statement: of a call its call node.
+    Statement(&'a Statement),
+    ReturnSite,
+    Exit,
+}
+
+/// A node of the program: the index of its procedure, and what stands there.
+#[derive(Clone, Copy)]
+pub(crate) struct Spot<'a> {
+    pub procedure: u32,
+    pub place: Place<'a>,
+}
+
+/// The labels of a procedure, each with the node of its `at`.
+pub(crate) type Labels<'a> = IndexMap<&'a [u8], Node>;
+
+/// The nodes of a program in order, and for each procedure its layout and its labels.
+#[derive(Drop)]
+pub(crate) struct Numbering<'a> {
+    pub spots: Vec<Spot<'a>>,
+    pub layouts: Vec<Layout>,
+    pub labels: Vec<Labels<'a>>,
+}
+
+impl<'a> Numbering<'a> {
+    /// The nodes of these procedures. Time grows with their size.
+    pub fn of(alloc: Global, procedures: &'a [Procedure]) -> Result<Numbering<'a>, Refused>
+        ensures numbered { IfOk result IsNumbered }
+        ensures whole { IfOk result (λ numbering. length numbering.layouts.items ≡ length procedures.now) }
+        ensures refused { IfErr result (λ refused. refused ≡ NoMemory) }
+    {
+        let mut numbering = Numbering {
+            spots: Vec::new(alloc),
+            layouts: Vec::new(alloc),
+            labels: Vec::new(alloc),
+        };
+        for procedure in procedures {
+            numbering.add_procedure(alloc, procedure)?;
+        }
+        Ok(numbering)
+    }
+
+    /// Adds the nodes of the next procedure. A refusal may leave some of them.
+    fn add_procedure(&mut self, alloc: Global, procedure: &'a Procedure) -> Result<(), Refused>
+        requires { IsNumbered self.old }
+        ensures numbered { OnOk result (IsNumbered self.new) }
+        ensures added { OnOk result (length self.new.layouts.items ≡ length self.old.layouts.items + 1) }
+        ensures refused { IfErr result (λ refused. refused ≡ NoMemory) }
+    {
+        let index = node_number(self.layouts.len())?;
+        let start = add_spot(&mut self.spots, index, Place::Start)?;
+        let labels = add_statements(alloc, &mut self.spots, index, &procedure.statements)?;
+        let exit = add_spot(&mut self.spots, index, Place::Exit)?;
+        self.labels.push(labels)?;
+        self.layouts
+            .push(Layout::of(alloc, start, exit, procedure)?)?;
+        Ok(())
+    }
+}
+
+/// Adds the nodes of a procedure's statements, and answers its labels.
+fn add_statements<'a>(
+    alloc: Global,
+    spots: &mut Vec<Spot<'a>>,
+    procedure: u32,
+    statements: &'a [Statement],
+) -> Result<Labels<'a>, Refused>
+    requires few { length spots.old.items < 2 ^ 32 }
+    requires owned { BelongTo (procedure + 1) spots.old.items }
+    ensures few { OnOk result (length spots.new.items < 2 ^ 32) }
+    ensures owned { OnOk result (BelongTo (procedure + 1) spots.new.items) }
+    ensures longer { OnOk result (length spots.old.items ≤ length spots.new.items) }
+    ensures refused { IfErr result (λ refused. refused ≡ NoMemory) }
+{
+    let mut labels = IndexMap::new(alloc);
+    for statement in statements {
+        let node = add_spot(spots, procedure, Place::Statement(statement))?;
+        match statement {
+            Statement::At(label) => {
+                labels.insert(label.as_bytes(), node)?;
+            }
+            Statement::Call { .. } => {
+                add_spot(spots, procedure, Place::ReturnSite)?;
+            }
+            _ => {}
+        }
+    }
+    Ok(labels)
+}
+
+/// Adds a node, and answers its number.
+fn add_spot<'a>(
+    spots: &mut Vec<Spot<'a>>,
+    procedure: u32,
+    place: Place<'a>,
+) -> Result<Node, Refused>
+    requires owned { BelongTo (procedure + 1) spots.old.items }
+    ensures number { IfOk result (λ node. node ≡ length spots.old.items) }
+    ensures longer { OnOk result (length spots.new.items ≡ length spots.old.items + 1) }
+    ensures few { OnOk result (length spots.new.items < 2 ^ 32) }
+    ensures owned { OnOk result (BelongTo (procedure + 1) spots.new.items) }
+    ensures refused { IfErr result (λ refused. refused ≡ NoMemory) }
+{
+    let node = node_number(spots.len())?;
+    spots.push(Spot { procedure, place })?;
+    Ok(node)
+}
+
+/// The number of the next node, where there are `count` already. A parsed program has at most
+/// 65,536 nodes; a graph of more than a `Node` counts is refused as too large for memory.
+fn node_number(count: usize) -> Result<Node, Refused>
+    ensures number { IfOk result (λ number. number ≡ count) }
+    ensures few { IfOk result (λ number. number + 1 < 2 ^ 32) }
+    ensures refused { IfErr result (λ refused. refused ≡ NoMemory) }
+{
+    match Node::try_from(count) {
+        Ok(number) if number < Node::MAX => Ok(number),
+        _ => Err(Refused::NoMemory),
+    }
+}

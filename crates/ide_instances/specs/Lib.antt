@@ -1,0 +1,2 @@
+pub mod ConstValue
+pub mod ConstFn

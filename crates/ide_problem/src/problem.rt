@@ -1,0 +1,31 @@
+//! The trait of analyses.
+ghost use Rattle.std.specs.Prelude.{◌≡◌, ℕ, [], OnErr};
+
+use crate::target_list::TargetList;
+use ide_graph::EdgeData;
+use ide_lattice::{EdgeFn, Lattice};
+use ide_wire::Fact;
+use std::alloc::AllocError;
+
+/// An interprocedural distributive environment problem over the supergraphs of programs.
+pub trait Problem {
+    /// The values of facts.
+    type L: Lattice;
+    /// The functions on edges.
+    type F: EdgeFn<L = Self::L>;
+
+    /// The number of the analysis in the header of a store, 1 to 255.
+    const TAG: u8;
+
+    ghost TAG: { ℕ };
+
+    /// Fills the empty list with the targets of `fact` over `edge`, ascending, each with its
+    /// function. It depends on the edge and the fact alone. At an error the list is empty.
+    fn flow(
+        edge: &EdgeData,
+        fact: Fact,
+        targets: &mut TargetList<Self::F>,
+    ) -> Result<(), AllocError>
+        requires { targets.old.list.items ≡ [] }
+        ensures { OnErr result (targets.new.list.items ≡ []) };
+}

@@ -1,0 +1,203 @@
+//! The worked programs, from text to values.
+use crate::{solve, values_of};
+use ide_graph::Graph;
+use ide_instances::{ConstFn, ConstValue, CopyConst};
+use ide_lattice::{EdgeFn, Lattice};
+use ide_steps::{Claimed, Core};
+use ide_tasks::Work;
+use ide_text::parse;
+use ide_wire::{Key, Refused};
+use std::alloc::Global;
+use std::test::Fail;
+
+const COPIES: &str = "proc main\nvar x\nvar y\nx = 5\ny = x\nend\n";
+
+const BRANCH: &str =
+    "proc main\nvar x\nbranch other\nx = 5\ngoto done\nat other\nx = 5\nat done\nend\n";
+
+const BRANCH_OF_TWO: &str =
+    "proc main\nvar x\nbranch other\nx = 5\ngoto done\nat other\nx = 6\nat done\nend\n";
+
+const TWO_CALLS: &str =
+    "proc id p\nreturn p\nend\nproc main\nvar a\nvar b\nvar x\nvar y\na = 5\nb = 6\nx = call id a\ny = call id b\nend\n";
+
+const SUM_OR_NUMBER: &str =
+    "proc f y\nvar x\nbranch other\nx = y + 1\ngoto done\nat other\nx = 7\nat done\nreturn x\nend\nproc main\nvar a\nvar b\nvar u\nvar v\na = 6\nb = 5\nu = call f a\nv = call f b\nend\n";
+
+const WRAPPING_SUM: &str = "proc main\nvar x\nvar y\nx = 18446744073709551615\ny = x + 1\nend\n";
+
+const RECURSION: &str =
+    "global g\nproc rec\nbranch done\ng = g + 1\ncall rec\nat done\nend\nproc main\ng = 0\ncall rec\nend\n";
+
+const UNREACHABLE: &str = "proc main\nvar x\nx = 1\ngoto done\nx = 2\nat done\nend\n";
+
+const UNINITIALISED: &str = "proc main\nvar x\nvar y\ny = x\nx = 1\nend\n";
+
+const ADDS_IN_CALLEE: &str =
+    "proc f p\nvar q\nq = p + 1\nbranch done\ncall f q\nat done\nend\nproc main\nvar a\na = 1\ncall f a\nend\n";
+
+const NUMBER: &str = "proc main\nvar x\nx = 5\nend\n";
+
+const EMPTY: &str = "proc main\nend\n";
+
+/// The value of a fact at a position of a procedure, with `main` as the root.
+fn value(
+    alloc: Global,
+    text: &str,
+    procedure: &str,
+    position: u32,
+    fact: &str,
+) -> Result<ConstValue, Refused> {
+    let values = values_of::<CopyConst>(alloc, text.as_bytes(), &[b"main".as_slice()])?;
+    let graph = &values.loaded().graph;
+    let (node, fact) = graph.find(procedure.as_bytes(), position, fact.as_bytes())?;
+    values.at(node, fact)
+}
+
+#[test]
+fn values_of_the_worked_programs(rt: HostRuntime) -> Result<(), Fail> {
+    let rows = [
+        (COPIES, "main", 3, "y", ConstValue::Const(5)),
+        (COPIES, "main", 1, "y", ConstValue::Bottom),
+        (COPIES, "main", 0, "y", ConstValue::Top),
+        (BRANCH, "main", 7, "x", ConstValue::Const(5)),
+        (BRANCH_OF_TWO, "main", 7, "x", ConstValue::Bottom),
+        (TWO_CALLS, "main", 7, "x", ConstValue::Const(5)),
+        (TWO_CALLS, "main", 7, "y", ConstValue::Const(6)),
+        (TWO_CALLS, "id", 2, "p", ConstValue::Bottom),
+        (SUM_OR_NUMBER, "main", 7, "u", ConstValue::Bottom),
+        (WRAPPING_SUM, "main", 3, "y", ConstValue::Bottom),
+        (RECURSION, "main", 4, "g", ConstValue::Bottom),
+        (UNREACHABLE, "main", 3, "@zero", ConstValue::Top),
+        (UNREACHABLE, "main", 3, "@result", ConstValue::Top),
+        (UNREACHABLE, "main", 3, "x", ConstValue::Top),
+        (UNREACHABLE, "main", 5, "x", ConstValue::Const(1)),
+        (UNINITIALISED, "main", 3, "y", ConstValue::Bottom),
+        (ADDS_IN_CALLEE, "f", 0, "p", ConstValue::Bottom),
+        (ADDS_IN_CALLEE, "main", 4, "a", ConstValue::Const(1)),
+        (NUMBER, "main", 2, "x", ConstValue::Const(5)),
+    ];
+    for (text, procedure, position, fact, want) in rows {
+        let found = value(rt.alloc(), text, procedure, position, fact)?;
+        assert_eq!(rt;
+            found,
+            want,
+            "{fact} at {position} of {procedure} in {text}"
+        );
+    }
+    Ok(())
+}
+
+#[test]
+fn dump_of_the_two_assignments(rt: HostRuntime) -> Result<(), Fail> {
+    let mut out = Vec::from_slice(rt.alloc(), b"kept")?;
+    solve::<CopyConst>(
+        rt.alloc(),
+        COPIES.as_bytes(),
+        &[b"main".as_slice()],
+        &mut out,
+    )?;
+    assert_eq!(rt; out.len(), 4 + 810);
+    let lines = out.as_slice().iter().filter(|byte| **byte == b'\n').count();
+    assert_eq!(rt; lines, 16);
+    Ok(())
+}
+
+#[test]
+fn refusals_leave_the_vector(rt: HostRuntime) -> Result<(), Fail> {
+    let rows: [(&str, &[&[u8]], Refused); 4] = [
+        (COPIES, &[b"none"], Refused::NoProcedure),
+        (TWO_CALLS, &[b"id"], Refused::HasParameters),
+        (TWO_CALLS, &[b"main", b"main"], Refused::Already),
+        (TWO_CALLS, &[b"main", b"none"], Refused::NoProcedure),
+    ];
+    for (text, roots, want) in rows {
+        let mut out = Vec::from_slice(rt.alloc(), b"kept")?;
+        let refused = solve::<CopyConst>(rt.alloc(), text.as_bytes(), roots, &mut out);
+        assert_eq!(rt; refused, Err(want), "{text}");
+        assert_eq!(rt; out.as_slice(), b"kept".as_slice());
+    }
+    Ok(())
+}
+
+/// A core with the text loaded and `main` as its root.
+fn begun(alloc: Global, text: &str) -> Result<Core<CopyConst>, Refused> {
+    let mut core = Core::new(alloc);
+    core.load(parse(alloc, text.as_bytes())?)?;
+    core.root(b"main")?;
+    Ok(core)
+}
+
+#[test]
+fn tasks_and_quiescent_tables(rt: HostRuntime) -> Result<(), Fail> {
+    let mut core = begun(rt.alloc(), COPIES)?;
+    assert_eq!(rt; core.drain()?, 13);
+    let mut core = begun(rt.alloc(), TWO_CALLS)?;
+    core.drain()?;
+    assert!(rt; core.is_quiet());
+    assert_eq!(rt; core.key_count(), 51 + 4);
+    for (call, from, to) in [(6, 0, 0), (6, 2, 4), (8, 0, 0), (8, 3, 5)] {
+        let summary = core.get(Key::Summary(call, from, to)).copied();
+        assert_eq!(rt; summary, Some(ConstFn::id()));
+        assert!(rt; !core.is_pending(Key::Summary(call, from, to)));
+    }
+    Ok(())
+}
+
+#[test]
+fn graphs_of_the_worked_programs(rt: HostRuntime) -> Result<(), Fail> {
+    let rows = [
+        (EMPTY, (1, 2, 2)),
+        (TWO_CALLS, (2, 11, 6)),
+        (RECURSION, (2, 12, 3)),
+    ];
+    for (text, want) in rows {
+        let graph = Graph::of(rt.alloc(), &parse(rt.alloc(), text.as_bytes())?)?;
+        let counts = (
+            graph.procedure_count(),
+            graph.node_count(),
+            graph.fact_count(),
+        );
+        assert_eq!(rt; counts, want, "{text}");
+    }
+    Ok(())
+}
+
+/// The refusal of a claim, if it was refused.
+fn refused_claim(core: &mut Core<CopyConst>, hand: usize) -> Option<Refused> {
+    match core.claim(hand) {
+        Ok(_) => None,
+        Err(refused) => Some(refused),
+    }
+}
+
+#[test]
+fn claims_of_several_hands(rt: HostRuntime) -> Result<(), Fail> {
+    let mut core: Core<CopyConst> = Core::new(rt.alloc());
+    assert_eq!(rt; refused_claim(&mut core, 0), Some(Refused::NoProgram));
+    let mut core = begun(rt.alloc(), NUMBER)?;
+    assert!(rt; matches!(core.claim(0)?, Claimed::Task(_)));
+    assert!(rt; matches!(core.claim(1)?, Claimed::Idle));
+    assert_eq!(rt; refused_claim(&mut core, 0), Some(Refused::Busy));
+    assert_eq!(rt; refused_claim(&mut core, 64), Some(Refused::Limit));
+    assert!(rt; matches!(core.freeze(), Err(Refused::Unfinished)));
+    assert_eq!(rt; core.release(0), Ok(()));
+    assert_eq!(rt; core.release(0), Err(Refused::Stale));
+    Ok(())
+}
+
+#[test]
+fn work_of_before_a_load_is_stale(rt: HostRuntime) -> Result<(), Fail> {
+    let mut core = begun(rt.alloc(), NUMBER)?;
+    let Claimed::Task(task) = core.claim(0)? else {
+        return Err("no task".into());
+    };
+    let Ok(mut work) = Work::of(rt.alloc(), task) else {
+        return Err("no memory".into());
+    };
+    core.load(parse(rt.alloc(), EMPTY.as_bytes())?)?;
+    assert_eq!(rt; core.part(0, &mut work), Err(Refused::Stale));
+    assert_eq!(rt; core.key_count(), 0);
+    assert!(rt; matches!(core.claim(0)?, Claimed::Quiet));
+    Ok(())
+}

@@ -1,0 +1,94 @@
+//! Claims: a hand takes a pending key with its task.
+use crate::loaded::Loaded;
+use crate::machine::{Core, HANDS};
+use ide_graph::Site;
+use ide_problem::Problem;
+use ide_tables::Tables;
+use ide_tasks::{Partners, Task};
+use ide_wire::{Key, Refused};
+use std::alloc::Global;
+
+/// What a claim gives.
+#[derive(Drop)]
+pub enum Claimed<P: Problem> {
+    /// The task of the key that is now the hand's.
+    Task(Task<P>),
+    /// Keys are pending, and each is claimed.
+    Idle,
+    /// No key is pending.
+    Quiet,
+}
+
+impl<P: Problem> Core<P> {
+    /// Claims a pending key that no hand has claimed.
+    ///
+    /// Refusals, in this order: `Limit` where the hand's number is over 63; `NoProgram`; `Busy`
+    /// where the hand has a claim; `NoMemory`.
+    pub fn claim(&mut self, hand: usize) -> Result<Claimed<P>, Refused> {
+        if hand >= HANDS {
+            return Err(Refused::Limit);
+        }
+        let Some(loaded) = &self.loaded else {
+            return Err(Refused::NoProgram);
+        };
+        if self.worklist.claim(hand).is_some() {
+            return Err(Refused::Busy);
+        }
+        if self.worklist.is_quiet() {
+            return Ok(Claimed::Quiet);
+        }
+        let Some(key) = self.worklist.unclaimed() else {
+            return Ok(Claimed::Idle);
+        };
+        let task = task_of(self.alloc, loaded, &self.tables, key)?;
+        self.worklist.take(hand, key, task.copy(self.alloc)?)?;
+        Ok(Claimed::Task(task))
+    }
+}
+
+/// The task of a key, with the partners that are present now.
+fn task_of<P: Problem>(
+    alloc: Global,
+    loaded: &Loaded<P>,
+    tables: &Tables<P::F>,
+    key: Key,
+) -> Result<Task<P>, Refused> {
+    let node = key.node();
+    if node as usize >= loaded.graph.node_count() {
+        return Err(Refused::OutOfRange);
+    }
+    let site = loaded.graph.shared_site(node)?;
+    let procedure = loaded.graph.procedure_of(node);
+    let partners = partners_of(alloc, loaded, tables, key, procedure, &*site)?;
+    Ok(Task {
+        key,
+        function: tables.function(key),
+        site,
+        partners,
+    })
+}
+
+/// What the key's function is joined with: at a call node the summaries over the call, at an exit
+/// what the callers' call flow reaches, for a summary the jumps at its call node.
+fn partners_of<P: Problem>(
+    alloc: Global,
+    loaded: &Loaded<P>,
+    tables: &Tables<P::F>,
+    key: Key,
+    procedure: usize,
+    site: &Site,
+) -> Result<Partners<P::F>, Refused> {
+    match (key, site) {
+        (Key::Jump(call, _, to), Site::Call { .. }) => {
+            Ok(Partners::Entries(tables.summaries_at(alloc, call, to)?))
+        }
+        (Key::Jump(_, from, _), Site::Exit { .. }) => {
+            let reaching = loaded.sources.reaching(alloc, procedure, from)?;
+            Ok(Partners::Callers(reaching))
+        }
+        (Key::Jump(_, _, _), Site::Normal(_)) => Ok(Partners::Entries(Vec::new(alloc))),
+        (Key::Summary(call, from, _), _) => {
+            Ok(Partners::Entries(tables.jumps_at(alloc, call, from)?))
+        }
+    }
+}

@@ -1,0 +1,72 @@
+//! A quiet image, frozen.
+use crate::loaded::Loaded;
+use crate::machine::Core;
+use ide_problem::Problem;
+use ide_tables::Tables;
+use ide_wire::Refused;
+use std::sync::Arc;
+
+/// What a core held when no key was pending: the program, its roots and the tables.
+#[derive(Drop)]
+pub struct Closed<P: Problem> {
+    pub loaded: Arc<Loaded<P>>,
+    /// The roots, as indices of procedures, in the order in which they were made.
+    pub roots: Vec<usize>,
+    pub tables: Tables<P::F>,
+}
+
+impl<P: Problem> Core<P> {
+    /// The image as it stands, copied; the core goes on.
+    ///
+    /// Refusals, in this order: `NoProgram`; `Unfinished` where some key is pending; `NoMemory`.
+    pub fn freeze(&self) -> Result<Closed<P>, Refused> {
+        let Some(loaded) = &self.loaded else {
+            return Err(Refused::NoProgram);
+        };
+        if !self.is_quiet() {
+            return Err(Refused::Unfinished);
+        }
+        Ok(Closed {
+            loaded: Arc::try_clone(loaded)?,
+            roots: Vec::from_slice(self.alloc, self.roots.as_slice())?,
+            tables: self.tables.copy(self.alloc)?,
+        })
+    }
+
+    /// The image as it stands, with no copy. Where it is refused, the core comes back.
+    ///
+    /// Refusals, in this order: `NoProgram`; `Unfinished` where some key is pending.
+    pub fn close(self) -> Result<Closed<P>, (Refused, Core<P>)> {
+        if !self.is_quiet() {
+            let refused = match &self.loaded {
+                Some(_) => Refused::Unfinished,
+                None => Refused::NoProgram,
+            };
+            return Err((refused, self));
+        }
+        let Core {
+            alloc,
+            loaded,
+            roots,
+            tables,
+            worklist,
+        } = self;
+        match loaded {
+            Some(loaded) => Ok(Closed {
+                loaded,
+                roots,
+                tables,
+            }),
+            None => Err((
+                Refused::NoProgram,
+                Core {
+                    alloc,
+                    loaded: None,
+                    roots,
+                    tables,
+                    worklist,
+                },
+            )),
+        }
+    }
+}

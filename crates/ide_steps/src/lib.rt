@@ -1,0 +1,22 @@
+//! The solver: one [`Core`] with its tables and its worklist, and the steps that workers take.
+//!
+//! A hand claims a pending key and gets its task, computes the task's parts, gives each to the
+//! tables and finishes; or it releases the claim. Each call is one step: it either answers a
+//! refusal and leaves everything as it was, or does what it says at once. [`Core::drain`] takes
+//! all the steps that are left with one hand.
+#![tactic(auto)]
+
+mod claim;
+mod closed;
+mod drain;
+mod finish;
+mod loaded;
+mod machine;
+mod part;
+mod root;
+
+pub use claim::Claimed;
+pub use closed::Closed;
+pub use loaded::Loaded;
+pub use machine::{Core, HANDS};
+pub use part::Parted;

@@ -1,0 +1,47 @@
+//! Roots: where analysis begins.
+use crate::machine::Core;
+use ide_lattice::EdgeFn;
+use ide_problem::Problem;
+use ide_wire::{Fact, Key, Node, Refused};
+
+impl<P: Problem> Core<P> {
+    /// Makes the procedure of that name a root: each entry fact at its start begins a jump by the
+    /// identity, unless it has an entry already.
+    ///
+    /// Refusals, in this order: `NoProgram`; `NoProcedure`; `HasParameters`; `Already`;
+    /// `NoMemory`.
+    pub fn root(&mut self, name: &[u8]) -> Result<(), Refused> {
+        let Some(loaded) = &self.loaded else {
+            return Err(Refused::NoProgram);
+        };
+        let Some(procedure) = loaded.graph.procedure_named(name) else {
+            return Err(Refused::NoProcedure);
+        };
+        if loaded.graph.parameter_count(procedure) != 0 {
+            return Err(Refused::HasParameters);
+        }
+        if self.roots.contains(&procedure) {
+            return Err(Refused::Already);
+        }
+        let start = loaded.graph.start_of(procedure);
+        let entries = loaded.graph.entry_count();
+        self.roots.reserve(1)?;
+        self.begin(start, entries)?;
+        self.roots.push(procedure)?;
+        Ok(())
+    }
+
+    /// Begins a jump by the identity at each of the first `entries` facts of the start.
+    fn begin(&mut self, start: Node, entries: usize) -> Result<(), Refused> {
+        for fact in 0..=Fact::MAX {
+            if fact as usize >= entries {
+                break;
+            }
+            let key = Key::Jump(start, fact, fact);
+            if self.tables.get(key).is_none() {
+                self.lower(key, P::F::id())?;
+            }
+        }
+        Ok(())
+    }
+}

@@ -1,0 +1,81 @@
+-- What a table says in contracts: the function of each present key, and which nodes it watches.
+use Rattle.std.specs.Prelude.{◌≡◌, ℕ, ◌<◌, ◌^◌, Bool, true, false, List, Option, None, Some, if◌then◌else◌}
+use Rattle.std.specs.List.{list_any, slice_index_or}
+use Rattle.std.specs.List.Sorted.{IsStrictlySortedBy}
+use Rattle.std.specs.Map.{lookup, keys_of}
+use Rattle.std.specs.BTreeMap.{is_at}
+use Rattle.std.specs.Option.{is_some, option_map}
+use Rattle.std.specs.Ordering.{nat_cmp}
+use Rattle.std.specs.declared.cmp.Ordering.{Ordering}
+use Rattle.ide_lattice.specs.Algebra.{EdgeAlgebra}
+use Rattle.ide_wire.specs.declared.key.Key.{Key}
+use Rattle.ide_wire.specs.declared.key.Key.TheVariants.{Jump, Summary}
+use Rattle.ide_wire.specs.Key.{same_key}
+
+-- a table: its present keys with their functions, in the table's order, and for each node whether it is watched
+pub record Table (F : Type 0) : Type 0 where
+  pub entries : List (Key × F)
+  pub watched : List Bool
+
+-- the function of the key, if it is present
+abbrev pub found : {F : Type 0} → Table F → Key → Option F
+found table key = lookup (same_key key) table.entries
+
+-- whether the node is watched
+abbrev pub is_watched : {F : Type 0} → Table F → ℕ → Bool
+is_watched table node = slice_index_or table.watched node false
+
+module _ {F L : Type 0} (edge : EdgeAlgebra F L) where
+  -- the function, where an absent one is always top
+  abbrev pub or_top : Option F → F
+  or_top None = edge.all_top
+  or_top (Some f) = f
+
+  -- the function that the key stands for
+  abbrev pub function_at : Table F → Key → F
+  function_at table key = or_top (found table key)
+
+  -- the key's function, lowered by f
+  abbrev pub lowered_by : Table F → Key → F → F
+  lowered_by table key f = edge.meet (function_at table key) f
+
+  -- the key's function is met with f, and every other entry stays
+  pub record Lowers (old new : Table F) (key : Key) (f : F) : Type 0 where
+    pub entries : (q : Key) → found new q ≡ (if same_key key q then Some (lowered_by old key f) else found old q)
+    pub watched : new.watched ≡ old.watched
+
+-- the partners, ascending by fact, are the present ones of the keys `at` a fact
+pub record ArePartners {F : Type 0} (at : ℕ → Key) (table : Table F) (partners : List (ℕ × F)) : Type 0 where
+  pub ascending : IsStrictlySortedBy nat_cmp (keys_of partners)
+  pub exact : (d : ℕ) → d < 2 ^ 16 → lookup (is_at (nat_cmp d)) partners ≡ found table (at d)
+
+-- the place of a key in the index: a jump's facts change places, so that the jumps to one fact stand side by side
+abbrev pub place_of : Key → Key
+place_of (Jump n a b) = Jump n b a
+place_of (Summary n a b) = Summary n a b
+
+-- the fact that a place lists: of a jump where it starts, of a summary where it returns
+abbrev pub listed_fact : Key → ℕ
+listed_fact (Jump n b a) = a
+listed_fact (Summary n a b) = b
+
+-- the fact that a place lists, with the function of its key, if that is present
+abbrev pub partner_of : {F : Type 0} → List (Key × F) → Key → Option (ℕ × F)
+partner_of entries place = option_map (λ f. (listed_fact place, f)) (lookup (same_key (place_of place)) entries)
+
+-- whether the index notes the key: a summary, or a jump at a watched node
+abbrev pub is_noted : List Bool → Key → Bool
+is_noted watched (Jump n a b) = slice_index_or watched n false
+is_noted watched (Summary n a b) = true
+
+-- whether the index has the key's place
+abbrev pub has_place : (Key → Key → Ordering) → List Key → Key → Bool
+has_place cmp places key = list_any (is_at (cmp (place_of key))) places
+
+-- the index has the places of the present keys that it notes
+abbrev pub IsIndex : {F : Type 0} → (Key → Key → Ordering) → Table F → List Key → Type 0
+IsIndex cmp table places = (key : Key) → is_noted table.watched key ≡ true → has_place cmp places key ≡ is_some (found table key)
+
+-- the index gains the place of the key, if it notes the key
+abbrev pub Notes : (Key → Key → Ordering) → List Bool → List Key → List Key → Key → Type 0
+Notes cmp watched old new key = (q : Key) → is_noted watched q ≡ true → has_place cmp new q ≡ (if same_key key q then true else has_place cmp old q)

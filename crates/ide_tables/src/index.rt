@@ -1,0 +1,93 @@
+//! The ordered index of a table's keys.
+//!
+//! A key's place is the key itself, but that a jump's facts change places: so the jumps to one
+//! fact at a node, and the summaries from one fact at a call, stand side by side.
+ghost use Rattle.std.specs.Prelude.{◌≡◌, false, filter, IfOk, OnOk, OnErr};
+ghost use Rattle.std.specs.BTreeMap.Range.{IsLeBy, range_contains};
+ghost use Rattle.std.specs.List.{filter_map, slice_index_or};
+ghost use Rattle.std.specs.List.Sorted.{IsStrictlySortedBy};
+ghost use Rattle.std.specs.declared.ops.Bound.TheVariants.{Included};
+ghost use Rattle.ide_tables.specs.Tables.{place_of, listed_fact, partner_of, is_noted, Notes};
+
+use ide_lattice::EdgeFn;
+use ide_wire::{Fact, Key};
+use indexmap::IndexMap;
+use std::alloc::{AllocError, Global};
+use std::collections::BTreeSet;
+
+// The key's place.
+pub(crate) fn place_of(key: Key) -> Key
+    ensures { result ≡ place_of key }
+{
+    match key {
+        Key::Jump(node, from, to) => Key::Jump(node, to, from),
+        Key::Summary(call, from, to) => Key::Summary(call, from, to),
+    }
+}
+
+// Whether the index notes the key: a summary, or a jump at a watched node.
+fn is_noted(watched: &[bool], key: Key) -> bool
+    ensures { result ≡ is_noted watched.now key }
+{
+    match key {
+        Key::Jump(node, _, _) => is_watched(watched, node as usize),
+        Key::Summary(_, _, _) => true,
+    }
+}
+
+// Whether the node is watched.
+fn is_watched(watched: &[bool], node: usize) -> bool
+    ensures { result ≡ slice_index_or watched.now node false }
+{
+    match watched.get(node) {
+        Some(watched) => *watched,
+        None => false,
+    }
+}
+
+// Notes the key's place, if the index notes the key.
+pub(crate) fn note(places: &mut BTreeSet<Key>, watched: &[bool], key: Key) -> Result<(), AllocError>
+    ensures ok { OnOk result (Notes ⟦<Key as Ord>⟧.cmp watched.now places.old.keys places.new.keys key) }
+    ensures err { OnErr result (places.new.keys ≡ places.old.keys) }
+{
+    if is_noted(watched, key) {
+        places.insert(place_of(key))?;
+    }
+    Ok(())
+}
+
+// The fact that a place lists: of a jump where it starts, of a summary where it returns.
+fn listed_fact(place: Key) -> Fact
+    ensures { result ≡ listed_fact place }
+{
+    match place {
+        Key::Jump(_, _, from) => from,
+        Key::Summary(_, _, to) => to,
+    }
+}
+
+// The fact that the place lists, with the function of its key, if that is present.
+fn partner<F: EdgeFn>(functions: &IndexMap<Key, F>, place: Key) -> Option<(Fact, F)>
+    ensures { result ≡ partner_of functions.now.entries place }
+{
+    let function = functions.get(&place_of(place))?;
+    Some((listed_fact(place), *function))
+}
+
+// The facts that the places from `first` to `last` list, with the functions of their keys.
+pub(crate) fn partners<F: EdgeFn>(
+    alloc: Global,
+    functions: &IndexMap<Key, F>,
+    places: &BTreeSet<Key>,
+    first: Key,
+    last: Key,
+) -> Result<Vec<(Fact, F)>, AllocError>
+    requires { IsLeBy ⟦<Key as Ord>⟧.cmp first last }
+    ensures partners { IfOk result (λ list. list.items ≡ filter_map (partner_of functions.now.entries) (filter (range_contains ⟦<Key as Ord>⟧.cmp (Included first) (Included last)) places.now.keys)) }
+    ensures ordered { IsStrictlySortedBy ⟦<Key as Ord>⟧.cmp places.now.keys }
+{
+    places
+        .range(first..=last)
+        .filter_map(|place| partner(functions, *place))
+        .collect(alloc)
+}

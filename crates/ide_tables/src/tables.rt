@@ -1,0 +1,188 @@
+//! The map from keys to functions.
+ghost use Rattle.std.specs.Prelude.{◌≡◌, ℕ, ◌<◌, [], true, false, length, slice_get, if◌then◌else◌, IfSome, IfOk, IfErr, OnErr};
+ghost use Rattle.std.specs.List.{IsDistinct};
+ghost use Rattle.std.specs.Map.{keys_of};
+ghost use Rattle.std.specs.Option.{option_copied};
+ghost use Rattle.ide_wire.specs.declared.refused.Refused.TheVariants.{NoMemory};
+ghost use Rattle.indexmap.specs.IndexMap.{spare, get};
+ghost use Rattle.ide_wire.specs.declared.key.Key.{Key};
+ghost use Rattle.ide_wire.specs.Key.{same_key};
+ghost use Rattle.ide_tables.specs.Tables.{Table, IsIndex, ArePartners, found, function_at, lowered_by, is_watched, Lowers};
+
+use crate::index;
+use ide_lattice::EdgeFn;
+use ide_wire::{Fact, Key, Node, Refused};
+use indexmap::IndexMap;
+use std::alloc::{AllocError, Global};
+use std::collections::BTreeSet;
+use std::marker::Model;
+
+/// Whether a table changed.
+#[derive(Clone, Copy, PartialEq, Eq, Debug)]
+pub enum Change {
+    /// The entry fell.
+    Lowered,
+    /// Nothing changed.
+    Same,
+}
+
+/// A finite map from keys to functions, where an absent key stands for the function that always
+/// gives top.
+#[derive(Drop)]
+pub struct Tables<F: EdgeFn> {
+    functions: IndexMap<Key, F>,
+    watched: Vec<bool>,
+    places: BTreeSet<Key>,
+}
+
+impl<F: EdgeFn> Model for Tables<F> {
+    ghost Value = { Table F };
+
+    ghost view = { λ t. record { entries = t.functions.entries; watched = t.watched.items } };
+
+    ghost invariant = { λ t. IsIndex ⟦<Key as Ord>⟧.cmp (record { entries = t.functions.entries; watched = t.watched.items }) t.places.keys };
+}
+
+impl<F: EdgeFn> Tables<F> {
+    /// A table with no present key, which watches the nodes whose place in `watched` says so. It
+    /// allocates nothing.
+    pub fn new(alloc: Global, watched: Vec<bool>) -> Self
+        ensures entries { result.entries ≡ [] }
+        ensures watched { result.watched ≡ watched.items }
+    {
+        Tables {
+            functions: IndexMap::new(alloc),
+            watched,
+            places: BTreeSet::new(alloc),
+        }
+    }
+
+    /// The key's function, if the key is present.
+    pub fn get(&self, key: Key) -> Option<&F>
+        ensures { option_copied result ≡ found self.now key }
+    {
+        self.functions.get(&key)
+    }
+
+    /// The function that the key stands for: always top, if it is not present.
+    pub fn function(&self, key: Key) -> F
+        ensures { result ≡ function_at F.edge self.now key }
+    {
+        match self.get(key) {
+            Some(function) => *function,
+            None => F::all_top(),
+        }
+    }
+
+    /// How many keys are present.
+    pub fn key_count(&self) -> usize
+        ensures count { result ≡ length self.now.entries }
+        ensures distinct { IsDistinct same_key (keys_of self.now.entries) }
+    {
+        self.functions.len()
+    }
+
+    /// The entry at `index`, in an order that stays while the table is not changed.
+    pub fn entry_at(&self, index: usize) -> Option<(Key, F)>
+        ensures entry { result ≡ slice_get self.now.entries index }
+        ensures present { IfSome result (λ entry. found self.now entry.0 ≡ Some entry.1) }
+    {
+        let (key, function) = self.functions.get_index(index)?;
+        Some((*key, *function))
+    }
+
+    /// The jumps at the call node to the fact: for each the fact at the start of its procedure,
+    /// and its function, ascending by fact. They are read from the index, so that they are the
+    /// present ones if the node is watched.
+    pub fn jumps_at(&self, alloc: Global, call: Node, fact: Fact) -> Result<Vec<(Fact, F)>, Refused>
+        ensures partners { is_watched self.now call ≡ true → IfOk result (λ list. ArePartners (λ d. Key.Jump call d fact) self.now list.items) }
+        ensures refused { IfErr result (λ e. e ≡ NoMemory) }
+    {
+        let first = Key::Jump(call, fact, 0);
+        let last = Key::Jump(call, fact, Fact::MAX);
+        let partners = index::partners(alloc, &self.functions, &self.places, first, last)?;
+        Ok(partners)
+    }
+
+    /// The summaries at the call node from the fact: for each the fact at the return site, and its
+    /// function, ascending by fact. They are read from the index.
+    pub fn summaries_at(
+        &self,
+        alloc: Global,
+        call: Node,
+        fact: Fact,
+    ) -> Result<Vec<(Fact, F)>, Refused>
+        ensures partners { IfOk result (λ list. ArePartners (Key.Summary call fact) self.now list.items) }
+        ensures refused { IfErr result (λ e. e ≡ NoMemory) }
+    {
+        let first = Key::Summary(call, fact, 0);
+        let last = Key::Summary(call, fact, Fact::MAX);
+        let partners = index::partners(alloc, &self.functions, &self.places, first, last)?;
+        Ok(partners)
+    }
+
+    /// A table with the same entries, in the same order, that watches the same nodes.
+    pub fn copy(&self, alloc: Global) -> Result<Tables<F>, Refused>
+        ensures ok { IfOk result (λ copy. copy ≡ self.now) }
+        ensures refused { IfErr result (λ e. e ≡ NoMemory) }
+    {
+        let functions = copied(alloc, &self.functions)?;
+        let watched = self.watched.to_vec(alloc)?;
+        let places = copied_places(&self.places)?;
+        Ok(Tables {
+            functions,
+            watched,
+            places,
+        })
+    }
+
+    /// Meets the key's function with `f`, and says whether that changed it. `NoMemory` leaves the
+    /// table as it was. One look-up, where nothing changes.
+    pub fn lower(&mut self, key: Key, f: F) -> Result<Change, Refused>
+        ensures lowered { result ≡ Ok Change.Lowered → Lowers F.edge self.old self.new key f }
+        ensures changes { result ≡ Ok Change.Lowered → F.eq (lowered_by F.edge self.old key f) (function_at F.edge self.old key) ≡ false }
+        ensures same { result ≡ Ok Change.Same → self.new ≡ self.old }
+        ensures met { result ≡ Ok Change.Same → F.eq (lowered_by F.edge self.old key f) (function_at F.edge self.old key) ≡ true }
+        ensures err { OnErr result (self.new ≡ self.old) }
+        ensures refused { IfErr result (λ e. e ≡ NoMemory) }
+    {
+        let old = self.function(key);
+        let new = old.meet(f);
+        if new == old {
+            return Ok(Change::Same);
+        }
+        self.functions.reserve(1)?;
+        index::note(&mut self.places, &self.watched, key)?;
+        put(&mut self.functions, key, new);
+        Ok(Change::Lowered)
+    }
+}
+
+// The same entries, in the same order.
+fn copied<F: EdgeFn>(
+    alloc: Global,
+    functions: &IndexMap<Key, F>,
+) -> Result<IndexMap<Key, F>, AllocError>
+    ensures { IfOk result (λ copy. copy.entries ≡ functions.now.entries) }
+{
+    let mut copy = IndexMap::with_capacity(alloc, functions.len())?;
+    for entry in functions {
+        copy.insert(*entry.0, *entry.1)?;
+    }
+    Ok(copy)
+}
+
+// The same places.
+fn copied_places(places: &BTreeSet<Key>) -> Result<BTreeSet<Key>, AllocError>
+    ensures { IfOk result (λ copy. copy.keys ≡ places.now.keys) }
+{
+    places.clone()
+}
+
+// Sets the key's function, for which there is room.
+fn put<F: EdgeFn>(functions: &mut IndexMap<Key, F>, key: Key, function: F)
+    requires { 0 < spare functions.old }
+    ensures { (q : Key) → get same_key functions.new q ≡ (if same_key key q then Some function else get same_key functions.old q) }
+{
+    let _ = functions.insert(key, function);
+}

@@ -1,0 +1,115 @@
+//! The inverse of call flow.
+use crate::task::Reaching;
+use ide_graph::{Caller, Graph, Site};
+use ide_lattice::EdgeFn;
+use ide_problem::{Problem, TargetList};
+use ide_wire::Fact;
+use std::alloc::{AllocError, Global};
+
+/// For each procedure and fact at its start, the facts at its callers' call nodes whose call flow
+/// reaches that fact, with their functions.
+///
+/// Making it takes the flow of each fact over each call edge once; it keeps one entry for each
+/// target of a call flow.
+#[derive(Drop)]
+pub struct Sources<P: Problem> {
+    procedures: Vec<Vec<Source<P::F>>>,
+}
+
+/// That the fact `reached` at the procedure's start depends on a fact at a caller.
+#[derive(Clone, Copy)]
+struct Source<F: EdgeFn> {
+    reached: Fact,
+    from: Reaching<F>,
+}
+
+impl<P: Problem> Sources<P> {
+    /// The inverse call flow of a program's graph.
+    pub fn of(alloc: Global, graph: &Graph) -> Result<Sources<P>, AllocError> {
+        let mut procedures = Vec::with_capacity(alloc, graph.procedure_count())?;
+        for procedure in 0..graph.procedure_count() {
+            let exit = graph.exit_of(procedure);
+            procedures.push(sources_at::<P>(alloc, graph, graph.site(exit))?)?;
+        }
+        Ok(Sources { procedures })
+    }
+
+    /// The facts at the procedure's callers that reach `fact` at its start, by caller and then by
+    /// fact. It takes time in proportion to their number, and takes no memory
+    /// but for the list.
+    pub fn reaching(
+        &self,
+        alloc: Global,
+        procedure: usize,
+        fact: Fact,
+    ) -> Result<Vec<Reaching<P::F>>, AllocError> {
+        let mut reaching = Vec::new(alloc);
+        if let Some(sources) = self.procedures.get(procedure) {
+            let from = sources.partition_point(|source| source.reached < fact);
+            for source in sources.iter().skip(from) {
+                if source.reached != fact {
+                    break;
+                }
+                reaching.push(source.from)?;
+            }
+        }
+        Ok(reaching)
+    }
+}
+
+/// The sources of the procedure with that exit site, by the fact reached, then by caller, then by
+/// the fact at the call node.
+fn sources_at<P: Problem>(
+    alloc: Global,
+    graph: &Graph,
+    site: &Site,
+) -> Result<Vec<Source<P::F>>, AllocError> {
+    let mut sources = Vec::new(alloc);
+    if let Site::Exit { callers, .. } = site {
+        for (index, caller) in (0u32..).zip(callers.iter()) {
+            add_caller::<P>(alloc, graph, index, caller, &mut sources)?;
+        }
+    }
+    sources.sort_by_key(|source| source.reached)?;
+    Ok(sources)
+}
+
+/// Adds what the call flow of one caller reaches.
+fn add_caller<P: Problem>(
+    alloc: Global,
+    graph: &Graph,
+    caller_index: u32,
+    caller: &Caller,
+    sources: &mut Vec<Source<P::F>>,
+) -> Result<(), AllocError> {
+    let mut targets = TargetList::new(alloc);
+    for fact in 0..=Fact::MAX {
+        if fact as usize >= graph.fact_count() {
+            break;
+        }
+        targets.clear();
+        P::flow(&caller.call, fact, &mut targets)?;
+        add_targets(caller_index, fact, &targets, sources)?;
+    }
+    Ok(())
+}
+
+/// Adds the targets of one fact.
+fn add_targets<F: EdgeFn>(
+    caller: u32,
+    fact: Fact,
+    targets: &TargetList<F>,
+    sources: &mut Vec<Source<F>>,
+) -> Result<(), AllocError> {
+    for (reached, function) in targets.list.as_slice() {
+        sources.push(Source {
+            reached: *reached,
+            from: Reaching {
+                caller,
+                fact,
+                function: *function,
+            },
+        })?;
+    }
+    Ok(())
+}

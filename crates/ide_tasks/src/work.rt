@@ -1,0 +1,73 @@
+//! A task with its parts.
+ghost use Rattle.std.specs.Prelude.{◌≡◌, ◌+◌, IfErr, length, min, slice_get};
+
+use crate::parts::parts_of;
+use crate::task::Task;
+use ide_problem::Problem;
+use ide_wire::{Key, Refused};
+use std::alloc::Global;
+use std::marker::Model;
+
+/// A task, its parts in the order in which they are owed, and how many are done.
+#[derive(Drop)]
+pub struct Work<P: Problem> {
+    task: Task<P>,
+    parts: Vec<(Key, P::F)>,
+    done: usize,
+}
+
+impl<P: Problem> Model for Work<P> {
+    ghost use Rattle.std.specs.Prelude.{◌≤◌, length};
+    ghost use Rattle.ide_tasks.specs.Work.{WorkData};
+
+    ghost Value = { WorkData P.F };
+
+    ghost view = { λ w. record { parts = w.parts.items; done = w.done } };
+
+    ghost invariant = { λ w. w.done ≤ length w.parts.items };
+}
+
+impl<P: Problem> Work<P> {
+    /// The work of a task, with no part done. Where memory is wanting, the task comes back.
+    pub fn of(alloc: Global, task: Task<P>) -> Result<Work<P>, (Refused, Task<P>)>
+        ensures { IfErr result (λ e. (e.0 ≡ Refused.NoMemory) × (e.1 ≡ task)) }
+    {
+        match parts_of(alloc, &task) {
+            Ok(parts) => Ok(Work {
+                task,
+                parts,
+                done: 0,
+            }),
+            Err(_) => Err((Refused::NoMemory, task)),
+        }
+    }
+
+    /// The task that the parts are of.
+    pub fn task(&self) -> &Task<P> {
+        &self.task
+    }
+
+    /// How many parts are done.
+    pub fn done(&self) -> usize
+        ensures { result ≡ self.now.done }
+    {
+        self.done
+    }
+
+    /// The first part that is not done.
+    pub fn next(&self) -> Option<(Key, P::F)>
+        ensures { result ≡ slice_get self.now.parts self.now.done }
+    {
+        self.parts.get(self.done).copied()
+    }
+
+    /// Counts the next part as done, if one is left.
+    pub fn advance(&mut self)
+        ensures parts { self.new.parts ≡ self.old.parts }
+        ensures done { self.new.done ≡ min (self.old.done + 1) (length self.old.parts) }
+    {
+        if self.done < self.parts.len() {
+            self.done += 1;
+        }
+    }
+}

@@ -1,0 +1,4 @@
+pub mod Program
+pub mod Reader
+pub mod Refusal
+pub mod Text

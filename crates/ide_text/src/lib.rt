@@ -1,0 +1,26 @@
+//! Program texts: the parser, the printer, and the programs between them.
+//!
+//! [`parse`] reads a whole text and answers its [`Program`], or the first fault that stands in it
+//! with its line. [`print()`] appends the one text of a program.
+#![tactic(auto)]
+
+mod checker;
+mod copy;
+mod flaw;
+mod line;
+mod name;
+mod parser;
+mod printer;
+mod program;
+mod reader;
+mod scope;
+mod tables;
+mod token;
+
+pub use name::Name;
+pub use parser::{MAX_TEXT, parse};
+pub use printer::print;
+pub use program::{Expression, Procedure, Program, Statement};
+
+#[cfg(test)]
+mod tests;

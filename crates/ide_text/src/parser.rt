@@ -1,0 +1,69 @@
+//! The parser: a whole text into a program, or the first fault of the text.
+ghost use Rattle.std.specs.Prelude.{◌≡◌, ◌+◌, ◌<◌, ◌≤◌, ◌↔◌, length, OnOk, IfOk, IfErr};
+ghost use Rattle.ide_text.specs.Program.{lines_of};
+ghost use Rattle.ide_text.specs.Reader.{lines_taken};
+ghost use Rattle.ide_text.specs.Refusal.{IsTextRefusal};
+
+use crate::checker::check;
+use crate::flaw::Flaw;
+use crate::line::Line;
+use crate::program::Program;
+use crate::reader::Reader;
+use ide_wire::{Fault, Refused};
+use std::alloc::Global;
+
+/// The most bytes of a text.
+pub const MAX_TEXT: usize = 1_048_576;
+
+/// The program that a text spells.
+///
+/// Lines count from 1. A text that is too long has its fault on line 0. Refused is otherwise the
+/// first of the faults F2 to F4 on the least line that has one; in a text with none of these the
+/// first of F5 to F9 on the least line that has one. [`Refused::NoMemory`] may be answered for any
+/// text that is not too long. The time grows with the length of the text.
+pub fn parse(alloc: Global, text: &[u8]) -> Result<Program, Refused>
+    ensures too_long { (result ≡ Err (Refused.Text 0 Fault.TextTooLong)) ↔ (MAX_TEXT < length text.now) }
+    ensures refusals { IfErr result (IsTextRefusal 0 (length text.now + 1)) }
+    ensures lines { IfOk result (λ program. lines_of program ≤ length text.now) }
+{
+    if text.len() > MAX_TEXT {
+        return Err(Refused::Text {
+            line: 0,
+            fault: Fault::TextTooLong,
+        });
+    }
+    let program = read(alloc, text)?;
+    check(alloc, &program)?;
+    Ok(program)
+}
+
+/// The program of a text, whose names are still to be checked.
+fn read(alloc: Global, text: &[u8]) -> Result<Program, Refused>
+    requires { length text.now ≤ MAX_TEXT }
+    ensures refusals { IfErr result (IsTextRefusal 1 (length text.now + 1)) }
+    ensures lines { IfOk result (λ program. lines_of program ≤ length text.now) }
+{
+    let mut reader = Reader::new(alloc);
+    let mut line: u32 = 1;
+    let mut start = 0;
+    for (index, byte) in text.iter().enumerate() {
+        if *byte == b'\n' {
+            read_line(alloc, &mut reader, &text[start..index]).map_err(|flaw| flaw.on_line(line))?;
+            line += 1;
+            start = index + 1;
+        }
+    }
+    if start < text.len() {
+        return Err(Flaw::Faulty(Fault::NoSuchLine).on_line(line));
+    }
+    reader
+        .finish()
+        .map_err(|fault| Flaw::Faulty(fault).on_line(line))
+}
+
+/// Takes the line that these bytes, without the LF, spell.
+fn read_line(alloc: Global, reader: &mut Reader, text: &[u8]) -> Result<(), Flaw>
+    ensures { OnOk result (lines_taken reader.new ≡ lines_taken reader.old + 1) }
+{
+    reader.take(Line::read(alloc, text)?)
+}

@@ -1,0 +1,302 @@
+use crate::{parse, print};
+use ide_wire::{Fault, Refused};
+use itoa::Buffer;
+use std::alloc::Global;
+use std::process::Abort;
+use std::test::Fail;
+
+/// That each text, with an LF for each slash, has that fault on that line.
+fn expect_faults(rt: &impl Abort, alloc: Global, cases: &[(&str, u32, Fault)]) -> Result<(), Fail> {
+    for (text, line, fault) in cases {
+        let text = with_line_feeds(alloc, text)?;
+        let answer = parse(alloc, text.as_slice());
+        let refused = Refused::Text {
+            line: *line,
+            fault: *fault,
+        };
+        assert!(rt; answer.is_err_and(|error| error == refused), "at {text:?}");
+    }
+    Ok(())
+}
+
+/// The text with an LF for each slash.
+fn with_line_feeds(alloc: Global, text: &str) -> Result<Vec<u8>, Fail> {
+    let mut bytes = Vec::new(alloc);
+    for byte in text.bytes() {
+        bytes.push(if byte == b'/' { b'\n' } else { byte })?;
+    }
+    Ok(bytes)
+}
+
+/// The text, that many copies of a part of it, and the rest.
+fn repeated(
+    alloc: Global,
+    head: &[u8],
+    part: &[u8],
+    count: usize,
+    tail: &[u8],
+) -> Result<Vec<u8>, Fail> {
+    let mut text = Vec::from_slice(alloc, head)?;
+    for _ in 0..count {
+        text.extend_from_slice(part)?;
+    }
+    text.extend_from_slice(tail)?;
+    Ok(text)
+}
+
+/// The text, a line for each number below that count, with the number between both parts, and the
+/// rest.
+fn numbered(
+    alloc: Global,
+    head: &[u8],
+    before: &[u8],
+    count: u32,
+    after: &[u8],
+    tail: &[u8],
+) -> Result<Vec<u8>, Fail> {
+    let mut text = Vec::from_slice(alloc, head)?;
+    for number in 0..count {
+        text.extend_from_slice(before)?;
+        text.extend_from_slice(Buffer::new().format(number).as_bytes())?;
+        text.extend_from_slice(after)?;
+    }
+    text.extend_from_slice(tail)?;
+    Ok(text)
+}
+
+#[test]
+fn prints_what_it_parsed(rt: HostRuntime) -> Result<(), Fail> {
+    let texts = [
+        "proc main/var x/x = 5/end/",
+        "proc main/end/",
+        "proc main/var x/var y/x = 5/y = x/end/",
+        "proc main/var x/branch other/x = 5/goto done/at other/x = 5/at done/end/",
+        "proc id p/return p/end/proc main/var a/var b/var x/var y/a = 5/b = 6/x = call id a/y = call id b/end/",
+        "proc f y/var x/branch other/x = y + 1/goto done/at other/x = 7/at done/return x/end/proc main/var a/var b/var u/var v/a = 6/b = 5/u = call f a/v = call f b/end/",
+        "proc main/var x/var y/x = 18446744073709551615/y = x + 1/end/",
+        "global g/proc rec/branch done/g = g + 1/call rec/at done/end/proc main/g = 0/call rec/end/",
+        "proc main/var x/x = 1/goto done/x = 2/at done/end/",
+        "proc main/var x/var y/y = x/x = 1/end/",
+        "global g/global h_1/proc p a b/skip/a = ?/b = mix a g/a = b - 0/return/end/",
+        "proc _/var a234567890123456789012345678901/end/",
+    ];
+    let alloc = rt.alloc();
+    for text in texts {
+        let text = with_line_feeds(alloc, text)?;
+        let program = parse(alloc, text.as_slice())?.copy(alloc)?;
+        let mut printed = Vec::from_slice(alloc, b"before ")?;
+        print(&program, &mut printed)?;
+        let expected = repeated(alloc, b"before ", text.as_slice(), 1, b"")?;
+        assert_eq!(rt; printed.as_slice(), expected.as_slice());
+    }
+    Ok(())
+}
+
+#[test]
+fn spells_each_line_in_one_way(rt: HostRuntime) -> Result<(), Fail> {
+    let lines = [
+        "skip ",
+        " skip",
+        "skip  ",
+        "",
+        "x  = 5",
+        "x = 05",
+        "x = 00",
+        "x = 18446744073709551616",
+        "x = 99999999999999999999999999",
+        "x = -5",
+        "x = +5",
+        "x = 5 + x",
+        "x = x + x",
+        "x = x * 2",
+        "x =",
+        "x",
+        "x = ? ?",
+        "x = mix x",
+        "x = mix x x x",
+        "x = call",
+        "call",
+        "call mix",
+        "mix = 5",
+        "x = skip",
+        "return 5",
+        "return x x",
+        "at",
+        "at 5",
+        "goto L L",
+        "skip\r",
+        "x\t=\t5",
+        "skip\0",
+        "\0",
+        "X = \u{e4}",
+        "var a2345678901234567890123456789012",
+        "end end",
+        "proc",
+        "proc p 5",
+        "global",
+        "global g g",
+        "# comment",
+    ];
+    let alloc = rt.alloc();
+    for line in lines {
+        let text = repeated(alloc, b"proc main\n", line.as_bytes(), 1, b"\nend\n")?;
+        let answer = parse(alloc, text.as_slice());
+        let refused = Refused::Text {
+            line: 2,
+            fault: Fault::NoSuchLine,
+        };
+        assert!(rt; answer.is_err_and(|error| error == refused), "at {line:?}");
+    }
+    Ok(())
+}
+
+#[test]
+fn finds_the_least_fault(rt: HostRuntime) -> Result<(), Fail> {
+    let cases = [
+        // the line itself, and its place
+        ("", 1, Fault::OutOfPlace),
+        ("proc main/end", 2, Fault::NoSuchLine),
+        ("skip", 1, Fault::NoSuchLine),
+        ("proc main/x = 5/skip /end/", 3, Fault::NoSuchLine),
+        ("global g/", 2, Fault::OutOfPlace),
+        ("proc main/", 2, Fault::OutOfPlace),
+        ("proc main/end/global g/", 3, Fault::OutOfPlace),
+        ("proc main/global g/end/", 2, Fault::OutOfPlace),
+        ("proc main/proc p/end/", 2, Fault::OutOfPlace),
+        ("proc main/skip/var x/end/", 3, Fault::OutOfPlace),
+        ("skip/", 1, Fault::OutOfPlace),
+        ("var x/", 1, Fault::OutOfPlace),
+        ("end/", 1, Fault::OutOfPlace),
+        ("proc main/end/end/", 3, Fault::OutOfPlace),
+        ("proc main/end/skip/", 3, Fault::OutOfPlace),
+        (
+            "proc p a b c d e f g h i j k l m n o q r/end/",
+            1,
+            Fault::TooMany,
+        ),
+        (
+            "proc p/proc p a b c d e f g h i j k l m n o q r/end/",
+            2,
+            Fault::OutOfPlace,
+        ),
+        // before every fault of the names
+        ("proc main/x = 5/end/skip/", 4, Fault::OutOfPlace),
+        ("proc main/x = 5/end", 3, Fault::NoSuchLine),
+        // the names
+        ("proc main/var x/var x/end/", 3, Fault::DeclaredTwice),
+        ("global g/global g/proc main/end/", 2, Fault::DeclaredTwice),
+        ("global g/proc main g/end/", 2, Fault::DeclaredTwice),
+        ("global g/proc main/var g/end/", 3, Fault::DeclaredTwice),
+        ("proc main a a/end/", 1, Fault::DeclaredTwice),
+        ("proc main a/var a/end/", 2, Fault::DeclaredTwice),
+        ("proc main/end/proc main/end/", 3, Fault::DeclaredTwice),
+        ("proc main/at L/at L/end/", 3, Fault::DeclaredTwice),
+        ("proc main/goto L/end/", 2, Fault::NoSuchLabel),
+        ("proc main/branch L/end/", 2, Fault::NoSuchLabel),
+        (
+            "proc p/at L/end/proc main/goto L/end/",
+            5,
+            Fault::NoSuchLabel,
+        ),
+        ("proc main/x = call q/end/", 2, Fault::NoSuchVariable),
+        ("proc main/call q x/end/", 2, Fault::NoSuchVariable),
+        ("proc main/x = 5/end/", 2, Fault::NoSuchVariable),
+        ("proc main x/x = y/end/", 2, Fault::NoSuchVariable),
+        ("proc main x/x = mix x y/end/", 2, Fault::NoSuchVariable),
+        ("proc main x/x = y - 1/end/", 2, Fault::NoSuchVariable),
+        ("proc main/return x/end/", 2, Fault::NoSuchVariable),
+        (
+            "proc p x/end/proc main/x = 5/end/",
+            4,
+            Fault::NoSuchVariable,
+        ),
+        ("proc main/call q/end/", 2, Fault::NoSuchProcedure),
+        (
+            "proc p a/end/proc main/var x/call p x x/end/",
+            5,
+            Fault::WrongArguments,
+        ),
+        (
+            "proc p a/end/proc main/call p/end/proc p/end/",
+            4,
+            Fault::WrongArguments,
+        ),
+        (
+            "proc p/call p/call q/end/proc p a/goto L/end/",
+            3,
+            Fault::NoSuchProcedure,
+        ),
+        (
+            "proc p/call q/x = 5/end/proc p/end/",
+            2,
+            Fault::NoSuchProcedure,
+        ),
+    ];
+    expect_faults(&rt, rt.alloc(), &cases)
+}
+
+#[test]
+fn keeps_the_limits(rt: HostRuntime) -> Result<(), Fail> {
+    let alloc = rt.alloc();
+    let accepted = [
+        repeated(alloc, b"proc main\n", b"skip\n", 65_534, b"end\n")?,
+        numbered(alloc, b"proc main\n", b"var x", 4_094, b"\n", b"end\n")?,
+        numbered(alloc, b"", b"global x", 4_094, b"\n", b"proc main\nend\n")?,
+        numbered(alloc, b"", b"proc p", 1_000, b"\nend\n", b"")?,
+        repeated(
+            alloc,
+            b"proc p a b c d e f g h i j k l m n o",
+            b" p",
+            1,
+            b"\nend\n",
+        )?,
+    ];
+    for text in accepted {
+        assert!(rt; parse(alloc, text.as_slice()).is_ok());
+    }
+    let refused = [
+        (
+            repeated(alloc, b"proc main\n", b"skip\n", 65_535, b"end\n")?,
+            65_536,
+            Fault::TooMany,
+        ),
+        (
+            repeated(alloc, b"proc p\n", b"call p\n", 32_768, b"end\n")?,
+            32_769,
+            Fault::TooMany,
+        ),
+        (
+            numbered(alloc, b"proc main\n", b"var x", 4_095, b"\n", b"end\n")?,
+            4_096,
+            Fault::TooMany,
+        ),
+        (
+            numbered(alloc, b"", b"global x", 4_095, b"\n", b"")?,
+            4_095,
+            Fault::TooMany,
+        ),
+        (
+            numbered(alloc, b"", b"proc p", 1_001, b"\nend\n", b"")?,
+            2_001,
+            Fault::TooMany,
+        ),
+        (
+            repeated(alloc, b"", b"a", 1_048_577, b"")?,
+            0,
+            Fault::TextTooLong,
+        ),
+        (
+            repeated(alloc, b"", b"a", 1_048_576, b"")?,
+            1,
+            Fault::NoSuchLine,
+        ),
+    ];
+    for (text, line, fault) in refused {
+        let refused = Refused::Text { line, fault };
+        assert!(rt;
+            parse(alloc, text.as_slice()).is_err_and(|error| error == refused),
+            "{refused}"
+        );
+    }
+    Ok(())
+}

@@ -1,0 +1,125 @@
+//! The dump: a line for each node and each fact that has a name there.
+ghost use Rattle.std.specs.Prelude.{◌≡◌, OnErr, IfErr, length};
+ghost use Rattle.ide_values.specs.Extends.{Extends};
+
+use crate::values::Values;
+use ide_lattice::Lattice;
+use ide_problem::Problem;
+use ide_wire::{Fact, Node, Refused};
+use itoa::Buffer;
+use std::alloc::AllocError;
+
+/// The columns of the node's number.
+const NODE_WIDTH: usize = 6;
+/// The columns of the fact's number.
+const FACT_WIDTH: usize = 4;
+/// The columns of the fact's name.
+const NAME_WIDTH: usize = 31;
+
+/// As many spaces as the widest column has.
+const SPACES: [u8; NAME_WIDTH] = [b' '; NAME_WIDTH];
+
+impl<P: Problem> Values<P> {
+    /// Appends the dump: by ascending node and fact, each fact that has a name at the node, the
+    /// node's number right in 6 columns, the fact's right in 4, its name left in 31 and its value,
+    /// with a space between two.
+    ///
+    /// Refusal: `NoMemory`, which leaves the vector with what it had.
+    pub fn dump(&self, out: &mut Vec<u8>) -> Result<(), Refused>
+        ensures refused { IfErr result (λ e. e ≡ Refused.NoMemory) }
+        ensures unchanged { OnErr result (out.new.items ≡ out.old.items) }
+    {
+        let length = out.len();
+        if self.append_nodes(out).is_err() {
+            out.truncate(length);
+            return Err(Refused::NoMemory);
+        }
+        Ok(())
+    }
+
+    /// Appends the lines of all nodes.
+    fn append_nodes(&self, out: &mut Vec<u8>) -> Result<(), AllocError>
+        ensures { Extends out.old.items out.new.items }
+    {
+        for node in 0..=Node::MAX {
+            if node as usize >= self.loaded.graph.node_count() {
+                break;
+            }
+            self.append_node(node, out)?;
+        }
+        Ok(())
+    }
+
+    /// Appends the lines of a node.
+    fn append_node(&self, node: Node, out: &mut Vec<u8>) -> Result<(), AllocError>
+        ensures { Extends out.old.items out.new.items }
+    {
+        for fact in 0..=Fact::MAX {
+            let Some(name) = self.loaded.graph.fact_name(node, fact) else {
+                break;
+            };
+            let Ok(value) = self.at(node, fact) else {
+                break;
+            };
+            append_line(node, fact, name, value, out)?;
+        }
+        Ok(())
+    }
+}
+
+/// Appends the line of a fact at a node.
+fn append_line<L: Lattice>(
+    node: Node,
+    fact: Fact,
+    name: &[u8],
+    value: L,
+    out: &mut Vec<u8>,
+) -> Result<(), AllocError>
+    ensures { Extends out.old.items out.new.items }
+{
+    append_place(node, fact, name, out)?;
+    append_value(value, out)?;
+    out.extend_from_slice(b"\n")
+}
+
+/// Appends the printed form of a value.
+fn append_value<L: Lattice>(value: L, out: &mut Vec<u8>) -> Result<(), AllocError>
+    ensures { Extends out.old.items out.new.items }
+{
+    value.show(out)
+}
+
+/// Appends the columns of a line before its value.
+fn append_place(node: Node, fact: Fact, name: &[u8], out: &mut Vec<u8>) -> Result<(), AllocError>
+    ensures { Extends out.old.items out.new.items }
+{
+    let mut buffer = Buffer::new();
+    append_right(buffer.format(node).as_bytes(), NODE_WIDTH, out)?;
+    append_right(buffer.format(fact).as_bytes(), FACT_WIDTH, out)?;
+    append_left(name, NAME_WIDTH, out)
+}
+
+/// Appends a text at the right end of a column, and a space.
+fn append_right(text: &[u8], width: usize, out: &mut Vec<u8>) -> Result<(), AllocError>
+    ensures { Extends out.old.items out.new.items }
+{
+    append_spaces(width.saturating_sub(text.len()), out)?;
+    out.extend_from_slice(text)?;
+    out.extend_from_slice(b" ")
+}
+
+/// Appends a text at the left end of a column, and a space.
+fn append_left(text: &[u8], width: usize, out: &mut Vec<u8>) -> Result<(), AllocError>
+    ensures { Extends out.old.items out.new.items }
+{
+    out.extend_from_slice(text)?;
+    append_spaces(width.saturating_sub(text.len()), out)?;
+    out.extend_from_slice(b" ")
+}
+
+/// Appends so many spaces, at most [`NAME_WIDTH`].
+fn append_spaces(count: usize, out: &mut Vec<u8>) -> Result<(), AllocError>
+    ensures { Extends out.old.items out.new.items }
+{
+    out.extend_from_slice(&SPACES[..count.min(NAME_WIDTH)])
+}

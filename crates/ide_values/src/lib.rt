@@ -1,0 +1,14 @@
+//! Values: from a quiet image to the value of each fact at each node.
+//!
+//! The second phase of the algorithm of Sagiv, Reps and Horwitz (Theoretical Computer Science
+//! 167, 1996). Start values go through jump functions at call nodes and call flows to callees'
+//! starts until nothing changes; then each jump function, applied to its start value, lowers the
+//! value where it ends.
+#![tactic(auto)]
+
+mod dump;
+mod fill;
+mod starts;
+mod values;
+
+pub use values::{ValuePhase, Values};
