@@ -59,12 +59,11 @@ fn refuse_words<O: Write, E: Write>(error: &clap::Error, out: &mut O, err: &mut 
     }
 }
 
-/// The status, unless the text could not be written.
+/// The status, or that of a refusal where the text could not be written.
 fn status_of(status: u8, written: io::Result<()>) -> u8 {
     match written {
         Ok(()) => status,
-        Err(_) if status == DONE => REFUSED,
-        Err(_) => status,
+        Err(_) => REFUSED,
     }
 }
 

@@ -1,4 +1,9 @@
 //! Claims: a hand takes a pending key with its task.
+ghost use Rattle.std.specs.Prelude.{◌≡◌, ◌≢◌, ℕ, ◌<◌, ◌≤◌, ◌↔◌, ◌⊎◌, [], true, false, Ok, Err, IsSome, IfErr, OnErr, OnOk};
+ghost use Rattle.ide_wire.specs.declared.key.Key.{Key};
+ghost use Rattle.ide_worklist.specs.Worklist.{claim_at, is_pending, is_claimed};
+ghost use Rattle.ide_steps.specs.Core.{IsUnchanged};
+
 use crate::loaded::Loaded;
 use crate::machine::{Core, HANDS};
 use ide_graph::Site;
@@ -24,7 +29,16 @@ impl<P: Problem> Core<P> {
     ///
     /// Refusals, in this order: `Limit` where the hand's number is over 63; `NoProgram`; `Busy`
     /// where the hand has a claim; `NoMemory`.
-    pub fn claim(&mut self, hand: usize) -> Result<Claimed<P>, Refused> {
+    pub fn claim(&mut self, hand: usize) -> Result<Claimed<P>, Refused>
+        ensures limit { (result ≡ Err Refused.Limit) ↔ (64 ≤ hand) }
+        ensures no_program { (result ≡ Err Refused.NoProgram) ↔ ((hand < 64) × (self.old.is_loaded ≡ false)) }
+        ensures busy { (result ≡ Err Refused.Busy) ↔ ((hand < 64) × (self.old.is_loaded ≡ true) × IsSome (claim_at self.old.pile hand)) }
+        ensures quiet { result ≡ Ok Claimed.Quiet → self.old.pile.pending ≡ [] }
+        ensures idle { result ≡ Ok Claimed.Idle → (q : Key) → is_pending self.old.pile q ≡ true → is_claimed self.old.pile q ≡ true }
+        ensures image { (self.new.is_loaded ≡ self.old.is_loaded) × (self.new.roots ≡ self.old.roots) × (self.new.table ≡ self.old.table) }
+        ensures pending { self.new.pile.pending ≡ self.old.pile.pending }
+        ensures unchanged { OnErr result (IsUnchanged self.old self.new) }
+    {
         if hand >= HANDS {
             return Err(Refused::Limit);
         }
@@ -52,7 +66,9 @@ fn task_of<P: Problem>(
     loaded: &Loaded<P>,
     tables: &Tables<P::F>,
     key: Key,
-) -> Result<Task<P>, Refused> {
+) -> Result<Task<P>, Refused>
+    ensures { IfErr result (λ e. (e ≡ Refused.NoMemory) ⊎ (e ≡ Refused.OutOfRange)) }
+{
     let node = key.node();
     if node as usize >= loaded.graph.node_count() {
         return Err(Refused::OutOfRange);
@@ -77,7 +93,9 @@ fn partners_of<P: Problem>(
     key: Key,
     procedure: usize,
     site: &Site,
-) -> Result<Partners<P::F>, Refused> {
+) -> Result<Partners<P::F>, Refused>
+    ensures { IfErr result (λ e. e ≡ Refused.NoMemory) }
+{
     match (key, site) {
         (Key::Jump(call, _, to), Site::Call { .. }) => {
             Ok(Partners::Entries(tables.summaries_at(alloc, call, to)?))

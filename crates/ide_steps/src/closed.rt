@@ -1,4 +1,6 @@
 //! A quiet image, frozen.
+ghost use Rattle.std.specs.Prelude.{◌≡◌, ◌≢◌, ◌↔◌, ◌⊎◌, [], true, false, Err, IfErr, IfOk};
+
 use crate::loaded::Loaded;
 use crate::machine::Core;
 use ide_problem::Problem;
@@ -19,7 +21,13 @@ impl<P: Problem> Core<P> {
     /// The image as it stands, copied; the core goes on.
     ///
     /// Refusals, in this order: `NoProgram`; `Unfinished` where some key is pending; `NoMemory`.
-    pub fn freeze(&self) -> Result<Closed<P>, Refused> {
+    pub fn freeze(&self) -> Result<Closed<P>, Refused>
+        ensures no_program { (result ≡ Err Refused.NoProgram) ↔ (self.now.is_loaded ≡ false) }
+        ensures unfinished { (result ≡ Err Refused.Unfinished) ↔ ((self.now.is_loaded ≡ true) × (self.now.pile.pending ≢ [])) }
+        ensures table { IfOk result (λ closed. closed.tables ≡ self.now.table) }
+        ensures roots { IfOk result (λ closed. closed.roots.items ≡ self.now.roots) }
+        ensures quiet { IfOk result (λ _. self.now.pile.pending ≡ []) }
+    {
         let Some(loaded) = &self.loaded else {
             return Err(Refused::NoProgram);
         };
@@ -36,13 +44,18 @@ impl<P: Problem> Core<P> {
     /// The image as it stands, with no copy. Where it is refused, the core comes back.
     ///
     /// Refusals, in this order: `NoProgram`; `Unfinished` where some key is pending.
-    pub fn close(self) -> Result<Closed<P>, (Refused, Core<P>)> {
+    pub fn close(self) -> Result<Closed<P>, (Refused, Core<P>)>
+        ensures table { IfOk result (λ closed. closed.tables ≡ self.table) }
+        ensures roots { IfOk result (λ closed. closed.roots.items ≡ self.roots) }
+        ensures quiet { IfOk result (λ _. self.pile.pending ≡ []) }
+        ensures refused { IfErr result (λ e. (e.0 ≡ Refused.NoProgram) ⊎ (e.0 ≡ Refused.Unfinished)) }
+        ensures unchanged { IfErr result (λ e. e.1 ≡ self) }
+    {
+        if self.loaded.is_none() {
+            return Err((Refused::NoProgram, self));
+        }
         if !self.is_quiet() {
-            let refused = match &self.loaded {
-                Some(_) => Refused::Unfinished,
-                None => Refused::NoProgram,
-            };
-            return Err((refused, self));
+            return Err((Refused::Unfinished, self));
         }
         let Core {
             alloc,

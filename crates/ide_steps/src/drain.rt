@@ -1,4 +1,7 @@
 //! All steps that are left, by one hand.
+ghost use Rattle.std.specs.Prelude.{◌≡◌, ◌↔◌, [], true, false, Ok, Err, IsSome, IfErr, IfOk, OnOk};
+ghost use Rattle.ide_worklist.specs.Worklist.{claim_at};
+
 use crate::claim::Claimed;
 use crate::machine::Core;
 use crate::part::Parted;
@@ -15,7 +18,11 @@ impl<P: Problem> Core<P> {
     /// Refusals: `NoProgram`; `Busy` where hand 0 has a claim; `Unfinished` where another hand has
     /// one; all tested first, in this order. `NoMemory` keeps the steps done before it and releases
     /// hand 0's claim.
-    pub fn drain(&mut self) -> Result<u64, Refused> {
+    pub fn drain(&mut self) -> Result<u64, Refused>
+        ensures no_program { self.old.is_loaded ≡ false → result ≡ Err Refused.NoProgram }
+        ensures busy { self.old.is_loaded ≡ true → IsSome (claim_at self.old.pile 0) → result ≡ Err Refused.Busy }
+        ensures quiet { OnOk result (self.new.pile.pending ≡ []) }
+    {
         if self.loaded.is_none() {
             return Err(Refused::NoProgram);
         }
@@ -34,7 +41,9 @@ impl<P: Problem> Core<P> {
 
     /// Runs tasks until none is left. The count bounds the loop: each entry is lowered at most as
     /// often as functions have ranks, so that no run comes near it.
-    fn run_all(&mut self) -> Result<u64, Refused> {
+    fn run_all(&mut self) -> Result<u64, Refused>
+        ensures { OnOk result (self.new.pile.pending ≡ []) }
+    {
         for tasks in 0..u64::MAX {
             if !self.run_next()? {
                 return Ok(tasks);
@@ -44,7 +53,9 @@ impl<P: Problem> Core<P> {
     }
 
     /// Claims and finishes one task; false where no key is pending.
-    fn run_next(&mut self) -> Result<bool, Refused> {
+    fn run_next(&mut self) -> Result<bool, Refused>
+        ensures { result ≡ Ok false → self.new.pile.pending ≡ [] }
+    {
         match self.claim(DRAINING)? {
             Claimed::Task(task) => match Work::of(self.alloc, task) {
                 Ok(work) => self.run(work),
@@ -56,7 +67,9 @@ impl<P: Problem> Core<P> {
     }
 
     /// Does all parts of the work that was claimed last, and finishes it.
-    fn run(&mut self, mut work: Work<P>) -> Result<bool, Refused> {
+    fn run(&mut self, mut work: Work<P>) -> Result<bool, Refused>
+        ensures { IfOk result (λ more. more ≡ true) }
+    {
         for _ in 0..u64::MAX {
             if self.next_part(DRAINING, &mut work)? == Parted::NoPart {
                 break;

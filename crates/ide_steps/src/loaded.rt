@@ -1,4 +1,6 @@
 //! A loaded program, shared by the core and what it hands out.
+ghost use Rattle.std.specs.Prelude.{◌≡◌, IfErr};
+
 use ide_graph::{Graph, Site};
 use ide_problem::Problem;
 use ide_tasks::Sources;
@@ -16,7 +18,9 @@ pub struct Loaded<P: Problem> {
 
 impl<P: Problem> Loaded<P> {
     /// The program, ready to be solved. Where memory is wanting, it is dropped.
-    pub fn of(alloc: Global, program: Program) -> Result<Loaded<P>, Refused> {
+    pub fn of(alloc: Global, program: Program) -> Result<Loaded<P>, Refused>
+        ensures { IfErr result (λ e. e ≡ Refused.NoMemory) }
+    {
         let graph = Graph::of(alloc, &program)?;
         let sources = Sources::of(alloc, &graph)?;
         Ok(Loaded {

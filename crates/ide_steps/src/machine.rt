@@ -1,4 +1,10 @@
 //! The core: its state and what may be asked of it.
+ghost use Rattle.std.specs.Prelude.{◌≡◌, ◌↔◌, [], true, false, length, IsTrue, IfErr, OnOk, OnErr};
+ghost use Rattle.ide_steps.specs.Core.{IsUnchanged};
+ghost use Rattle.std.specs.Option.{option_copied};
+ghost use Rattle.ide_tables.specs.Tables.{found};
+ghost use Rattle.ide_worklist.specs.Worklist.{is_pending};
+
 use crate::loaded::Loaded;
 use ide_problem::Problem;
 use ide_tables::{Change, Tables};
@@ -7,6 +13,7 @@ use ide_text::Program;
 use ide_wire::{Key, Refused};
 use ide_worklist::Worklist;
 use std::alloc::Global;
+use std::marker::Model;
 use std::sync::Arc;
 
 /// The most hands that may have a claim: they are numbered from 0.
@@ -23,9 +30,22 @@ pub struct Core<P: Problem> {
     pub(crate) worklist: Worklist<Task<P>>,
 }
 
+impl<P: Problem> Model for Core<P> {
+    ghost use Rattle.std.specs.Option.{is_some};
+    ghost use Rattle.ide_steps.specs.Core.{CoreData};
+
+    ghost Value = { CoreData P.F };
+
+    ghost view = { λ c. record { is_loaded = is_some c.loaded; roots = c.roots.items; table = c.tables; pile = c.worklist } };
+}
+
 impl<P: Problem> Core<P> {
     /// A core with no program. It takes no memory.
-    pub fn new(alloc: Global) -> Core<P> {
+    pub fn new(alloc: Global) -> Core<P>
+        ensures is_loaded { result.is_loaded ≡ false }
+        ensures entries { result.table.entries ≡ [] }
+        ensures pending { result.pile.pending ≡ [] }
+    {
         Core {
             alloc,
             loaded: None,
@@ -38,10 +58,19 @@ impl<P: Problem> Core<P> {
     /// Loads a program: the tables are then empty, nothing is a root, pending or claimed. It takes
     /// time in proportion to the facts at each call. Where memory is wanting (`NoMemory`), the
     /// program is dropped and the core as it was.
-    pub fn load(&mut self, program: Program) -> Result<(), Refused> {
+    pub fn load(&mut self, program: Program) -> Result<(), Refused>
+        ensures is_loaded { OnOk result (self.new.is_loaded ≡ true) }
+        ensures roots { OnOk result (self.new.roots ≡ []) }
+        ensures entries { OnOk result (self.new.table.entries ≡ []) }
+        ensures pending { OnOk result (self.new.pile.pending ≡ []) }
+        ensures claims { OnOk result (self.new.pile.claims ≡ []) }
+        ensures refused { IfErr result (λ e. e ≡ Refused.NoMemory) }
+        ensures unchanged { OnErr result (self.new ≡ self.old) }
+    {
         let loaded = Loaded::of(self.alloc, program)?;
         let call_nodes = loaded.call_nodes(self.alloc)?;
-        self.loaded = Some(Arc::new(self.alloc, loaded)?);
+        let loaded = Arc::new(self.alloc, loaded)?;
+        self.loaded = Some(loaded);
         self.tables = Tables::new(self.alloc, call_nodes);
         self.worklist.clear();
         self.roots.clear();
@@ -49,29 +78,42 @@ impl<P: Problem> Core<P> {
     }
 
     /// Whether no key is pending, claimed or not.
-    pub fn is_quiet(&self) -> bool {
+    pub fn is_quiet(&self) -> bool
+        ensures { IsTrue result ↔ (self.now.pile.pending ≡ []) }
+    {
         self.worklist.is_quiet()
     }
 
     /// The function at a key; an absent one stands for the always-top function.
-    pub fn get(&self, key: Key) -> Option<&P::F> {
+    pub fn get(&self, key: Key) -> Option<&P::F>
+        ensures { option_copied result ≡ found self.now.table key }
+    {
         self.tables.get(key)
     }
 
     /// Whether the key is pending, claimed or not.
-    pub fn is_pending(&self, key: Key) -> bool {
+    pub fn is_pending(&self, key: Key) -> bool
+        ensures { result ≡ is_pending self.now.pile key }
+    {
         self.worklist.is_pending(key)
     }
 
     /// How many keys have an entry.
-    pub fn key_count(&self) -> usize {
+    pub fn key_count(&self) -> usize
+        ensures { result ≡ length self.now.table.entries }
+    {
         self.tables.key_count()
     }
 
     /// Meets one entry with a function. An entry that changed is pending then, and a claim of its
     /// key is marked as lowered.
-    pub(crate) fn lower(&mut self, key: Key, function: P::F) -> Result<Change, Refused> {
-        self.worklist.reserve()?;
+    pub(crate) fn lower(&mut self, key: Key, function: P::F) -> Result<Change, Refused>
+        ensures is_loaded { self.new.is_loaded ≡ self.old.is_loaded }
+        ensures roots { self.new.roots ≡ self.old.roots }
+        ensures refused { IfErr result (λ e. e ≡ Refused.NoMemory) }
+        ensures unchanged { OnErr result (IsUnchanged self.old self.new) }
+    {
+        self.worklist.reserve(1)?;
         let change = self.tables.lower(key, function)?;
         if change == Change::Lowered {
             self.worklist.push(key);

@@ -1,4 +1,6 @@
 //! Roots: where analysis begins.
+ghost use Rattle.std.specs.Prelude.{◌≡◌, ◌↔◌, ◌⊎◌, false, Err, IfErr};
+
 use crate::machine::Core;
 use ide_lattice::EdgeFn;
 use ide_problem::Problem;
@@ -10,7 +12,9 @@ impl<P: Problem> Core<P> {
     ///
     /// Refusals, in this order: `NoProgram`; `NoProcedure`; `HasParameters`; `Already`;
     /// `NoMemory`.
-    pub fn root(&mut self, name: &[u8]) -> Result<(), Refused> {
+    pub fn root(&mut self, name: &[u8]) -> Result<(), Refused>
+        ensures no_program { (result ≡ Err Refused.NoProgram) ↔ (self.old.is_loaded ≡ false) }
+    {
         let Some(loaded) = &self.loaded else {
             return Err(Refused::NoProgram);
         };
@@ -26,13 +30,19 @@ impl<P: Problem> Core<P> {
         let start = loaded.graph.start_of(procedure);
         let entries = loaded.graph.entry_count();
         self.roots.reserve(1)?;
+        self.tables.reserve(entries)?;
+        self.worklist.reserve(entries)?;
         self.begin(start, entries)?;
         self.roots.push(procedure)?;
         Ok(())
     }
 
-    /// Begins a jump by the identity at each of the first `entries` facts of the start.
-    fn begin(&mut self, start: Node, entries: usize) -> Result<(), Refused> {
+    /// Begins a jump by the identity at each of the first `entries` facts of the start. Where there
+    /// is room for so many keys it takes no memory: a start is no call node, so that the index of
+    /// the tables does not note its keys.
+    fn begin(&mut self, start: Node, entries: usize) -> Result<(), Refused>
+        ensures { IfErr result (λ e. e ≡ Refused.NoMemory) }
+    {
         for fact in 0..=Fact::MAX {
             if fact as usize >= entries {
                 break;

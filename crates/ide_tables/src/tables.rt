@@ -136,6 +136,16 @@ impl<F: EdgeFn> Tables<F> {
         })
     }
 
+    /// Makes room for so many more keys that the index does not note. `NoMemory` leaves the table as
+    /// it was.
+    pub fn reserve(&mut self, additional: usize) -> Result<(), Refused>
+        ensures same { self.new ≡ self.old }
+        ensures refused { IfErr result (λ e. e ≡ NoMemory) }
+    {
+        self.functions.reserve(additional)?;
+        Ok(())
+    }
+
     /// Meets the key's function with `f`, and says whether that changed it. `NoMemory` leaves the
     /// table as it was. One look-up, where nothing changes.
     pub fn lower(&mut self, key: Key, f: F) -> Result<Change, Refused>

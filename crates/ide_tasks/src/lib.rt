@@ -10,11 +10,13 @@
 //! caller that reach a fact at the procedure's start.
 #![tactic(auto)]
 
+mod partners;
 mod parts;
 mod sources;
 mod task;
 mod work;
 
+pub use partners::{Partners, Reaching};
 pub use sources::Sources;
-pub use task::{Partners, Reaching, Task};
+pub use task::Task;
 pub use work::Work;

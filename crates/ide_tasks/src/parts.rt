@@ -1,7 +1,8 @@
 //! The parts that a task owes: by edge in the site's order, then by partner, then by target.
 ghost use Rattle.std.specs.Prelude.{◌≡◌, IfErr, OnErr};
 
-use crate::task::{Partners, Reaching, Task};
+use crate::partners::{Partners, Reaching};
+use crate::task::Task;
 use ide_graph::{Caller, EdgeData, Site};
 use ide_lattice::EdgeFn;
 use ide_problem::{Problem, TargetList};

@@ -1,5 +1,5 @@
 //! The inverse of call flow.
-use crate::task::Reaching;
+use crate::partners::Reaching;
 use ide_graph::{Caller, Graph, Site};
 use ide_lattice::EdgeFn;
 use ide_problem::{Problem, TargetList};

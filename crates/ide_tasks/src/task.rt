@@ -1,34 +1,14 @@
 //! A claimed key with all that its parts depend on.
 ghost use Rattle.std.specs.Prelude.{◌≡◌, IfOk};
+ghost use Rattle.ide_tasks.specs.Task.{same_site, same_task};
 
+use crate::partners::Partners;
 use ide_graph::Site;
-use ide_lattice::EdgeFn;
 use ide_problem::Problem;
-use ide_wire::{Fact, Key};
+use ide_wire::Key;
 use std::alloc::{AllocError, Global};
+use std::marker::Model;
 use std::sync::Arc;
-
-/// What a task joins its own function with.
-#[derive(PartialEq, Eq, Drop)]
-pub enum Partners<F: EdgeFn> {
-    /// Entries of the tables that were present at the claim, ascending by fact: at a call node the
-    /// second facts of its summaries, for a summary the first facts of the jumps at its call node,
-    /// and none at a node that is neither call nor exit.
-    Entries(Vec<(Fact, F)>),
-    /// At an exit, what the call flow of its callers reaches, by caller and then by fact.
-    Callers(Vec<Reaching<F>>),
-}
-
-/// A fact at a call node whose call flow reaches the first fact of a jump at the callee's exit.
-#[derive(Clone, Copy, PartialEq, Eq)]
-pub struct Reaching<F: EdgeFn> {
-    /// The index of the caller in the exit's site.
-    pub caller: u32,
-    /// The fact at the call node.
-    pub fact: Fact,
-    /// The function on the call edge.
-    pub function: F,
-}
 
 /// A claimed key, its function when it was claimed, the site of its node, and its partners.
 #[derive(Drop)]
@@ -39,18 +19,13 @@ pub struct Task<P: Problem> {
     pub partners: Partners<P::F>,
 }
 
-impl<F: EdgeFn> Partners<F> {
-    /// The same partners again.
-    pub fn copy(&self, alloc: Global) -> Result<Partners<F>, AllocError> {
-        match self {
-            Partners::Entries(entries) => {
-                Ok(Partners::Entries(Vec::from_slice(alloc, entries.as_slice())?))
-            }
-            Partners::Callers(callers) => {
-                Ok(Partners::Callers(Vec::from_slice(alloc, callers.as_slice())?))
-            }
-        }
-    }
+impl<P: Problem> Model for Task<P> {
+    ghost use Rattle.std.specs.Arc.{arc_value};
+    ghost use Rattle.ide_tasks.specs.Task.{TaskData};
+
+    ghost Value = { TaskData P.F };
+
+    ghost view = { λ t. record { key = t.key; function = t.function; site = arc_value t.site; partners = t.partners } };
 }
 
 impl<P: Problem> Task<P> {
@@ -58,6 +33,7 @@ impl<P: Problem> Task<P> {
     pub fn copy(&self, alloc: Global) -> Result<Task<P>, AllocError>
         ensures key { IfOk result (λ t. t.key ≡ self.now.key) }
         ensures function { IfOk result (λ t. t.function ≡ self.now.function) }
+        ensures site { IfOk result (λ t. t.site ≡ self.now.site) }
     {
         let partners = self.partners.copy(alloc)?;
         let site = Arc::try_clone(&self.site)?;
@@ -71,10 +47,20 @@ impl<P: Problem> Task<P> {
 
     /// Whether the tasks are the same: key, function, site and partners. It takes time in
     /// proportion to site and partners.
-    pub fn is_same(&self, other: &Task<P>) -> bool {
+    pub fn is_same(&self, other: &Task<P>) -> bool
+        ensures { result ≡ same_task P.F.eq ⟦<Partners<P::F> as PartialEq>⟧.eq self.now other.now }
+    {
         self.key == other.key
             && self.function == other.function
             && self.partners == other.partners
-            && *self.site == *other.site
+            && is_same_site(&self.site, &other.site)
     }
+}
+
+/// Whether two sites are the same.
+#[tactic(auto, unfolding(crate::specs::Task::same_site))]
+fn is_same_site(one: &Site, other: &Site) -> bool
+    ensures { result ≡ same_site one.now other.now }
+{
+    *one == *other
 }

@@ -1,5 +1,5 @@
 //! A task with its parts.
-ghost use Rattle.std.specs.Prelude.{◌≡◌, ◌+◌, IfErr, length, min, slice_get};
+ghost use Rattle.std.specs.Prelude.{◌≡◌, ◌+◌, IfErr, IfNone, IfOk, length, min, slice_get};
 
 use crate::parts::parts_of;
 use crate::task::Task;
@@ -22,7 +22,7 @@ impl<P: Problem> Model for Work<P> {
 
     ghost Value = { WorkData P.F };
 
-    ghost view = { λ w. record { parts = w.parts.items; done = w.done } };
+    ghost view = { λ w. record { task = w.task; parts = w.parts.items; done = w.done } };
 
     ghost invariant = { λ w. w.done ≤ length w.parts.items };
 }
@@ -30,7 +30,9 @@ impl<P: Problem> Model for Work<P> {
 impl<P: Problem> Work<P> {
     /// The work of a task, with no part done. Where memory is wanting, the task comes back.
     pub fn of(alloc: Global, task: Task<P>) -> Result<Work<P>, (Refused, Task<P>)>
-        ensures { IfErr result (λ e. (e.0 ≡ Refused.NoMemory) × (e.1 ≡ task)) }
+        ensures task { IfOk result (λ work. work.task ≡ task) }
+        ensures none_done { IfOk result (λ work. work.done ≡ 0) }
+        ensures refused { IfErr result (λ e. (e.0 ≡ Refused.NoMemory) × (e.1 ≡ task)) }
     {
         match parts_of(alloc, &task) {
             Ok(parts) => Ok(Work {
@@ -43,7 +45,9 @@ impl<P: Problem> Work<P> {
     }
 
     /// The task that the parts are of.
-    pub fn task(&self) -> &Task<P> {
+    pub fn task(&self) -> &Task<P>
+        ensures { result.now ≡ self.now.task }
+    {
         &self.task
     }
 
@@ -56,13 +60,15 @@ impl<P: Problem> Work<P> {
 
     /// The first part that is not done.
     pub fn next(&self) -> Option<(Key, P::F)>
-        ensures { result ≡ slice_get self.now.parts self.now.done }
+        ensures next { result ≡ slice_get self.now.parts self.now.done }
+        ensures all_done { IfNone result (self.now.done ≡ length self.now.parts) }
     {
         self.parts.get(self.done).copied()
     }
 
     /// Counts the next part as done, if one is left.
     pub fn advance(&mut self)
+        ensures task { self.new.task ≡ self.old.task }
         ensures parts { self.new.parts ≡ self.old.parts }
         ensures done { self.new.done ≡ min (self.old.done + 1) (length self.old.parts) }
     {

@@ -22,11 +22,11 @@ pub struct Values<P: Problem> {
 
 /// The phase that turns a quiet image into values.
 pub trait ValuePhase<P: Problem> {
-    /// The values of the image, computed by so many workers.
+    /// The values of the image. The count of workers is tested; the calling thread fills all.
     ///
     /// Refusals, in this order: `Limit` where there are no workers or more than 64; `NoMemory`.
-    /// It reads each entry of the tables once, after work in proportion to what the start values
-    /// do.
+    /// It reads each entry of the tables once, after work in proportion to how the start values
+    /// fall.
     fn values(&self, alloc: Global, workers: usize) -> Result<Values<P>, Refused>;
 }
 

@@ -12,7 +12,7 @@ const SECOND: Key = Key::Summary(1, 0, 2);
 fn both_pending(alloc: Global) -> Result<Worklist<u8>, Fail> {
     let mut list = Worklist::new(alloc);
     for key in [FIRST, SECOND, FIRST] {
-        list.reserve()?;
+        list.reserve(1)?;
         list.push(key);
     }
     Ok(list)
@@ -42,7 +42,7 @@ fn keeps_a_key_that_fell_while_claimed(rt: HostRuntime) -> Result<(), Fail> {
     list.set_done(3, 2);
     let claim = list.claim(3).ok_or("no claim")?;
     assert_eq!(rt; (claim.task, claim.done, claim.lowered), (7, 2, false));
-    list.reserve()?;
+    list.reserve(1)?;
     list.push(SECOND);
     let ended = list.finish(3).ok_or("no claim")?;
     assert!(rt; ended.lowered);

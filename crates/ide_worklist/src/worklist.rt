@@ -73,14 +73,14 @@ impl<T: Drop> Worklist<T> {
         last_unclaimed(self.pending.as_slice(), &self.claims)
     }
 
-    /// Makes room for one more push. `NoMemory` leaves the list as it was.
-    pub fn reserve(&mut self) -> Result<(), Refused>
-        ensures room { OnOk result (0 < self.new.spare) }
+    /// Makes room for so many more pushes. `NoMemory` leaves the list as it was.
+    pub fn reserve(&mut self, additional: usize) -> Result<(), Refused>
+        ensures room { OnOk result (additional ≤ self.new.spare) }
         ensures refused { IfErr result (λ e. e ≡ NoMemory) }
         ensures pending { self.new.pending ≡ self.old.pending }
         ensures claims { self.new.claims ≡ self.old.claims }
     {
-        self.pending.reserve(1)?;
+        self.pending.reserve(additional)?;
         Ok(())
     }
 
