@@ -1,5 +1,5 @@
 -- When two keys are the same: the answer of the code's `==`, by which maps and sets of keys work.
-use Rattle.std.specs.Prelude.{◌≡◌, Bool, true}
+use Rattle.std.specs.Prelude.{◌≡◌, ℕ, Bool, true}
 use Rattle.std.specs.Cmp.{IsEquivalence}
 use Rattle.std.proofs.Common.{ap, arith}
 use Rattle.std.proofs.lemmas.Bool.Decides.{nat_tests}
@@ -33,3 +33,8 @@ same_key_congr x y z h = ap (λ w. same_key w z) (same_key_exact x y h)
 
 pub same_key_laws : IsEquivalence same_key
 same_key_laws = record { refl = same_key_refl; symm = same_key_symm; congr = same_key_congr }
+
+-- the node that a key stands at: of a summary its call node
+abbrev pub node_of : Key → ℕ
+node_of (Jump n a b) = n
+node_of (Summary c a b) = c

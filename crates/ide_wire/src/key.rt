@@ -1,4 +1,5 @@
 //! Nodes, facts and keys.
+ghost use Rattle.std.specs.Prelude.{◌≡◌};
 
 /// A node of the supergraph, numbered from 0, procedure by procedure.
 pub type Node = u32;
@@ -17,8 +18,12 @@ pub enum Key {
 }
 
 impl Key {
+    ghost use Rattle.ide_wire.specs.Key.{node_of};
+
     /// The node that the key stands at: of a summary its call node.
-    pub fn node(self) -> Node {
+    pub fn node(self) -> Node
+        ensures { result ≡ node_of self }
+    {
         match self {
             Key::Jump(node, _, _) => node,
             Key::Summary(call, _, _) => call,
