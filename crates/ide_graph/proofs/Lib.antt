@@ -1,3 +1,4 @@
 pub mod DirectoryLemmas
 pub mod GraphLemmas
+pub mod NamedLemmas
 pub mod NumberedLemmas

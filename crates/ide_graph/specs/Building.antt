@@ -19,5 +19,5 @@ AreProcedures builder procedures = All (λ procedure. procedure < procedure_coun
 -- the first pass went over the whole program
 pub record IsReady (builder : Builder) : Type 0 where
   pub numbered : IsNumbered builder.numbering.now
-  pub counted : builder.directory.now ≡ procedure_count builder
+  pub counted : builder.directory.now.count ≡ procedure_count builder
   pub last : builder.last ≡ node_count builder - 1

@@ -1,10 +1,12 @@
 -- What contracts see of a graph.
-use Rattle.std.specs.Prelude.{ℕ, ◌+◌, ◌<◌, ◌≤◌, ◌≡◌, List, slice_index}
+use Rattle.std.specs.Prelude.{ℕ, ◌+◌, ◌<◌, ◌≤◌, ◌≡◌, List, Option, IfSome, slice_index, slice_index_or, []}
+use Rattle.ide_graph.specs.Named.{procedure_of_name, fact_of_name}
 use Rattle.ide_graph.specs.declared.site.Site.{Site}
 
 -- how many procedures, nodes and facts it has, and how many facts may hold at its entry; the
--- procedure of each node; the start, the exit and the count of parameters of each procedure; and
--- the site of each node
+-- procedure of each node; the start, the exit and the count of parameters of each procedure; the
+-- site of each node; the names that find procedures; and the names of globals and of each
+-- procedure's own facts
 pub record Supergraph : Type 0 where
   pub procedures : ℕ
   pub nodes : ℕ
@@ -15,8 +17,19 @@ pub record Supergraph : Type 0 where
   pub exits : List ℕ
   pub parameters : List ℕ
   pub sites : List Site
+  pub named : List (List ℕ × ℕ)
+  pub globals : List (List ℕ)
+  pub own : List (List (List ℕ))
 
 -- the node stands at that position of one of the procedures
 abbrev pub StandsAt : Supergraph → ℕ → ℕ → Type 0
 StandsAt graph node position =
     (procedure : ℕ) × (procedure < graph.procedures) × (node ≡ slice_index graph.starts procedure + position) × (node ≤ slice_index graph.exits procedure)
+
+-- the index of the procedure of the name
+abbrev pub procedure_named : Supergraph → List ℕ → Option ℕ
+procedure_named graph name = procedure_of_name graph.named name
+
+-- the fact of the name at the nodes of a procedure
+abbrev pub fact_named : Supergraph → ℕ → List ℕ → Option ℕ
+fact_named graph procedure name = fact_of_name graph.globals (slice_index_or graph.own procedure []) name

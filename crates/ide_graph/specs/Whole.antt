@@ -19,6 +19,9 @@ counts_of graph = record {
   exits = map (λ layout. layout.exit) graph.layouts.items;
   parameters = map (λ layout. layout.parameter_count) graph.layouts.items;
   sites = map arc_value graph.sites.items;
+  named = graph.directory.procedures;
+  globals = graph.globals.names;
+  own = map (λ layout. layout.own) graph.layouts.items;
 }
 
 -- sites, procedures and names speak of the graph's own nodes, procedures and facts
@@ -28,5 +31,5 @@ pub record IsWhole (graph : Inside) : Type 0 where
   pub owners : length graph.owners.items ≡ length graph.sites.items
   pub owned : All (λ procedure. procedure < length graph.layouts.items) graph.owners.items
   pub placed : StandWithin (length graph.sites.items) graph.layouts.items
-  pub named : graph.directory ≡ length graph.layouts.items
+  pub named : graph.directory.count ≡ length graph.layouts.items
   pub own : All (λ layout. length layout.own ≤ graph.most_own) graph.layouts.items

@@ -41,7 +41,7 @@ impl<'a, 'p> Builder<'a, 'p> {
         numbering: &'a Numbering<'p>,
     ) -> Builder<'a, 'p>
         requires numbered { IsNumbered numbering.now }
-        requires counted { directory.now ≡ length numbering.now.layouts.items }
+        requires counted { directory.now.count ≡ length numbering.now.layouts.items }
         ensures ready { IsReady result }
         ensures same { result.numbering ≡ numbering.entry }
     {

@@ -1,5 +1,6 @@
 //! The names of a program's procedures.
 ghost use Rattle.std.specs.Prelude.{◌≡◌, ◌<◌, length, IfOk, IfSome, IfErr};
+ghost use Rattle.ide_graph.specs.Named.{procedure_of_name};
 ghost use Rattle.ide_wire.specs.declared.refused.Refused.TheVariants.{NoMemory};
 
 use ide_text::Procedure;
@@ -9,7 +10,7 @@ use std::alloc::Global;
 use std::marker::Model;
 
 /// The procedures of a program by their names, each found in constant time. Contracts see how
-/// many procedures there are.
+/// many procedures there are, and the names with their procedures.
 #[derive(Drop)]
 pub(crate) struct Directory {
     indices: IndexMap<Vec<u8>, usize>,
@@ -17,13 +18,14 @@ pub(crate) struct Directory {
 }
 
 impl Model for Directory {
-    ghost use Rattle.std.specs.Prelude.{ℕ, ◌<◌};
+    ghost use Rattle.std.specs.Prelude.{ℕ, ◌<◌, map};
     ghost use Rattle.std.specs.List.{All};
     ghost use Rattle.std.specs.Map.{values_of};
+    ghost use Rattle.ide_graph.specs.Named.{Named};
 
-    ghost Value = { ℕ };
+    ghost Value = { Named };
 
-    ghost view = { λ d. d.procedure_count };
+    ghost view = { λ d. record { count = d.procedure_count; procedures = map (λ e. (e.0.items, e.1)) d.indices.entries } };
 
     ghost invariant = { λ d. All (λ index. index < d.procedure_count) (values_of d.indices.entries) };
 }
@@ -31,7 +33,7 @@ impl Model for Directory {
 impl Directory {
     /// The names of these procedures. Of two with one name it has the first.
     pub fn of(alloc: Global, procedures: &[Procedure]) -> Result<Directory, Refused>
-        ensures counted { IfOk result (λ directory. directory ≡ length procedures.now) }
+        ensures counted { IfOk result (λ directory. directory.count ≡ length procedures.now) }
         ensures refused { IfErr result (λ refused. refused ≡ NoMemory) }
     {
         let mut directory = Directory {
@@ -46,15 +48,16 @@ impl Directory {
 
     /// The index of the procedure of that name.
     pub fn find(&self, name: &[u8]) -> Option<usize>
-        ensures within { IfSome result (λ index. index < self.now) }
+        ensures value { result ≡ procedure_of_name self.now.procedures name.now }
+        ensures within { IfSome result (λ index. index < self.now.count) }
     {
         self.indices.get(name).copied()
     }
 
     /// Gives a name its procedure, unless it has one.
     fn add(&mut self, alloc: Global, name: &[u8], index: usize) -> Result<(), Refused>
-        requires { index < self.old }
-        ensures counted { self.new ≡ self.old }
+        requires { index < self.old.count }
+        ensures counted { self.new.count ≡ self.old.count }
         ensures refused { IfErr result (λ refused. refused ≡ NoMemory) }
     {
         if !self.indices.contains_key(name) {

@@ -1,5 +1,6 @@
 //! The numbers of facts: `@zero`, the globals, `@result`, and after them a procedure's own.
 ghost use Rattle.std.specs.Prelude.{◌≡◌, ◌+◌, ◌<◌, ◌≤◌, min, length, IfOk, IfSome, IfErr};
+ghost use Rattle.ide_graph.specs.Named.{fact_of_name, shared_fact_of_name};
 ghost use Rattle.ide_wire.specs.declared.refused.Refused.TheVariants.{NoMemory};
 
 use crate::names::Names;
@@ -64,6 +65,7 @@ impl Globals {
 
     /// The fact of a name, where a procedure's own facts have these names.
     pub fn fact_named(&self, own: &Names, name: &[u8]) -> Option<Fact>
+        ensures value { result ≡ fact_of_name self.now.names own.now name.now }
         ensures within { IfSome result (λ fact. fact < min (length self.now.names + 2 + length own.now) 65536) }
     {
         match own.index_of(name) {
@@ -74,6 +76,7 @@ impl Globals {
 
     /// The fact of a name that every procedure has: `@zero`, a global or `@result`.
     fn shared_fact_named(&self, name: &[u8]) -> Option<Fact>
+        ensures value { result ≡ shared_fact_of_name self.now.names name.now }
         ensures shared { IfSome result (λ fact. fact ≤ min (length self.now.names + 1) 65535) }
     {
         if name == ZERO {

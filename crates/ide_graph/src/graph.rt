@@ -1,5 +1,5 @@
 //! The supergraph of a program.
-ghost use Rattle.std.specs.Prelude.{◌≡◌, ◌<◌, ◌≤◌, ◌^◌, ◌⊎◌, IfOk, IfErr, IfSome, length, map, slice_index, slice_index_or};
+ghost use Rattle.std.specs.Prelude.{◌≡◌, ℕ, ◌+◌, ◌↔◌, Some, None, Err, ◌<◌, ◌≤◌, ◌^◌, ◌⊎◌, IfOk, IfErr, IfSome, length, map, slice_index, slice_index_or};
 ghost use Rattle.std.specs.List.{All};
 ghost use Rattle.std.specs.Arc.{arc_value};
 ghost use Rattle.ide_wire.specs.declared.refused.Refused.TheVariants.{NoMemory, NoProcedure, OutOfRange};
@@ -52,7 +52,7 @@ impl Model for Graph {
 }
 
 impl Graph {
-    ghost use Rattle.ide_graph.specs.Supergraph.{StandsAt};
+    ghost use Rattle.ide_graph.specs.Supergraph.{StandsAt, procedure_named, fact_named};
 
     /// The graph of a program. Time grows with the number of edges and the program's size.
     pub fn of(alloc: Global, program: &Program) -> Result<Graph, Refused>
@@ -166,6 +166,7 @@ impl Graph {
 
     /// The index of the procedure of a name.
     pub fn procedure_named(&self, name: &[u8]) -> Option<usize>
+        ensures value { result ≡ procedure_named self.now name.now }
         ensures within { IfSome result (λ procedure. procedure < self.now.procedures) }
     {
         self.directory.find(name)
@@ -192,6 +193,9 @@ impl Graph {
         ensures position { IfOk result (λ found. StandsAt self.now found.0 position) }
         ensures node { IfOk result (λ found. found.0 < self.now.nodes) }
         ensures fact { IfOk result (λ found. found.1 < self.now.facts) }
+        ensures fact_named { IfOk result (λ found. (index : ℕ) × (procedure_named self.now procedure.now ≡ Some index) × (fact_named self.now index fact.now ≡ Some found.1)) }
+        ensures no_procedure { (result ≡ Err NoProcedure) ↔ (procedure_named self.now procedure.now ≡ None) }
+        ensures out_of_range { result ≡ Err OutOfRange → (index : ℕ) × (procedure_named self.now procedure.now ≡ Some index) × ((slice_index self.now.exits index < slice_index self.now.starts index + position) ⊎ (fact_named self.now index fact.now ≡ None)) }
         ensures refused { IfErr result (λ refused. (refused ≡ NoProcedure) ⊎ (refused ≡ OutOfRange)) }
     {
         let index = self.procedure_named(procedure).ok_or(Refused::NoProcedure)?;

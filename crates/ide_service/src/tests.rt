@@ -6,8 +6,9 @@ use ide_lattice::{EdgeFn, Lattice};
 use ide_steps::{Claimed, Core};
 use ide_tasks::Work;
 use ide_text::parse;
-use ide_wire::{Key, Refused};
+use ide_wire::{Fact, Key, Node, Refused};
 use std::alloc::Global;
+use std::process::Abort;
 use std::test::Fail;
 
 const COPIES: &str = "proc main\nvar x\nvar y\nx = 5\ny = x\nend\n";
@@ -54,38 +55,64 @@ fn value(
     values.at(node, fact)
 }
 
+/// Asserts the value of a fact at a position of a procedure.
+fn expect_value(
+    rt: &(impl Abort + AllocGlobal),
+    text: &str,
+    procedure: &str,
+    position: u32,
+    fact: &str,
+    want: ConstValue,
+) {
+    let found = value(rt.alloc(), text, procedure, position, fact);
+    assert_eq!(rt;
+        found,
+        Ok(want),
+        "{fact} at {position} of {procedure} in {text}"
+    );
+}
+
 #[test]
-fn values_of_the_worked_programs(rt: HostRuntime) -> Result<(), Fail> {
-    let rows = [
-        (COPIES, "main", 3, "y", ConstValue::Const(5)),
-        (COPIES, "main", 1, "y", ConstValue::Bottom),
-        (COPIES, "main", 0, "y", ConstValue::Top),
-        (BRANCH, "main", 7, "x", ConstValue::Const(5)),
-        (BRANCH_OF_TWO, "main", 7, "x", ConstValue::Bottom),
-        (TWO_CALLS, "main", 7, "x", ConstValue::Const(5)),
-        (TWO_CALLS, "main", 7, "y", ConstValue::Const(6)),
-        (TWO_CALLS, "id", 2, "p", ConstValue::Bottom),
-        (SUM_OR_NUMBER, "main", 7, "u", ConstValue::Bottom),
-        (WRAPPING_SUM, "main", 3, "y", ConstValue::Bottom),
-        (RECURSION, "main", 4, "g", ConstValue::Bottom),
-        (UNREACHABLE, "main", 3, "@zero", ConstValue::Top),
-        (UNREACHABLE, "main", 3, "@result", ConstValue::Top),
-        (UNREACHABLE, "main", 3, "x", ConstValue::Top),
-        (UNREACHABLE, "main", 5, "x", ConstValue::Const(1)),
-        (UNINITIALISED, "main", 3, "y", ConstValue::Bottom),
-        (ADDS_IN_CALLEE, "f", 0, "p", ConstValue::Bottom),
-        (ADDS_IN_CALLEE, "main", 4, "a", ConstValue::Const(1)),
-        (NUMBER, "main", 2, "x", ConstValue::Const(5)),
-    ];
-    for (text, procedure, position, fact, want) in rows {
-        let found = value(rt.alloc(), text, procedure, position, fact)?;
-        assert_eq!(rt;
-            found,
-            want,
-            "{fact} at {position} of {procedure} in {text}"
-        );
-    }
-    Ok(())
+fn straight_lines(rt: HostRuntime) {
+    expect_value(&rt, COPIES, "main", 3, "y", ConstValue::Const(5));
+    expect_value(&rt, COPIES, "main", 1, "y", ConstValue::Bottom);
+    expect_value(&rt, COPIES, "main", 0, "y", ConstValue::Top);
+    expect_value(&rt, NUMBER, "main", 2, "x", ConstValue::Const(5));
+}
+
+#[test]
+fn branches(rt: HostRuntime) {
+    expect_value(&rt, BRANCH, "main", 7, "x", ConstValue::Const(5));
+    expect_value(&rt, BRANCH_OF_TWO, "main", 7, "x", ConstValue::Bottom);
+}
+
+#[test]
+fn unreachable_statements(rt: HostRuntime) {
+    expect_value(&rt, UNREACHABLE, "main", 3, "@zero", ConstValue::Top);
+    expect_value(&rt, UNREACHABLE, "main", 3, "@result", ConstValue::Top);
+    expect_value(&rt, UNREACHABLE, "main", 3, "x", ConstValue::Top);
+    expect_value(&rt, UNREACHABLE, "main", 5, "x", ConstValue::Const(1));
+}
+
+#[test]
+fn sums_and_unassigned(rt: HostRuntime) {
+    expect_value(&rt, WRAPPING_SUM, "main", 3, "y", ConstValue::Bottom);
+    expect_value(&rt, UNINITIALISED, "main", 3, "y", ConstValue::Bottom);
+}
+
+#[test]
+fn two_calls(rt: HostRuntime) {
+    expect_value(&rt, TWO_CALLS, "main", 7, "x", ConstValue::Const(5));
+    expect_value(&rt, TWO_CALLS, "main", 7, "y", ConstValue::Const(6));
+    expect_value(&rt, TWO_CALLS, "id", 2, "p", ConstValue::Bottom);
+}
+
+#[test]
+fn calls_and_recursion(rt: HostRuntime) {
+    expect_value(&rt, SUM_OR_NUMBER, "main", 7, "u", ConstValue::Bottom);
+    expect_value(&rt, RECURSION, "main", 4, "g", ConstValue::Bottom);
+    expect_value(&rt, ADDS_IN_CALLEE, "f", 0, "p", ConstValue::Bottom);
+    expect_value(&rt, ADDS_IN_CALLEE, "main", 4, "a", ConstValue::Const(1));
 }
 
 #[test]
@@ -103,21 +130,28 @@ fn dump_of_the_two_assignments(rt: HostRuntime) -> Result<(), Fail> {
     Ok(())
 }
 
-#[test]
-fn refusals_leave_the_vector(rt: HostRuntime) -> Result<(), Fail> {
-    let rows: [(&str, &[&[u8]], Refused); 4] = [
-        (COPIES, &[b"none"], Refused::NoProcedure),
-        (TWO_CALLS, &[b"id"], Refused::HasParameters),
-        (TWO_CALLS, &[b"main", b"main"], Refused::Already),
-        (TWO_CALLS, &[b"main", b"none"], Refused::NoProcedure),
-    ];
-    for (text, roots, want) in rows {
-        let mut out = Vec::from_slice(rt.alloc(), b"kept")?;
-        let refused = solve::<CopyConst>(rt.alloc(), text.as_bytes(), roots, &mut out);
-        assert_eq!(rt; refused, Err(want), "{text}");
-        assert_eq!(rt; out.as_slice(), b"kept".as_slice());
-    }
+/// Asserts that a solve is refused so, and leaves its vector.
+fn expect_refusal(
+    rt: &(impl Abort + AllocGlobal),
+    text: &str,
+    roots: &[&[u8]],
+    want: Refused,
+) -> Result<(), Fail> {
+    let mut out = Vec::from_slice(rt.alloc(), b"kept")?;
+    let refused = solve::<CopyConst>(rt.alloc(), text.as_bytes(), roots, &mut out);
+    assert_eq!(rt; refused, Err(want), "{text}");
+    assert_eq!(rt; out.as_slice(), b"kept".as_slice());
     Ok(())
+}
+
+#[test]
+fn roots_that_are_refused(rt: HostRuntime) -> Result<(), Fail> {
+    let main = b"main".as_slice();
+    let none = b"none".as_slice();
+    expect_refusal(&rt, COPIES, &[none], Refused::NoProcedure)?;
+    expect_refusal(&rt, TWO_CALLS, &[b"id".as_slice()], Refused::HasParameters)?;
+    expect_refusal(&rt, TWO_CALLS, &[main, main], Refused::Already)?;
+    expect_refusal(&rt, TWO_CALLS, &[main, none], Refused::NoProcedure)
 }
 
 /// A core with the text loaded and `main` as its root.
@@ -136,31 +170,46 @@ fn tasks_and_quiescent_tables(rt: HostRuntime) -> Result<(), Fail> {
     core.drain()?;
     assert!(rt; core.is_quiet());
     assert_eq!(rt; core.key_count(), 51 + 4);
-    for (call, from, to) in [(6, 0, 0), (6, 2, 4), (8, 0, 0), (8, 3, 5)] {
-        let summary = core.get(Key::Summary(call, from, to)).copied();
-        assert_eq!(rt; summary, Some(ConstFn::id()));
-        assert!(rt; !core.is_pending(Key::Summary(call, from, to)));
-    }
+    expect_summary(&rt, &core, 6, 0, 0);
+    expect_summary(&rt, &core, 6, 2, 4);
+    expect_summary(&rt, &core, 8, 0, 0);
+    expect_summary(&rt, &core, 8, 3, 5);
+    Ok(())
+}
+
+/// Asserts that a summary is the identity, and not pending.
+fn expect_summary(
+    rt: &(impl Abort + AllocGlobal),
+    core: &Core<CopyConst>,
+    call: Node,
+    from: Fact,
+    to: Fact,
+) {
+    let key = Key::Summary(call, from, to);
+    assert_eq!(rt; core.get(key).copied(), Some(ConstFn::id()));
+    assert!(rt; !core.is_pending(key));
+}
+
+/// Asserts the counts of procedures, nodes and facts.
+fn expect_counts(
+    rt: &(impl Abort + AllocGlobal),
+    text: &str,
+    procedures: usize,
+    nodes: usize,
+    facts: usize,
+) -> Result<(), Fail> {
+    let graph = Graph::of(rt.alloc(), &parse(rt.alloc(), text.as_bytes())?)?;
+    assert_eq!(rt; graph.procedure_count(), procedures, "{text}");
+    assert_eq!(rt; graph.node_count(), nodes, "{text}");
+    assert_eq!(rt; graph.fact_count(), facts, "{text}");
     Ok(())
 }
 
 #[test]
 fn graphs_of_the_worked_programs(rt: HostRuntime) -> Result<(), Fail> {
-    let rows = [
-        (EMPTY, (1, 2, 2)),
-        (TWO_CALLS, (2, 11, 6)),
-        (RECURSION, (2, 12, 3)),
-    ];
-    for (text, want) in rows {
-        let graph = Graph::of(rt.alloc(), &parse(rt.alloc(), text.as_bytes())?)?;
-        let counts = (
-            graph.procedure_count(),
-            graph.node_count(),
-            graph.fact_count(),
-        );
-        assert_eq!(rt; counts, want, "{text}");
-    }
-    Ok(())
+    expect_counts(&rt, EMPTY, 1, 2, 2)?;
+    expect_counts(&rt, TWO_CALLS, 2, 11, 6)?;
+    expect_counts(&rt, RECURSION, 2, 12, 3)
 }
 
 /// The refusal of a claim, if it was refused.
@@ -171,15 +220,25 @@ fn refused_claim(core: &mut Core<CopyConst>, hand: usize) -> Option<Refused> {
     }
 }
 
+/// Asserts the refusal of a claim.
+fn expect_refused_claim(
+    rt: &(impl Abort + AllocGlobal),
+    core: &mut Core<CopyConst>,
+    hand: usize,
+    want: Refused,
+) {
+    assert_eq!(rt; refused_claim(core, hand), Some(want));
+}
+
 #[test]
 fn claims_of_several_hands(rt: HostRuntime) -> Result<(), Fail> {
     let mut core: Core<CopyConst> = Core::new(rt.alloc());
-    assert_eq!(rt; refused_claim(&mut core, 0), Some(Refused::NoProgram));
+    expect_refused_claim(&rt, &mut core, 0, Refused::NoProgram);
     let mut core = begun(rt.alloc(), NUMBER)?;
     assert!(rt; matches!(core.claim(0)?, Claimed::Task(_)));
     assert!(rt; matches!(core.claim(1)?, Claimed::Idle));
-    assert_eq!(rt; refused_claim(&mut core, 0), Some(Refused::Busy));
-    assert_eq!(rt; refused_claim(&mut core, 64), Some(Refused::Limit));
+    expect_refused_claim(&rt, &mut core, 0, Refused::Busy);
+    expect_refused_claim(&rt, &mut core, 64, Refused::Limit);
     assert!(rt; matches!(core.freeze(), Err(Refused::Unfinished)));
     assert_eq!(rt; core.release(0), Ok(()));
     assert_eq!(rt; core.release(0), Err(Refused::Stale));

@@ -1,5 +1,8 @@
 -- What contracts see of a core, and when its calls are refused.
-use Rattle.std.specs.Prelude.{◌≡◌, ℕ, Bool, true, false, ◌&&◌, List, [], Option, None, Some, nat_eq}
+use Rattle.std.specs.Prelude.{◌≡◌, ℕ, Bool, true, false, ◌&&◌, ◌≢◌, slice_index, List, [], Option, None, Some, nat_eq}
+use Rattle.std.specs.Option.{is_some, IfSome}
+use Rattle.std.specs.List.{Contains}
+use Rattle.ide_graph.specs.Supergraph.{Supergraph, procedure_named}
 use Rattle.ide_tables.specs.Tables.{Table}
 use Rattle.ide_tasks.specs.Task.{TaskData, same_task}
 use Rattle.ide_tasks.specs.Work.{WorkData}
@@ -7,9 +10,10 @@ use Rattle.ide_tasks.specs.declared.partners.Partners.{Partners}
 use Rattle.ide_worklist.specs.declared.claim.Claim.{Claim}
 use Rattle.ide_worklist.specs.Worklist.{Pile, claim_at, is_pending}
 
--- whether a program is loaded, the roots, the tables, and the pending keys with the claims
+-- the graph of the loaded program, if one is loaded; the roots, as indices of procedures; the tables;
+-- and the pending keys with the claims
 pub record CoreData (F : Type 0) : Type 0 where
-  pub is_loaded : Bool
+  pub graph : Option Supergraph
   pub roots : List ℕ
   pub table : Table F
   pub pile : Pile (TaskData F)
@@ -21,10 +25,38 @@ module _ {F : Type 0} where
   is_claim_of_work same_function same_partners work (Some claim) =
       nat_eq claim.done work.done && same_task same_function same_partners claim.task work.task
 
+  -- whether a program is loaded
+  abbrev pub is_loaded : CoreData F → Bool
+  is_loaded core = is_some core.graph
+
   -- the image, the pending keys and each hand's claim are as they were
   pub record IsUnchanged (old new : CoreData F) : Type 0 where
-    pub is_loaded : new.is_loaded ≡ old.is_loaded
+    pub graph : new.graph ≡ old.graph
     pub roots : new.roots ≡ old.roots
     pub table : new.table ≡ old.table
     pub pending : new.pile.pending ≡ old.pile.pending
     pub claims : (hand : ℕ) → claim_at new.pile hand ≡ claim_at old.pile hand
+
+-- the name finds a procedure of the graph
+pub record Finds (graph : Option Supergraph) (name : List ℕ) (procedure : ℕ) : Type 0 where
+  pub loaded : Supergraph
+  pub is : graph ≡ Some loaded
+  pub named : procedure_named loaded name ≡ Some procedure
+
+-- a program is loaded, and no procedure of it has the name
+pub record FindsNone (graph : Option Supergraph) (name : List ℕ) : Type 0 where
+  pub loaded : Supergraph
+  pub is : graph ≡ Some loaded
+  pub unnamed : procedure_named loaded name ≡ None
+
+-- the name finds a procedure with parameters
+pub record FindsParameters (graph : Option Supergraph) (name : List ℕ) : Type 0 where
+  pub procedure : ℕ
+  pub found : Finds graph name procedure
+  pub parameters : slice_index found.loaded.parameters procedure ≢ 0
+
+-- the name finds a procedure that is a root already
+pub record FindsRoot (graph : Option Supergraph) (roots : List ℕ) (name : List ℕ) : Type 0 where
+  pub procedure : ℕ
+  pub found : Finds graph name procedure
+  pub is_root : Contains roots procedure

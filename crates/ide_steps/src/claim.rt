@@ -2,7 +2,7 @@
 ghost use Rattle.std.specs.Prelude.{◌≡◌, ◌≢◌, ℕ, ◌<◌, ◌≤◌, ◌↔◌, ◌⊎◌, [], true, false, Ok, Err, IsSome, IfErr, OnErr, OnOk};
 ghost use Rattle.ide_wire.specs.declared.key.Key.{Key};
 ghost use Rattle.ide_worklist.specs.Worklist.{claim_at, is_pending, is_claimed};
-ghost use Rattle.ide_steps.specs.Core.{IsUnchanged};
+ghost use Rattle.ide_steps.specs.Core.{is_loaded, IsUnchanged};
 
 use crate::loaded::Loaded;
 use crate::machine::{Core, HANDS};
@@ -31,11 +31,11 @@ impl<P: Problem> Core<P> {
     /// where the hand has a claim; `NoMemory`.
     pub fn claim(&mut self, hand: usize) -> Result<Claimed<P>, Refused>
         ensures limit { (result ≡ Err Refused.Limit) ↔ (64 ≤ hand) }
-        ensures no_program { (result ≡ Err Refused.NoProgram) ↔ ((hand < 64) × (self.old.is_loaded ≡ false)) }
-        ensures busy { (result ≡ Err Refused.Busy) ↔ ((hand < 64) × (self.old.is_loaded ≡ true) × IsSome (claim_at self.old.pile hand)) }
+        ensures no_program { (result ≡ Err Refused.NoProgram) ↔ ((hand < 64) × (is_loaded self.old ≡ false)) }
+        ensures busy { (result ≡ Err Refused.Busy) ↔ ((hand < 64) × (is_loaded self.old ≡ true) × IsSome (claim_at self.old.pile hand)) }
         ensures quiet { result ≡ Ok Claimed.Quiet → self.old.pile.pending ≡ [] }
         ensures idle { result ≡ Ok Claimed.Idle → (q : Key) → is_pending self.old.pile q ≡ true → is_claimed self.old.pile q ≡ true }
-        ensures image { (self.new.is_loaded ≡ self.old.is_loaded) × (self.new.roots ≡ self.old.roots) × (self.new.table ≡ self.old.table) }
+        ensures image { (self.new.graph ≡ self.old.graph) × (self.new.roots ≡ self.old.roots) × (self.new.table ≡ self.old.table) }
         ensures pending { self.new.pile.pending ≡ self.old.pile.pending }
         ensures unchanged { OnErr result (IsUnchanged self.old self.new) }
     {

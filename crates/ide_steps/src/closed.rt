@@ -1,5 +1,6 @@
 //! A quiet image, frozen.
 ghost use Rattle.std.specs.Prelude.{◌≡◌, ◌≢◌, ◌↔◌, ◌⊎◌, [], true, false, Err, IfErr, IfOk};
+ghost use Rattle.ide_steps.specs.Core.{is_loaded};
 
 use crate::loaded::Loaded;
 use crate::machine::Core;
@@ -22,8 +23,8 @@ impl<P: Problem> Core<P> {
     ///
     /// Refusals, in this order: `NoProgram`; `Unfinished` where some key is pending; `NoMemory`.
     pub fn freeze(&self) -> Result<Closed<P>, Refused>
-        ensures no_program { (result ≡ Err Refused.NoProgram) ↔ (self.now.is_loaded ≡ false) }
-        ensures unfinished { (result ≡ Err Refused.Unfinished) ↔ ((self.now.is_loaded ≡ true) × (self.now.pile.pending ≢ [])) }
+        ensures no_program { (result ≡ Err Refused.NoProgram) ↔ (is_loaded self.now ≡ false) }
+        ensures unfinished { (result ≡ Err Refused.Unfinished) ↔ ((is_loaded self.now ≡ true) × (self.now.pile.pending ≢ [])) }
         ensures table { IfOk result (λ closed. closed.tables ≡ self.now.table) }
         ensures roots { IfOk result (λ closed. closed.roots.items ≡ self.now.roots) }
         ensures quiet { IfOk result (λ _. self.now.pile.pending ≡ []) }

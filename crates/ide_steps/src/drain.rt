@@ -1,6 +1,7 @@
 //! All steps that are left, by one hand.
 ghost use Rattle.std.specs.Prelude.{◌≡◌, ◌↔◌, [], true, false, Ok, Err, IsSome, IfErr, IfOk, OnOk};
 ghost use Rattle.ide_worklist.specs.Worklist.{claim_at};
+ghost use Rattle.ide_steps.specs.Core.{is_loaded};
 
 use crate::claim::Claimed;
 use crate::machine::Core;
@@ -19,8 +20,8 @@ impl<P: Problem> Core<P> {
     /// one; all tested first, in this order. `NoMemory` keeps the steps done before it and releases
     /// hand 0's claim.
     pub fn drain(&mut self) -> Result<u64, Refused>
-        ensures no_program { self.old.is_loaded ≡ false → result ≡ Err Refused.NoProgram }
-        ensures busy { self.old.is_loaded ≡ true → IsSome (claim_at self.old.pile 0) → result ≡ Err Refused.Busy }
+        ensures no_program { is_loaded self.old ≡ false → result ≡ Err Refused.NoProgram }
+        ensures busy { is_loaded self.old ≡ true → IsSome (claim_at self.old.pile 0) → result ≡ Err Refused.Busy }
         ensures quiet { OnOk result (self.new.pile.pending ≡ []) }
     {
         if self.loaded.is_none() {

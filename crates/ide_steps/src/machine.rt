@@ -1,6 +1,6 @@
 //! The core: its state and what may be asked of it.
 ghost use Rattle.std.specs.Prelude.{◌≡◌, ◌↔◌, [], true, false, length, IsTrue, IfErr, OnOk, OnErr};
-ghost use Rattle.ide_steps.specs.Core.{IsUnchanged};
+ghost use Rattle.ide_steps.specs.Core.{IsUnchanged, is_loaded};
 ghost use Rattle.std.specs.Option.{option_copied};
 ghost use Rattle.ide_tables.specs.Tables.{found};
 ghost use Rattle.ide_worklist.specs.Worklist.{is_pending};
@@ -31,18 +31,20 @@ pub struct Core<P: Problem> {
 }
 
 impl<P: Problem> Model for Core<P> {
-    ghost use Rattle.std.specs.Option.{is_some};
+    ghost use Rattle.std.specs.Option.{option_map};
+    ghost use Rattle.std.specs.Arc.{arc_value};
+    ghost use Rattle.ide_steps.specs.declared.loaded.Loaded.{Loaded};
     ghost use Rattle.ide_steps.specs.Core.{CoreData};
 
     ghost Value = { CoreData P.F };
 
-    ghost view = { λ c. record { is_loaded = is_some c.loaded; roots = c.roots.items; table = c.tables; pile = c.worklist } };
+    ghost view = { λ c. record { graph = option_map (λ loaded. (arc_value {X = Loaded P P.L P.F} loaded).graph) c.loaded; roots = c.roots.items; table = c.tables; pile = c.worklist } };
 }
 
 impl<P: Problem> Core<P> {
     /// A core with no program. It takes no memory.
     pub fn new(alloc: Global) -> Core<P>
-        ensures is_loaded { result.is_loaded ≡ false }
+        ensures is_loaded { is_loaded result ≡ false }
         ensures entries { result.table.entries ≡ [] }
         ensures pending { result.pile.pending ≡ [] }
     {
@@ -59,7 +61,7 @@ impl<P: Problem> Core<P> {
     /// time in proportion to the facts at each call. Where memory is wanting (`NoMemory`), the
     /// program is dropped and the core as it was.
     pub fn load(&mut self, program: Program) -> Result<(), Refused>
-        ensures is_loaded { OnOk result (self.new.is_loaded ≡ true) }
+        ensures is_loaded { OnOk result (is_loaded self.new ≡ true) }
         ensures roots { OnOk result (self.new.roots ≡ []) }
         ensures entries { OnOk result (self.new.table.entries ≡ []) }
         ensures pending { OnOk result (self.new.pile.pending ≡ []) }
@@ -108,7 +110,7 @@ impl<P: Problem> Core<P> {
     /// Meets one entry with a function. An entry that changed is pending then, and a claim of its
     /// key is marked as lowered.
     pub(crate) fn lower(&mut self, key: Key, function: P::F) -> Result<Change, Refused>
-        ensures is_loaded { self.new.is_loaded ≡ self.old.is_loaded }
+        ensures graph { self.new.graph ≡ self.old.graph }
         ensures roots { self.new.roots ≡ self.old.roots }
         ensures refused { IfErr result (λ e. e ≡ Refused.NoMemory) }
         ensures unchanged { OnErr result (IsUnchanged self.old self.new) }

@@ -1,5 +1,6 @@
 //! Roots: where analysis begins.
 ghost use Rattle.std.specs.Prelude.{◌≡◌, ◌↔◌, ◌⊎◌, false, Err, IfErr};
+ghost use Rattle.ide_steps.specs.Core.{is_loaded, FindsNone, FindsParameters, FindsRoot};
 
 use crate::machine::Core;
 use ide_lattice::EdgeFn;
@@ -13,7 +14,10 @@ impl<P: Problem> Core<P> {
     /// Refusals, in this order: `NoProgram`; `NoProcedure`; `HasParameters`; `Already`;
     /// `NoMemory`.
     pub fn root(&mut self, name: &[u8]) -> Result<(), Refused>
-        ensures no_program { (result ≡ Err Refused.NoProgram) ↔ (self.old.is_loaded ≡ false) }
+        ensures no_program { (result ≡ Err Refused.NoProgram) ↔ (is_loaded self.old ≡ false) }
+        ensures no_procedure { result ≡ Err Refused.NoProcedure → FindsNone self.old.graph name.now }
+        ensures has_parameters { result ≡ Err Refused.HasParameters → FindsParameters self.old.graph name.now }
+        ensures already { result ≡ Err Refused.Already → FindsRoot self.old.graph self.old.roots name.now }
     {
         let Some(loaded) = &self.loaded else {
             return Err(Refused::NoProgram);
