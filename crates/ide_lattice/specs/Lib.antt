@@ -1,1 +1,4 @@
 pub mod Algebra
+pub mod Laws
+pub mod Meets
+pub mod Order
