@@ -1,6 +1,9 @@
 //! Nodes, facts and keys.
 ghost use Rattle.std.specs.Prelude.{◌≡◌};
 
+use crate::wire::Wire;
+use std::alloc::AllocError;
+
 /// A node of the supergraph, numbered from 0, procedure by procedure.
 pub type Node = u32;
 
@@ -29,4 +32,45 @@ impl Key {
             Key::Summary(call, _, _) => call,
         }
     }
+}
+
+impl Wire for Key {
+    ghost use Rattle.ide_wire.specs.Key.{key_form, is_proper_key, key_not_empty, key_at_most, key_prefix_free};
+
+    const MAX: usize = 9;
+
+    ghost MAX = { 9 };
+
+    ghost proper = { is_proper_key };
+
+    ghost form = { key_form };
+
+    fn put(&self, out: &mut Vec<u8>) -> Result<(), AllocError> {
+        let (kind, node, first, second) = match *self {
+            Key::Jump(node, first, second) => (0, node, first, second),
+            Key::Summary(call, first, second) => (1, call, first, second),
+        };
+        let [a, b, c, d] = node.to_le_bytes();
+        let [e, f] = first.to_le_bytes();
+        let [g, h] = second.to_le_bytes();
+        out.extend_from_slice(&[kind, a, b, c, d, e, f, g, h])
+    }
+
+    fn take(bytes: &[u8]) -> Option<(Key, usize)> {
+        let (kind, numbers) = bytes.split_first()?;
+        let (node, _) = Node::take(numbers)?;
+        let (first, _) = Fact::take(&numbers[4..])?;
+        let (second, _) = Fact::take(&numbers[6..])?;
+        match *kind {
+            0 => Some((Key::Jump(node, first, second), 9)),
+            1 => Some((Key::Summary(node, first, second), 9)),
+            _ => None,
+        }
+    }
+
+    ghost not_empty = { key_not_empty };
+
+    ghost at_most_max = { key_at_most };
+
+    ghost prefix_free = { key_prefix_free };
 }

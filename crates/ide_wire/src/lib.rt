@@ -8,6 +8,8 @@
 
 mod key;
 mod refused;
+mod wire;
 
 pub use key::{Fact, Key, Node};
 pub use refused::{Fault, Refused};
+pub use wire::Wire;
