@@ -1,6 +1,6 @@
 -- The order of a lattice, and the maps that carry it over.
-use Rattle.std.specs.Prelude.{◌≡◌, ℕ, IsTrue}
-use Rattle.std.proofs.Common.{ap, sym, ◌∙◌, arith}
+use Rattle.std.specs.Prelude.{◌≡◌, IsTrue}
+use Rattle.std.proofs.Common.{ap, sym, ◌∙◌}
 use Rattle.ide_lattice.specs.Algebra.{LatticeAlgebra}
 use Rattle.ide_lattice.specs.Laws.{IsLattice}
 
@@ -25,10 +25,10 @@ module _ {L : Type 0} (A : LatticeAlgebra L) (laws : IsLattice A) where
     left = ab.left;
     right = bc.right;
     below =
-      ap (λ w. A.meet w c) (sym ab.below)
-      ∙ laws.associative a b c ab.left ab.right bc.right
-      ∙ ap (A.meet a) bc.below
-      ∙ ab.below;
+        ap (λ w. A.meet w c) (sym ab.below)
+        ∙ laws.associative a b c ab.left ab.right bc.right
+        ∙ ap (A.meet a) bc.below
+        ∙ ab.below;
   }
 
   pub below-antisym : (a b : L) → IsBelow A a b → IsBelow A b a → a ≡ b
@@ -53,9 +53,9 @@ module _ {L : Type 0} (A : LatticeAlgebra L) (laws : IsLattice A) where
     left = laws.proper_meet a b p q;
     right = p;
     below =
-      laws.commutative (A.meet a b) a (laws.proper_meet a b p q) p
-      ∙ sym (laws.associative a a b p p q)
-      ∙ ap (λ w. A.meet w b) (laws.idempotent a p);
+        laws.commutative (A.meet a b) a (laws.proper_meet a b p q) p
+        ∙ sym (laws.associative a a b p p q)
+        ∙ ap (λ w. A.meet w b) (laws.idempotent a p);
   }
 
   pub meet-below-right : (a b : L) → IsTrue (A.proper a) → IsTrue (A.proper b) → IsBelow A (A.meet a b) b
@@ -71,9 +71,9 @@ module _ {L : Type 0} (A : LatticeAlgebra L) (laws : IsLattice A) where
     left = wa.left;
     right = laws.proper_meet a b wa.right wb.right;
     below =
-      sym (laws.associative w a b wa.left wa.right wb.right)
-      ∙ ap (λ u. A.meet u b) wa.below
-      ∙ wb.below;
+        sym (laws.associative w a b wa.left wa.right wb.right)
+        ∙ ap (λ u. A.meet u b) wa.below
+        ∙ wb.below;
   }
 
   -- a distributive map keeps the order

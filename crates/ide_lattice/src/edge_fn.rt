@@ -1,13 +1,15 @@
 //! Edge functions: the coded functions over a lattice that edges, jumps and summaries carry.
-ghost use Rattle.std.specs.Prelude.{◌≡◌, ℕ, IsTrue};
+ghost use Rattle.std.specs.Prelude.{◌≡◌, ℕ, IsTrue, true};
 ghost use Rattle.ide_lattice.specs.Algebra.{EdgeAlgebra};
+ghost use Rattle.ide_lattice.specs.Laws.{IsEdgeAlgebra};
 
 use crate::lattice::Lattice;
+use ide_wire::Wire;
 
 /// A class of functions over a lattice that is closed under composition and meet, each in one
 /// coded form: equality of forms is equality of functions. Every function maps top to top, and
 /// the default is the function that always gives top.
-pub trait EdgeFn: Copy + Eq + Default {
+pub trait EdgeFn: Wire + Copy + Eq + Default {
     /// The values that the functions map.
     type L: Lattice;
 
@@ -46,4 +48,12 @@ pub trait EdgeFn: Copy + Eq + Default {
     fn proper(self) -> bool
         ensures yes { IsTrue result }
         ensures proper { IsTrue (edge.proper self) };
+
+    ghost lawful: { IsEdgeAlgebra Self.L.algebra edge };
+
+    ghost height: { edge.height ≡ HEIGHT };
+
+    ghost exact: { (f g : Self) → Self.eq f g ≡ true → f ≡ g };
+
+    ghost proper_as_coded: { (f : Self) → Self.proper f ≡ edge.proper f };
 }

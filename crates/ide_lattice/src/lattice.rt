@@ -1,6 +1,7 @@
 //! A meet semilattice of finite height.
-ghost use Rattle.std.specs.Prelude.{◌≡◌, ◌++◌, ◌↔◌, ℕ, List, IsTrue, OnOk, OnErr};
+ghost use Rattle.std.specs.Prelude.{◌≡◌, ◌++◌, ◌↔◌, ℕ, List, IsTrue, true, OnOk, OnErr};
 ghost use Rattle.ide_lattice.specs.Algebra.{LatticeAlgebra};
+ghost use Rattle.ide_lattice.specs.Laws.{IsLattice};
 
 use std::alloc::AllocError;
 
@@ -41,4 +42,10 @@ pub trait Lattice: Copy + Eq {
     fn show(self, out: &mut Vec<u8>) -> Result<(), AllocError>
         ensures ok { OnOk result (out.new.items ≡ out.old.items ++ shown self) }
         ensures err { OnErr result (out.new.items ≡ out.old.items) };
+
+    ghost lawful: { IsLattice algebra };
+
+    ghost height: { algebra.height ≡ HEIGHT };
+
+    ghost exact: { (x y : Self) → Self.eq x y ≡ true → x ≡ y };
 }

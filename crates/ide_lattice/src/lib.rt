@@ -7,6 +7,8 @@
 
 mod edge_fn;
 mod lattice;
+mod meets;
 
 pub use edge_fn::EdgeFn;
 pub use lattice::Lattice;
+pub use meets::value_of_meet;
