@@ -26,6 +26,8 @@ pub(crate) struct Builder<'a, 'p> {
     pub globals: &'a Globals,
     pub directory: &'a Directory,
     pub numbering: &'a Numbering<'p>,
+    /// How many facts the program has.
+    pub facts: u32,
     /// The last node.
     pub last: Node,
 }
@@ -39,6 +41,7 @@ impl<'a, 'p> Builder<'a, 'p> {
         globals: &'a Globals,
         directory: &'a Directory,
         numbering: &'a Numbering<'p>,
+        facts: u32,
     ) -> Builder<'a, 'p>
         requires numbered { IsNumbered numbering.now }
         requires counted { directory.now.count ≡ length numbering.now.layouts.items }
@@ -51,6 +54,7 @@ impl<'a, 'p> Builder<'a, 'p> {
             globals,
             directory,
             numbering,
+            facts,
             last,
         }
     }
@@ -310,7 +314,8 @@ impl<'a, 'p> Builder<'a, 'p> {
     {
         EdgeData {
             end: end.min(self.last),
-            globals: self.globals.count(),
+            result: self.globals.result_fact(),
+            facts: self.facts,
             kind,
         }
     }

@@ -1,14 +1,17 @@
 //! Edges of the supergraph, as plain data that carry all that a flow function needs.
 use ide_wire::{Fact, Node};
 
-/// An edge: where it ends, how many globals the program has, and what it is.
+/// An edge: where it ends, how the program's facts are numbered, and what it is.
 ///
-/// Facts are numbered so: 0 is `@zero`, the `globals` globals are 1 and on, then comes `@result`,
-/// then the parameters and locals of the procedure.
+/// Facts are numbered so: 0 is `@zero`, the globals are 1 and on, then comes `@result`, then the
+/// parameters and locals of the procedure.
 #[derive(PartialEq, Eq, Drop)]
 pub struct EdgeData {
     pub end: Node,
-    pub globals: Fact,
+    /// The fact `@result`: the facts below it are `@zero` and the globals.
+    pub result: Fact,
+    /// How many facts the program has.
+    pub facts: u32,
     pub kind: EdgeKind,
 }
 
@@ -62,16 +65,10 @@ pub enum Effect {
         first: Fact,
         second: Fact,
     },
-    /// A procedure's start: `@result` and the locals, from `first` on, get what they hold at entry.
+    /// A procedure's start: `@result` and the locals, the facts from `first` to before `end`, get
+    /// what they hold at entry.
     Enter {
         first: Fact,
-        locals: u16,
+        end: Fact,
     },
-}
-
-impl EdgeData {
-    /// The fact `@result`.
-    pub fn result_fact(&self) -> Fact {
-        self.globals.saturating_add(1)
-    }
 }

@@ -62,10 +62,11 @@ impl Graph {
         let procedures = program.procedures();
         let directory = Directory::of(alloc, procedures)?;
         let numbering = Numbering::of(alloc, procedures)?;
-        let sites = Builder::new(alloc, &globals, &directory, &numbering).sites()?;
+        let most_own = most_own_of(&numbering.layouts);
+        let facts = globals.fact_count(most_own) as u32;
+        let sites = Builder::new(alloc, &globals, &directory, &numbering, facts).sites()?;
         let Numbering { spots, layouts, .. } = numbering;
         let owners = owners_of(alloc, &spots)?;
-        let most_own = most_own_of(&layouts);
         Ok(Graph {
             globals,
             directory,

@@ -1,5 +1,5 @@
 //! Where a procedure stands among the nodes, and what its own facts are called.
-ghost use Rattle.std.specs.Prelude.{◌≡◌, ◌-◌, ◌≤◌, min, length, IfOk, IfErr, SomeIff, ◌+◌};
+ghost use Rattle.std.specs.Prelude.{◌≡◌, ◌≤◌, length, IfOk, IfErr, SomeIff, ◌+◌};
 ghost use Rattle.ide_wire.specs.declared.refused.Refused.TheVariants.{NoMemory};
 
 use crate::names::Names;
@@ -51,13 +51,5 @@ impl Layout {
             Some(node) if node <= exit => Some(node),
             _ => None,
         }
-    }
-
-    /// How many locals the procedure has. A parsed program has fewer than 4,096 facts, so that no
-    /// count is past the greatest number.
-    pub fn local_count(&self) -> u16
-        ensures { result ≡ min (length self.now.own - self.now.parameter_count) 65535 }
-    {
-        u16::try_from(self.own.len().saturating_sub(self.parameter_count)).unwrap_or(u16::MAX)
     }
 }

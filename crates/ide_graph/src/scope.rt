@@ -38,7 +38,7 @@ impl<'a, 'p> Scope<'a, 'p> {
     pub fn enter(self) -> Effect {
         Effect::Enter {
             first: self.globals.own_fact(self.layout.parameter_count),
-            locals: self.layout.local_count(),
+            end: self.globals.own_fact(self.layout.own.len()),
         }
     }
 

@@ -90,10 +90,10 @@ fn calls_go_to_starts_and_come_back(rt: HostRuntime) -> Result<(), Fail> {
     let graph = graph_of(rt.alloc(), CALLS)?;
     expect_counts(&rt, &graph, (2, 11, 6, 1));
     let sites = [
-        " normal 1 Enter { first: 3, locals: 0 }",
+        " normal 1 Enter { first: 3, end: 3 }",
         " normal 2 Copy { target: 1, source: 2 }",
         " exit of 0 from 6 call 0 [(2, 2)] return 7 Some(4) from 8 call 0 [(3, 2)] return 9 Some(5)",
-        " normal 4 Enter { first: 2, locals: 4 }",
+        " normal 4 Enter { first: 2, end: 6 }",
         " normal 5 Number { target: 2, number: 5 }",
         " normal 6 Number { target: 3, number: 6 }",
         " call 0 [(2, 2)] along 7 Some(4)",
@@ -110,7 +110,7 @@ fn statements_have_their_effects_and_targets(rt: HostRuntime) -> Result<(), Fail
     let graph = graph_of(rt.alloc(), STATEMENTS)?;
     expect_counts(&rt, &graph, (1, 14, 4, 2));
     let sites = [
-        " normal 1 Enter { first: 3, locals: 1 }",
+        " normal 1 Enter { first: 3, end: 4 }",
         " normal 2 Nothing",
         " normal 1 Nothing normal 3 Nothing",
         " normal 4 Sum { target: 3, source: 1, number: 3 }",
@@ -133,14 +133,14 @@ fn a_procedure_may_call_itself(rt: HostRuntime) -> Result<(), Fail> {
     let graph = graph_of(rt.alloc(), RECURSION)?;
     expect_counts(&rt, &graph, (2, 11, 4, 2));
     let sites = [
-        " normal 1 Enter { first: 4, locals: 0 }",
+        " normal 1 Enter { first: 4, end: 4 }",
         " normal 2 Nothing normal 4 Nothing",
         " call 0 [(3, 3)] along 3 None",
         " normal 4 Nothing",
         " normal 5 Nothing",
         " normal 6 Copy { target: 2, source: 1 }",
         " exit of 0 from 2 call 0 [(3, 3)] return 3 None from 8 call 0 [(1, 3)] return 9 None",
-        " normal 8 Enter { first: 3, locals: 0 }",
+        " normal 8 Enter { first: 3, end: 3 }",
         " call 0 [(1, 3)] along 9 None",
         " normal 10 Nothing",
         " exit of 7",

@@ -1,0 +1,3 @@
+pub mod Flow
+pub mod Shared
+pub mod SharedLaws

@@ -11,5 +11,5 @@ mod shared;
 mod target_list;
 
 pub use problem::Problem;
-pub use shared::{add_assigned, add_call, add_call_to_return, add_entered, add_return};
+pub use shared::add_targets;
 pub use target_list::TargetList;

@@ -1,5 +1,6 @@
 //! The trait of analyses.
-ghost use Rattle.std.specs.Prelude.{◌≡◌, ℕ, [], OnErr};
+ghost use Rattle.std.specs.Prelude.{◌≡◌, ◌<◌, ℕ, [], OnOk, OnErr};
+ghost use Rattle.ide_problem.specs.Flow.{Targets, IsFlow};
 
 use crate::target_list::TargetList;
 use ide_graph::EdgeData;
@@ -19,6 +20,8 @@ pub trait Problem {
 
     ghost TAG: { ℕ };
 
+    ghost targets: { Targets Self.F };
+
     /// Fills the empty list with the targets of `fact` over `edge`, ascending, each with its
     /// function. It depends on the edge and the fact alone. At an error the list is empty.
     fn flow(
@@ -27,5 +30,12 @@ pub trait Problem {
         targets: &mut TargetList<Self::F>,
     ) -> Result<(), AllocError>
         requires { targets.old.list.items ≡ [] }
-        ensures { OnErr result (targets.new.list.items ≡ []) };
+        ensures ok { OnOk result (targets.new.list.items ≡ Self.targets edge.now fact) }
+        ensures err { OnErr result (targets.new.list.items ≡ []) };
+
+    ghost lawful: { IsFlow Self.F.edge Self.targets };
+
+    ghost tag_not_zero: { 0 < TAG };
+
+    ghost top_is_not_bottom: { Self.L.algebra.top ≡ Self.L.algebra.bottom → ⊥ };
 }

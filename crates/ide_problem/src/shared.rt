@@ -1,24 +1,82 @@
-//! The flow that all instances share.
+//! The flow that analyses of assignments share.
 //!
 //! Every function on a call, return or call-to-return edge is the identity. Over an assignment
-//! each other fact goes to itself, and the assigned fact receives only what the instance says.
-ghost use Rattle.std.specs.Prelude.{◌≡◌, [], OnErr};
+//! each other fact goes to itself, and the assigned fact receives only what the analysis says.
+ghost use Rattle.std.specs.Prelude.{◌≡◌, ◌-◌, [], ◌++◌, map, OnOk, OnErr};
+ghost use Rattle.std.specs.List.{range_with_len};
+ghost use Rattle.ide_problem.specs.Shared.{assigned_targets, entered_targets, call_targets, return_targets, along_targets, effect_targets, edge_targets};
 
 use crate::target_list::TargetList;
+use ide_graph::{EdgeData, EdgeKind, Effect};
 use ide_lattice::EdgeFn;
 use ide_wire::Fact;
 use std::alloc::AllocError;
 
-/// The targets of `fact` over an assignment to `target`, which receives `received` from `fact`, if
-/// anything. Any other fact stays as it is.
-pub fn add_assigned<F: EdgeFn>(
+/// Adds the targets of `fact` over an edge, ascending. The fact that the edge assigns, if it is an
+/// assignment, receives `received` from `fact`; out of a procedure's start `@result` and the locals
+/// get `at_entry` from `@zero`. A fact that the program does not have has no targets.
+pub fn add_targets<F: EdgeFn>(
+    edge: &EdgeData,
+    received: Option<F>,
+    at_entry: F,
+    fact: Fact,
+    targets: &mut TargetList<F>,
+) -> Result<(), AllocError>
+    requires { targets.old.list.items ≡ [] }
+    ensures ok { OnOk result (targets.new.list.items ≡ edge_targets F.edge.id received at_entry edge.now fact) }
+    ensures err { OnErr result (targets.new.list.items ≡ []) }
+{
+    if u32::from(fact) >= edge.facts {
+        return Ok(());
+    }
+    match &edge.kind {
+        EdgeKind::Normal(effect) => {
+            add_effect(*effect, edge.result, received, at_entry, fact, targets)
+        }
+        EdgeKind::Call(pairs) => add_call(edge.result, pairs.as_slice(), fact, targets),
+        EdgeKind::Return(assigned) => add_return(edge.result, *assigned, fact, targets),
+        EdgeKind::CallToReturn(assigned) => add_along(edge.result, *assigned, fact, targets),
+    }
+}
+
+/// The targets over a normal edge, by its effect.
+fn add_effect<F: EdgeFn>(
+    effect: Effect,
+    result_fact: Fact,
+    received: Option<F>,
+    at_entry: F,
+    fact: Fact,
+    targets: &mut TargetList<F>,
+) -> Result<(), AllocError>
+    requires { targets.old.list.items ≡ [] }
+    ensures ok { OnOk result (targets.new.list.items ≡ effect_targets F.edge.id received at_entry result_fact effect fact) }
+    ensures err { OnErr result (targets.new.list.items ≡ []) }
+{
+    match effect {
+        Effect::Nothing => targets.add(fact, F::id()),
+        Effect::Number { target, .. }
+        | Effect::Copy { target, .. }
+        | Effect::Sum { target, .. }
+        | Effect::Difference { target, .. }
+        | Effect::Unknown { target }
+        | Effect::Mix { target, .. } => add_assigned(target, received, fact, targets),
+        Effect::Enter { first, end } => {
+            add_entered(result_fact, first, end, at_entry, fact, targets)
+        }
+    }
+}
+
+/// The targets over an assignment to `target`, which receives `received`. Any other fact stays as
+/// it is.
+fn add_assigned<F: EdgeFn>(
     target: Fact,
     received: Option<F>,
     fact: Fact,
     targets: &mut TargetList<F>,
 ) -> Result<(), AllocError>
     requires { targets.old.list.items ≡ [] }
-    ensures { OnErr result (targets.new.list.items ≡ []) }
+    ensures ok { OnOk result (targets.new.list.items ≡ assigned_targets F.edge.id target received fact) }
+    ensures err { OnErr result (targets.new.list.items ≡ []) }
 {
     if fact < target {
         targets.add(fact, F::id())?;
@@ -26,51 +84,66 @@ pub fn add_assigned<F: EdgeFn>(
     if let Some(function) = received {
         targets.add(target, function)?;
     }
-    if fact > target {
+    if target < fact {
         targets.add(fact, F::id())?;
     }
     Ok(())
 }
 
-/// The targets of `fact` over the edge out of a procedure's start: `@result`, which is
-/// `result_fact`, and the `locals` facts from `first` on receive `at_entry` from the zero fact.
-pub fn add_entered<F: EdgeFn>(
+/// The targets over the edge out of a procedure's start, whose locals are the facts from `first` to
+/// before `end`.
+fn add_entered<F: EdgeFn>(
     result_fact: Fact,
     first: Fact,
-    locals: u16,
+    end: Fact,
     at_entry: F,
     fact: Fact,
     targets: &mut TargetList<F>,
 ) -> Result<(), AllocError>
     requires { targets.old.list.items ≡ [] }
-    ensures { OnErr result (targets.new.list.items ≡ []) }
+    ensures ok { OnOk result (targets.new.list.items ≡ entered_targets F.edge.id at_entry result_fact first end fact) }
+    ensures err { OnErr result (targets.new.list.items ≡ []) }
 {
-    let end = first.saturating_add(locals);
-    let is_assigned = fact == result_fact || (first <= fact && fact < end);
     if fact == 0 {
         targets.add(0, F::id())?;
         targets.add(result_fact, at_entry)?;
-        for local in first..end {
-            targets.add(local, at_entry)?;
-        }
-    } else if !is_assigned {
-        targets.add(fact, F::id())?;
+        add_locals(first, end, at_entry, targets)
+    } else if fact == result_fact || (first <= fact && fact < end) {
+        Ok(())
+    } else {
+        targets.add(fact, F::id())
+    }
+}
+
+/// Adds each local with what it holds at entry.
+fn add_locals<F: EdgeFn>(
+    first: Fact,
+    end: Fact,
+    at_entry: F,
+    targets: &mut TargetList<F>,
+) -> Result<(), AllocError>
+    ensures ok { OnOk result (targets.new.list.items ≡ targets.old.list.items ++ map (λ local. (local, at_entry)) (range_with_len first (end - first))) }
+    ensures err { OnErr result (targets.new.list.items ≡ []) }
+{
+    for local in first..end {
+        targets.add(local, at_entry)?;
     }
     Ok(())
 }
 
-/// The targets of `fact` over a call edge: the zero fact and the globals go to themselves, each
-/// argument to its parameter. The pairs stand by ascending parameter.
-pub fn add_call<F: EdgeFn>(
+/// The targets over a call edge: `@zero` and the globals go to themselves, each argument to its
+/// parameter. The pairs stand by ascending parameter.
+fn add_call<F: EdgeFn>(
+    result_fact: Fact,
     pairs: &[(Fact, Fact)],
-    globals: Fact,
     fact: Fact,
     targets: &mut TargetList<F>,
 ) -> Result<(), AllocError>
     requires { targets.old.list.items ≡ [] }
-    ensures { OnErr result (targets.new.list.items ≡ []) }
+    ensures ok { OnOk result (targets.new.list.items ≡ call_targets F.edge.id result_fact pairs.now fact) }
+    ensures err { OnErr result (targets.new.list.items ≡ []) }
 {
-    if fact <= globals {
+    if fact < result_fact {
         targets.add(fact, F::id())?;
     }
     for (argument, parameter) in pairs {
@@ -81,40 +154,41 @@ pub fn add_call<F: EdgeFn>(
     Ok(())
 }
 
-/// The targets of `fact` over a return edge: the zero fact and the globals go to themselves, but
-/// for the assigned fact, and `@result` to that fact.
-pub fn add_return<F: EdgeFn>(
+/// The targets over a return edge: `@zero` and the globals go to themselves, but for the assigned
+/// fact, and `@result` to that fact.
+fn add_return<F: EdgeFn>(
+    result_fact: Fact,
     assigned: Option<Fact>,
-    globals: Fact,
     fact: Fact,
     targets: &mut TargetList<F>,
 ) -> Result<(), AllocError>
     requires { targets.old.list.items ≡ [] }
-    ensures { OnErr result (targets.new.list.items ≡ []) }
+    ensures ok { OnOk result (targets.new.list.items ≡ return_targets F.edge.id result_fact assigned fact) }
+    ensures err { OnErr result (targets.new.list.items ≡ []) }
 {
-    if fact <= globals && assigned != Some(fact) {
-        targets.add(fact, F::id())?;
-    } else if fact == globals.saturating_add(1)
-        && let Some(target) = assigned
-    {
-        targets.add(target, F::id())?;
+    match assigned {
+        None if fact < result_fact => targets.add(fact, F::id()),
+        Some(target) if fact == result_fact => targets.add(target, F::id()),
+        Some(target) if fact < result_fact && target != fact => targets.add(fact, F::id()),
+        _ => Ok(()),
     }
-    Ok(())
 }
 
-/// The targets of `fact` over a call-to-return edge: the zero fact and every fact past the globals
-/// but the assigned one go to themselves.
-pub fn add_call_to_return<F: EdgeFn>(
+/// The targets over a call-to-return edge: `@zero`, and each fact past the globals but the assigned
+/// one, go to themselves.
+fn add_along<F: EdgeFn>(
+    result_fact: Fact,
     assigned: Option<Fact>,
-    globals: Fact,
     fact: Fact,
     targets: &mut TargetList<F>,
 ) -> Result<(), AllocError>
     requires { targets.old.list.items ≡ [] }
-    ensures { OnErr result (targets.new.list.items ≡ []) }
+    ensures ok { OnOk result (targets.new.list.items ≡ along_targets F.edge.id result_fact assigned fact) }
+    ensures err { OnErr result (targets.new.list.items ≡ []) }
 {
-    if fact == 0 || (fact > globals && assigned != Some(fact)) {
-        targets.add(fact, F::id())?;
+    if fact == 0 || (result_fact <= fact && assigned != Some(fact)) {
+        targets.add(fact, F::id())
+    } else {
+        Ok(())
     }
-    Ok(())
 }

@@ -16,7 +16,7 @@ invariant_of-result c =
     let sites : length c.in_ok-sites.sites.items ≡ length c.in_ok-numbering.numbering.spots.items =
     c.in_ok-sites.ensures.whole ∙ ap (λ n. length n.now.spots.items) c.new.ensures.same in
     let owners : c.in_ok-owners.owners.items ≡ map procedure c.in_ok-numbering.numbering.spots.items =
-    c.in_ok-owners.ensures ∙ ap (map procedure) c.deref.ensures.value in
+    c.in_ok-owners.ensures ∙ ap (map procedure) c.deref-2.ensures.value in
     record {
       few = rw sites numbered.few;
       edges = subst (λ n. All (λ site. EdgesWithin n (arc_value site)) c.in_ok-sites.sites.items) (sym c.in_ok-sites.ensures.whole) c.in_ok-sites.ensures.within;
@@ -24,5 +24,5 @@ invariant_of-result c =
       owned = All-owners _ _ _ owners numbered.owned;
       placed = rw sites numbered.placed;
       named = c.in_ok-directory.ensures.counted ∙ sym c.in_ok-numbering.ensures.whole;
-      own = All-same (λ layout. length layout.own ≤ c.most_own_of-most_own.result) _ _ (sym c.deref-2.ensures.value) c.most_own_of-most_own.ensures;
+      own = All-same (λ layout. length layout.own ≤ c.most_own_of-most_own.result) _ _ (sym c.deref.ensures.value) c.most_own_of-most_own.ensures;
     }
