@@ -19,7 +19,7 @@ received_at target (Some function) = (target, function) ∷ []
 -- over an assignment: each other fact to itself, and the assigned one by what it receives
 abbrev pub assigned_targets : {F : Type 0} → F → ℕ → Option F → ℕ → List (ℕ × F)
 assigned_targets id target received fact =
-    kept id (nat_lt fact target) fact ++ received_at target received ++ kept id (nat_lt target fact) fact
+    kept id (nat_lt fact target) fact ++ (received_at target received ++ kept id (nat_lt target fact) fact)
 
 -- whether a fact gets what it holds at entry: `@result`, or a local from `first` to before `end`
 abbrev pub is_entered : ℕ → ℕ → ℕ → ℕ → Bool

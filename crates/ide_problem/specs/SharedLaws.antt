@@ -89,9 +89,9 @@ module _ {F L : Type 0} (A : LatticeAlgebra L) (B : EdgeAlgebra F L) (laws : IsE
         (kept B.id (not (is_entered result first end fact)) fact))
   are_entered at_entry proper facts result first end fact few some within past ends true =
     (omega arith, omega (arith, few), laws.proper_id,
-      omega (arith, some), within, proper,
-      are_lower B.proper (result + 1) first facts (map (λ local. (local, at_entry)) (range_with_len first (end - first))) (omega (arith, past))
-        (are_range B.proper at_entry proper first (end - first) facts (λ more. omega (arith, more, ends))))
+      (omega (arith, some), within, proper,
+        are_lower B.proper (result + 1) first facts (map (λ local. (local, at_entry)) (range_with_len first (end - first))) (omega (arith, past))
+          (are_range B.proper at_entry proper first (end - first) facts (λ more. omega (arith, more, ends)))))
   are_entered at_entry proper facts result first end fact few some within past ends false =
     are_kept B.proper B.id laws.proper_id (not (is_entered result first end fact)) 0 fact facts (λ same. omega arith) (λ same. few)
 

@@ -27,13 +27,13 @@ pub trait Problem {
     fn flow(
         edge: &EdgeData,
         fact: Fact,
-        targets: &mut TargetList<Self::F>,
+        out: &mut TargetList<Self::F>,
     ) -> Result<(), AllocError>
-        requires { targets.old.list.items ≡ [] }
-        ensures ok { OnOk result (targets.new.list.items ≡ Self.targets edge.now fact) }
-        ensures err { OnErr result (targets.new.list.items ≡ []) };
+        requires { out.old.list.items ≡ [] }
+        ensures ok { OnOk result (out.new.list.items ≡ targets edge.now fact) }
+        ensures err { OnErr result (out.new.list.items ≡ []) };
 
-    ghost lawful: { IsFlow Self.F.edge Self.targets };
+    ghost lawful: { IsFlow Self.F.edge targets };
 
     ghost tag_not_zero: { 0 < TAG };
 

@@ -2,9 +2,9 @@
 //!
 //! Every function on a call, return or call-to-return edge is the identity. Over an assignment
 //! each other fact goes to itself, and the assigned fact receives only what the analysis says.
-ghost use Rattle.std.specs.Prelude.{◌≡◌, ◌-◌, [], ◌++◌, map, OnOk, OnErr};
-ghost use Rattle.std.specs.List.{range_with_len};
-ghost use Rattle.ide_problem.specs.Shared.{assigned_targets, entered_targets, call_targets, return_targets, along_targets, effect_targets, edge_targets};
+ghost use Rattle.std.specs.Prelude.{◌≡◌, ◌-◌, [], ◌++◌, map, nat_eq, OnOk, OnErr};
+ghost use Rattle.std.specs.List.{flat_map, range_with_len};
+ghost use Rattle.ide_problem.specs.Shared.{kept, assigned_targets, entered_targets, call_targets, return_targets, along_targets, effect_targets, edge_targets};
 
 use crate::target_list::TargetList;
 use ide_graph::{EdgeData, EdgeKind, Effect};
@@ -146,10 +146,35 @@ fn add_call<F: EdgeFn>(
     if fact < result_fact {
         targets.add(fact, F::id())?;
     }
+    add_passed(pairs, fact, targets)
+}
+
+/// Adds each parameter that the fact is passed to.
+fn add_passed<F: EdgeFn>(
+    pairs: &[(Fact, Fact)],
+    fact: Fact,
+    targets: &mut TargetList<F>,
+) -> Result<(), AllocError>
+    ensures ok { OnOk result (targets.new.list.items ≡ targets.old.list.items ++ flat_map (λ pair. kept F.edge.id (nat_eq pair.0 fact) pair.1) pairs.now) }
+    ensures err { OnErr result (targets.new.list.items ≡ []) }
+{
     for (argument, parameter) in pairs {
-        if *argument == fact {
-            targets.add(*parameter, F::id())?;
-        }
+        add_kept(*argument == fact, *parameter, targets)?;
+    }
+    Ok(())
+}
+
+/// Adds a fact by the identity, where the test holds.
+fn add_kept<F: EdgeFn>(
+    test: bool,
+    fact: Fact,
+    targets: &mut TargetList<F>,
+) -> Result<(), AllocError>
+    ensures ok { OnOk result (targets.new.list.items ≡ targets.old.list.items ++ kept F.edge.id test fact) }
+    ensures err { OnErr result (targets.new.list.items ≡ []) }
+{
+    if test {
+        targets.add(fact, F::id())?;
     }
     Ok(())
 }
