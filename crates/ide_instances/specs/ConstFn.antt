@@ -1,14 +1,11 @@
 -- The functions over constants: what each gives, and their composition, meet and ranks.
-use Rattle.std.specs.Prelude.{ℕ, ◌+◌, ◌%◌, ◌^◌, Bool, true, ◌&&◌, cond, nat_eq, nat_lt}
+use Rattle.std.specs.Prelude.{ℕ, ◌^◌, Bool, true, ◌&&◌, cond, nat_eq, nat_lt}
 use Rattle.ide_lattice.specs.Algebra.{EdgeAlgebra}
+use Rattle.ide_instances.specs.Modular.{sum_of}
 use Rattle.ide_instances.specs.declared.const_value.ConstValue.{ConstValue}
 use Rattle.ide_instances.specs.declared.const_value.ConstValue.TheVariants.{Top, Const as Known, Bottom as Unknown}
 use Rattle.ide_instances.specs.declared.const_fn.ConstFn.{ConstFn}
 use Rattle.ide_instances.specs.declared.const_fn.ConstFn.TheVariants.{AllTop, Shift, Const, ShiftMeet, Bottom}
-
--- a sum modulo 2^64
-abbrev pub sum_of : ℕ → ℕ → ℕ
-sum_of a b = (a + b) % 2 ^ 64
 
 -- the value of a function at a value
 abbrev pub apply_of : ConstFn → ConstValue → ConstValue

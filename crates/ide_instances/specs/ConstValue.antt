@@ -1,5 +1,5 @@
 -- The flat lattice of constants: top, each 64-bit number, bottom.
-use Rattle.std.specs.Prelude.{ℕ, ◌+◌, ◌%◌, ◌^◌, ◌++◌, Bool, true, List, cond, nat_eq, nat_lt, codes, decimal}
+use Rattle.std.specs.Prelude.{ℕ, ◌^◌, ◌++◌, Bool, true, List, cond, nat_eq, nat_lt, codes, decimal}
 use Rattle.ide_lattice.specs.Algebra.{LatticeAlgebra}
 use Rattle.ide_instances.specs.declared.const_value.ConstValue.{ConstValue}
 use Rattle.ide_instances.specs.declared.const_value.ConstValue.TheVariants.{Top, Const, Bottom}

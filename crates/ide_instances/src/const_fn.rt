@@ -41,6 +41,7 @@ impl EdgeFn for ConstFn {
         ConstFn::AllTop
     }
 
+    #[tactic(auto, unfolding(crate::specs::Modular::sum_of))]
     fn apply(self, x: ConstValue) -> ConstValue {
         match self {
             ConstFn::AllTop => ConstValue::Top,
@@ -65,6 +66,7 @@ impl EdgeFn for ConstFn {
         }
     }
 
+    #[tactic(auto, unfolding(crate::specs::Modular::sum_of))]
     fn compose(self, next: ConstFn) -> ConstFn {
         match self {
             ConstFn::AllTop => ConstFn::AllTop,
