@@ -1,6 +1,9 @@
-pub mod ConstValue
-pub mod ConstValueLaws
 pub mod ConstFn
 pub mod ConstFnApply
 pub mod ConstFnLaws
+pub mod ConstValue
+pub mod ConstValueLaws
 pub mod Modular
+pub mod UninitFn
+pub mod UninitLaws
+pub mod UninitValue
