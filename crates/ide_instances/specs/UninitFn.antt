@@ -1,5 +1,5 @@
 -- The two functions over the lattice of two values that map top to top.
-use Rattle.std.specs.Prelude.{ℕ, Bool, true}
+use Rattle.std.specs.Prelude.{ℕ, true}
 use Rattle.ide_lattice.specs.Algebra.{EdgeAlgebra}
 use Rattle.ide_instances.specs.declared.uninit_value.UninitValue.{UninitValue}
 use Rattle.ide_instances.specs.declared.uninit_value.UninitValue.TheVariants.{Top}

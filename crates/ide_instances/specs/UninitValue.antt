@@ -1,5 +1,5 @@
 -- The lattice of two values: surely initialised or not reached, and perhaps uninitialised.
-use Rattle.std.specs.Prelude.{ℕ, Bool, true, List, codes}
+use Rattle.std.specs.Prelude.{ℕ, true, List, codes}
 use Rattle.ide_lattice.specs.Algebra.{LatticeAlgebra}
 use Rattle.ide_instances.specs.declared.uninit_value.UninitValue.{UninitValue}
 use Rattle.ide_instances.specs.declared.uninit_value.UninitValue.TheVariants.{Top, Bottom}

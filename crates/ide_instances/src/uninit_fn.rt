@@ -1,8 +1,10 @@
 //! The functions over the lattice of two values.
-ghost use Rattle.std.specs.Prelude.{◌≡◌, true};
+ghost use Rattle.std.specs.Prelude.{◌≡◌, ◌++◌, true};
 
 use crate::uninit_value::UninitValue;
 use ide_lattice::EdgeFn;
+use ide_wire::Wire;
+use std::alloc::AllocError;
 
 /// A function over [`UninitValue`] that maps top to top: there are two.
 #[derive(Clone, Copy, PartialEq, Eq, Debug, Default)]
@@ -12,6 +14,41 @@ pub enum UninitFn {
     AllTop,
     /// The identity.
     Id,
+}
+
+impl Wire for UninitFn {
+    ghost use Rattle.ide_instances.specs.UninitForm.{fn_form, fn_not_empty, fn_at_most, fn_prefix_free};
+
+    const MAX: usize = 1;
+
+    ghost MAX = { 1 };
+
+    ghost proper = { λ f. true };
+
+    ghost form = { fn_form };
+
+    fn put(&self, out: &mut Vec<u8>) -> Result<(), AllocError> {
+        let kind = match *self {
+            UninitFn::AllTop => 0,
+            UninitFn::Id => 1,
+        };
+        out.push(kind)?;
+        Ok(())
+    }
+
+    fn take(bytes: &[u8]) -> Option<(UninitFn, usize)> {
+        match bytes {
+            [0, ..] => Some((UninitFn::AllTop, 1)),
+            [1, ..] => Some((UninitFn::Id, 1)),
+            _ => None,
+        }
+    }
+
+    ghost not_empty = { fn_not_empty };
+
+    ghost at_most_max = { fn_at_most };
+
+    ghost prefix_free = { fn_prefix_free };
 }
 
 impl EdgeFn for UninitFn {
