@@ -1,6 +1,7 @@
 //! Functions over constants that are closed under composition and meet.
 ghost use Rattle.std.specs.Prelude.{◌≡◌, ◌++◌, ◌∷◌, OnOk, OnErr};
 ghost use Rattle.std.specs.Int.{w64, to_le_bytes};
+ghost use Rattle.std.proofs.Common.{refl};
 
 use crate::const_value::ConstValue;
 use ide_lattice::EdgeFn;
@@ -98,6 +99,7 @@ impl Wire for ConstFn {
 
 impl EdgeFn for ConstFn {
     ghost use Rattle.ide_instances.specs.ConstFn.{const_edge};
+    ghost use Rattle.ide_instances.specs.ConstFnLaws.{const_functions, const_fn_exact};
 
     type L = ConstValue;
 
@@ -217,4 +219,12 @@ impl EdgeFn for ConstFn {
             ConstFn::Bottom => true,
         }
     }
+
+    ghost lawful = { const_functions };
+
+    ghost height = { refl };
+
+    ghost exact = { const_fn_exact };
+
+    ghost proper_as_coded = { λ f. refl };
 }

@@ -1,5 +1,6 @@
 //! The functions over the lattice of two values.
 ghost use Rattle.std.specs.Prelude.{◌≡◌, ◌++◌, true};
+ghost use Rattle.std.proofs.Common.{refl};
 
 use crate::uninit_value::UninitValue;
 use ide_lattice::EdgeFn;
@@ -53,6 +54,7 @@ impl Wire for UninitFn {
 
 impl EdgeFn for UninitFn {
     ghost use Rattle.ide_instances.specs.UninitFn.{uninit_edge};
+    ghost use Rattle.ide_instances.specs.UninitLaws.{uninit_functions, uninit_fn_exact};
 
     type L = UninitValue;
 
@@ -101,4 +103,12 @@ impl EdgeFn for UninitFn {
     fn proper(self) -> bool {
         true
     }
+
+    ghost lawful = { uninit_functions };
+
+    ghost height = { refl };
+
+    ghost exact = { uninit_fn_exact };
+
+    ghost proper_as_coded = { λ f. refl };
 }

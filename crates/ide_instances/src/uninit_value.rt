@@ -1,5 +1,6 @@
 //! The lattice of two values.
 ghost use Rattle.std.specs.Prelude.{◌≡◌, ◌++◌, true, OnOk, OnErr, codes};
+ghost use Rattle.std.proofs.Common.{refl};
 
 use ide_lattice::Lattice;
 use std::alloc::AllocError;
@@ -15,6 +16,7 @@ pub enum UninitValue {
 
 impl Lattice for UninitValue {
     ghost use Rattle.ide_instances.specs.UninitValue.{uninit_algebra, shown_value};
+    ghost use Rattle.ide_instances.specs.UninitLaws.{uninit_lattice, uninit_value_exact};
 
     const HEIGHT: u16 = 1;
 
@@ -56,4 +58,10 @@ impl Lattice for UninitValue {
             UninitValue::Bottom => out.extend_from_slice(b"bottom"),
         }
     }
+
+    ghost lawful = { uninit_lattice };
+
+    ghost height = { refl };
+
+    ghost exact = { uninit_value_exact };
 }
