@@ -9,6 +9,8 @@
 mod const_fn;
 mod const_value;
 mod copy_const;
+#[cfg(test)]
+mod tests;
 mod uninit_fn;
 mod uninit_value;
 
