@@ -4,6 +4,7 @@ use Rattle.ide_lattice.specs.Algebra.{LatticeAlgebra}
 use Rattle.ide_instances.specs.declared.uninit_value.UninitValue.{UninitValue}
 use Rattle.ide_instances.specs.declared.uninit_value.UninitValue.TheVariants.{Top, Bottom}
 
+-- bottom where either is bottom
 abbrev pub meet_of : UninitValue → UninitValue → UninitValue
 meet_of Top y = y
 meet_of Bottom y = Bottom

@@ -26,7 +26,7 @@ pub enum ConstFn {
     Bottom,
 }
 
-/// Appends a kind, then a number.
+/// Appends a kind, then a number. At a refusal the vector is as it was.
 fn put_number(kind: u8, number: u64, out: &mut Vec<u8>) -> Result<(), AllocError>
     ensures ok { OnOk result (out.new.items ≡ out.old.items ++ kind ∷ to_le_bytes w64 number) }
     ensures err { OnErr result (out.new.items ≡ out.old.items) }
@@ -35,7 +35,7 @@ fn put_number(kind: u8, number: u64, out: &mut Vec<u8>) -> Result<(), AllocError
     out.extend_from_slice(&[kind, a, b, c, d, e, f, g, h])
 }
 
-/// Appends a kind, then two numbers.
+/// Appends a kind, then two numbers. At a refusal the vector is as it was.
 fn put_numbers(kind: u8, first: u64, second: u64, out: &mut Vec<u8>) -> Result<(), AllocError>
     ensures ok { OnOk result (out.new.items ≡ out.old.items ++ kind ∷ to_le_bytes w64 first ++ to_le_bytes w64 second) }
     ensures err { OnErr result (out.new.items ≡ out.old.items) }

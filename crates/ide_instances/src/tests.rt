@@ -1,6 +1,6 @@
 //! What meets, compositions and values come to, and the coded and printed forms.
 use crate::{ConstFn, ConstValue, UninitFn, UninitValue};
-use ide_lattice::{EdgeFn, Lattice};
+use ide_lattice::{EdgeFn, Lattice, value_of_meet};
 use ide_wire::Wire;
 use std::alloc::AllocGlobal;
 use std::process::Abort;
@@ -66,6 +66,11 @@ fn meets_of_functions(rt: HostRuntime) {
     expect_value(&rt, met, ConstValue::Const(5), ConstValue::Bottom);
     expect_value(&rt, met, ConstValue::Bottom, ConstValue::Bottom);
     expect_value(&rt, met, ConstValue::Top, ConstValue::Top);
+    let parts = [ConstFn::Shift(1), ConstFn::Const(7)];
+    assert_eq!(rt;
+        value_of_meet(&parts, ConstValue::Const(6)),
+        ConstValue::Const(7)
+    );
 }
 
 #[test]
