@@ -1,14 +1,12 @@
 -- The functions over constants: what each gives, and their composition, meet and ranks.
-use Rattle.std.specs.Prelude.{ℕ, ◌+◌, ◌%◌, ◌^◌, Bool, true, ◌&&◌, cond, nat_eq, nat_lt}
+use Rattle.std.specs.Prelude.{ℕ, Bool, true, ◌&&◌, cond, nat_eq}
 use Rattle.ide_lattice.specs.Algebra.{EdgeAlgebra}
+use Rattle.ide_wire.specs.Numbers.{fits}
+use Rattle.ide_instances.specs.Modular.{sum_of}
 use Rattle.ide_instances.specs.declared.const_value.ConstValue.{ConstValue}
 use Rattle.ide_instances.specs.declared.const_value.ConstValue.TheVariants.{Top, Const as Known, Bottom as Unknown}
 use Rattle.ide_instances.specs.declared.const_fn.ConstFn.{ConstFn}
 use Rattle.ide_instances.specs.declared.const_fn.ConstFn.TheVariants.{AllTop, Shift, Const, ShiftMeet, Bottom}
-
--- a sum modulo 2^64
-abbrev pub sum_of : ℕ → ℕ → ℕ
-sum_of a b = (a + b) % 2 ^ 64
 
 -- the value of a function at a value
 abbrev pub apply_of : ConstFn → ConstValue → ConstValue
@@ -70,6 +68,7 @@ meet_fns (ShiftMeet c k) (ShiftMeet d l) = cond (nat_eq c d && nat_eq k l) (Shif
 meet_fns (ShiftMeet c k) Bottom = Bottom
 meet_fns Bottom g = Bottom
 
+-- how often a meet can still lower it
 abbrev pub fn_rank : ConstFn → ℕ
 fn_rank AllTop = 3
 fn_rank (Shift c) = 2
@@ -80,9 +79,9 @@ fn_rank Bottom = 0
 -- the numbers fit 64 bits
 abbrev pub is_proper_fn : ConstFn → Bool
 is_proper_fn AllTop = true
-is_proper_fn (Shift c) = nat_lt c (2 ^ 64)
-is_proper_fn (Const k) = nat_lt k (2 ^ 64)
-is_proper_fn (ShiftMeet c k) = nat_lt c (2 ^ 64) && nat_lt k (2 ^ 64)
+is_proper_fn (Shift c) = fits 64 c
+is_proper_fn (Const k) = fits 64 k
+is_proper_fn (ShiftMeet c k) = fits 64 c && fits 64 k
 is_proper_fn Bottom = true
 
 abbrev pub const_edge : EdgeAlgebra ConstFn ConstValue

@@ -1,6 +1,7 @@
 -- The flat lattice of constants: top, each 64-bit number, bottom.
-use Rattle.std.specs.Prelude.{ℕ, ◌+◌, ◌%◌, ◌^◌, ◌++◌, Bool, true, List, cond, nat_eq, nat_lt, codes, decimal}
+use Rattle.std.specs.Prelude.{ℕ, ◌++◌, Bool, true, List, cond, nat_eq, codes, decimal}
 use Rattle.ide_lattice.specs.Algebra.{LatticeAlgebra}
+use Rattle.ide_wire.specs.Numbers.{fits}
 use Rattle.ide_instances.specs.declared.const_value.ConstValue.{ConstValue}
 use Rattle.ide_instances.specs.declared.const_value.ConstValue.TheVariants.{Top, Const, Bottom}
 
@@ -20,7 +21,7 @@ rank_of Bottom = 0
 -- the number fits 64 bits
 abbrev pub is_proper : ConstValue → Bool
 is_proper Top = true
-is_proper (Const k) = nat_lt k (2 ^ 64)
+is_proper (Const k) = fits 64 k
 is_proper Bottom = true
 
 -- the printed form of a value

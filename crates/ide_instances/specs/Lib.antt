@@ -1,2 +1,11 @@
-pub mod ConstValue
 pub mod ConstFn
+pub mod ConstFnApply
+pub mod ConstFnForm
+pub mod ConstFnLaws
+pub mod ConstValue
+pub mod ConstValueLaws
+pub mod Modular
+pub mod UninitFn
+pub mod UninitForm
+pub mod UninitLaws
+pub mod UninitValue

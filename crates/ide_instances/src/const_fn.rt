@@ -1,8 +1,12 @@
 //! Functions over constants that are closed under composition and meet.
-ghost use Rattle.std.specs.Prelude.{◌≡◌};
+ghost use Rattle.std.specs.Prelude.{◌≡◌, ◌++◌, ◌∷◌, OnOk, OnErr};
+ghost use Rattle.std.specs.Int.{w64, to_le_bytes};
+ghost use Rattle.std.proofs.Common.{refl};
 
 use crate::const_value::ConstValue;
 use ide_lattice::EdgeFn;
+use ide_wire::Wire;
+use std::alloc::AllocError;
 
 /// A function over [`ConstValue`]. Each maps top to top, and distinct forms are distinct
 /// functions. Sums are modulo 2^64.
@@ -22,8 +26,80 @@ pub enum ConstFn {
     Bottom,
 }
 
+/// Appends a kind, then a number. At a refusal the vector is as it was.
+fn put_number(kind: u8, number: u64, out: &mut Vec<u8>) -> Result<(), AllocError>
+    ensures ok { OnOk result (out.new.items ≡ out.old.items ++ kind ∷ to_le_bytes w64 number) }
+    ensures err { OnErr result (out.new.items ≡ out.old.items) }
+{
+    let [a, b, c, d, e, f, g, h] = number.to_le_bytes();
+    out.extend_from_slice(&[kind, a, b, c, d, e, f, g, h])
+}
+
+/// Appends a kind, then two numbers. At a refusal the vector is as it was.
+fn put_numbers(kind: u8, first: u64, second: u64, out: &mut Vec<u8>) -> Result<(), AllocError>
+    ensures ok { OnOk result (out.new.items ≡ out.old.items ++ kind ∷ to_le_bytes w64 first ++ to_le_bytes w64 second) }
+    ensures err { OnErr result (out.new.items ≡ out.old.items) }
+{
+    out.reserve(17)?;
+    out.extend_from_slice(&[kind])?;
+    out.extend_from_slice(&first.to_le_bytes())?;
+    out.extend_from_slice(&second.to_le_bytes())
+}
+
+impl Wire for ConstFn {
+    ghost use Rattle.ide_instances.specs.ConstFn.{is_proper_fn};
+    ghost use Rattle.ide_instances.specs.ConstFnForm.{fn_form, fn_not_empty, fn_at_most, fn_prefix_free};
+
+    const MAX: usize = 17;
+
+    ghost MAX = { 17 };
+
+    ghost proper = { is_proper_fn };
+
+    ghost form = { fn_form };
+
+    fn put(&self, out: &mut Vec<u8>) -> Result<(), AllocError> {
+        match *self {
+            ConstFn::AllTop => out.extend_from_slice(&[0]),
+            ConstFn::Shift(shift) => put_number(1, shift, out),
+            ConstFn::Const(number) => put_number(2, number, out),
+            ConstFn::ShiftMeet(shift, number) => put_numbers(3, shift, number, out),
+            ConstFn::Bottom => out.extend_from_slice(&[4]),
+        }
+    }
+
+    fn take(bytes: &[u8]) -> Option<(ConstFn, usize)> {
+        let (kind, numbers) = bytes.split_first()?;
+        match *kind {
+            0 => Some((ConstFn::AllTop, 1)),
+            1 => {
+                let (shift, _) = u64::take(numbers)?;
+                Some((ConstFn::Shift(shift), 9))
+            }
+            2 => {
+                let (number, _) = u64::take(numbers)?;
+                Some((ConstFn::Const(number), 9))
+            }
+            3 => {
+                let (shift, _) = u64::take(numbers)?;
+                let (number, _) = u64::take(&numbers[8..])?;
+                Some((ConstFn::ShiftMeet(shift, number), 17))
+            }
+            4 => Some((ConstFn::Bottom, 1)),
+            _ => None,
+        }
+    }
+
+    ghost not_empty = { fn_not_empty };
+
+    ghost at_most_max = { fn_at_most };
+
+    ghost prefix_free = { fn_prefix_free };
+}
+
 impl EdgeFn for ConstFn {
     ghost use Rattle.ide_instances.specs.ConstFn.{const_edge};
+    ghost use Rattle.ide_instances.specs.ConstFnLaws.{const_functions, const_fn_exact};
 
     type L = ConstValue;
 
@@ -41,6 +117,7 @@ impl EdgeFn for ConstFn {
         ConstFn::AllTop
     }
 
+    #[tactic(auto, unfolding(crate::specs::Modular::sum_of))]
     fn apply(self, x: ConstValue) -> ConstValue {
         match self {
             ConstFn::AllTop => ConstValue::Top,
@@ -65,6 +142,7 @@ impl EdgeFn for ConstFn {
         }
     }
 
+    #[tactic(auto, unfolding(crate::specs::Modular::sum_of))]
     fn compose(self, next: ConstFn) -> ConstFn {
         match self {
             ConstFn::AllTop => ConstFn::AllTop,
@@ -141,4 +219,12 @@ impl EdgeFn for ConstFn {
             ConstFn::Bottom => true,
         }
     }
+
+    ghost lawful = { const_functions };
+
+    ghost height = { refl };
+
+    ghost exact = { const_fn_exact };
+
+    ghost proper_as_coded = { λ f. refl };
 }

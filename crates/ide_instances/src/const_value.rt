@@ -1,5 +1,6 @@
 //! The flat lattice of 64-bit constants.
 ghost use Rattle.std.specs.Prelude.{◌≡◌, ◌++◌, ◌^◌, ◌<◌, true, OnOk, OnErr, codes, decimal};
+ghost use Rattle.std.proofs.Common.{refl};
 
 use ide_lattice::Lattice;
 use itoa::Buffer;
@@ -15,6 +16,7 @@ pub enum ConstValue {
 
 impl Lattice for ConstValue {
     ghost use Rattle.ide_instances.specs.ConstValue.{const_algebra, shown_value};
+    ghost use Rattle.ide_instances.specs.ConstValueLaws.{const_lattice, const_value_exact};
 
     const HEIGHT: u16 = 2;
 
@@ -73,4 +75,10 @@ impl Lattice for ConstValue {
             }
         }
     }
+
+    ghost lawful = { const_lattice };
+
+    ghost height = { refl };
+
+    ghost exact = { const_value_exact };
 }
