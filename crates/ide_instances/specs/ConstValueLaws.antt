@@ -1,6 +1,6 @@
 -- The constants are a lattice, and their `==` is equality.
 use Rattle.std.specs.Prelude.{◌≡◌, ◌≢◌, ◌<◌, ◌≤◌, true, IsTrue}
-use Rattle.std.proofs.Common.{refl, arith}
+use Rattle.std.proofs.Common.{refl, ap, arith}
 use Rattle.std.proofs.lemmas.Bool.Decides.{nat_tests}
 use Rattle.ide_lattice.specs.Laws.{IsLattice}
 use Rattle.ide_instances.specs.ConstValue.{const_algebra, meet_of, rank_of, is_proper}
@@ -78,3 +78,6 @@ const_value_exact (Const k) Bottom h = grind (arith, nat_tests)
 const_value_exact Bottom Top h = grind (arith, nat_tests)
 const_value_exact Bottom (Const l) h = grind (arith, nat_tests)
 const_value_exact Bottom Bottom h = refl
+
+pub const_top_is_not_bottom : Top ≡ Bottom → ⊥
+const_top_is_not_bottom same = let ranks : 2 ≡ 0 = ap rank_of same in omega (arith, ranks)

@@ -4,7 +4,9 @@ pub mod ConstFnForm
 pub mod ConstFnLaws
 pub mod ConstValue
 pub mod ConstValueLaws
+pub mod FlowLaws
 pub mod Modular
+pub mod Received
 pub mod UninitFn
 pub mod UninitForm
 pub mod UninitLaws

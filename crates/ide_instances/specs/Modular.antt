@@ -41,3 +41,15 @@ gap-fits c k = omega (arith)
 pub sum-gap : (c k : ℕ) → c < 2 ^ 64 → k < 2 ^ 64 → sum_of (gap_of c k) c ≡ k
 unfolding sum_of gap_of
 sum-gap c k p q = omega (arith)
+
+-- what adds to zero with `c`
+unfoldable pub negated_of : ℕ → ℕ
+negated_of c = (2 ^ 64 - c) % 2 ^ 64
+
+pub negated-fits : (c : ℕ) → negated_of c < 2 ^ 64
+unfolding negated_of
+negated-fits c = omega (arith)
+
+pub negated-only : (c n : ℕ) → c < 2 ^ 64 → n < 2 ^ 64 → (n + c) % 2 ^ 64 ≡ 0 → n ≡ negated_of c
+unfolding negated_of
+negated-only c n p q h = omega (arith, p, q, h)

@@ -1,7 +1,7 @@
 -- The two values are a lattice, their two functions an algebra of edge functions, and each `==` is
 -- equality.
 use Rattle.std.specs.Prelude.{◌≡◌, ◌≢◌, ◌<◌, ◌≤◌, true, IsTrue}
-use Rattle.std.proofs.Common.{refl, sym, arith}
+use Rattle.std.proofs.Common.{refl, sym, ap, arith}
 use Rattle.ide_lattice.specs.Laws.{IsLattice, IsEdgeAlgebra}
 use Rattle.ide_instances.specs.UninitValue.{uninit_algebra, meet_of, rank_of}
 use Rattle.ide_instances.specs.UninitFn.{uninit_edge, apply_of, compose_of, meet_fns, fn_rank}
@@ -113,3 +113,6 @@ uninit_fn_exact AllTop AllTop h = refl
 uninit_fn_exact AllTop Id h = cc
 uninit_fn_exact Id AllTop h = cc
 uninit_fn_exact Id Id h = refl
+
+pub uninit_top_is_not_bottom : Top ≡ Bottom → ⊥
+uninit_top_is_not_bottom same = let ranks : 1 ≡ 0 = ap rank_of same in omega (arith, ranks)

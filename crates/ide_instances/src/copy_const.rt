@@ -1,13 +1,12 @@
 //! Copy-constant propagation.
-ghost use Rattle.std.specs.Prelude.{◌≡◌, [], OnErr};
+ghost use Rattle.std.specs.Prelude.{◌≡◌, ◌<◌, Option};
+ghost use Rattle.std.proofs.Common.{lit≤};
+ghost use Rattle.ide_instances.specs.Received.{copy_received};
 
 use crate::const_fn::ConstFn;
 use crate::const_value::ConstValue;
 use ide_graph::{EdgeData, EdgeKind, Effect};
-use ide_lattice::EdgeFn;
-use ide_problem::{
-    Problem, TargetList, add_assigned, add_call, add_call_to_return, add_entered, add_return,
-};
+use ide_problem::{Problem, TargetList, add_targets};
 use ide_wire::Fact;
 use std::alloc::AllocError;
 
@@ -15,47 +14,11 @@ use std::alloc::AllocError;
 /// difference, an input or a mix makes it unknown.
 pub struct CopyConst;
 
-/// What an assigned fact receives from `fact`, where only `source` gives it something.
-fn received(source: Fact, function: ConstFn, fact: Fact) -> Option<ConstFn> {
-    if fact == source { Some(function) } else { None }
-}
-
-/// The targets of `fact` over a normal edge.
-fn add_normal(
-    effect: Effect,
-    result_fact: Fact,
-    fact: Fact,
-    targets: &mut TargetList<ConstFn>,
-) -> Result<(), AllocError>
-    requires { targets.old.list.items ≡ [] }
-    ensures { OnErr result (targets.new.list.items ≡ []) }
-{
-    match effect {
-        Effect::Nothing => targets.add(fact, ConstFn::id()),
-        Effect::Number { target, number } => {
-            add_assigned(
-                target,
-                received(0, ConstFn::Const(number), fact),
-                fact,
-                targets,
-            )
-        }
-        Effect::Copy { target, source } => {
-            add_assigned(target, received(source, ConstFn::id(), fact), fact, targets)
-        }
-        Effect::Sum { target, .. }
-        | Effect::Difference { target, .. }
-        | Effect::Unknown { target }
-        | Effect::Mix { target, .. } => {
-            add_assigned(target, received(0, ConstFn::Bottom, fact), fact, targets)
-        }
-        Effect::Enter { first, locals } => {
-            add_entered(result_fact, first, locals, ConstFn::Bottom, fact, targets)
-        }
-    }
-}
-
 impl Problem for CopyConst {
+    ghost use Rattle.ide_instances.specs.Received.{copy_targets};
+    ghost use Rattle.ide_instances.specs.FlowLaws.{copy_flow};
+    ghost use Rattle.ide_instances.specs.ConstValueLaws.{const_top_is_not_bottom};
+
     type L = ConstValue;
 
     type F = ConstFn;
@@ -64,18 +27,38 @@ impl Problem for CopyConst {
 
     ghost TAG = { 2 };
 
+    ghost targets = { copy_targets };
+
     fn flow(
         edge: &EdgeData,
         fact: Fact,
-        targets: &mut TargetList<ConstFn>,
+        out: &mut TargetList<ConstFn>,
     ) -> Result<(), AllocError> {
-        match &edge.kind {
-            EdgeKind::Normal(effect) => { add_normal(*effect, edge.result_fact(), fact, targets) }
-            EdgeKind::Call(pairs) => add_call(pairs.as_slice(), edge.globals, fact, targets),
-            EdgeKind::Return(target) => add_return(*target, edge.globals, fact, targets),
-            EdgeKind::CallToReturn(target) => {
-                add_call_to_return(*target, edge.globals, fact, targets)
-            }
-        }
+        let received = match &edge.kind {
+            EdgeKind::Normal(effect) => received(*effect, fact),
+            _ => None,
+        };
+        add_targets(edge, received, ConstFn::Bottom, fact, out)
+    }
+
+    ghost lawful = { copy_flow };
+
+    ghost tag_not_zero = { lit≤ tt };
+
+    ghost top_is_not_bottom = { const_top_is_not_bottom };
+}
+
+/// What the fact that a statement assigns receives from `fact`.
+pub(crate) fn received(effect: Effect, fact: Fact) -> Option<ConstFn>
+    ensures { result ≡ copy_received effect fact }
+{
+    match effect {
+        Effect::Nothing | Effect::Enter { .. } => None,
+        Effect::Number { number, .. } => (fact == 0).then_some(ConstFn::Const(number)),
+        Effect::Copy { source, .. } => (fact == source).then_some(ConstFn::Shift(0)),
+        Effect::Sum { .. }
+        | Effect::Difference { .. }
+        | Effect::Unknown { .. }
+        | Effect::Mix { .. } => (fact == 0).then_some(ConstFn::Bottom),
     }
 }

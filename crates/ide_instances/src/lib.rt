@@ -1,21 +1,27 @@
 //! The analyses that the program offers.
 //!
-//! [`CopyConst`] is copy-constant propagation: a variable is constant where every path gives it
-//! the same number by assignments of numbers and copies alone. Its values are [`ConstValue`], its
-//! edge functions [`ConstFn`], which also serve linear constants of factor 1. [`UninitValue`] and
-//! [`UninitFn`] tell which variables may be read before they are written.
+//! [`Uninit`] finds variables that may be read before they are written. [`CopyConst`] is
+//! copy-constant propagation: a variable is constant where every path gives it the same number by
+//! assignments of numbers and copies alone. [`ShiftConst`] follows sums and differences with numbers
+//! too. The values of both are [`ConstValue`], their edge functions [`ConstFn`].
+//!
+//! Their flows differ in what an assigned fact receives, and in nothing else.
 #![tactic(auto)]
 
 mod const_fn;
 mod const_value;
 mod copy_const;
+mod shift_const;
 #[cfg(test)]
 mod tests;
+mod uninit;
 mod uninit_fn;
 mod uninit_value;
 
 pub use const_fn::ConstFn;
 pub use const_value::ConstValue;
 pub use copy_const::CopyConst;
+pub use shift_const::ShiftConst;
+pub use uninit::Uninit;
 pub use uninit_fn::UninitFn;
 pub use uninit_value::UninitValue;
