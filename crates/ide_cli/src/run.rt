@@ -2,7 +2,7 @@
 use crate::words::{Instance, Words, read_words};
 use clap::error::ErrorKind;
 use ide_graph::Graph;
-use ide_instances::CopyConst;
+use ide_instances::{CopyConst, ShiftConst, Uninit};
 use ide_service::solve;
 use ide_text::parse;
 use ide_wire::Refused;
@@ -81,18 +81,33 @@ fn answer<'a, R: Files + AllocGlobal>(
 ) -> Result<(), Failure<'a>> {
     match words {
         Words::Once {
-            instance: Instance::Copy,
+            instance,
             file,
             procedure,
         } => {
             let text = read_file(rt, file)?;
-            let roots = [procedure.as_bytes()];
-            answered(solve::<CopyConst>(rt.alloc(), text.as_slice(), &roots, out))
+            answered(solve_by(rt.alloc(), instance, text.as_slice(), procedure.as_bytes(), out))
         }
         Words::Check { file } => {
             let text = read_file(rt, file)?;
             answered(check(rt.alloc(), text.as_slice(), out))
         }
+    }
+}
+
+/// Appends the dump of the program that the text spells, by that analysis and with that root.
+fn solve_by(
+    alloc: Global,
+    instance: Instance,
+    text: &[u8],
+    root: &[u8],
+    out: &mut Vec<u8>,
+) -> Result<(), Refused> {
+    let roots = [root];
+    match instance {
+        Instance::Uninit => solve::<Uninit>(alloc, text, &roots, out),
+        Instance::Copy => solve::<CopyConst>(alloc, text, &roots, out),
+        Instance::Shift => solve::<ShiftConst>(alloc, text, &roots, out),
     }
 }
 

@@ -32,6 +32,15 @@ fn words_of_each_command(rt: HostRuntime) -> Result<(), Fail> {
         read_words(rt.alloc(), &["idesolve", "once", "copy", "f", "p"])?,
         once
     );
+    let once = Words::Once {
+        instance: Instance::Shift,
+        file: "f",
+        procedure: "p",
+    };
+    assert_eq!(rt;
+        read_words(rt.alloc(), &["idesolve", "once", "shift", "f", "p"])?,
+        once
+    );
     let check = Words::Check { file: "f" };
     assert_eq!(rt; read_words(rt.alloc(), &["idesolve", "check", "f"])?, check);
     Ok(())
@@ -43,7 +52,7 @@ fn wrong_words_and_help(rt: HostRuntime) {
         &["idesolve"],
         &["idesolve", "solve"],
         &["idesolve", "once", "copy", "f"],
-        &["idesolve", "once", "shift", "f", "p"],
+        &["idesolve", "once", "shifts", "f", "p"],
         &["idesolve", "check"],
         &["idesolve", "check", "f", "g"],
     ];

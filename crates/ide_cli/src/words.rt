@@ -21,12 +21,27 @@ pub enum Words<'a> {
 /// The analyses that a command line may name.
 #[derive(Clone, Copy, PartialEq, Eq, Debug)]
 pub enum Instance {
+    /// `uninit`: variables that may be read before they are written.
+    Uninit,
     /// `copy`: copy constants.
     Copy,
+    /// `shift`: constants through sums and differences too.
+    Shift,
 }
 
 /// The names of the analyses.
-static INSTANCES: [&str; 1] = ["copy"];
+static INSTANCES: [&str; 3] = ["uninit", "copy", "shift"];
+
+impl Instance {
+    /// The analysis of that name, one of [`INSTANCES`].
+    fn of(name: &str) -> Instance {
+        match name {
+            "uninit" => Instance::Uninit,
+            "shift" => Instance::Shift,
+            _ => Instance::Copy,
+        }
+    }
+}
 
 /// The command of a line whose first word is the program's name. Any other line is an error of
 /// `clap`, as is one that asks for help.
@@ -39,7 +54,7 @@ pub fn read_words<'a, S: AsStr>(alloc: Global, line: &'a [S]) -> Result<Words<'a
     let matches = command.try_get_matches_from(line)?;
     match matches.subcommand() {
         Some(("once", given)) => Ok(Words::Once {
-            instance: Instance::Copy,
+            instance: Instance::of(text_of(given, "INSTANCE")),
             file: text_of(given, "FILE"),
             procedure: text_of(given, "PROC"),
         }),

@@ -6,6 +6,7 @@ pub mod ConstValue
 pub mod ConstValueLaws
 pub mod FlowLaws
 pub mod Modular
+pub mod Reach
 pub mod Received
 pub mod UninitFn
 pub mod UninitForm

@@ -23,5 +23,5 @@ AreTargets proper low count (target ∷ targets) =
 -- each edge `@zero` goes to `@zero` by the identity
 pub record IsFlow {F L : Type 0} (B : EdgeAlgebra F L) (targets : Targets F) : Type 0 where
   pub in_order : (edge : EdgeData) (fact : ℕ) → IsEdge edge → AreTargets B.proper 0 edge.facts (targets edge fact)
-  pub none_outside : (edge : EdgeData) (fact : ℕ) → edge.facts ≤ fact → targets edge fact ≡ []
+  pub none_outside : (edge : EdgeData) (fact : ℕ) → IsEdge edge → edge.facts ≤ fact → targets edge fact ≡ []
   pub zero : (edge : EdgeData) → IsEdge edge → function_to B 0 (targets edge 0) ≡ B.id

@@ -168,6 +168,6 @@ module _ {F L : Type 0} (A : LatticeAlgebra L) (B : EdgeAlgebra F L) (laws : IsE
     → IsFlow B (λ edge fact. edge_targets B.id (received edge fact) at_entry edge fact)
   shared_flow received at_entry rp ap = record {
     in_order = λ edge fact lawful. are_edge (received edge fact) at_entry (rp edge fact lawful) ap edge lawful fact (nat_lt fact edge.facts) refl;
-    none_outside = λ edge fact past. rw (lt-false fact edge.facts past) refl;
+    none_outside = λ edge fact lawful past. rw (lt-false fact edge.facts past) refl;
     zero = λ edge lawful. rw (lt-true edge.facts (omega (arith, lawful.result, lawful.facts))) (zero_kind (received edge 0) at_entry edge.facts edge.result edge.kind lawful.result lawful.kind);
   }

@@ -1,8 +1,9 @@
 //! The worked programs, from text to values.
 use crate::{solve, values_of};
 use ide_graph::Graph;
-use ide_instances::{ConstFn, ConstValue, CopyConst};
+use ide_instances::{ConstFn, ConstValue, CopyConst, Reach, ShiftConst, Uninit, UninitValue};
 use ide_lattice::{EdgeFn, Lattice};
+use ide_problem::Problem;
 use ide_steps::{Claimed, Core};
 use ide_tasks::Work;
 use ide_text::parse;
@@ -42,20 +43,33 @@ const NUMBER: &str = "proc main\nvar x\nx = 5\nend\n";
 const EMPTY: &str = "proc main\nend\n";
 
 /// The value of a fact at a position of a procedure, with `main` as the root.
-fn value(
+fn value<P: Problem>(
     alloc: Global,
     text: &str,
     procedure: &str,
     position: u32,
     fact: &str,
-) -> Result<ConstValue, Refused> {
-    let values = values_of::<CopyConst>(alloc, text.as_bytes(), &[b"main".as_slice()])?;
+) -> Result<P::L, Refused> {
+    let values = values_of::<P>(alloc, text.as_bytes(), &[b"main".as_slice()])?;
     let graph = &values.loaded().graph;
     let (node, fact) = graph.find(procedure.as_bytes(), position, fact.as_bytes())?;
     values.at(node, fact)
 }
 
 /// Asserts the value of a fact at a position of a procedure.
+fn expect<P: Problem>(
+    rt: &(impl Abort + AllocGlobal),
+    text: &str,
+    procedure: &str,
+    position: u32,
+    fact: &str,
+    want: P::L,
+) {
+    let found = value::<P>(rt.alloc(), text, procedure, position, fact);
+    assert!(rt; found == Ok(want), "{fact} at {position} of {procedure} in {text}");
+}
+
+/// Asserts a value of copy-constant propagation.
 fn expect_value(
     rt: &(impl Abort + AllocGlobal),
     text: &str,
@@ -64,12 +78,48 @@ fn expect_value(
     fact: &str,
     want: ConstValue,
 ) {
-    let found = value(rt.alloc(), text, procedure, position, fact);
-    assert_eq!(rt;
-        found,
-        Ok(want),
-        "{fact} at {position} of {procedure} in {text}"
-    );
+    expect::<CopyConst>(rt, text, procedure, position, fact, want);
+}
+
+/// Asserts a value where sums are followed too.
+fn expect_shifted(
+    rt: &(impl Abort + AllocGlobal),
+    text: &str,
+    procedure: &str,
+    position: u32,
+    fact: &str,
+    want: ConstValue,
+) {
+    expect::<ShiftConst>(rt, text, procedure, position, fact, want);
+}
+
+#[test]
+fn linear_constants(rt: HostRuntime) {
+    expect_shifted(&rt, SUM_OR_NUMBER, "main", 7, "u", ConstValue::Const(7));
+    expect_shifted(&rt, SUM_OR_NUMBER, "main", 7, "v", ConstValue::Bottom);
+    expect_shifted(&rt, WRAPPING_SUM, "main", 3, "y", ConstValue::Const(0));
+    expect_shifted(&rt, RECURSION, "main", 4, "g", ConstValue::Bottom);
+    expect_shifted(&rt, ADDS_IN_CALLEE, "f", 0, "p", ConstValue::Bottom);
+    expect_shifted(&rt, ADDS_IN_CALLEE, "main", 4, "a", ConstValue::Const(1));
+}
+
+#[test]
+fn uninitialised_variables(rt: HostRuntime) -> Result<(), Fail> {
+    expect::<Uninit>(&rt, EMPTY, "main", 0, "@zero", UninitValue::Bottom);
+    expect::<Uninit>(&rt, EMPTY, "main", 0, "@result", UninitValue::Top);
+    expect::<Uninit>(&rt, EMPTY, "main", 1, "@zero", UninitValue::Bottom);
+    expect::<Uninit>(&rt, EMPTY, "main", 1, "@result", UninitValue::Bottom);
+    expect::<Uninit>(&rt, UNINITIALISED, "main", 3, "y", UninitValue::Bottom);
+    expect::<Uninit>(&rt, UNINITIALISED, "main", 3, "x", UninitValue::Top);
+    let mut core: Core<Uninit> = begun(rt.alloc(), EMPTY)?;
+    assert_eq!(rt; core.drain()?, 3);
+    Ok(())
+}
+
+#[test]
+fn reached_statements(rt: HostRuntime) {
+    expect::<Reach>(&rt, UNREACHABLE, "main", 3, "@zero", UninitValue::Top);
+    expect::<Reach>(&rt, UNREACHABLE, "main", 5, "@zero", UninitValue::Bottom);
 }
 
 #[test]
@@ -155,7 +205,7 @@ fn roots_that_are_refused(rt: HostRuntime) -> Result<(), Fail> {
 }
 
 /// A core with the text loaded and `main` as its root.
-fn begun(alloc: Global, text: &str) -> Result<Core<CopyConst>, Refused> {
+fn begun<P: Problem>(alloc: Global, text: &str) -> Result<Core<P>, Refused> {
     let mut core = Core::new(alloc);
     core.load(parse(alloc, text.as_bytes())?)?;
     core.root(b"main")?;
@@ -164,9 +214,9 @@ fn begun(alloc: Global, text: &str) -> Result<Core<CopyConst>, Refused> {
 
 #[test]
 fn tasks_and_quiescent_tables(rt: HostRuntime) -> Result<(), Fail> {
-    let mut core = begun(rt.alloc(), COPIES)?;
+    let mut core: Core<CopyConst> = begun(rt.alloc(), COPIES)?;
     assert_eq!(rt; core.drain()?, 13);
-    let mut core = begun(rt.alloc(), TWO_CALLS)?;
+    let mut core: Core<CopyConst> = begun(rt.alloc(), TWO_CALLS)?;
     core.drain()?;
     assert!(rt; core.is_quiet());
     assert_eq!(rt; core.key_count(), 51 + 4);
@@ -234,7 +284,7 @@ fn expect_refused_claim(
 fn claims_of_several_hands(rt: HostRuntime) -> Result<(), Fail> {
     let mut core: Core<CopyConst> = Core::new(rt.alloc());
     expect_refused_claim(&rt, &mut core, 0, Refused::NoProgram);
-    let mut core = begun(rt.alloc(), NUMBER)?;
+    let mut core: Core<CopyConst> = begun(rt.alloc(), NUMBER)?;
     assert!(rt; matches!(core.claim(0)?, Claimed::Task(_)));
     assert!(rt; matches!(core.claim(1)?, Claimed::Idle));
     expect_refused_claim(&rt, &mut core, 0, Refused::Busy);
@@ -247,7 +297,7 @@ fn claims_of_several_hands(rt: HostRuntime) -> Result<(), Fail> {
 
 #[test]
 fn work_of_before_a_load_is_stale(rt: HostRuntime) -> Result<(), Fail> {
-    let mut core = begun(rt.alloc(), NUMBER)?;
+    let mut core: Core<CopyConst> = begun(rt.alloc(), NUMBER)?;
     let Claimed::Task(task) = core.claim(0)? else {
         return Err("no task".into());
     };

@@ -8,7 +8,5 @@
 
 mod index;
 mod tables;
-#[cfg(test)]
-mod tests;
 
 pub use tables::{Change, Tables};
