@@ -1,3 +1,6 @@
+pub mod Names
+pub mod NameFault
+pub mod Places
 pub mod Program
 pub mod Reader
 pub mod Refusal
