@@ -1,3 +1,4 @@
 pub mod Extends
 pub mod NameLists
+pub mod PlaceLemmas
 pub mod Refusal

@@ -4,4 +4,5 @@ pub mod Places
 pub mod Program
 pub mod Reader
 pub mod Refusal
+pub mod Scope
 pub mod Text

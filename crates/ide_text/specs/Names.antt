@@ -1,5 +1,5 @@
 -- What is declared: names that stand in a list, labels that statements declare, procedures that have a name.
-use Rattle.std.specs.Prelude.{ℕ, ◌<◌, ◌≤◌, ◌≡◌, Bool, true, false, List, [], ◌++◌, Option, None, Some, length, take, slice_index_or}
+use Rattle.std.specs.Prelude.{ℕ, ◌<◌, ◌≤◌, ◌≡◌, Bool, true, false, List, [], ◌++◌, Option, None, Some, length, take, slice_index_or, is_some, vec_len, ◌==◌}
 use Rattle.std.specs.List.{list_any, find}
 use Rattle.std.specs.Str.{bytes_eq}
 use Rattle.ide_text.specs.declared.program.Procedure.{Procedure}
@@ -41,3 +41,16 @@ is_named name procedure = bytes_eq name procedure.name
 -- the first procedure of the name
 abbrev pub first_named : List Procedure → List ℕ → Option Procedure
 first_named procedures name = find (is_named name) procedures
+
+-- whether a procedure has the name
+abbrev pub is_procedure : List Procedure → List ℕ → Bool
+is_procedure procedures name = is_some (first_named procedures name)
+
+-- whether the procedure, if there is one, has so many parameters
+abbrev pub has_parameters : ℕ → Option Procedure → Bool
+has_parameters count None = true
+has_parameters count (Some procedure) = vec_len procedure.parameters == count
+
+-- whether the first procedure of the name, if there is one, has so many parameters
+abbrev pub takes : List Procedure → ℕ → List ℕ → Bool
+takes procedures count name = has_parameters count (first_named procedures name)

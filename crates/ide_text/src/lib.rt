@@ -15,6 +15,7 @@ mod places;
 mod printer;
 mod program;
 mod reader;
+
 mod scope;
 mod tables;
 mod token;
