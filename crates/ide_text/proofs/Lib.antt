@@ -2,3 +2,4 @@ pub mod Extends
 pub mod NameLists
 pub mod PlaceLemmas
 pub mod Refusal
+pub mod StatementLemmas
