@@ -1,4 +1,5 @@
 pub mod Extends
+pub mod LineLemmas
 pub mod NameLists
 pub mod PlaceLemmas
 pub mod Refusal

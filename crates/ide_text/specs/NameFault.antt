@@ -80,15 +80,15 @@ pub record StatementsFault (variables : List (List ℕ)) (procedures : List Proc
   pub on_line : line ≡ start + place
   pub faulty : StatementFault variables procedures (take place statements) statements statement fault
 
--- the variables of a procedure: globals, parameters and locals
-abbrev pub variables_in : Program → Procedure → List (List ℕ)
-variables_in p q = globals_of p ++ q.parameters.items ++ q.locals.items
+-- the variables of a procedure, where these are the globals: they, its parameters and its locals
+abbrev pub variables_in : List (List ℕ) → Procedure → List (List ℕ)
+variables_in globals q = globals ++ q.parameters.items ++ q.locals.items
 
--- a fault of a procedure, whose `proc` line has the number `start`, but of its own name
-pub data ProcedureFault (p : Program) (q : Procedure) (start : ℕ) : ℕ → Fault → Type 0 where
-  Parameter_again : (k : ℕ) → IsRepeated (globals_of p) q.parameters.items k → ProcedureFault p q start start DeclaredTwice
-  Local_again : (k : ℕ) → IsRepeated (globals_of p ++ q.parameters.items) q.locals.items k → ProcedureFault p q start (start + 1 + k) DeclaredTwice
-  In_statement : (line : ℕ) (fault : Fault) → StatementsFault (variables_in p q) (procedures_of p) q.statements.items (start + 1 + vec_len q.locals) line fault → ProcedureFault p q start line fault
+-- a fault of a procedure but of its own name: the globals and the procedures that are declared, and the number of its `proc` line
+pub data ProcedureFault (globals : List (List ℕ)) (procedures : List Procedure) (q : Procedure) (start : ℕ) : ℕ → Fault → Type 0 where
+  Parameter_again : (k : ℕ) → IsRepeated globals q.parameters.items k → ProcedureFault globals procedures q start start DeclaredTwice
+  Local_again : (k : ℕ) → IsRepeated (globals ++ q.parameters.items) q.locals.items k → ProcedureFault globals procedures q start (start + 1 + k) DeclaredTwice
+  In_statement : (line : ℕ) (fault : Fault) → StatementsFault (variables_in globals q) procedures q.statements.items (start + 1 + vec_len q.locals) line fault → ProcedureFault globals procedures q start line fault
 
 -- the line of the j-th procedure's `proc`
 abbrev pub line_of_procedure : Program → ℕ → ℕ
@@ -98,7 +98,7 @@ line_of_procedure p j = 1 + length (globals_of p) + sum_by lines_of_procedure (t
 pub data NameFault (p : Program) : ℕ → Fault → Type 0 where
   Global_again : (i : ℕ) → IsRepeated [] (globals_of p) i → NameFault p (i + 1) DeclaredTwice
   Procedure_again : (j : ℕ) (q : Procedure) → slice_get (procedures_of p) j ≡ Some q → list_any (is_named q.name) (take j (procedures_of p)) ≡ true → NameFault p (line_of_procedure p j) DeclaredTwice
-  In_procedure : (j : ℕ) (q : Procedure) → slice_get (procedures_of p) j ≡ Some q → (line : ℕ) (fault : Fault) → ProcedureFault p q (line_of_procedure p j) line fault → NameFault p line fault
+  In_procedure : (j : ℕ) (q : Procedure) → slice_get (procedures_of p) j ≡ Some q → (line : ℕ) (fault : Fault) → ProcedureFault (globals_of p) (procedures_of p) q (line_of_procedure p j) line fault → NameFault p line fault
 
 -- the number of a fault, F1 to F9
 abbrev pub number_of : Fault → ℕ
@@ -122,6 +122,10 @@ pub record IsFirst (faults : ℕ → Fault → Type 0) (line : ℕ) (fault : Fau
   pub found : faults line fault
   pub least_line : (l : ℕ) (f : Fault) → faults l f → line ≤ l
   pub least_number : (f : Fault) → faults line f → number_of fault ≤ number_of f
+
+-- none of these faults stands on a line below that one
+abbrev pub NoneBelow : (ℕ → Fault → Type 0) → ℕ → Type 0
+NoneBelow faults line = (l : ℕ) (f : Fault) → faults l f → line ≤ l
 
 -- the first fault of the names
 abbrev pub IsFirstNameFault : Program → ℕ → Fault → Type 0
