@@ -13,7 +13,7 @@ use Rattle.ide_text.specs.NameFault.{StatementFault, StatementsFault, ProcedureF
 use Rattle.ide_text.specs.Program.{lines_of_procedure}
 use Rattle.ide_text.proofs.StatementLemmas.{number_from}
 
-some_same : {X : Type 0} (o : Option X) (x y : X) → o ≡ Some x → o ≡ Some y → x ≡ y
+pub some_same : {X : Type 0} (o : Option X) (x y : X) → o ≡ Some x → o ≡ Some y → x ≡ y
 some_same o x y e f = cc
 
 module _ (variables : List (List ℕ)) (procedures : List Procedure) (statements : List Statement) (start : ℕ) where
