@@ -1,4 +1,5 @@
 pub mod Extends
+pub mod FirstFault
 pub mod LineLemmas
 pub mod NameLists
 pub mod PlaceLemmas

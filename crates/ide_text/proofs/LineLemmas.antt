@@ -1,7 +1,7 @@
 -- Lines on which no fault of some statements, of a procedure or of a program stands, and the first that has one.
-use Rattle.std.proofs.Common.{◌≡◌, ℕ, ◌+◌, ◌<◌, ◌≤◌, List, [], ◌++◌, length, take, slice_get, Option, None, Some, Result, Ok, Err, vec_len, sum_by, ◌⊎◌, inl, inr, ◌∙◌, sym, ap, subst, refl, arith, true, false, true≢false}
-use Rattle.std.proofs.lemmas.Bool.{cases_eq, cases_lt}
-use Rattle.std.proofs.lemmas.Option.{slice_get_within, slice_get_read}
+use Rattle.std.proofs.Common.{◌≡◌, ℕ, ◌+◌, ◌<◌, ◌≤◌, List, ◌++◌, length, take, slice_get, Option, Some, Result, Ok, Err, vec_len, inl, inr, ◌∙◌, ap, subst, arith}
+use Rattle.std.proofs.lemmas.Bool.{cases_eq}
+use Rattle.std.proofs.lemmas.Option.{slice_get_within}
 use Rattle.ide_wire.specs.declared.refused.Fault.{Fault}
 use Rattle.ide_wire.specs.declared.refused.Fault.TheVariants.{DeclaredTwice}
 use Rattle.ide_wire.specs.declared.refused.Refused.{Refused}
@@ -33,9 +33,9 @@ module _ (variables : List (List ℕ)) (procedures : List Procedure) (statements
   -- one more statement has none
   pub statements_more : (k : ℕ) (s : Statement) → slice_get statements k ≡ Some s → ((f : Fault) → ¬ OfStatement k s f) → NoneBelow InStatements (start + k) → NoneBelow InStatements (start + (k + 1))
   statements_more k s at none before l f r = elim (cases_eq l (start + k)) [
-      | inl same ↦ absurd (none f (of_statement k s l f at same r))
-      | inr other ↦ let least : start + k ≤ l = before l f r in omega arith
-    ]
+    | inl same ↦ absurd (none f (of_statement k s l f at same r))
+    | inr other ↦ let least : start + k ≤ l = before l f r in omega arith
+  ]
 
   -- this statement has the first
   pub statements_first : (k : ℕ) (s : Statement) (line : ℕ) (f : Fault) → slice_get statements k ≡ Some s → line ≡ start + k → IsLeast (OfStatement k s) f → NoneBelow InStatements (start + k) → IsFirst InStatements line f
@@ -64,24 +64,24 @@ module _ (globals : List (List ℕ)) (procedures : List Procedure) (q : Procedur
   -- a declaration has the least number that there is
   pub procedure_number : (l : ℕ) (f : Fault) → InProcedure l f → 5 ≤ number_of f
   procedure_number l f fault = elim fault as (λ m g _. 5 ≤ number_of g) [
-      | Parameter_again k r ↦ omega arith
-      | Local_again k r ↦ omega arith
-      | In_statement m g r ↦
+    | Parameter_again k r ↦ omega arith
+    | Local_again k r ↦ omega arith
+    | In_statement m g r ↦
         number_from (variables_in globals q) procedures (take r.place q.statements.items) q.statements.items r.statement 5
         (λ more. absurd (omega arith)) (λ more. absurd (omega arith)) (λ more. absurd (omega arith)) (λ more. absurd (omega arith)) (λ more. absurd (omega arith)) g r.faulty
-    ]
+  ]
 
   -- the faults stand on the procedure's lines
   pub procedure_lines : (l : ℕ) (f : Fault) → InProcedure l f → (start ≤ l) × (l < start + lines_of_procedure q)
   procedure_lines l f fault = elim fault as (λ m g _. (start ≤ m) × (m < start + lines_of_procedure q)) [
-      | Parameter_again k r ↦ (omega arith, omega arith)
-      | Local_again k r ↦ let within : k < vec_len q.locals = omega (arith, r.within, q.locals.ok) in (omega arith, omega arith)
-      | In_statement m g r ↦
+    | Parameter_again k r ↦ (omega arith, omega arith)
+    | Local_again k r ↦ let within : k < vec_len q.locals = omega (arith, r.within, q.locals.ok) in (omega arith, omega arith)
+    | In_statement m g r ↦
         let inside : r.place < length q.statements.items = slice_get_within q.statements.items r.place r.statement r.found in
         let within : r.place < vec_len q.statements = omega (arith, q.statements.ok) in
         let on : m ≡ start + 1 + vec_len q.locals + r.place = r.on_line in
         (omega arith, omega arith)
-    ]
+  ]
 
   -- a parameter is repeated
   pub parameter_first : (k : ℕ) → IsRepeated globals q.parameters.items k → IsFirst InProcedure start DeclaredTwice
@@ -97,23 +97,23 @@ module _ (globals : List (List ℕ)) (procedures : List Procedure) (q : Procedur
     local_first k again before = record {
       found = Local_again k again;
       least_line = λ l f fault. elim fault as (λ m g _. start + 1 + k ≤ m) [
-          | Parameter_again j r ↦ absurd (parameters j r)
-          | Local_again j r ↦ let least : k ≤ j = before j r in omega arith
-          | In_statement m g r ↦
+        | Parameter_again j r ↦ absurd (parameters j r)
+        | Local_again j r ↦ let least : k ≤ j = before j r in omega arith
+        | In_statement m g r ↦
             let within : k < vec_len q.locals = omega (arith, again.within, q.locals.ok) in
             let on : m ≡ start + 1 + vec_len q.locals + r.place = r.on_line in
             omega arith
-        ];
+      ];
       least_number = procedure_number (start + 1 + k);
     }
 
     module _ (locals : (k : ℕ) → ¬ IsRepeated (globals ++ q.parameters.items) q.locals.items k) where
       in_body : (l : ℕ) (f : Fault) → InProcedure l f → InBody l f
       in_body l f fault = elim fault as (λ m g _. InBody m g) [
-          | Parameter_again k r ↦ absurd (parameters k r)
-          | Local_again k r ↦ absurd (locals k r)
-          | In_statement m g r ↦ r
-        ]
+        | Parameter_again k r ↦ absurd (parameters k r)
+        | Local_again k r ↦ absurd (locals k r)
+        | In_statement m g r ↦ r
+      ]
 
       body_told : (r : Refused) → TellsFirst InBody r → TellsFirst InProcedure r
       body_told NoMemory told = tt

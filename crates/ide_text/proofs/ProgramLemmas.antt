@@ -1,5 +1,5 @@
 -- Lines of a program on which no fault of its names stands, and the first that has one.
-use Rattle.std.proofs.Common.{◌≡◌, ℕ, suc, zero, ◌+◌, ◌<◌, ◌≤◌, List, [], ◌∷◌, length, take, get_or, slice_get, Option, None, Some, Result, Ok, Err, IfErr, sum_by, ◌⊎◌, inl, inr, ◌∙◌, sym, ap, subst, refl, arith, true}
+use Rattle.std.proofs.Common.{◌≡◌, ℕ, suc, zero, ◌+◌, ◌<◌, ◌≤◌, List, [], ◌∷◌, length, take, get_or, slice_get, Some, Result, Ok, Err, IfErr, sum_by, ◌⊎◌, inl, inr, ◌∙◌, ap, subst, refl, arith, true}
 use Rattle.std.specs.List.{list_any}
 use Rattle.std.proofs.lemmas.Bool.{cases_lt}
 use Rattle.std.proofs.lemmas.List.{take_all}
@@ -60,12 +60,12 @@ module _ (p : Program) where
   -- a line belongs to one procedure
   one_place : (j k : ℕ) (q r : Procedure) (l : ℕ) → IsThe j q → IsThe k r → line_of_procedure p j ≤ l → l < line_of_procedure p j + lines_of_procedure q → line_of_procedure p k ≤ l → l < line_of_procedure p k + lines_of_procedure r → k ≡ j
   one_place j k q r l at_j at_k low_j high_j low_k high_k = elim (cases_lt k j) [
-      | inl less ↦ let before = line_before k j r at_k less in absurd (omega arith)
-      | inr least ↦ elim (cases_lt j k) [
-        | inl more ↦ let before = line_before j k q at_j more in absurd (omega arith)
-        | inr most ↦ omega arith
-      ]
+    | inl less ↦ let before = line_before k j r at_k less in absurd (omega arith)
+    | inr least ↦ elim (cases_lt j k) [
+      | inl more ↦ let before = line_before j k q at_j more in absurd (omega arith)
+      | inr most ↦ omega arith
     ]
+  ]
 
   moved_name : (j k : ℕ) (q r : Procedure) → IsThe j q → IsThe k r → k ≡ j → IsNamedAgain k r → IsNamedAgain j q
   moved_name j k q r at_j at_k same again =
@@ -80,21 +80,21 @@ module _ (p : Program) where
   -- a fault on a procedure's lines is of its name, or another of it
   at_procedure : (j : ℕ) (q : Procedure) → IsThe j q → (l : ℕ) (f : Fault) → NameFault p l f → line_of_procedure p j ≤ l → l < line_of_procedure p j + lines_of_procedure q → IsNamedAgain j q ⊎ InThe j q l f
   at_procedure j q at l f fault = elim fault as (λ m g _. line_of_procedure p j ≤ m → m < line_of_procedure p j + lines_of_procedure q → IsNamedAgain j q ⊎ InThe j q m g) [
-      | Global_again i r ↦ λ low high. let within : i < length (globals_of p) = r.within in absurd (omega arith)
-      | Procedure_again k r at_k again ↦ λ low high.
+    | Global_again i r ↦ λ low high. let within : i < length (globals_of p) = r.within in absurd (omega arith)
+    | Procedure_again k r at_k again ↦ λ low high.
         inl (moved_name j k q r at at_k (one_place j k q r (line_of_procedure p k) at at_k low high (omega arith) (omega arith)) again)
-      | In_procedure k r at_k m g inner ↦ λ low high.
+    | In_procedure k r at_k m g inner ↦ λ low high.
         let lines = procedure_lines (globals_of p) (procedures_of p) r (line_of_procedure p k) m g inner in
         inr (moved_fault j k q r m g at at_k (one_place j k q r m at at_k low high lines.0 lines.1) inner)
-    ]
+  ]
 
   -- a name that is declared again has the least number that there is
   name_number : (l : ℕ) (f : Fault) → NameFault p l f → 5 ≤ number_of f
   name_number l f fault = elim fault as (λ m g _. 5 ≤ number_of g) [
-      | Global_again i r ↦ omega arith
-      | Procedure_again k r at_k again ↦ omega arith
-      | In_procedure k r at_k m g inner ↦ procedure_number (globals_of p) (procedures_of p) r (line_of_procedure p k) m g inner
-    ]
+    | Global_again i r ↦ omega arith
+    | Procedure_again k r at_k again ↦ omega arith
+    | In_procedure k r at_k m g inner ↦ procedure_number (globals_of p) (procedures_of p) r (line_of_procedure p k) m g inner
+  ]
 
   -- each procedure's lines are among the program's
   within_lines : (k : ℕ) (r : Procedure) → IsThe k r → line_of_procedure p k + lines_of_procedure r ≤ lines_of p + 1
@@ -106,38 +106,38 @@ module _ (p : Program) where
   -- each fault stands on a line of the program
   pub name_line : (l : ℕ) (f : Fault) → NameFault p l f → (1 ≤ l) × (l ≤ lines_of p)
   name_line l f fault = elim fault as (λ m g _. (1 ≤ m) × (m ≤ lines_of p)) [
-      | Global_again i r ↦ let within : i < length (globals_of p) = r.within in (omega arith, omega arith)
-      | Procedure_again k r at_k again ↦ let whole = within_lines k r at_k in (omega arith, omega arith)
-      | In_procedure k r at_k m g inner ↦
+    | Global_again i r ↦ let within : i < length (globals_of p) = r.within in (omega arith, omega arith)
+    | Procedure_again k r at_k again ↦ let whole = within_lines k r at_k in (omega arith, omega arith)
+    | In_procedure k r at_k m g inner ↦
         let whole = within_lines k r at_k in
         let lines = procedure_lines (globals_of p) (procedures_of p) r (line_of_procedure p k) m g inner in
         (omega arith, omega arith)
-    ]
+  ]
 
   -- a global is repeated
   pub global_first : (k : ℕ) → IsRepeated [] (globals_of p) k → ((j : ℕ) → IsRepeated [] (globals_of p) j → k ≤ j) → IsFirst (NameFault p) (k + 1) DeclaredTwice
   global_first k again before = record {
     found = Global_again k again;
     least_line = λ l f fault. elim fault as (λ m g _. k + 1 ≤ m) [
-        | Global_again j r ↦ let least : k ≤ j = before j r in omega arith
-        | Procedure_again j r at_j twice ↦ let within : k < length (globals_of p) = again.within in omega arith
-        | In_procedure j r at_j m g inner ↦
+      | Global_again j r ↦ let least : k ≤ j = before j r in omega arith
+      | Procedure_again j r at_j twice ↦ let within : k < length (globals_of p) = again.within in omega arith
+      | In_procedure j r at_j m g inner ↦
           let within : k < length (globals_of p) = again.within in
           let lines = procedure_lines (globals_of p) (procedures_of p) r (line_of_procedure p j) m g inner in
           omega arith
-      ];
+    ];
     least_number = name_number (k + 1);
   }
 
   -- no global is repeated
   pub globals_none : ((k : ℕ) → ¬ IsRepeated [] (globals_of p) k) → NoneBelow (NameFault p) (line_of_procedure p 0)
   globals_none distinct l f fault = elim fault as (λ m g _. line_of_procedure p 0 ≤ m) [
-      | Global_again j r ↦ absurd (distinct j r)
-      | Procedure_again j r at_j twice ↦ omega arith
-      | In_procedure j r at_j m g inner ↦
+    | Global_again j r ↦ absurd (distinct j r)
+    | Procedure_again j r at_j twice ↦ omega arith
+    | In_procedure j r at_j m g inner ↦
         let lines = procedure_lines (globals_of p) (procedures_of p) r (line_of_procedure p j) m g inner in
         omega arith
-    ]
+  ]
 
   module _ (j : ℕ) (q : Procedure) (at : IsThe j q) (before : NoneBelow (NameFault p) (line_of_procedure p j)) where
     -- a procedure's name is declared again
@@ -154,9 +154,9 @@ module _ (p : Program) where
 
       least_here : (line : ℕ) → line < line_of_procedure p j + lines_of_procedure q → NoneBelow (InThe j q) line → NoneBelow (NameFault p) line
       least_here line high least l f fault = elim (cases_lt l (line_of_procedure p j + lines_of_procedure q)) [
-          | inl inside ↦ least l f (of_procedure l f fault inside)
-          | inr past ↦ omega arith
-        ]
+        | inl inside ↦ least l f (of_procedure l f fault inside)
+        | inr past ↦ omega arith
+      ]
 
       -- what was found in the procedure is the first of the program
       pub procedure_told : (r : Refused) → TellsFirst (InThe j q) r → TellsFirst (NameFault p) r
@@ -173,9 +173,9 @@ module _ (p : Program) where
       -- the procedure has none
       pub procedures_more : ((l : ℕ) (f : Fault) → ¬ InThe j q l f) → NoneBelow (NameFault p) (line_of_procedure p (j + 1))
       procedures_more none l f fault = elim (cases_lt l (line_of_procedure p j + lines_of_procedure q)) [
-          | inl inside ↦ absurd (none l f (of_procedure l f fault inside))
-          | inr past ↦ let next = next_line j q at in omega arith
-        ]
+        | inl inside ↦ absurd (none l f (of_procedure l f fault inside))
+        | inr past ↦ let next = next_line j q at in omega arith
+      ]
 
   -- none comes after the last procedure
   pub procedures_none : (n : ℕ) → n ≡ length (procedures_of p) → NoneBelow (NameFault p) (line_of_procedure p n) → (l : ℕ) (f : Fault) → ¬ NameFault p l f

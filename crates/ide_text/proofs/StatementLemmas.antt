@@ -1,5 +1,5 @@
 -- Which fault of a statement has the least number.
-use Rattle.std.proofs.Common.{◌≡◌, ◌≢◌, ℕ, ◌<◌, ◌≤◌, Bool, true, false, true≢false, List, [], ◌∷◌, Option, None, Some, is_some, vec_len, ◌&&◌, ◌==◌, ◌⊎◌, inl, inr, ◌∙◌, sym, ap, refl, arith}
+use Rattle.std.proofs.Common.{◌≡◌, ◌≢◌, ℕ, ◌<◌, ◌≤◌, Bool, true, false, true≢false, List, [], ◌∷◌, Option, None, Some, is_some, vec_len, ◌&&◌, ◌==◌, inl, inr, ◌∙◌, sym, ap, refl, arith}
 use Rattle.std.specs.List.{list_all, Contains}
 use Rattle.std.proofs.lemmas.Bool.{cases_lt}
 use Rattle.std.proofs.lemmas.Bool.Decides.{nat_tests}
@@ -56,12 +56,12 @@ module _ (variables : List (List ℕ)) (procedures : List Procedure) (before sta
   pub number_from : (n : ℕ) → (5 < n → ¬ ((l : List ℕ) × (s ≡ At l) × (is_label before l ≡ true))) → (6 < n → list_all (is_among variables) (variables_used s) ≡ true) → (7 < n → list_all (is_label statements) (labels_used s) ≡ true)
       → (8 < n → list_all (is_procedure procedures) (callees_of s) ≡ true) → (9 < n → list_all (takes procedures (arguments_passed s)) (callees_of s) ≡ true) → (f : Fault) → StatementFault variables procedures before statements s f → n ≤ number_of f
   number_from n first known labels called counts f fault = elim fault as (λ g _. n ≤ number_of g) [
-      | Label_again l is again ↦ at_most 5 n (λ more. first more (l, is, again))
-      | No_variable x uses unknown ↦ at_most 6 n (λ more. none_fails (is_among variables) (variables_used s) x (known more) uses unknown)
-      | No_label l uses unknown ↦ at_most 7 n (λ more. none_fails (is_label statements) (labels_used s) l (labels more) uses unknown)
-      | No_procedure c calls unknown ↦ at_most 8 n (λ more. none_fails (is_procedure procedures) (callees_of s) c (called more) calls (ap is_some unknown))
-      | Wrong_count c q calls is other ↦ at_most 9 n (λ more. none_fails (takes procedures (arguments_passed s)) (callees_of s) c (counts more) calls (ap (has_parameters (arguments_passed s)) is ∙ differs (vec_len q.parameters) (arguments_passed s) other))
-    ]
+    | Label_again l is again ↦ at_most 5 n (λ more. first more (l, is, again))
+    | No_variable x uses unknown ↦ at_most 6 n (λ more. none_fails (is_among variables) (variables_used s) x (known more) uses unknown)
+    | No_label l uses unknown ↦ at_most 7 n (λ more. none_fails (is_label statements) (labels_used s) l (labels more) uses unknown)
+    | No_procedure c calls unknown ↦ at_most 8 n (λ more. none_fails (is_procedure procedures) (callees_of s) c (called more) calls (ap is_some unknown))
+    | Wrong_count c q calls is other ↦ at_most 9 n (λ more. none_fails (takes procedures (arguments_passed s)) (callees_of s) c (counts more) calls (ap (has_parameters (arguments_passed s)) is ∙ differs (vec_len q.parameters) (arguments_passed s) other))
+  ]
 
   -- an earlier statement declares the label that s declares
   abbrev IsAgain : Type 0

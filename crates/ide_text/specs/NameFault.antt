@@ -1,5 +1,5 @@
 -- The faults of a program's names: one is declared again, or is used and not declared.
-use Rattle.std.specs.Prelude.{ℕ, ◌+◌, ◌≤◌, ◌≡◌, ◌≢◌, Bool, true, false, List, [], ◌∷◌, ◌++◌, Option, None, Some, Result, Ok, Err, take, length, slice_get, sum_by, vec_len, is_some}
+use Rattle.std.specs.Prelude.{ℕ, ◌+◌, ◌≤◌, ◌≡◌, ◌≢◌, true, false, List, [], ◌∷◌, ◌++◌, None, Some, Result, Ok, Err, take, length, slice_get, sum_by, vec_len}
 use Rattle.std.specs.List.{list_any, Contains}
 use Rattle.std.specs.Option.{option_to_list}
 use Rattle.ide_wire.specs.declared.refused.Fault.{Fault}
@@ -12,7 +12,7 @@ use Rattle.ide_text.specs.declared.program.Expression.{Expression}
 use Rattle.ide_text.specs.declared.program.Expression.TheVariants.{Number, Copy, Sum, Difference, Unknown, Mix}
 use Rattle.ide_text.specs.declared.program.Statement.{Statement}
 use Rattle.ide_text.specs.declared.program.Statement.TheVariants.{Assign, Skip, At, Goto, Branch, Call, Return}
-use Rattle.ide_text.specs.Names.{is_among, IsRepeated, declares, is_label, is_named, first_named}
+use Rattle.ide_text.specs.Names.{is_among, IsRepeated, is_label, is_named, first_named}
 use Rattle.ide_text.specs.Program.{globals_of, procedures_of, lines_of_procedure}
 
 -- the variables that an expression uses

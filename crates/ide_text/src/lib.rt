@@ -15,7 +15,6 @@ mod places;
 mod printer;
 mod program;
 mod reader;
-
 mod scope;
 mod tables;
 mod token;

@@ -194,7 +194,9 @@ impl<'t, 'p> Scope<'t, 'p> {
     {
         match statement {
             Statement::Call {
-                callees, arguments, ..
+                callees,
+                arguments,
+                ..
             } => self.take_arguments(callees, arguments.len()),
             _ => true,
         }

@@ -1,5 +1,5 @@
-use Rattle.std.proofs.Common.{◌≡◌, ℕ, List, [], ◌++◌, Some, ◌∙◌, sym, ap, subst}
-use Rattle.ide_text.specs.Names.{IsRepeated, IsFirstRepeated}
+use Rattle.std.proofs.Common.{◌≡◌, [], ◌++◌, ◌∙◌, ap, subst}
+use Rattle.ide_text.specs.Names.{IsFirstRepeated}
 use Rattle.ide_text.specs.Program.{globals_of}
 use Rattle.ide_text.proofs.ProgramLemmas.{global_first, checked_within}
 use Rattle.ide_text.proofs.Repeated.{renamed}

@@ -1,10 +1,10 @@
-use Rattle.std.proofs.Common.{◌≡◌, ℕ, ◌+◌, Bool, List, [], ◌++◌, Option, Some, None, Result, IfNone, is_some, length, vec_len, true, false, true≢false, refl, sym, ap, subst, ◌∙◌, append_assoc, arith}
+use Rattle.std.proofs.Common.{◌≡◌, ℕ, ◌+◌, List, [], ◌++◌, Result, is_some, vec_len, false, sym, ap, subst, ◌∙◌, append_assoc}
 use Rattle.std.proofs.lemmas.List.{append-nil}
 use Rattle.ide_wire.specs.declared.refused.Refused.{Refused}
 use Rattle.ide_text.specs.declared.program.Procedure.{Procedure}
 use Rattle.ide_text.specs.declared.program.Statement.{Statement}
 use Rattle.ide_text.specs.declared.scope.Scope.{Scope}
-use Rattle.ide_text.specs.Names.{IsRepeated, IsFirstRepeated}
+use Rattle.ide_text.specs.Names.{IsFirstRepeated}
 use Rattle.ide_text.specs.NameFault.{StatementsFault, Checked, variables_in}
 use Rattle.ide_text.specs.Scope.{variables_of_scope}
 use Rattle.ide_text.proofs.Repeated.{renamed, some_repeated, none_repeated, at_none, is_none}

@@ -1,4 +1,4 @@
-use Rattle.std.proofs.Common.{◌≡◌, ℕ, ◌+◌, ◌<◌, Bool, List, Some, length, get_or, slice_get, take, vec_len, true, false, true≢false, refl, sym, ap, subst, ◌∙◌, arith}
+use Rattle.std.proofs.Common.{◌≡◌, ℕ, ◌<◌, Bool, List, Some, length, get_or, slice_get, take, true≢false, refl, sym, ap, subst, ◌∙◌, arith}
 use Rattle.std.specs.List.{list_any}
 use Rattle.std.proofs.lemmas.Option.{slice_get_read}
 use Rattle.std.proofs.lemmas.Result.{err_from_is_err_and}
@@ -6,7 +6,7 @@ use Rattle.ide_wire.specs.declared.refused.Fault.{Fault}
 use Rattle.ide_text.specs.declared.program.Procedure.{Procedure}
 use Rattle.ide_text.specs.Names.{is_named}
 use Rattle.ide_text.specs.NameFault.{ProcedureFault, TellsFirst, line_of_procedure}
-use Rattle.ide_text.specs.Program.{globals_of, procedures_of, lines_of_procedure}
+use Rattle.ide_text.specs.Program.{globals_of, procedures_of}
 use Rattle.ide_text.proofs.ProgramLemmas.{name_first, next_line, procedure_told, procedures_more, procedures_none}
 use Rattle.ide_text.proofs.checker.check_procedures.Goals as goal
 
@@ -57,9 +57,9 @@ loop-place-preserved c =
     record {
       counted = omega (arith, c.loop-place.invariant.counted, c.len.ensures, c.len-in-loop-place.ensures);
       none =
-        procedures_more p c.loop-place.place q at c.loop-place.invariant.none (λ again. true≢false (sym again ∙ first))
-        (renamed (λ faults. (l : ℕ) (f : Fault) → ¬ faults l f) c.args.globals.now (globals_of p) c.args.procedures.now (procedures_of p) q c.loop-place.line (line_of_procedure p c.loop-place.place) c.requires.globals c.requires.procedures c.loop-place.invariant.counted
-        c.in_ok-check_procedure.ensures);
+          procedures_more p c.loop-place.place q at c.loop-place.invariant.none (λ again. true≢false (sym again ∙ first))
+          (renamed (λ faults. (l : ℕ) (f : Fault) → ¬ faults l f) c.args.globals.now (globals_of p) c.args.procedures.now (procedures_of p) q c.loop-place.line (line_of_procedure p c.loop-place.place) c.requires.globals c.requires.procedures c.loop-place.invariant.counted
+          c.in_ok-check_procedure.ensures);
     }
 
 pub returns : goal.returns

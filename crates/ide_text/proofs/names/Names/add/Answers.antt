@@ -1,4 +1,4 @@
-use Rattle.std.proofs.Common.{◌≡◌, ◌++◌, ◌∷◌, [], true, false, not, ◌∙◌, sym, ap}
+use Rattle.std.proofs.Common.{◌++◌, ◌∷◌, [], not, ◌∙◌, sym, ap}
 use Rattle.ide_text.specs.Names.{is_among}
 use Rattle.ide_text.proofs.NameLists.{is_among-keys, map-insert_key, false_from_not}
 use Rattle.ide_text.proofs.names.Names.add.Goals as goal

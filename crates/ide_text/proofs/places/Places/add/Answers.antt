@@ -1,6 +1,6 @@
-use Rattle.std.proofs.Common.{◌≡◌, ◌++◌, ◌∷◌, [], true, false, not, List, ℕ, None, is_some, cond, ◌∙◌, sym, ap}
-use Rattle.ide_text.specs.Places.{place_of, with_place}
-use Rattle.ide_text.proofs.NameLists.{places_of, place_of-entries, places_of-insert_entry, none_from_is_some, false_from_not}
+use Rattle.std.proofs.Common.{◌≡◌, ◌++◌, ◌∷◌, [], true, List, ℕ, None, is_some, cond, ◌∙◌, sym, ap}
+use Rattle.ide_text.specs.Places.{place_of}
+use Rattle.ide_text.proofs.NameLists.{places_of, place_of-entries, places_of-insert_entry, none_from_is_some}
 use Rattle.ide_text.proofs.places.Places.add.Goals as goal
 
 pub returns-in_ok-insert : goal.returns-in_ok-insert

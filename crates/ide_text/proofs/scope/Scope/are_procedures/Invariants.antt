@@ -1,7 +1,6 @@
 use Rattle.std.proofs.Common.{◌≡◌, true, take}
 use Rattle.std.specs.List.{list_all}
-use Rattle.ide_text.specs.Names.{is_among, is_procedure, takes}
-use Rattle.ide_text.specs.Scope.{variables_of_scope}
+use Rattle.ide_text.specs.Names.{is_procedure}
 use Rattle.ide_text.proofs.scope.Scope.are_procedures.Given as goal
 
 abbrev pub invariant-loop-name : goal.invariant-loop-name

@@ -1,5 +1,4 @@
-use Rattle.std.proofs.Common.{◌≡◌, true, false, true≢false, take, ◌∙◌, sym}
-use Rattle.ide_text.specs.Scope.{variables_of_scope}
+use Rattle.std.proofs.Common.{true≢false, ◌∙◌, sym}
 use Rattle.ide_text.proofs.StatementLemmas.{least_label, least_variable, least_unknown_label, least_procedure, least_count, no_fault}
 use Rattle.ide_text.proofs.scope.Scope.check.Goals as goal
 
@@ -8,7 +7,7 @@ returns-then-repeats_label c = least_label _ _ _ _ _ (c.repeats_label.ensures.0 
 
 pub returns-then-not-knows_variables : goal.returns-then-not-knows_variables
 returns-then-not-knows_variables c =
-    least_variable _ _ _ _ _ (λ again. true≢false (sym (c.repeats_label.ensures.1 again) ∙ c.if-repeats_label.false))  (sym c.knows_variables.ensures ∙ cc)
+    least_variable _ _ _ _ _ (λ again. true≢false (sym (c.repeats_label.ensures.1 again) ∙ c.if-repeats_label.false)) (sym c.knows_variables.ensures ∙ cc)
 
 pub returns-then-not-knows_labels : goal.returns-then-not-knows_labels
 returns-then-not-knows_labels c =

@@ -1,6 +1,5 @@
-use Rattle.std.proofs.Common.{◌≡◌, ◌+◌, List, ℕ, Bool, false, length, take, refl, sym, subst, arith, ap, ◌∙◌}
+use Rattle.std.proofs.Common.{◌≡◌, List, ℕ, false, take, refl, arith, ap}
 use Rattle.std.proofs.lemmas.Grind.{common_steps}
-use Rattle.std.specs.Str.{bytes_eq}
 use Rattle.ide_text.specs.declared.program.Statement.{Statement}
 use Rattle.ide_text.specs.declared.program.Statement.TheVariants.{At}
 use Rattle.ide_text.specs.Names.{declares}
@@ -22,8 +21,8 @@ loop-place-preserved c =
     front_more (λ l. ArePlaces declares l c.match-statement.places) statements i s c.loop-place-test.true c.index-statements-place.is
     (elim c.match-statement.branch [
       | in-At+in_ok-add w ↦
-        rw (w.places-is, w.in_ok-add.ensures)
-        (ArePlaces-named declares (take i statements) c.loop-place.places s c.loop-place.invariant w.in-At.label i (grind (arith, common_steps)) (λ other. ap (declares other) w.in-At.is))
+          rw (w.places-is, w.in_ok-add.ensures)
+          (ArePlaces-named declares (take i statements) c.loop-place.places s c.loop-place.invariant w.in-At.label i (grind (arith, common_steps)) (λ other. ap (declares other) w.in-At.is))
       | in_default w ↦
-        rw w.places-is (ArePlaces-unnamed declares (take i statements) c.loop-place.places s c.loop-place.invariant (declares_none s w.in_default.not-At))
+          rw w.places-is (ArePlaces-unnamed declares (take i statements) c.loop-place.places s c.loop-place.invariant (declares_none s w.in_default.not-At))
     ])

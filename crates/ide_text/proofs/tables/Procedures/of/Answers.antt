@@ -1,4 +1,4 @@
-use Rattle.std.proofs.Common.{length, take, refl, sym, arith}
+use Rattle.std.proofs.Common.{take, refl, arith}
 use Rattle.std.proofs.lemmas.Grind.{common_steps}
 use Rattle.ide_text.specs.Names.{is_named}
 use Rattle.ide_text.specs.Places.{ArePlaces}
