@@ -3,7 +3,8 @@ use Rattle.std.proofs.Common.{◌≡◌, ℕ, ◌≤◌, ◌==◌, cond, subst, 
 use Rattle.ide_wire.specs.declared.refused.Fault.{Fault}
 use Rattle.ide_wire.specs.declared.refused.Fault.TheVariants.{TextTooLong, NoSuchLine, OutOfPlace, TooMany, DeclaredTwice, NoSuchVariable, NoSuchLabel, NoSuchProcedure, WrongArguments}
 use Rattle.ide_text.specs.declared.program.Program.{Program}
-use Rattle.ide_text.specs.NameFault.{NameFault, IsFirst, IsFirstNameFault, IsWellNamed, number_of}
+use Rattle.ide_text.specs.First.{IsFirst, number_of}
+use Rattle.ide_text.specs.NameFault.{NameFault, IsFirstNameFault, IsWellNamed}
 
 -- the fault with a number
 numbered : ℕ → Fault

@@ -9,9 +9,14 @@ use Rattle.ide_wire.specs.declared.refused.Refused.TheVariants.{NoMemory, Text}
 use Rattle.ide_text.specs.declared.program.Procedure.{Procedure}
 use Rattle.ide_text.specs.declared.program.Statement.{Statement}
 use Rattle.ide_text.specs.Names.{IsRepeated}
-use Rattle.ide_text.specs.NameFault.{StatementFault, StatementsFault, ProcedureFault, Parameter_again, Local_again, In_statement, variables_in, NoneBelow, IsLeast, IsFirst, TellsFirst, Checked, number_of}
+use Rattle.ide_text.specs.First.{IsLeast, IsFirst, TellsFirst, Checked, number_of}
+use Rattle.ide_text.specs.NameFault.{StatementFault, StatementsFault, ProcedureFault, Parameter_again, Local_again, In_statement, variables_in}
 use Rattle.ide_text.specs.Program.{lines_of_procedure}
 use Rattle.ide_text.proofs.StatementLemmas.{number_from}
+
+-- none of these faults stands on a line below that one
+abbrev pub NoneBelow : (ℕ → Fault → Type 0) → ℕ → Type 0
+NoneBelow faults line = (l : ℕ) (f : Fault) → faults l f → line ≤ l
 
 pub some_same : {X : Type 0} (o : Option X) (x y : X) → o ≡ Some x → o ≡ Some y → x ≡ y
 some_same o x y e f = cc

@@ -1,6 +1,6 @@
 -- What the first place of a name in a list says.
 use Rattle.std.proofs.Common.{◌≡◌, ℕ, suc, zero, ◌+◌, ◌<◌, ◌≤◌, Bool, true, false, true≢false, cond, List, [], ◌∷◌, ◌++◌, length, take, get_or, slice_get, Bor, Option, None, Some, is_some, ◌||◌, nat_lt, ◌∙◌, sym, ap, subst, refl, arith}
-use Rattle.std.specs.List.{list_any, find, HoldsAt}
+use Rattle.std.specs.List.{list_any, find, position, position_or_len, HoldsAt}
 use Rattle.std.specs.Map.{lookup}
 use Rattle.std.specs.Option.{option_map, option_copied, MatchOption}
 use Rattle.std.specs.Str.{bytes_eq}
@@ -9,10 +9,15 @@ use Rattle.std.proofs.lemmas.List.{take_more}
 use Rattle.std.proofs.lemmas.Option.{slice_get_past, slice_get-get_or}
 use Rattle.std.proofs.lemmas.Slice.Eq.{bytes_eq-Decides}
 use Rattle.ide_text.proofs.NameLists.{none_from_is_some}
-use Rattle.ide_text.specs.Places.{place_of, with_place, index_in, ArePlaces}
+use Rattle.ide_text.specs.Places.{place_of, with_place, ArePlaces}
 
 abbrev later : Bool → Option ℕ → Option ℕ
 later b o = cond b (Some 0) (option_map suc o)
+
+-- the index of the first element that passes, by recursion
+abbrev index_in : {X : Type 0} → (X → Bool) → List X → Option ℕ
+index_in p [] = None
+index_in p (x ∷ xs) = later (p x) (index_in p xs)
 
 is_some-later : (b : Bool) (o : Option ℕ) → is_some (later b o) ≡ (b || is_some o)
 is_some-later true o = refl
@@ -25,9 +30,20 @@ IsFirstAt p xs None = (find p xs ≡ None) × ((k : ℕ) → list_any p (take k 
 IsFirstAt p xs (Some i) = (find p xs ≡ slice_get xs i) × ((k : ℕ) → i < k → list_any p (take k xs) ≡ true) × ((k : ℕ) → k ≤ i → list_any p (take k xs) ≡ false)
 
 module _ {X : Type 0} (p : X → Bool) where
-  pub is_some-index_in : (xs : List X) → is_some (index_in p xs) ≡ list_any p xs
+  is_some-index_in : (xs : List X) → is_some (index_in p xs) ≡ list_any p xs
   is_some-index_in [] = refl
   is_some-index_in (x ∷ xs) = is_some-later (p x) (index_in p xs) ∙ ap (λ b. p x || b) (is_some-index_in xs)
+
+  position-cons : (x : X) (xs : List X) (b : Bool) → p x ≡ b → position p (x ∷ xs) ≡ later b (position p xs)
+  position-cons x xs true e = grind (arith, nat_tests)
+  position-cons x xs false e = grind (arith, nat_tests)
+
+  index_in-position : (xs : List X) → position p xs ≡ index_in p xs
+  index_in-position [] = refl
+  index_in-position (x ∷ xs) = position-cons x xs (p x) refl ∙ ap (later (p x)) (index_in-position xs)
+
+  pub is_some-position : (xs : List X) → is_some (position p xs) ≡ list_any p xs
+  is_some-position xs = ap is_some (index_in-position xs) ∙ is_some-index_in xs
 
   any_here : (x : X) (xs : List X) (k : ℕ) → p x ≡ true → 0 < k → list_any p (take k (x ∷ xs)) ≡ true
   any_here x xs zero e pos = absurd (omega arith)
@@ -59,7 +75,7 @@ module _ {X : Type 0} (p : X → Bool) where
   none_in_nothing zero = refl
   none_in_nothing (suc k) = refl
 
-  pub first_at-index_in : (xs : List X) → IsFirstAt p xs (index_in p xs)
+  first_at-index_in : (xs : List X) → IsFirstAt p xs (index_in p xs)
   first_at-index_in [] = (refl, none_in_nothing)
   first_at-index_in (x ∷ xs) = first_at-cons x xs (p x) (index_in p xs) refl (first_at-index_in xs)
 
@@ -70,7 +86,7 @@ module _ {X : Type 0} (p : X → Bool) where
   push-later false None r false n e = ap (option_map suc) e
 
   -- one more element is the first that passes only where none was
-  pub index_in-push : (xs : List X) (x : X) → index_in p (xs ++ x ∷ []) ≡ cond (is_some (index_in p xs)) (index_in p xs) (cond (p x) (Some (length xs)) None)
+  index_in-push : (xs : List X) (x : X) → index_in p (xs ++ x ∷ []) ≡ cond (is_some (index_in p xs)) (index_in p xs) (cond (p x) (Some (length xs)) None)
   index_in-push [] x = by (p x)
     where
       by : (b : Bool) → later b None ≡ cond b (Some 0) None
@@ -105,7 +121,7 @@ place_of-with_place places name other place = by (is_some (place_of places name)
 
 -- the facts on the first place, of the place that a name has
 pub first_at : {X : Type 0} (test : List ℕ → X → Bool) (xs : List X) (places : List (List ℕ × ℕ)) → ArePlaces test xs places → (name : List ℕ) (o : Option ℕ) → place_of places name ≡ o → IsFirstAt (test name) xs o
-first_at test xs places placed name o is = subst (IsFirstAt (test name) xs) (sym (placed name) ∙ is) (first_at-index_in (test name) xs)
+first_at test xs places placed name o is = subst (IsFirstAt (test name) xs) (sym (index_in-position (test name) xs) ∙ (sym (placed name) ∙ is)) (first_at-index_in (test name) xs)
 
 -- whether a found place is before another
 pub before-first_at : {X : Type 0} (p : X → Bool) (xs : List X) (i k : ℕ) → IsFirstAt p xs (Some i) → nat_lt i k ≡ list_any p (take k xs)
@@ -130,16 +146,16 @@ module _ {X : Type 0} (test : List ℕ → X → Bool) (xs : List X) (places : L
   ArePlaces-named name n counted has other =
       ap (λ i. place_of (with_place places name i) other) counted
       ∙ place_of-with_place places name other (length xs)
-      ∙ (ap (λ o. cond (is_some o) o (cond (bytes_eq other name) (Some (length xs)) None)) (old other)
+      ∙ (ap (λ o. cond (is_some o) o (cond (bytes_eq other name) (Some (length xs)) None)) (old other ∙ index_in-position (test other) xs)
       ∙ (ap (λ b. cond (is_some (index_in (test other) xs)) (index_in (test other) xs) (cond b (Some (length xs)) None)) (sym (has other))
-      ∙ sym (index_in-push (test other) xs x)))
+      ∙ (sym (index_in-push (test other) xs x) ∙ sym (index_in-position (test other) (xs ++ x ∷ [])))))
 
   -- one more element, that has no name
   pub ArePlaces-unnamed : ((other : List ℕ) → test other x ≡ false) → ArePlaces test (xs ++ x ∷ []) places
   ArePlaces-unnamed none other =
-      old other ∙ (sym (same (index_in (test other) xs))
+      old other ∙ index_in-position (test other) xs ∙ (sym (same (index_in (test other) xs))
       ∙ (ap (λ b. cond (is_some (index_in (test other) xs)) (index_in (test other) xs) (cond b (Some (length xs)) None)) (sym (none other))
-      ∙ sym (index_in-push (test other) xs x)))
+      ∙ (sym (index_in-push (test other) xs x) ∙ sym (index_in-position (test other) (xs ++ x ∷ [])))))
     where
       same : (o : Option ℕ) → cond (is_some o) o None ≡ o
       same None = refl

@@ -12,10 +12,11 @@ use Rattle.ide_wire.specs.declared.refused.Refused.TheVariants.{NoMemory, Text}
 use Rattle.ide_text.specs.declared.program.Program.{Program}
 use Rattle.ide_text.specs.declared.program.Procedure.{Procedure}
 use Rattle.ide_text.specs.Names.{IsRepeated, is_named}
-use Rattle.ide_text.specs.NameFault.{ProcedureFault, NameFault, Global_again, Procedure_again, In_procedure, line_of_procedure, NoneBelow, IsFirst, TellsFirst, Checked, number_of}
+use Rattle.ide_text.specs.First.{IsFirst, TellsFirst, Checked, number_of}
+use Rattle.ide_text.specs.NameFault.{ProcedureFault, NameFault, Global_again, Procedure_again, In_procedure, line_of_procedure}
 use Rattle.ide_text.specs.Program.{globals_of, procedures_of, lines_of, lines_of_procedure}
 use Rattle.ide_text.specs.Refusal.{IsTextRefusal}
-use Rattle.ide_text.proofs.LineLemmas.{some_same, procedure_lines, procedure_number}
+use Rattle.ide_text.proofs.LineLemmas.{NoneBelow, some_same, procedure_lines, procedure_number}
 
 -- what stands before a later element, with it
 sum_before : {X : Type 0} (f : X → ℕ) (xs : List X) (j k : ℕ) (x : X) → slice_get xs j ≡ Some x → j < k → sum_by f (take j xs) + f x ≤ sum_by f (take k xs)

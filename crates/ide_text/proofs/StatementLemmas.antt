@@ -12,7 +12,8 @@ use Rattle.ide_text.specs.declared.program.Procedure.{Procedure}
 use Rattle.ide_text.specs.declared.program.Statement.{Statement}
 use Rattle.ide_text.specs.declared.program.Statement.TheVariants.{At}
 use Rattle.ide_text.specs.Names.{is_among, is_label, first_named, is_procedure, has_parameters, takes}
-use Rattle.ide_text.specs.NameFault.{StatementFault, Label_again, No_variable, No_label, No_procedure, Wrong_count, variables_used, labels_used, callees_of, arguments_passed, number_of, IsLeast}
+use Rattle.ide_text.specs.First.{number_of, IsLeast}
+use Rattle.ide_text.specs.NameFault.{StatementFault, Label_again, No_variable, No_label, No_procedure, Wrong_count, variables_used, labels_used, callees_of, arguments_passed}
 
 module _ {X : Type 0} (p : X → Bool) where
   fails_at : (x : X) (xs : List X) (b : Bool) → p x ≡ b → list_all p (x ∷ xs) ≡ false → (list_all p xs ≡ false → (y : X) × Contains xs y × (p y ≡ false)) → (y : X) × Contains (x ∷ xs) y × (p y ≡ false)

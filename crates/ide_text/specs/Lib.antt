@@ -1,5 +1,6 @@
-pub mod Names
+pub mod First
 pub mod NameFault
+pub mod Names
 pub mod Places
 pub mod Program
 pub mod Reader

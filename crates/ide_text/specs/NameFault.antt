@@ -1,17 +1,16 @@
 -- The faults of a program's names: one is declared again, or is used and not declared.
-use Rattle.std.specs.Prelude.{ℕ, ◌+◌, ◌≤◌, ◌≡◌, ◌≢◌, true, false, List, [], ◌∷◌, ◌++◌, None, Some, Result, Ok, Err, take, length, slice_get, sum_by, vec_len}
+use Rattle.std.specs.Prelude.{ℕ, ◌+◌, ◌≡◌, ◌≢◌, true, false, List, [], ◌∷◌, ◌++◌, None, Some, take, length, slice_get, sum_by, vec_len}
 use Rattle.std.specs.List.{list_any, Contains}
 use Rattle.std.specs.Option.{option_to_list}
 use Rattle.ide_wire.specs.declared.refused.Fault.{Fault}
-use Rattle.ide_wire.specs.declared.refused.Fault.TheVariants.{TextTooLong, NoSuchLine, OutOfPlace, TooMany, DeclaredTwice, NoSuchVariable, NoSuchLabel, NoSuchProcedure, WrongArguments}
-use Rattle.ide_wire.specs.declared.refused.Refused.{Refused}
-use Rattle.ide_wire.specs.declared.refused.Refused.TheVariants.{NoMemory, Text}
+use Rattle.ide_wire.specs.declared.refused.Fault.TheVariants.{DeclaredTwice, NoSuchVariable, NoSuchLabel, NoSuchProcedure, WrongArguments}
 use Rattle.ide_text.specs.declared.program.Program.{Program}
 use Rattle.ide_text.specs.declared.program.Procedure.{Procedure}
 use Rattle.ide_text.specs.declared.program.Expression.{Expression}
 use Rattle.ide_text.specs.declared.program.Expression.TheVariants.{Number, Copy, Sum, Difference, Unknown, Mix}
 use Rattle.ide_text.specs.declared.program.Statement.{Statement}
 use Rattle.ide_text.specs.declared.program.Statement.TheVariants.{Assign, Skip, At, Goto, Branch, Call, Return}
+use Rattle.ide_text.specs.First.{IsFirst}
 use Rattle.ide_text.specs.Names.{is_among, IsRepeated, is_label, is_named, first_named}
 use Rattle.ide_text.specs.Program.{globals_of, procedures_of, lines_of_procedure}
 
@@ -66,10 +65,15 @@ arguments_passed (Return y) = 0
 
 -- a fault of the statement s: the variables and the procedures that are declared, the statements before s, and all statements of its procedure
 pub data StatementFault (variables : List (List ℕ)) (procedures : List Procedure) (before statements : List Statement) (s : Statement) : Fault → Type 0 where
+  -- it declares a label that one before it declares
   Label_again : (l : List ℕ) → s ≡ At l → is_label before l ≡ true → StatementFault variables procedures before statements s DeclaredTwice
+  -- it uses a variable that is not declared
   No_variable : (x : List ℕ) → Contains (variables_used s) x → is_among variables x ≡ false → StatementFault variables procedures before statements s NoSuchVariable
+  -- it goes to a label that no statement declares
   No_label : (l : List ℕ) → Contains (labels_used s) l → is_label statements l ≡ false → StatementFault variables procedures before statements s NoSuchLabel
+  -- it calls what is no procedure
   No_procedure : (c : List ℕ) → Contains (callees_of s) c → first_named procedures c ≡ None → StatementFault variables procedures before statements s NoSuchProcedure
+  -- it calls a procedure, whose first declaration has another count of parameters
   Wrong_count : (c : List ℕ) (q : Procedure) → Contains (callees_of s) c → first_named procedures c ≡ Some q → vec_len q.parameters ≢ arguments_passed s → StatementFault variables procedures before statements s WrongArguments
 
 -- a fault of one of the statements, the first of which has that line
@@ -86,8 +90,11 @@ variables_in globals q = globals ++ q.parameters.items ++ q.locals.items
 
 -- a fault of a procedure but of its own name: the globals and the procedures that are declared, and the number of its `proc` line
 pub data ProcedureFault (globals : List (List ℕ)) (procedures : List Procedure) (q : Procedure) (start : ℕ) : ℕ → Fault → Type 0 where
+  -- a parameter is a global, or a parameter before it
   Parameter_again : (k : ℕ) → IsRepeated globals q.parameters.items k → ProcedureFault globals procedures q start start DeclaredTwice
+  -- a local is a global, a parameter, or a local before it
   Local_again : (k : ℕ) → IsRepeated (globals ++ q.parameters.items) q.locals.items k → ProcedureFault globals procedures q start (start + 1 + k) DeclaredTwice
+  -- a statement has a fault
   In_statement : (line : ℕ) (fault : Fault) → StatementsFault (variables_in globals q) procedures q.statements.items (start + 1 + vec_len q.locals) line fault → ProcedureFault globals procedures q start line fault
 
 -- the line of the j-th procedure's `proc`
@@ -96,36 +103,12 @@ line_of_procedure p j = 1 + length (globals_of p) + sum_by lines_of_procedure (t
 
 -- a fault of a program's names, on that line
 pub data NameFault (p : Program) : ℕ → Fault → Type 0 where
+  -- a global stands among those before it
   Global_again : (i : ℕ) → IsRepeated [] (globals_of p) i → NameFault p (i + 1) DeclaredTwice
+  -- a procedure before has the name
   Procedure_again : (j : ℕ) (q : Procedure) → slice_get (procedures_of p) j ≡ Some q → list_any (is_named q.name) (take j (procedures_of p)) ≡ true → NameFault p (line_of_procedure p j) DeclaredTwice
+  -- a procedure has another fault
   In_procedure : (j : ℕ) (q : Procedure) → slice_get (procedures_of p) j ≡ Some q → (line : ℕ) (fault : Fault) → ProcedureFault (globals_of p) (procedures_of p) q (line_of_procedure p j) line fault → NameFault p line fault
-
--- the number of a fault, F1 to F9
-abbrev pub number_of : Fault → ℕ
-number_of TextTooLong = 1
-number_of NoSuchLine = 2
-number_of OutOfPlace = 3
-number_of TooMany = 4
-number_of DeclaredTwice = 5
-number_of NoSuchVariable = 6
-number_of NoSuchLabel = 7
-number_of NoSuchProcedure = 8
-number_of WrongArguments = 9
-
--- of these faults the one with the least number
-pub record IsLeast (faults : Fault → Type 0) (fault : Fault) : Type 0 where
-  pub found : faults fault
-  pub least_number : (f : Fault) → faults f → number_of fault ≤ number_of f
-
--- of these faults on lines, the one on the least line, and there with the least number
-pub record IsFirst (faults : ℕ → Fault → Type 0) (line : ℕ) (fault : Fault) : Type 0 where
-  pub found : faults line fault
-  pub least_line : (l : ℕ) (f : Fault) → faults l f → line ≤ l
-  pub least_number : (f : Fault) → faults line f → number_of fault ≤ number_of f
-
--- none of these faults stands on a line below that one
-abbrev pub NoneBelow : (ℕ → Fault → Type 0) → ℕ → Type 0
-NoneBelow faults line = (l : ℕ) (f : Fault) → faults l f → line ≤ l
 
 -- the first fault of the names
 abbrev pub IsFirstNameFault : Program → ℕ → Fault → Type 0
@@ -134,19 +117,3 @@ IsFirstNameFault p line fault = IsFirst (NameFault p) line fault
 -- the names have no fault
 abbrev pub IsWellNamed : Program → Type 0
 IsWellNamed p = (line : ℕ) (fault : Fault) → ¬ NameFault p line fault
-
--- a line was checked: it has none of the faults, or this is the one with the least number
-abbrev pub LineChecked : (Fault → Type 0) → Result (Unit {0}) Fault → Type 0
-LineChecked faults (Ok _) = (fault : Fault) → ¬ faults fault
-LineChecked faults (Err fault) = IsLeast faults fault
-
--- the refusal is for want of memory, or tells the first of the faults
-abbrev pub TellsFirst : (ℕ → Fault → Type 0) → Refused → Type 0
-TellsFirst faults NoMemory = Unit {0}
-TellsFirst faults (Text line fault) = IsFirst faults line fault
-TellsFirst faults _ = ⊥
-
--- lines were checked: they have none of the faults, or the refusal tells the first
-abbrev pub Checked : (ℕ → Fault → Type 0) → Result (Unit {0}) Refused → Type 0
-Checked faults (Ok _) = (line : ℕ) (fault : Fault) → ¬ faults line fault
-Checked faults (Err refused) = TellsFirst faults refused

@@ -1,7 +1,7 @@
 -- The first places of names in a list.
-use Rattle.std.specs.Prelude.{ℕ, suc, ◌≡◌, Bool, List, [], ◌∷◌, ◌++◌, Option, None, Some, cond, is_some}
+use Rattle.std.specs.Prelude.{ℕ, ◌≡◌, Bool, List, [], ◌∷◌, ◌++◌, Option, cond, is_some}
+use Rattle.std.specs.List.{position}
 use Rattle.std.specs.Map.{lookup}
-use Rattle.std.specs.Option.{option_map}
 use Rattle.std.specs.Str.{bytes_eq}
 
 -- the place of a name
@@ -12,11 +12,6 @@ place_of places name = lookup (bytes_eq name) places
 abbrev pub with_place : List (List ℕ × ℕ) → List ℕ → ℕ → List (List ℕ × ℕ)
 with_place places name place = cond (is_some (place_of places name)) places (places ++ (name, place) ∷ [])
 
--- the index of the first element that passes
-abbrev pub index_in : {X : Type 0} → (X → Bool) → List X → Option ℕ
-index_in p [] = None
-index_in p (x ∷ xs) = cond (p x) (Some 0) (option_map suc (index_in p xs))
-
 -- each name has the place of the first element that passes its test
 abbrev pub ArePlaces : {X : Type 0} → (List ℕ → X → Bool) → List X → List (List ℕ × ℕ) → Type 0
-ArePlaces test xs places = (name : List ℕ) → place_of places name ≡ index_in (test name) xs
+ArePlaces test xs places = (name : List ℕ) → place_of places name ≡ position (test name) xs

@@ -3,7 +3,8 @@
 //! The lines of a program are walked in the order of its text, so that the first fault that is
 //! found stands on the least line.
 ghost use Rattle.std.specs.Prelude.{◌≡◌, ◌+◌, ◌<◌, ◌^◌, ℕ, [], vec_len, length, IfErr};
-ghost use Rattle.ide_text.specs.NameFault.{Checked, NameFault, ProcedureFault, StatementsFault};
+ghost use Rattle.ide_text.specs.First.{Checked};
+ghost use Rattle.ide_text.specs.NameFault.{NameFault, ProcedureFault, StatementsFault};
 ghost use Rattle.ide_text.specs.Names.{IsRepeated};
 ghost use Rattle.ide_text.specs.Program.{globals_of, procedures_of, lines_of, lines_of_procedure};
 ghost use Rattle.ide_text.specs.Refusal.{IsTextRefusal};

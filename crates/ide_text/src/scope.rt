@@ -3,7 +3,8 @@ ghost use Rattle.std.specs.Prelude.{◌≡◌, ◌++◌, ◌↔◌, List, ℕ, [
 ghost use Rattle.std.specs.List.{list_all};
 ghost use Rattle.ide_text.specs.declared.program.Statement.TheVariants.{At};
 ghost use Rattle.ide_text.specs.Names.{is_among, is_label, is_procedure, takes, IsFirstRepeated};
-ghost use Rattle.ide_text.specs.NameFault.{LineChecked, StatementFault, variables_of, variables_used, labels_used, callees_of, arguments_passed};
+ghost use Rattle.ide_text.specs.First.{LineChecked};
+ghost use Rattle.ide_text.specs.NameFault.{StatementFault, variables_of, variables_used, labels_used, callees_of, arguments_passed};
 ghost use Rattle.ide_text.specs.Scope.{variables_of_scope};
 
 use crate::name::Name;

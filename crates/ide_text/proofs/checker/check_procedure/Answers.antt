@@ -5,7 +5,8 @@ use Rattle.ide_text.specs.declared.program.Procedure.{Procedure}
 use Rattle.ide_text.specs.declared.program.Statement.{Statement}
 use Rattle.ide_text.specs.declared.scope.Scope.{Scope}
 use Rattle.ide_text.specs.Names.{IsFirstRepeated}
-use Rattle.ide_text.specs.NameFault.{StatementsFault, Checked, variables_in}
+use Rattle.ide_text.specs.First.{Checked}
+use Rattle.ide_text.specs.NameFault.{StatementsFault, variables_in}
 use Rattle.ide_text.specs.Scope.{variables_of_scope}
 use Rattle.ide_text.proofs.Repeated.{renamed, some_repeated, none_repeated, at_none, is_none}
 use Rattle.ide_text.proofs.LineLemmas.{parameter_first, local_first, body_checked}

@@ -5,7 +5,8 @@ use Rattle.std.proofs.lemmas.Result.{err_from_is_err_and}
 use Rattle.ide_wire.specs.declared.refused.Fault.{Fault}
 use Rattle.ide_text.specs.declared.program.Procedure.{Procedure}
 use Rattle.ide_text.specs.Names.{is_named}
-use Rattle.ide_text.specs.NameFault.{ProcedureFault, TellsFirst, line_of_procedure}
+use Rattle.ide_text.specs.First.{TellsFirst}
+use Rattle.ide_text.specs.NameFault.{ProcedureFault, line_of_procedure}
 use Rattle.ide_text.specs.Program.{globals_of, procedures_of}
 use Rattle.ide_text.proofs.ProgramLemmas.{name_first, next_line, procedure_told, procedures_more, procedures_none}
 use Rattle.ide_text.proofs.checker.check_procedures.Goals as goal

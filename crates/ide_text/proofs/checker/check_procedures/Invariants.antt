@@ -1,5 +1,6 @@
 use Rattle.std.proofs.Common.{◌≡◌}
-use Rattle.ide_text.specs.NameFault.{NoneBelow, NameFault, line_of_procedure}
+use Rattle.ide_text.specs.NameFault.{NameFault, line_of_procedure}
+use Rattle.ide_text.proofs.LineLemmas.{NoneBelow}
 use Rattle.ide_text.proofs.checker.check_procedures.Given as goal
 
 abbrev pub invariant-loop-place : goal.invariant-loop-place

@@ -1,5 +1,6 @@
 use Rattle.std.proofs.Common.{◌+◌}
-use Rattle.ide_text.specs.NameFault.{NoneBelow, StatementsFault}
+use Rattle.ide_text.specs.NameFault.{StatementsFault}
+use Rattle.ide_text.proofs.LineLemmas.{NoneBelow}
 use Rattle.ide_text.specs.Scope.{variables_of_scope}
 use Rattle.ide_text.proofs.checker.check_statements.Given as goal
 
