@@ -1,6 +1,6 @@
 -- What the first place of a name in a list says.
 use Rattle.std.proofs.Common.{◌≡◌, ℕ, suc, zero, ◌+◌, ◌<◌, ◌≤◌, Bool, true, false, true≢false, cond, List, [], ◌∷◌, ◌++◌, length, take, get_or, slice_get, Bor, Option, None, Some, is_some, ◌||◌, nat_lt, ◌∙◌, sym, ap, subst, refl, arith}
-use Rattle.std.specs.List.{list_any, find, position, position_or_len, HoldsAt}
+use Rattle.std.specs.List.{list_any, find, position, HoldsAt}
 use Rattle.std.specs.Map.{lookup}
 use Rattle.std.specs.Option.{option_map, option_copied, MatchOption}
 use Rattle.std.specs.Str.{bytes_eq}
