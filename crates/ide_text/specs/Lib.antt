@@ -1,4 +1,9 @@
+pub mod First
+pub mod NameFault
+pub mod Names
+pub mod Places
 pub mod Program
 pub mod Reader
 pub mod Refusal
+pub mod Scope
 pub mod Text

@@ -2,15 +2,18 @@
 //!
 //! The lines of a program are walked in the order of its text, so that the first fault that is
 //! found stands on the least line.
-ghost use Rattle.std.specs.Prelude.{◌+◌, ◌-◌, ◌<◌, ◌^◌, length, IfErr};
-ghost use Rattle.ide_text.specs.Program.{lines_of, lines_of_procedure};
+ghost use Rattle.std.specs.Prelude.{◌≡◌, ◌+◌, ◌<◌, ◌^◌, ℕ, [], vec_len, length, IfErr};
+ghost use Rattle.ide_text.specs.First.{Checked};
+ghost use Rattle.ide_text.specs.NameFault.{NameFault, ProcedureFault, StatementsFault};
+ghost use Rattle.ide_text.specs.Names.{IsRepeated};
+ghost use Rattle.ide_text.specs.Program.{globals_of, procedures_of, lines_of, lines_of_procedure};
 ghost use Rattle.ide_text.specs.Refusal.{IsTextRefusal};
+ghost use Rattle.ide_text.specs.Scope.{variables_of_scope};
 
-use crate::flaw::Flaw;
-use crate::name::Name;
-use crate::program::{Procedure, Program, Statement};
+use crate::names::Names;
+use crate::program::{Procedure, Program};
 use crate::scope::Scope;
-use crate::tables::Tables;
+use crate::tables::Procedures;
 use ide_wire::{Fault, Refused};
 use std::alloc::Global;
 
@@ -18,72 +21,88 @@ use std::alloc::Global;
 /// least line.
 pub(crate) fn check(alloc: Global, program: &Program) -> Result<(), Refused>
     requires { lines_of program.now + 1 < 2 ^ 32 }
-    ensures { IfErr result (IsTextRefusal 1 (lines_of program.now)) }
+    ensures names { Checked (NameFault program.now) result }
+    ensures lines { IfErr result (IsTextRefusal 1 (lines_of program.now)) }
 {
-    let tables = Tables::of(alloc, program)?;
+    // before the globals no name is taken
+    let none = Names::new(alloc);
+    let mut globals = Names::new(alloc);
+    if let Some(place) = globals.declare(&none, program.globals())? {
+        return Err(Refused::Text {
+            line: place as u32 + 1,
+            fault: Fault::DeclaredTwice,
+        });
+    }
+    let procedures = Procedures::of(alloc, program.procedures())?;
+    check_procedures(alloc, &globals, &procedures, program)
+}
+
+/// Checks the names of a program, whose globals and procedures those are, beside the globals.
+fn check_procedures(
+    alloc: Global,
+    globals: &Names<'_>,
+    procedures: &Procedures<'_>,
+    program: &Program,
+) -> Result<(), Refused>
+    requires globals { globals.now ≡ globals_of program.now }
+    requires procedures { procedures.now ≡ procedures_of program.now }
+    requires distinct { (k : ℕ) → ¬ IsRepeated [] (globals_of program.now) k }
+    requires few { lines_of program.now + 1 < 2 ^ 32 }
+    ensures { Checked (NameFault program.now) result }
+{
     let mut line = program.globals().len() as u32 + 1;
-    for (index, procedure) in program.procedures().iter().enumerate() {
-        if tables.is_repeated(index, &procedure.name) {
+    for (place, procedure) in program.procedures().iter().enumerate() {
+        if procedures.is_named_before(&procedure.name, place) {
             return Err(Refused::Text {
                 line,
                 fault: Fault::DeclaredTwice,
             });
         }
-        check_procedure(alloc, &tables, procedure, line)?;
+        check_procedure(alloc, globals, procedures, procedure, line)?;
         line += 2 + procedure.locals.len() as u32 + procedure.statements.len() as u32;
     }
     Ok(())
 }
 
 /// Checks the names of a procedure but its own. Its `proc` line has that number.
-fn check_procedure<'p>(
+fn check_procedure(
     alloc: Global,
-    tables: &Tables<'p>,
-    procedure: &'p Procedure,
+    globals: &Names<'_>,
+    procedures: &Procedures<'_>,
+    procedure: &Procedure,
     line: u32,
 ) -> Result<(), Refused>
     requires { line + lines_of_procedure procedure.now < 2 ^ 32 }
-    ensures { IfErr result (IsTextRefusal line (line + lines_of_procedure procedure.now - 1)) }
+    ensures { Checked (ProcedureFault globals.now procedures.now procedure.now line) result }
 {
-    let mut scope = Scope::new(alloc, tables, &procedure.statements)?;
-    for name in &procedure.parameters {
-        scope.declare(name).map_err(|flaw| flaw.on_line(line))?;
+    let mut scope = Scope::new(alloc, globals, procedures, &procedure.statements)?;
+    if scope.declare(&procedure.parameters)?.is_some() {
+        return Err(Refused::Text {
+            line,
+            fault: Fault::DeclaredTwice,
+        });
     }
-    declare_locals(&mut scope, &procedure.locals, line + 1)?;
-    let line = line + 1 + procedure.locals.len() as u32;
-    check_statements(&scope, &procedure.statements, line)
+    if let Some(place) = scope.declare(&procedure.locals)? {
+        return Err(Refused::Text {
+            line: line + 1 + place as u32,
+            fault: Fault::DeclaredTwice,
+        });
+    }
+    check_statements(&scope, line + 1 + procedure.locals.len() as u32)
 }
 
-/// Declares the locals, the first of them on that line.
-fn declare_locals<'p>(
-    scope: &mut Scope<'_, 'p>,
-    locals: &'p [Name],
-    line: u32,
-) -> Result<(), Refused>
-    requires { line + length locals.now < 2 ^ 32 }
-    ensures { IfErr result (IsTextRefusal line (line + length locals.now)) }
+/// Checks the statements of a procedure, the first of them on that line.
+fn check_statements(scope: &Scope<'_, '_>, line: u32) -> Result<(), Refused>
+    requires { line + length scope.now.labels < 2 ^ 32 }
+    ensures { Checked (StatementsFault (variables_of_scope scope.now) scope.now.procedures.now scope.now.labels line) result }
 {
-    for (index, name) in locals.iter().enumerate() {
-        scope
-            .declare(name)
-            .map_err(|flaw| flaw.on_line(line + index as u32))?;
-    }
-    Ok(())
-}
-
-/// Checks the statements, the first of them on that line.
-fn check_statements(
-    scope: &Scope<'_, '_>,
-    statements: &[Statement],
-    line: u32,
-) -> Result<(), Refused>
-    requires { line + length statements.now < 2 ^ 32 }
-    ensures { IfErr result (IsTextRefusal line (line + length statements.now)) }
-{
-    for (index, statement) in statements.iter().enumerate() {
-        scope
-            .check(index, statement)
-            .map_err(|fault| Flaw::Faulty(fault).on_line(line + index as u32))?;
+    for (place, statement) in scope.statements().iter().enumerate() {
+        if let Err(fault) = scope.check(place, statement) {
+            return Err(Refused::Text {
+                line: line + place as u32,
+                fault,
+            });
+        }
     }
     Ok(())
 }

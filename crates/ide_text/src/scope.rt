@@ -1,147 +1,227 @@
 //! Scopes: what the statements of one procedure may name.
-use crate::flaw::Flaw;
+ghost use Rattle.std.specs.Prelude.{◌≡◌, ◌++◌, ◌↔◌, List, ℕ, [], take, IsTrue, IfOk, IfNone};
+ghost use Rattle.std.specs.List.{list_all};
+ghost use Rattle.ide_text.specs.declared.program.Statement.TheVariants.{At};
+ghost use Rattle.ide_text.specs.Names.{is_among, is_label, is_procedure, takes, IsFirstRepeated};
+ghost use Rattle.ide_text.specs.First.{LineChecked};
+ghost use Rattle.ide_text.specs.NameFault.{StatementFault, variables_of, variables_used, labels_used, callees_of, arguments_passed};
+ghost use Rattle.ide_text.specs.Scope.{variables_of_scope};
+
 use crate::name::Name;
+use crate::names::Names;
 use crate::program::{Expression, Statement};
-use crate::tables::Tables;
+use crate::tables::{Labels, Procedures};
 use ide_wire::Fault;
-use indexmap::{IndexMap, IndexSet};
 use std::alloc::{AllocError, Global};
 
-/// The names of one procedure, beside those of the whole program.
+/// What the statements of one procedure may name.
 #[derive(Drop)]
 pub(crate) struct Scope<'t, 'p> {
-    tables: &'t Tables<'p>,
+    globals: &'t Names<'p>,
+    procedures: &'t Procedures<'p>,
     /// The parameters and locals that were declared so far.
-    variables: IndexSet<&'p [u8]>,
-    /// The first place of each label among the statements.
-    labels: IndexMap<&'p [u8], usize>,
+    variables: Names<'p>,
+    labels: Labels<'p>,
 }
 
 impl<'t, 'p> Scope<'t, 'p> {
     /// The scope of a procedure with these statements, before its parameters and locals.
     pub(crate) fn new(
         alloc: Global,
-        tables: &'t Tables<'p>,
+        globals: &'t Names<'p>,
+        procedures: &'t Procedures<'p>,
         statements: &'p [Statement],
-    ) -> Result<Scope<'t, 'p>, AllocError> {
+    ) -> Result<Scope<'t, 'p>, AllocError>
+        ensures globals { IfOk result (λ scope. scope.globals.now ≡ globals.now) }
+        ensures procedures { IfOk result (λ scope. scope.procedures.now ≡ procedures.now) }
+        ensures variables { IfOk result (λ scope. scope.variables ≡ []) }
+        ensures labels { IfOk result (λ scope. scope.labels ≡ statements.now) }
+    {
         Ok(Scope {
-            tables,
-            variables: IndexSet::new(alloc),
-            labels: labels(alloc, statements)?,
+            globals,
+            procedures,
+            variables: Names::new(alloc),
+            labels: Labels::of(alloc, statements)?,
         })
     }
 
-    /// Declares a parameter or a local. The one fault is [`Fault::DeclaredTwice`].
-    pub(crate) fn declare(&mut self, name: &'p Name) -> Result<(), Flaw> {
-        let name = name.as_bytes();
-        if self.tables.has_global(name) || !self.variables.insert(name)? {
-            return Err(Flaw::Faulty(Fault::DeclaredTwice));
-        }
-        Ok(())
+    /// Declares parameters or locals, up to the first that is declared already; answers its place.
+    pub(crate) fn declare(&mut self, names: &'p [Name]) -> Result<Option<usize>, AllocError>
+        ensures first { IfOk result (IsFirstRepeated (variables_of_scope self.old) names.now) }
+        ensures added { IfOk result (λ first. IfNone first (self.new.variables ≡ self.old.variables ++ names.now)) }
+        ensures globals { self.new.globals.now ≡ self.old.globals.now }
+        ensures procedures { self.new.procedures.now ≡ self.old.procedures.now }
+        ensures labels { self.new.labels ≡ self.old.labels }
+    {
+        self.variables.declare(self.globals, names)
+    }
+
+    /// The statements of the procedure.
+    pub(crate) fn statements(&self) -> &'p [Statement]
+        ensures { result.now ≡ self.now.labels }
+    {
+        self.labels.statements()
     }
 
     /// Checks the names of the statement at that place: the first of the faults of its line.
-    pub(crate) fn check(&self, index: usize, statement: &Statement) -> Result<(), Fault> {
+    pub(crate) fn check(&self, place: usize, statement: &Statement) -> Result<(), Fault>
+        ensures { LineChecked (StatementFault (variables_of_scope self.now) self.now.procedures.now (take place self.now.labels) self.now.labels statement.now) result }
+    {
+        if self.repeats_label(place, statement) {
+            return Err(Fault::DeclaredTwice);
+        }
+        if !self.knows_variables(statement) {
+            return Err(Fault::NoSuchVariable);
+        }
+        if !self.knows_labels(statement) {
+            return Err(Fault::NoSuchLabel);
+        }
+        if !self.knows_callees(statement) {
+            return Err(Fault::NoSuchProcedure);
+        }
+        if !self.counts_arguments(statement) {
+            return Err(Fault::WrongArguments);
+        }
+        Ok(())
+    }
+
+    /// Whether the statement at that place declares a label that one before it declares.
+    fn repeats_label(&self, place: usize, statement: &Statement) -> bool
+        ensures { IsTrue result ↔ (l : List ℕ) × (statement.now ≡ At l) × IsTrue (is_label (take place self.now.labels) l) }
+    {
+        match statement {
+            Statement::At(label) => self.labels.has_before(label, place),
+            _ => false,
+        }
+    }
+
+    /// Whether each variable that the statement uses is declared.
+    fn knows_variables(&self, statement: &Statement) -> bool
+        ensures { result ≡ list_all (is_among (variables_of_scope self.now)) (variables_used statement.now) }
+    {
         match statement {
             Statement::Assign(target, expression) => {
-                self.check_variable(target)?;
-                self.check_expression(expression)
+                self.is_variable(target) && self.knows_expression(expression)
             }
-            Statement::Skip => Ok(()),
-            Statement::At(label) => self.check_first(index, label),
-            Statement::Goto(label) => self.check_label(label),
-            Statement::Branch(label) => self.check_label(label),
+            Statement::Skip => true,
+            Statement::At(_) => true,
+            Statement::Goto(_) => true,
+            Statement::Branch(_) => true,
             Statement::Call {
-                target,
+                target: None,
+                arguments,
+                ..
+            } => self.are_variables(arguments),
+            Statement::Call {
+                target: Some(target),
+                arguments,
+                ..
+            } => self.is_variable(target) && self.are_variables(arguments),
+            Statement::Return(None) => true,
+            Statement::Return(Some(value)) => self.is_variable(value),
+        }
+    }
+
+    /// Whether each variable of the expression is declared.
+    fn knows_expression(&self, expression: &Expression) -> bool
+        ensures { result ≡ list_all (is_among (variables_of_scope self.now)) (variables_of expression.now) }
+    {
+        match expression {
+            Expression::Number(_) => true,
+            Expression::Copy(name) => self.is_variable(name),
+            Expression::Sum(name, _) => self.is_variable(name),
+            Expression::Difference(name, _) => self.is_variable(name),
+            Expression::Unknown => true,
+            Expression::Mix(first, second) => self.is_variable(first) && self.is_variable(second),
+        }
+    }
+
+    /// Whether each of the names is a variable.
+    fn are_variables(&self, names: &[Name]) -> bool
+        ensures { result ≡ list_all (is_among (variables_of_scope self.now)) names.now }
+    {
+        for name in names {
+            if !self.is_variable(name) {
+                return false;
+            }
+        }
+        true
+    }
+
+    /// Whether the name is a variable: a global, a parameter or a local.
+    fn is_variable(&self, name: &Name) -> bool
+        ensures { result ≡ is_among (variables_of_scope self.now) name.now }
+    {
+        self.globals.has(name) || self.variables.has(name)
+    }
+
+    /// Whether each label that the statement goes to is declared.
+    fn knows_labels(&self, statement: &Statement) -> bool
+        ensures { result ≡ list_all (is_label self.now.labels) (labels_used statement.now) }
+    {
+        match statement {
+            Statement::Goto(label) => self.labels.has(label),
+            Statement::Branch(label) => self.labels.has(label),
+            _ => true,
+        }
+    }
+
+    /// Whether each procedure that the statement calls is declared.
+    fn knows_callees(&self, statement: &Statement) -> bool
+        ensures { result ≡ list_all (is_procedure self.now.procedures.now) (callees_of statement.now) }
+    {
+        match statement {
+            Statement::Call { callees, .. } => self.are_procedures(callees),
+            _ => true,
+        }
+    }
+
+    /// Whether each of the names is a procedure.
+    fn are_procedures(&self, names: &[Name]) -> bool
+        ensures { result ≡ list_all (is_procedure self.now.procedures.now) names.now }
+    {
+        for name in names {
+            if self.procedures.first(name).is_none() {
+                return false;
+            }
+        }
+        true
+    }
+
+    /// Whether each procedure that the statement calls has as many parameters as are passed, where
+    /// it is declared.
+    fn counts_arguments(&self, statement: &Statement) -> bool
+        ensures { result ≡ list_all (takes self.now.procedures.now (arguments_passed statement.now)) (callees_of statement.now) }
+    {
+        match statement {
+            Statement::Call {
                 callees,
                 arguments,
-            } => {
-                if let Some(target) = target {
-                    self.check_variable(target)?;
-                }
-                self.check_variables(arguments)?;
-                self.check_callees(callees, arguments.len())
-            }
-            Statement::Return(None) => Ok(()),
-            Statement::Return(Some(value)) => self.check_variable(value),
+                ..
+            } => self.take_arguments(callees, arguments.len()),
+            _ => true,
         }
     }
 
-    /// Checks the variables of an expression.
-    fn check_expression(&self, expression: &Expression) -> Result<(), Fault> {
-        match expression {
-            Expression::Number(_) => Ok(()),
-            Expression::Copy(name) => self.check_variable(name),
-            Expression::Sum(name, _) => self.check_variable(name),
-            Expression::Difference(name, _) => self.check_variable(name),
-            Expression::Unknown => Ok(()),
-            Expression::Mix(first, second) => {
-                self.check_variable(first)?;
-                self.check_variable(second)
-            }
-        }
-    }
-
-    /// Checks that each name is a variable.
-    fn check_variables(&self, names: &[Name]) -> Result<(), Fault> {
+    /// Whether each of the names that is a procedure has so many parameters.
+    fn take_arguments(&self, names: &[Name], count: usize) -> bool
+        ensures { result ≡ list_all (takes self.now.procedures.now count) names.now }
+    {
         for name in names {
-            self.check_variable(name)?;
-        }
-        Ok(())
-    }
-
-    /// Checks that the name is a variable: a global, a parameter or a local.
-    fn check_variable(&self, name: &Name) -> Result<(), Fault> {
-        let name = name.as_bytes();
-        if self.variables.contains(name) || self.tables.has_global(name) {
-            Ok(())
-        } else {
-            Err(Fault::NoSuchVariable)
-        }
-    }
-
-    /// Checks that the name is a label of the procedure.
-    fn check_label(&self, name: &Name) -> Result<(), Fault> {
-        if self.labels.contains_key(name.as_bytes()) {
-            Ok(())
-        } else {
-            Err(Fault::NoSuchLabel)
-        }
-    }
-
-    /// Checks that no earlier statement declares the label at that place.
-    fn check_first(&self, index: usize, name: &Name) -> Result<(), Fault> {
-        match self.labels.get(name.as_bytes()) {
-            Some(first) if *first < index => Err(Fault::DeclaredTwice),
-            _ => Ok(()),
-        }
-    }
-
-    /// Checks that each name is a procedure, and then that each has so many parameters.
-    fn check_callees(&self, names: &[Name], arguments: usize) -> Result<(), Fault> {
-        for name in names {
-            let parameters = self.tables.parameters(name).ok_or(Fault::NoSuchProcedure)?;
-            if parameters != arguments {
-                return Err(Fault::WrongArguments);
+            if !self.takes(name, count) {
+                return false;
             }
         }
-        Ok(())
+        true
     }
-}
 
-/// The first place of each label among these statements.
-fn labels<'p>(
-    alloc: Global,
-    statements: &'p [Statement],
-) -> Result<IndexMap<&'p [u8], usize>, AllocError> {
-    let mut labels: IndexMap<&'p [u8], usize> = IndexMap::new(alloc);
-    for (index, statement) in statements.iter().enumerate() {
-        if let Statement::At(label) = statement {
-            let name = label.as_bytes();
-            if !labels.contains_key(name) {
-                labels.insert(name, index)?;
-            }
+    /// Whether the procedure of the name, if there is one, has so many parameters.
+    fn takes(&self, name: &Name, count: usize) -> bool
+        ensures { result ≡ takes self.now.procedures.now count name.now }
+    {
+        match self.procedures.first(name) {
+            Some(procedure) => procedure.parameters.len() == count,
+            None => true,
         }
     }
-    Ok(labels)
 }

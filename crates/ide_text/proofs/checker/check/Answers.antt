@@ -1,11 +1,17 @@
-use Rattle.std.proofs.Common.{arith}
-use Rattle.std.proofs.lemmas.Grind.{common_steps}
-use Rattle.std.proofs.lemmas.Result.{err_from_is_err_and}
-use Rattle.ide_text.proofs.Refusal.{IsTextRefusal-wider}
+use Rattle.std.proofs.Common.{◌≡◌, [], ◌++◌, ◌∙◌, ap, subst}
+use Rattle.ide_text.specs.Names.{IsFirstRepeated}
+use Rattle.ide_text.specs.Program.{globals_of}
+use Rattle.ide_text.proofs.ProgramLemmas.{global_first, checked_within}
+use Rattle.ide_text.proofs.Repeated.{renamed}
 use Rattle.ide_text.proofs.checker.check.Goals as goal
 
-pub returns-in_err-check_procedure : goal.returns-in_err-check_procedure
-returns-in_err-check_procedure c =
-    let r = c.from_residual-in_err-check_procedure in
-    let p = err_from_is_err_and r.result r.ensures.1 in
-    rw (p.1, p.2) (IsTextRefusal-wider _ _ _ _ _ (omega arith) (grind (arith, common_steps)) c.in_err-check_procedure.ensures)
+pub returns-in-Some-clause-names : goal.returns-in-Some-clause-names
+returns-in-Some-clause-names c =
+    let p = c.args.program.now in
+    let known : c.new-none.result ++ c.new-globals.result ≡ [] = ap (λ names. names ++ c.new-globals.result) c.new-none.ensures ∙ c.new-globals.ensures in
+    let told = renamed (c.new-none.result ++ c.new-globals.result) [] c.globals.result.now (globals_of p) c.in_ok-place.field-0 known c.globals.ensures c.in_ok-place.ensures.first in
+    let one = subst (IsFirstRepeated [] (globals_of p)) c.in-Some.is told in
+    global_first p c.in-Some.place one.0 one.1
+
+pub returns-clause-lines : goal.returns-clause-lines
+returns-clause-lines c = checked_within c.args.program.now c.check_procedures.result c.check_procedures.ensures
