@@ -1,2 +1,4 @@
 pub mod Extends
+pub mod Numbers
 pub mod Refusal
+pub mod Tokens

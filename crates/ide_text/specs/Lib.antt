@@ -1,4 +1,6 @@
+pub mod Grammar
 pub mod Program
 pub mod Reader
 pub mod Refusal
 pub mod Text
+pub mod Token

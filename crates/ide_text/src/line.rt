@@ -1,4 +1,7 @@
 //! Lines: the spelling of one line alone, whatever stands around it.
+ghost use Rattle.std.specs.Prelude.{◌≡◌, ◌≢◌, MatchOption};
+ghost use Rattle.ide_text.specs.Token.{expression_tokens};
+
 use crate::flaw::Flaw;
 use crate::name::Name;
 use crate::program::{Expression, Statement};
@@ -111,7 +114,9 @@ fn step(tokens: &[Token]) -> Option<Statement> {
 }
 
 /// What these tokens after a `=` give, where they are no call.
-fn expression(tokens: &[Token]) -> Option<Expression> {
+fn expression(tokens: &[Token]) -> Option<Expression>
+    ensures { MatchOption result ((e : Expression) → expression_tokens e ≢ tokens.now) (λ e. expression_tokens e ≡ tokens.now) }
+{
     match tokens {
         [Token::Number(number)] => Some(Expression::Number(*number)),
         [Token::Name(name)] => Some(Expression::Copy(name.copy())),
