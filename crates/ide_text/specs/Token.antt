@@ -1,5 +1,6 @@
 -- Tokens, and how they are spelled.
-use Rattle.std.specs.Prelude.{ℕ, List, [], ◌∷◌, ◌++◌, Option, Some, None, codes, decimal, map}
+use Rattle.std.specs.Prelude.{ℕ, List, [], ◌∷◌, ◌++◌, Option, Some, None, codes, decimal, map, length, ◌≡◌, ◌==◌}
+use Rattle.std.specs.List.{AllByRecursion, slice_split}
 use Rattle.ide_text.specs.declared.token.Token.{Token}
 use Rattle.ide_text.specs.declared.token.Token.TheVariants as token
 use Rattle.ide_text.specs.declared.line.Line.{Line}
@@ -76,3 +77,24 @@ line_tokens (Begin p parameters) = token.Proc ∷ token.Name p ∷ name_tokens p
 line_tokens (Local x) = token.Var ∷ token.Name x ∷ []
 line_tokens End = token.End ∷ []
 line_tokens (Step s) = statement_tokens s
+
+-- a call has exactly one callee
+abbrev pub HasOneCallee : Statement → Type 0
+HasOneCallee (Call x callees arguments) = length callees.items ≡ 1
+HasOneCallee _ = Unit {0}
+
+-- the same of a line that is a call
+abbrev pub HasOneCalleeOnLine : Line → Type 0
+HasOneCalleeOnLine (Step s) = HasOneCallee s
+HasOneCalleeOnLine _ = Unit {0}
+
+-- a statement that is no assignment and no call
+abbrev pub IsStep : Statement → Type 0
+IsStep (Assign x e) = ⊥
+IsStep (Call x callees arguments) = ⊥
+IsStep _ = Unit {0}
+
+-- the tokens are those between the spaces of a text
+pub record Tokenizes (text : List ℕ) (tokens : List Token) : Type 0 where
+  pub words : map token_text tokens ≡ slice_split (λ byte. byte == 32) text
+  pub proper : AllByRecursion IsToken tokens
