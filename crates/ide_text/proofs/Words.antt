@@ -24,7 +24,7 @@ use Rattle.ide_text.specs.declared.program.Expression.TheVariants.{Number, Copy,
 use Rattle.ide_text.specs.Grammar.{HasNameBytes, IsName, IsNumber, IsExpression, IsStatement, IsLine, begins_name, continues_name, reserved_words}
 use Rattle.ide_text.specs.Reader.{line_text}
 use Rattle.ide_text.specs.Text.{names_text, statement_text, expression_text}
-use Rattle.ide_text.specs.Token.{HasOneCallee, HasOneCalleeOnLine, IsToken, Tokenizes, token_text, expression_tokens, target_tokens, name_tokens, statement_tokens, line_tokens}
+use Rattle.ide_text.specs.Token.{HasOneCallee, HasOneCalleeOnLine, IsToken, Lacks, Tokenizes, token_text, expression_tokens, target_tokens, name_tokens, statement_tokens, line_tokens}
 use Rattle.ide_text.proofs.Numbers.{digits_from_decimal, value_from_decimal, nonempty_decimal}
 
 -- ---- the bytes of tokens
@@ -356,3 +356,31 @@ pub line_from_tokens : (l : Line) (text : List ℕ) (ts : List Token) → Tokeni
 line_from_tokens l text ts h e one =
     let proper : AllByRecursion IsToken (line_tokens l) = subst (AllByRecursion IsToken) (sym e) h.proper in
     (sym (line_spelled l) ∙ ap tokens_text e ∙ text_from_tokens text ts h, line_from_proper l proper one)
+
+-- ---- a text word by word
+-- each word of a text that has tokens is that of a token
+pub word_spelled : (ts : List Token) (before after : List (List ℕ)) (word : List ℕ) → AllByRecursion IsToken ts → map token_text ts ≡ before ++ word ∷ after →
+    (t : Token) × IsToken t × (token_text t ≡ word)
+word_spelled [] [] after word h e = absurd (cc)
+word_spelled [] (v ∷ before) after word h e = absurd (cc)
+word_spelled (t ∷ ts) [] after word h e = (t, h.0, cc)
+word_spelled (t ∷ ts) (v ∷ before) after word h e = word_spelled ts before after word h.1 (cc)
+
+-- a word that no token spells
+pub no_tokens : (text : List ℕ) (before after : List (List ℕ)) (word : List ℕ) → slice_split (λ b. b == 32) text ≡ before ++ word ∷ after →
+    ((t : Token) → IsToken t → token_text t ≢ word) → (ts : List Token) → ¬ (Tokenizes text ts)
+no_tokens text before after word e none ts h = let t = word_spelled ts before after word h.proper (h.words ∙ e) in none t.0 t.1 t.2
+
+-- the first word of a text, and its last
+pub first_word : (text word after : List ℕ) → Lacks 32 word → text ≡ word ++ 32 ∷ after → slice_split (λ b. b == 32) text ≡ word ∷ slice_split (λ b. b == 32) after
+first_word text word after h e = ap (slice_split (λ b. b == 32)) e ∙ slice_split_at (λ b. b == 32) word 32 after h refl
+
+pub last_word : (text : List ℕ) → Lacks 32 text → slice_split (λ b. b == 32) text ≡ text ∷ []
+last_word text h = slice_split_none (λ b. b == 32) text h
+
+pub proper_more : (ts : List Token) (t : Token) → AllByRecursion IsToken ts → IsToken t → AllByRecursion IsToken (ts ++ t ∷ [])
+proper_more ts t h is = proper_append ts (t ∷ []) h (is, tt)
+
+pub words_more : (ts : List Token) (t : Token) (word : List ℕ) (words : List (List ℕ)) → token_text t ≡ word → map token_text (ts ++ t ∷ []) ++ words ≡ map token_text ts ++ word ∷ words
+words_more [] t word words e = cc
+words_more (u ∷ ts) t word words e = ap (λ vs. token_text u ∷ vs) (words_more ts t word words e)

@@ -1,6 +1,6 @@
 -- Tokens, and how they are spelled.
-use Rattle.std.specs.Prelude.{ℕ, List, [], ◌∷◌, ◌++◌, Option, Some, None, codes, decimal, map, length, ◌≡◌, ◌==◌}
-use Rattle.std.specs.List.{AllByRecursion, slice_split}
+use Rattle.std.specs.Prelude.{ℕ, List, [], ◌∷◌, ◌++◌, Option, Some, None, codes, decimal, map, length, false, ◌≡◌, ◌==◌}
+use Rattle.std.specs.List.{All, AllByRecursion, slice_split}
 use Rattle.ide_text.specs.declared.token.Token.{Token}
 use Rattle.ide_text.specs.declared.token.Token.TheVariants as token
 use Rattle.ide_text.specs.declared.line.Line.{Line}
@@ -93,6 +93,10 @@ abbrev pub IsStep : Statement → Type 0
 IsStep (Assign x e) = ⊥
 IsStep (Call x callees arguments) = ⊥
 IsStep _ = Unit {0}
+
+-- has no such byte
+abbrev pub Lacks : ℕ → List ℕ → Type 0
+Lacks byte bytes = All (λ b. (b == byte) ≡ false) bytes
 
 -- the tokens are those between the spaces of a text
 pub record Tokenizes (text : List ℕ) (tokens : List Token) : Type 0 where

@@ -6,6 +6,7 @@
 
 mod checker;
 mod copy;
+mod cut;
 mod flaw;
 mod line;
 mod name;

@@ -5,6 +5,7 @@ ghost use Rattle.ide_text.specs.Grammar.{IsLine};
 ghost use Rattle.ide_text.specs.Reader.{line_text};
 ghost use Rattle.ide_text.specs.Token.{HasOneCallee, HasOneCalleeOnLine, IsStep, Tokenizes, expression_tokens, line_tokens, name_tokens, statement_tokens, target_tokens};
 
+use crate::cut::cut;
 use crate::flaw::Flaw;
 use crate::name::Name;
 use crate::program::{Expression, Statement};
@@ -44,10 +45,14 @@ fn split(alloc: Global, text: &[u8]) -> Result<Vec<Token>, Flaw>
     ensures none { IfErr result (IsNoLine ((tokens : List Token) → ¬ (Tokenizes text.now tokens))) }
 {
     let mut tokens = Vec::new(alloc);
-    for word in text.split(|byte| *byte == b' ') {
+    let mut rest = text;
+    while let Some((word, after)) = cut(rest, b' ') {
         let token = Token::of(word).ok_or(Fault::NoSuchLine)?;
         tokens.push(token)?;
+        rest = after;
     }
+    let last = Token::of(rest).ok_or(Fault::NoSuchLine)?;
+    tokens.push(last)?;
     Ok(tokens)
 }
 
