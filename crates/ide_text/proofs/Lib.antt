@@ -2,5 +2,6 @@ pub mod Extends
 pub mod Lines
 pub mod Numbers
 pub mod Refusal
+pub mod Standing
 pub mod Tokens
 pub mod Words

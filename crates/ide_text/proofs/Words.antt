@@ -22,8 +22,7 @@ use Rattle.ide_text.specs.declared.program.Statement.TheVariants.{Assign, Skip, 
 use Rattle.ide_text.specs.declared.program.Expression.{Expression}
 use Rattle.ide_text.specs.declared.program.Expression.TheVariants.{Number, Copy, Sum, Difference, Unknown, Mix}
 use Rattle.ide_text.specs.Grammar.{HasNameBytes, IsName, IsNumber, IsExpression, IsStatement, IsLine, begins_name, continues_name, reserved_words}
-use Rattle.ide_text.specs.Reader.{line_text}
-use Rattle.ide_text.specs.Text.{names_text, statement_text, expression_text}
+use Rattle.ide_text.specs.Text.{line_text, names_text, statement_text, expression_text}
 use Rattle.ide_text.specs.Token.{HasOneCallee, HasOneCalleeOnLine, IsToken, Lacks, Tokenizes, token_text, expression_tokens, target_tokens, name_tokens, statement_tokens, line_tokens}
 use Rattle.ide_text.proofs.Numbers.{digits_from_decimal, value_from_decimal, nonempty_decimal}
 

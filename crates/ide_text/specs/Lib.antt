@@ -1,3 +1,4 @@
+pub mod FirstFault
 pub mod Flaw
 pub mod Grammar
 pub mod Program

@@ -2,7 +2,7 @@
 ghost use Rattle.std.specs.Prelude.{ℕ, ◌≡◌, ◌≢◌, List, ◌∷◌, ◌++◌, MatchOption, IfSome, IfNone, IfOk, IfErr};
 ghost use Rattle.ide_text.specs.Flaw.{IsNoLine};
 ghost use Rattle.ide_text.specs.Grammar.{IsLine};
-ghost use Rattle.ide_text.specs.Reader.{line_text};
+ghost use Rattle.ide_text.specs.Text.{line_text};
 ghost use Rattle.ide_text.specs.Token.{HasOneCallee, HasOneCalleeOnLine, IsStep, Tokenizes, expression_tokens, line_tokens, name_tokens, statement_tokens, target_tokens};
 
 use crate::cut::cut;

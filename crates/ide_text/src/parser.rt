@@ -1,7 +1,6 @@
 //! The parser: a whole text into a program, or the first fault of the text.
 ghost use Rattle.std.specs.Prelude.{◌≡◌, ◌+◌, ◌<◌, ◌≤◌, ◌↔◌, length, OnOk, IfOk, IfErr};
 ghost use Rattle.ide_text.specs.Program.{lines_of};
-ghost use Rattle.ide_text.specs.Reader.{lines_taken};
 ghost use Rattle.ide_text.specs.Refusal.{IsTextRefusal};
 
 use crate::checker::check;
@@ -63,7 +62,6 @@ fn read(alloc: Global, text: &[u8]) -> Result<Program, Refused>
 
 /// Takes the line that these bytes, without the LF, spell.
 fn read_line(alloc: Global, reader: &mut Reader, text: &[u8]) -> Result<(), Flaw>
-    ensures { OnOk result (lines_taken reader.new ≡ lines_taken reader.old + 1) }
 {
     reader.take(Line::read(alloc, text)?)
 }

@@ -1,6 +1,9 @@
 //! Programs: globals, procedures and their statements, as a text spells them.
 ghost use Rattle.std.specs.Prelude.{◌≡◌, ◌≤◌};
 
+ghost use Rattle.ide_text.specs.declared.line.Line.TheVariants as line;
+ghost use Rattle.ide_text.specs.FirstFault.{nodes_on};
+
 use crate::name::Name;
 
 /// A program: a list of globals and a list of procedures, in the order of the text.
@@ -94,7 +97,8 @@ impl Program {
 impl Statement {
     /// How many nodes the statement has: a call two, any other one.
     pub(crate) fn nodes(&self) -> usize
-        ensures { result ≤ 2 }
+        ensures few { result ≤ 2 }
+        ensures counted { result ≡ nodes_on (line.Statement self.now) }
     {
         match self {
             Statement::Call { .. } => 2,
