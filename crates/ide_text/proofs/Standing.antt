@@ -9,7 +9,8 @@ use Rattle.ide_text.specs.declared.program.Procedure.{Procedure}
 use Rattle.ide_text.specs.declared.program.Statement.{Statement}
 use Rattle.ide_text.specs.FirstFault.{Fits, MayEnd, StandsAtGlobals, StandsAtVariables, StandsInside, StandsOutside, is_global, is_procedure, last_variables, most_variables, nodes_on, parameters_on}
 use Rattle.ide_text.specs.declared.reader.Reader.{Reader}
-use Rattle.ide_text.specs.Reader.{IsCounted, open_lines, ended_lines, global_lines, lines_in, taken_lines}
+use Rattle.ide_text.specs.Lines.{open_lines, ended_lines, global_lines, lines_in}
+use Rattle.ide_text.specs.Reader.{IsCounted, taken_lines}
 
 -- ---- growth
 pub lines_push : {X : Type 0} (f : X → Line) (xs : List X) (x : X) → reverse (map f (xs ++ x ∷ [])) ≡ f x ∷ reverse (map f xs)

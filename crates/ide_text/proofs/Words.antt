@@ -30,19 +30,19 @@ use Rattle.ide_text.proofs.Numbers.{digits_from_decimal, value_from_decimal, non
 abbrev pub is_token_byte : ℕ → Bool
 is_token_byte b = continues_name b || (b == 61 || (b == 43 || (b == 45 || b == 63)))
 
-and_parts : (a b : Bool) → (a && b) ≡ true → (a ≡ true) × (b ≡ true)
+pub and_parts : (a b : Bool) → (a && b) ≡ true → (a ≡ true) × (b ≡ true)
 and_parts true b h = (refl, h)
 and_parts false b h = absurd (false≢true h)
 
-and_from : (a b : Bool) → a ≡ true → b ≡ true → (a && b) ≡ true
+pub and_from : (a b : Bool) → a ≡ true → b ≡ true → (a && b) ≡ true
 and_from true b p q = q
 and_from false b p q = absurd (false≢true p)
 
-or_left : (a b : Bool) → a ≡ true → (a || b) ≡ true
+pub or_left : (a b : Bool) → a ≡ true → (a || b) ≡ true
 or_left true b p = refl
 or_left false b p = absurd (false≢true p)
 
-list_all_weaker : (p q : ℕ → Bool) → ((b : ℕ) → p b ≡ true → q b ≡ true) → (bs : List ℕ) → list_all p bs ≡ true → list_all q bs ≡ true
+pub list_all_weaker : (p q : ℕ → Bool) → ((b : ℕ) → p b ≡ true → q b ≡ true) → (bs : List ℕ) → list_all p bs ≡ true → list_all q bs ≡ true
 list_all_weaker p q each [] h = refl
 list_all_weaker p q each (b ∷ bs) h =
     let parts = and_parts (p b) (list_all p bs) h in
@@ -81,18 +81,19 @@ token_bytes token.Question is = refl
 token_bytes (token.Name n) is = name_bytes n is.0
 token_bytes (token.Number n) is = digit_bytes (decimal n) (digits_from_decimal n (decimal n) is refl)
 
-not_byte : (s b : ℕ) → is_token_byte s ≡ false → is_token_byte b ≡ true → (b == s) ≡ false
-not_byte s b no_s yes_b = elim (b == s) as (λ r. (b == s) ≡ r → r ≡ false) [ true ↦ λ e. absurd (false≢true (sym no_s ∙ ap is_token_byte (sym (same e)) ∙ yes_b)) | false ↦ λ e. refl ] refl
-  where
-    same : (b == s) ≡ true → b ≡ s
-    same e = grind (arith, nat_tests)
+same_byte : (b s : ℕ) → (b == s) ≡ true → b ≡ s
+same_byte b s e = grind (arith, nat_tests)
+
+-- a byte of which a test holds is no byte s of which it doesn't
+pub not_byte_from : (test : ℕ → Bool) (s b : ℕ) → test s ≡ false → test b ≡ true → (b == s) ≡ false
+not_byte_from test s b no_s yes_b = elim (b == s) as (λ r. (b == s) ≡ r → r ≡ false) [ true ↦ λ e. absurd (false≢true (sym no_s ∙ ap test (sym (same_byte b s e)) ∙ yes_b)) | false ↦ λ e. refl ] refl
 
 -- a word of such bytes has no other byte s
 pub lacks : (s : ℕ) → is_token_byte s ≡ false → (bs : List ℕ) → list_all is_token_byte bs ≡ true → AllByRecursion (λ b. (b == s) ≡ false) bs
 lacks s no_s [] h = tt
 lacks s no_s (b ∷ bs) h =
     let parts = and_parts (is_token_byte b) (list_all is_token_byte bs) h in
-    (not_byte s b no_s parts.0, lacks s no_s bs parts.1)
+    (not_byte_from is_token_byte s b no_s parts.0, lacks s no_s bs parts.1)
 
 -- ---- words joined, and cut again
 self_equal : (s : ℕ) → (s == s) ≡ true

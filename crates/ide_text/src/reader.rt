@@ -40,7 +40,8 @@ pub(crate) struct Reader {
 }
 
 impl Reader {
-    ghost use Rattle.ide_text.specs.Reader.{IsCounted, program_lines, taken_lines};
+    ghost use Rattle.ide_text.specs.Lines.{program_lines};
+    ghost use Rattle.ide_text.specs.Reader.{IsCounted, taken_lines};
 
     /// The reader at the head of a text.
     pub(crate) fn new(alloc: Global) -> Reader
