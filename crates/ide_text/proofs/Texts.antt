@@ -18,7 +18,11 @@ use Rattle.ide_text.specs.FirstFault.{AreTaken, BeginsNoLine, FaultAfter, FirstF
 use Rattle.ide_text.specs.Grammar.{IsLine, IsName, IsProcedure, IsProgram, IsStatement, Spells}
 use Rattle.ide_text.specs.Lines.{ended_lines, global_lines, lines_in, open_lines, program_lines}
 use Rattle.ide_text.specs.Program.{globals_of, lines_of, lines_of_procedure, procedures_of}
+use Rattle.ide_text.specs.declared.flaw.Flaw.{Flaw}
+use Rattle.ide_text.specs.declared.flaw.Flaw.TheVariants as flaw
+use Rattle.ide_text.specs.Flaw.{IfFaulty}
 use Rattle.ide_text.specs.Reader.{RefusesLine}
+use Rattle.ide_text.specs.Refusal.{IsFirstFault, refusal_on}
 use Rattle.ide_text.specs.Text.{globals_text, line_text, locals_text, names_text, procedure_text, procedures_text, program_text, statement_text, statements_text}
 use Rattle.ide_text.specs.Token.{IsToken, Lacks, token_text, line_tokens}
 use Rattle.ide_text.proofs.Words.{and_parts, and_from, is_token_byte, list_all_weaker, line_proper, line_spelled, not_byte_from, or_left, token_bytes, tokens_text}
@@ -200,3 +204,27 @@ FirstFault-refused text before rest word after fault.NoSuchVariable taken at lac
 FirstFault-refused text before rest word after fault.NoSuchLabel taken at lacks e w = absurd w.3
 FirstFault-refused text before rest word after fault.NoSuchProcedure taken at lacks e w = absurd w.3
 FirstFault-refused text before rest word after fault.WrongArguments taken at lacks e w = absurd w.3
+
+pub IsFirstFault-refused : (text : List ℕ) (before : List Line) (rest word after : List ℕ) (line : ℕ) (f : Flaw) → AreTaken before → text ≡ lines_text before ++ rest → Lacks 10 word → rest ≡ word ++ 10 ∷ after →
+    line ≡ length before + 1 → IfFaulty f (RefusesLine before word) → IsFirstFault text (refusal_on line f)
+IsFirstFault-refused text before rest word after line flaw.NoMemory taken at lacks e on h = tt
+IsFirstFault-refused text before rest word after line (flaw.Faulty f) taken at lacks e on h = subst (λ n. FirstFault text n f) (sym on) (FirstFault-refused text before rest word after f taken at lacks e h)
+
+-- the rest after the last LF is no line
+pub FirstFault-unended : (text : List ℕ) (before : List Line) (rest : List ℕ) (line : ℕ) → AreTaken before → text ≡ lines_text before ++ rest → Lacks 10 rest → rest ≢ [] → line ≡ length before + 1 → FirstFault text line fault.NoSuchLine
+FirstFault-unended text before rest line taken at lacks some on = record { before = before; taken = taken; at = on; has = (rest, at, some, no_line_unended rest lacks) }
+
+-- a text that ends too soon
+pub FirstFault-ended : (text : List ℕ) (before : List Line) (rest : List ℕ) (line : ℕ) (f : Fault) → AreTaken before → text ≡ lines_text before ++ rest → rest ≡ [] → ¬ (MayEnd before) → f ≡ fault.OutOfPlace → line ≡ length before + 1 → FirstFault text line f
+FirstFault-ended text before rest line f taken at none no_end is on = subst (FirstFault text line) (sym is) (record { before = before; taken = taken; at = on; has = inr (at ∙ ap (λ t. lines_text before ++ t) none ∙ append-nil (lines_text before), no_end) })
+
+-- lines are no more than the bytes of their text
+pub lines_fit : (text : List ℕ) (before : List Line) (rest : List ℕ) → text ≡ lines_text before ++ rest → length before ≤ length text
+lines_fit text before rest at = omega (arith, ap length at, length-append (lines_text before) rest, length_lines_le before)
+
+pub program_fits : (text : List ℕ) (before : List Line) (rest : List ℕ) (p : Program) → text ≡ lines_text before ++ rest → program_lines p ≡ before → lines_of p ≤ length text
+program_fits text before rest p at e = omega (arith, lines_fit text before rest at, length_program_lines p, ap length e)
+
+pub Spells-at_end : (text : List ℕ) (before : List Line) (rest : List ℕ) (p : Program) → AreTaken before → text ≡ lines_text before ++ rest → rest ≡ [] → program_lines p ≡ before → Spells text p
+Spells-at_end text before rest p taken at none e = Spells-from_lines p text (subst AreTaken (sym e) taken)
+    (ap lines_text e ∙ sym (append-nil (lines_text before)) ∙ ap (λ t. lines_text before ++ t) (sym none) ∙ sym at)

@@ -31,7 +31,7 @@ pub fn parse(alloc: Global, text: &[u8]) -> Result<Program, Refused>
     ensures lines { IfOk result (λ program. lines_of program ≤ length text.now) }
     ensures spelled { IfOk result (Spells text.now) }
     ensures limits { IfOk result IsWithinLimits }
-    ensures faults { IfErr result (λ refused. IsFirstFault text.now refused ⊎ IsSpelled text.now ⊎ (MAX_TEXT < length text.now)) }
+    ensures faults { length text.now ≤ MAX_TEXT → IfErr result (λ refused. IsFirstFault text.now refused ⊎ IsSpelled text.now) }
 {
     if text.len() > MAX_TEXT {
         return Err(Refused::Text {
