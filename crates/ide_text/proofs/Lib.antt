@@ -2,7 +2,9 @@ pub mod Extends
 pub mod Lines
 pub mod Numbers
 pub mod Refusal
+pub mod Shapes
 pub mod Standing
 pub mod Texts
 pub mod Tokens
+pub mod Unique
 pub mod Words

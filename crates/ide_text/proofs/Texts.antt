@@ -151,7 +151,7 @@ pub line_lacks : (l : Line) → IsLine l → AllByRecursion (λ b. (b == 10) ≡
 line_lacks l is = no_line_feed (line_text l) (subst (λ t. list_all is_line_byte t ≡ true) (line_spelled l) (joined_bytes (line_tokens l) (line_proper l is).0))
 
 -- ---- what stands before the first LF is one text alone
-same_before : (a b x y : List ℕ) → AllByRecursion (λ c. (c == 10) ≡ false) a → AllByRecursion (λ c. (c == 10) ≡ false) b → a ++ 10 ∷ x ≡ b ++ 10 ∷ y → (a ≡ b) × (x ≡ y)
+pub same_before : (a b x y : List ℕ) → AllByRecursion (λ c. (c == 10) ≡ false) a → AllByRecursion (λ c. (c == 10) ≡ false) b → a ++ 10 ∷ x ≡ b ++ 10 ∷ y → (a ≡ b) × (x ≡ y)
 same_before [] [] x y h k e = (refl, cc)
 same_before [] (d ∷ b) x y h k e = let head : 10 ≡ d = cc in absurd (false≢true (subst (λ c. false ≡ (c == 10)) (sym head) (sym k.0)))
 same_before (c ∷ a) [] x y h k e = let head : c ≡ 10 = cc in absurd (false≢true (subst (λ d. false ≡ (d == 10)) head (sym h.0)))

@@ -1,6 +1,7 @@
 pub mod FirstFault
 pub mod Flaw
 pub mod Grammar
+pub mod Laws
 pub mod Lines
 pub mod Program
 pub mod Reader

@@ -8,6 +8,7 @@ mod checker;
 mod copy;
 mod cut;
 mod flaw;
+mod laws;
 mod line;
 mod name;
 mod parser;
@@ -18,6 +19,7 @@ mod scope;
 mod tables;
 mod token;
 
+pub use laws::{one_first_fault, spelled_have_no_fault};
 pub use name::Name;
 pub use parser::{MAX_TEXT, parse};
 pub use printer::print;
