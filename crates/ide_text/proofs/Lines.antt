@@ -1,5 +1,5 @@
 -- Lines and their tokens.
-use Rattle.std.proofs.Common.{ℕ, zero, suc, ◌<◌, ◌≡◌, ◌≢◌, List, [], ◌∷◌, ◌++◌, Option, Some, None, length, get_or, map, ap, sym, refl, ◌∙◌, arith, subst}
+use Rattle.std.proofs.Common.{ℕ, zero, suc, ◌<◌, ◌≡◌, ◌≢◌, List, [], ◌∷◌, ◌++◌, Option, Some, None, length, get_or, sym, arith, subst}
 use Rattle.ide_text.specs.declared.token.Token.{Token}
 use Rattle.ide_text.specs.declared.token.Token.TheVariants as token
 use Rattle.ide_text.specs.declared.program.Statement.{Statement}

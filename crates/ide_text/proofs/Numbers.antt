@@ -1,9 +1,7 @@
 -- Numbers in decimal, against the digits that a word has.
-use Rattle.std.proofs.Common.{ℕ, zero, suc, ◌+◌, ◌*◌, ◌-◌, ◌^◌, ◌<◌, ◌≤◌, ◌≡◌, ◌≢◌, List, [], ◌∷◌, length, get_or, take, decimal, arith, ap, sym, ◌∙◌}
+use Rattle.std.proofs.Common.{ℕ, zero, suc, ◌+◌, ◌*◌, ◌-◌, ◌^◌, ◌<◌, ◌≡◌, List, length, get_or, take, decimal, arith, ap}
 use Rattle.std.specs.Str.Parse.{AllDigits, digits_value}
-use Rattle.std.specs.Char.{digit_value}
 use Rattle.std.specs.Int.{IsInRange}
-use Rattle.std.proofs.lemmas.Bool.{cases_eq}
 use Rattle.std.proofs.lemmas.Str.{digit_value_digit}
 use Rattle.std.proofs.lemmas.Str.Parse.{IsNumeralModel, numerals_by_value, tells_digits, digit_at, digits_value-take-le}
 use Rattle.std.proofs.lemmas.Int.Digits.{digits_value_more}

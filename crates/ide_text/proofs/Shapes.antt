@@ -1,5 +1,5 @@
 -- What the place of a line and the limits depend on: its shape, which its text tells.
-use Rattle.std.proofs.Common.{ℕ, zero, suc, pred, ◌+◌, ◌≤◌, ◌≡◌, max, Bool, cond, List, [], ◌∷◌, Option, Some, None, length, map, vec_len, sum_by, count_by, ap, sym, refl, ◌∙◌, subst, arith}
+use Rattle.std.proofs.Common.{ℕ, pred, ◌+◌, ◌≤◌, ◌≡◌, max, cond, List, [], ◌∷◌, Some, None, length, map, vec_len, sum_by, count_by, ap, sym, refl, ◌∙◌, subst, arith}
 use Rattle.std.specs.List.{AllByRecursion}
 use Rattle.std.proofs.lemmas.List.{length-map}
 use Rattle.std.proofs.lemmas.List.Sums.{sum_by-cons}
@@ -12,7 +12,7 @@ use Rattle.ide_text.specs.declared.program.Expression.TheVariants.{Number, Copy,
 use Rattle.ide_text.specs.FirstFault.{Fits, MayEnd, MayFollow, StandsAtGlobals, StandsAtVariables, StandsInside, StandsOutside, is_global, is_procedure, last_variables, most_variables, nodes_on, parameters_on}
 use Rattle.ide_text.specs.Grammar.{IsLine}
 use Rattle.ide_text.specs.Text.{line_text}
-use Rattle.ide_text.specs.Token.{line_tokens, name_tokens}
+use Rattle.ide_text.specs.Token.{line_tokens}
 use Rattle.ide_text.proofs.Words.{Tokenizes-line, Tokenizes-one}
 
 -- the kind of a line, with its parameters or its nodes
@@ -254,5 +254,5 @@ Fits-same ls ms e fits = record {
   procedures = omega (arith, procedures_are ls, procedures_are ms, ap procedures_in e, fits.procedures);
   parameters = (parameters_agree ms).1 (subst (AllByRecursion (λ s. parameters_at s ≤ 16)) e ((parameters_agree ls).0 fits.parameters));
   nodes = omega (arith, nodes_are ls, nodes_are ms, ap nodes_in e, fits.nodes);
-  facts = omega (arith, globals_are ls, globals_are ms, ap globals_in e, most_is ls, most_is ms, ap most_in e, fits.facts)
+  facts = omega (arith, globals_are ls, globals_are ms, ap globals_in e, most_is ls, most_is ms, ap most_in e, fits.facts);
 }

@@ -1,5 +1,5 @@
 -- Where the lines that a reader has taken stand, and how they are counted.
-use Rattle.std.proofs.Common.{ℕ, zero, suc, ◌+◌, ◌<◌, ◌≤◌, ◌≡◌, ◌≢◌, ◌⊎◌, max, Bool, true, false, cond, is_some, IfSome, option_to_list, List, [], ◌∷◌, ◌++◌, Option, Some, None, length, map, reverse, vec_len, sum_by, count_by, inl, inr, ap, sym, refl, ◌∙◌, subst, arith, append_assoc}
+use Rattle.std.proofs.Common.{ℕ, ◌+◌, ◌≤◌, ◌≡◌, ◌≢◌, ◌⊎◌, max, true, false, cond, is_some, IfSome, option_to_list, List, [], ◌∷◌, ◌++◌, Option, Some, None, length, map, reverse, vec_len, sum_by, count_by, inl, inr, ap, sym, refl, ◌∙◌, subst, arith, append_assoc}
 use Rattle.std.proofs.lemmas.List.{append-nil, reverse-append, map_push}
 use Rattle.std.proofs.lemmas.Bool.{false≢true}
 use Rattle.std.proofs.lemmas.List.Sums.{sum_by-cons}
@@ -7,7 +7,7 @@ use Rattle.ide_text.specs.declared.line.Line.{Line}
 use Rattle.ide_text.specs.declared.line.Line.TheVariants.{Global, Procedure as Begin, Local, End, Statement as Step}
 use Rattle.ide_text.specs.declared.program.Procedure.{Procedure}
 use Rattle.ide_text.specs.declared.program.Statement.{Statement}
-use Rattle.ide_text.specs.FirstFault.{Fits, MayEnd, StandsAtGlobals, StandsAtVariables, StandsInside, StandsOutside, is_global, is_procedure, last_variables, most_variables, nodes_on, parameters_on}
+use Rattle.ide_text.specs.FirstFault.{Fits, MayEnd, StandsAtGlobals, StandsAtVariables, StandsInside, StandsOutside, is_global, is_procedure, last_variables, most_variables, nodes_on}
 use Rattle.ide_text.specs.declared.reader.Reader.{Reader}
 use Rattle.ide_text.specs.Lines.{open_lines, ended_lines, global_lines, lines_in}
 use Rattle.ide_text.specs.Reader.{IsCounted, taken_lines}
@@ -28,8 +28,8 @@ latest f [] = inl refl
 latest f (x ∷ xs) =
     let reversed : reverse (f x ∷ map f xs) ≡ reverse (map f xs) ++ f x ∷ [] = reverse-append (f x ∷ []) (map f xs) in
     elim (latest f xs) [
-      inl e ↦ inr (x, [], reversed ∙ ap (λ ys. reverse (map f ys) ++ f x ∷ []) e)
-    | inr w ↦ inr (w.0, w.1 ++ f x ∷ [], reversed ∙ ap (λ ls. ls ++ f x ∷ []) w.2)
+      | inl e ↦ inr (x, [], reversed ∙ ap (λ ys. reverse (map f ys) ++ f x ∷ []) e)
+      | inr w ↦ inr (w.0, w.1 ++ f x ∷ [], reversed ∙ ap (λ ls. ls ++ f x ∷ []) w.2)
     ]
 
 ended_latest : (p : Procedure) (ps : List Procedure) (rest : List Line) → (ls : List Line) × (ended_lines (p ∷ ps) ++ rest ≡ End ∷ ls)
@@ -41,11 +41,11 @@ ended_latest p (q ∷ ps) rest =
 -- ---- where they stand
 pub globals_stand : (gs : List (List ℕ)) → StandsAtGlobals (lines_in gs [] None) × StandsOutside (lines_in gs [] None) × ¬ (StandsInside (lines_in gs [] None)) × ¬ (StandsAtVariables (lines_in gs [] None)) × ¬ (MayEnd (lines_in gs [] None))
 globals_stand gs = elim (latest (λ g. Global g) gs) [
-      inl e ↦ let lines : global_lines gs ≡ [] = ap global_lines e in
-        (subst StandsAtGlobals (sym lines) tt, subst StandsOutside (sym lines) tt, (λ h. subst StandsInside lines h), (λ h. subst StandsAtVariables lines h), (λ h. subst MayEnd lines h))
-    | inr w ↦ let lines : global_lines gs ≡ Global w.0 ∷ w.1 = w.2 in
-        (subst StandsAtGlobals (sym lines) tt, subst StandsOutside (sym lines) tt, (λ h. subst StandsInside lines h), (λ h. subst StandsAtVariables lines h), (λ h. subst MayEnd lines h))
-    ]
+  | inl e ↦ let lines : global_lines gs ≡ [] = ap global_lines e in
+      (subst StandsAtGlobals (sym lines) tt, subst StandsOutside (sym lines) tt, (λ h. subst StandsInside lines h), (λ h. subst StandsAtVariables lines h), (λ h. subst MayEnd lines h))
+  | inr w ↦ let lines : global_lines gs ≡ Global w.0 ∷ w.1 = w.2 in
+      (subst StandsAtGlobals (sym lines) tt, subst StandsOutside (sym lines) tt, (λ h. subst StandsInside lines h), (λ h. subst StandsAtVariables lines h), (λ h. subst MayEnd lines h))
+]
 
 pub ended_stand : (gs : List (List ℕ)) (p : Procedure) (ps : List Procedure) → ¬ (StandsAtGlobals (lines_in gs (p ∷ ps) None)) × StandsOutside (lines_in gs (p ∷ ps) None) × ¬ (StandsInside (lines_in gs (p ∷ ps) None)) × ¬ (StandsAtVariables (lines_in gs (p ∷ ps) None)) × MayEnd (lines_in gs (p ∷ ps) None)
 ended_stand gs p ps =
@@ -64,18 +64,18 @@ some_length f (x ∷ xs) l ls e none = omega arith
 
 latest_open : (p : Procedure) (rest : List Line) → Latest p (open_lines p ++ rest)
 latest_open p rest = elim (latest (λ s. Step s) p.statements.items) [
-      inl no_statement ↦
-        let lines : open_lines p ≡ reverse (map (λ x. Local x) p.locals.items) ++ Begin p.name p.parameters ∷ [] = ap (λ ss. reverse (map (λ s. Step s) ss) ++ (reverse (map (λ x. Local x) p.locals.items) ++ Begin p.name p.parameters ∷ [])) no_statement in
-        elim (latest (λ x. Local x) p.locals.items) [
-          inl no_local ↦ begun rest (ap length no_statement)
+  | inl no_statement ↦
+      let lines : open_lines p ≡ reverse (map (λ x. Local x) p.locals.items) ++ Begin p.name p.parameters ∷ [] = ap (λ ss. reverse (map (λ s. Step s) ss) ++ (reverse (map (λ x. Local x) p.locals.items) ++ Begin p.name p.parameters ∷ [])) no_statement in
+      elim (latest (λ x. Local x) p.locals.items) [
+        | inl no_local ↦ begun rest (ap length no_statement)
             (ap (λ ls. ls ++ rest) (lines ∙ ap (λ xs. reverse (map (λ x. Local x) xs) ++ Begin p.name p.parameters ∷ []) no_local))
         | inr w ↦ declared w.0 ((w.1 ++ Begin p.name p.parameters ∷ []) ++ rest) (ap length no_statement)
             (ap (λ ls. ls ++ rest) (lines ∙ ap (λ ls. ls ++ Begin p.name p.parameters ∷ []) w.2))
-        ]
-    | inr w ↦ stated w.0 ((w.1 ++ (reverse (map (λ x. Local x) p.locals.items) ++ Begin p.name p.parameters ∷ [])) ++ rest)
-        (some_length (λ s. Step s) p.statements.items _ _ w.2)
-        (ap (λ ls. (ls ++ (reverse (map (λ x. Local x) p.locals.items) ++ Begin p.name p.parameters ∷ [])) ++ rest) w.2)
-    ]
+      ]
+  | inr w ↦ stated w.0 ((w.1 ++ (reverse (map (λ x. Local x) p.locals.items) ++ Begin p.name p.parameters ∷ [])) ++ rest)
+      (some_length (λ s. Step s) p.statements.items _ _ w.2)
+      (ap (λ ls. (ls ++ (reverse (map (λ x. Local x) p.locals.items) ++ Begin p.name p.parameters ∷ [])) ++ rest) w.2)
+]
 
 -- what stands by the latest line of an open procedure
 open_kinds : (p : Procedure) (ls : List Line) → Latest p ls → ¬ (StandsAtGlobals ls) × ¬ (StandsOutside ls) × StandsInside ls × ¬ (MayEnd ls)
@@ -177,7 +177,7 @@ counted_from r ls e globals procedures nodes variables most fits = record {
   nodes = nodes ∙ ap (sum_by nodes_on) (sym e);
   variables = subst (λ xs. IfSome r.open (λ p. vec_len p.parameters + vec_len p.locals ≡ last_variables xs)) (sym e) variables;
   most = most ∙ ap most_variables (sym e);
-  fits = subst Fits (sym e) fits
+  fits = subst Fits (sym e) fits;
 }
 
 pub global_taken : (gs : List (List ℕ)) (ps : List Procedure) (o : Option Procedure) (g : List ℕ) → is_some o ≡ false → length ps ≡ 0 →

@@ -1,10 +1,9 @@
 -- Texts of lines.
-use Rattle.std.proofs.Common.{ℕ, zero, suc, ◌+◌, ◌<◌, ◌≤◌, ◌≡◌, ◌≢◌, ◌==◌, ◌⊎◌, Bool, true, false, ◌||◌, List, [], ◌∷◌, ◌++◌, Option, Some, None, codes, length, map, reverse, vec_len, sum_by, inl, inr, ap, sym, refl, ◌∙◌, subst, arith, append_assoc}
-use Rattle.std.specs.List.{All, AllByRecursion, list_all, flat_map, join_with_byte}
+use Rattle.std.proofs.Common.{ℕ, ◌+◌, ◌≤◌, ◌≡◌, ◌≢◌, ◌==◌, Bool, true, false, ◌||◌, List, [], ◌∷◌, ◌++◌, codes, length, map, reverse, vec_len, sum_by, inl, inr, ap, sym, refl, ◌∙◌, subst, arith, append_assoc}
+use Rattle.std.specs.List.{AllByRecursion, list_all, flat_map}
 use Rattle.std.proofs.lemmas.Bool.{false≢true}
-use Rattle.std.proofs.lemmas.Bool.Decides.{nat_tests}
 use Rattle.std.proofs.lemmas.List.{append-nil, reverse-append, length-append, length-map, length-reverse}
-use Rattle.std.proofs.lemmas.List.Elements.{All-from_recursion, recursion_from_All}
+use Rattle.std.proofs.lemmas.List.Elements.{recursion_from_All}
 use Rattle.std.proofs.lemmas.List.Sums.{sum_by-cons}
 use Rattle.ide_wire.specs.declared.refused.Fault.{Fault}
 use Rattle.ide_wire.specs.declared.refused.Fault.TheVariants as fault
@@ -13,17 +12,16 @@ use Rattle.ide_text.specs.declared.line.Line.{Line}
 use Rattle.ide_text.specs.declared.line.Line.TheVariants.{Global, Procedure as Begin, Local, End, Statement as Step}
 use Rattle.ide_text.specs.declared.program.Procedure.{Procedure}
 use Rattle.ide_text.specs.declared.program.Program.{Program}
-use Rattle.ide_text.specs.declared.program.Statement.{Statement}
-use Rattle.ide_text.specs.FirstFault.{AreTaken, BeginsNoLine, FaultAfter, FirstFault, Fits, KeepsOut, MayEnd, MayFollow, lines_text}
-use Rattle.ide_text.specs.Grammar.{IsLine, IsName, IsProcedure, IsProgram, IsStatement, Spells}
-use Rattle.ide_text.specs.Lines.{ended_lines, global_lines, lines_in, open_lines, program_lines}
+use Rattle.ide_text.specs.FirstFault.{AreTaken, BeginsNoLine, FirstFault, MayEnd, lines_text}
+use Rattle.ide_text.specs.Grammar.{IsLine, IsProcedure, IsProgram, Spells}
+use Rattle.ide_text.specs.Lines.{ended_lines, global_lines, open_lines, program_lines}
 use Rattle.ide_text.specs.Program.{globals_of, lines_of, lines_of_procedure, procedures_of}
 use Rattle.ide_text.specs.declared.flaw.Flaw.{Flaw}
 use Rattle.ide_text.specs.declared.flaw.Flaw.TheVariants as flaw
 use Rattle.ide_text.specs.Flaw.{IfFaulty}
 use Rattle.ide_text.specs.Reader.{RefusesLine}
 use Rattle.ide_text.specs.Refusal.{IsFirstFault, refusal_on}
-use Rattle.ide_text.specs.Text.{globals_text, line_text, locals_text, names_text, procedure_text, procedures_text, program_text, statement_text, statements_text}
+use Rattle.ide_text.specs.Text.{globals_text, line_text, locals_text, names_text, procedures_text, program_text, statements_text}
 use Rattle.ide_text.specs.Token.{IsToken, Lacks, token_text, line_tokens}
 use Rattle.ide_text.proofs.Words.{and_parts, and_from, is_token_byte, list_all_weaker, line_proper, line_spelled, not_byte_from, or_left, token_bytes, tokens_text}
 
@@ -110,7 +108,7 @@ open_proper p h =
       name = inner.1.0.0;
       parameters = inner.1.0.1;
       locals = all_kind (λ x. Local x) p.locals.items inner.0;
-      statements = all_kind (λ s. Step s) p.statements.items outer.0
+      statements = all_kind (λ s. Step s) p.statements.items outer.0;
     }
 
 ended_proper : (ps : List Procedure) → AllByRecursion IsLine (ended_lines ps) → AllByRecursion IsProcedure ps
@@ -189,14 +187,22 @@ not_empty (b ∷ word) after e = cc
 pub FirstFault-refused : (text : List ℕ) (before : List Line) (rest word after : List ℕ) (f : Fault) → AreTaken before → text ≡ lines_text before ++ rest → Lacks 10 word → rest ≡ word ++ 10 ∷ after →
     RefusesLine before word f → FirstFault text (length before + 1) f
 FirstFault-refused text before rest word after fault.NoSuchLine taken at lacks e none = record {
-  before = before; taken = taken; at = refl;
-  has = (rest, at, (λ empty. not_empty word after (sym e ∙ empty)), no_line_from_none rest word after lacks e none)
+  before = before;
+  taken = taken;
+  at = refl;
+  has = (rest, at, (λ empty. not_empty word after (sym e ∙ empty)), no_line_from_none rest word after lacks e none);
 }
 FirstFault-refused text before rest word after fault.OutOfPlace taken at lacks e w = record {
-  before = before; taken = taken; at = refl; has = inl (w.0, after, text_more text before rest word after w.0 at e w.2, w.1, w.3)
+  before = before;
+  taken = taken;
+  at = refl;
+  has = inl (w.0, after, text_more text before rest word after w.0 at e w.2, w.1, w.3);
 }
 FirstFault-refused text before rest word after fault.TooMany taken at lacks e w = record {
-  before = before; taken = taken; at = refl; has = (w.0, after, text_more text before rest word after w.0 at e w.2, w.1, w.3)
+  before = before;
+  taken = taken;
+  at = refl;
+  has = (w.0, after, text_more text before rest word after w.0 at e w.2, w.1, w.3);
 }
 FirstFault-refused text before rest word after fault.TextTooLong taken at lacks e w = absurd w.3
 FirstFault-refused text before rest word after fault.DeclaredTwice taken at lacks e w = absurd w.3

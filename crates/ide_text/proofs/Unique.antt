@@ -1,5 +1,5 @@
 -- A text has one first fault at most, and none where it spells a program.
-use Rattle.std.proofs.Common.{ℕ, zero, suc, ◌+◌, ◌-◌, ◌<◌, ◌≤◌, ◌≡◌, ◌≢◌, ◌⊎◌, List, [], ◌∷◌, ◌++◌, codes, length, inl, inr, ap, sym, refl, ◌∙◌, subst, arith, append_assoc}
+use Rattle.std.proofs.Common.{ℕ, suc, ◌<◌, ◌≡◌, ◌≢◌, List, [], ◌∷◌, ◌++◌, codes, length, inl, inr, ap, sym, refl, ◌∙◌, arith, append_assoc}
 use Rattle.std.specs.List.{AllByRecursion}
 use Rattle.std.proofs.lemmas.List.{append-nil}
 use Rattle.std.proofs.lemmas.Bool.{cases_lt}
@@ -34,9 +34,9 @@ GoesOn text n = (ms : List Line) × (m : Line) × (more : List ℕ) × AreTaken 
 goes_on : (text : List ℕ) (n : ℕ) (ms : List Line) (more : List ℕ) → AreTaken ms → text ≡ lines_text ms ++ more → n < length ms → GoesOn text n
 goes_on text n [] more taken e short = absurd (omega arith)
 goes_on text n (m ∷ ms) more taken e short = elim (cases_lt n (length ms)) [
-      inl below ↦ goes_on text n ms (line_text m ++ codes "\n" ++ more) taken.0 (e ∙ line_apart ms m more ∙ ap (λ t. lines_text ms ++ t) (sym (append_assoc (line_text m) (codes "\n") more))) below
-    | inr above ↦ (ms, m, more, taken, omega arith, e)
-    ]
+  | inl below ↦ goes_on text n ms (line_text m ++ codes "\n" ++ more) taken.0 (e ∙ line_apart ms m more ∙ ap (λ t. lines_text ms ++ t) (sym (append_assoc (line_text m) (codes "\n") more))) below
+  | inr above ↦ (ms, m, more, taken, omega arith, e)
+]
 
 no_text_empty : (a rest : List ℕ) → a ++ 10 ∷ rest ≢ []
 no_text_empty [] rest e = cc
@@ -150,10 +150,10 @@ FirstFault-one text m n f g a b =
     let from_first = begun_by text a.before f first in
     let from_second = begun_by text b.before g second in
     elim (cases_lt (length a.before) (length b.before)) [
-      inl short ↦ absurd (shorter_has_none text a.before b.before f from_second.0 a.taken b.taken from_second.1 short first)
-    | inr long ↦ elim (cases_lt (length b.before) (length a.before)) [
-        inl short ↦ absurd (shorter_has_none text b.before a.before g from_first.0 b.taken a.taken from_first.1 short second)
-      | inr equal ↦ (omega (arith, a.at, b.at), same_fault text a.before b.before f g a.taken b.taken (omega arith) first second)
+      | inl short ↦ absurd (shorter_has_none text a.before b.before f from_second.0 a.taken b.taken from_second.1 short first)
+      | inr long ↦ elim (cases_lt (length b.before) (length a.before)) [
+        | inl short ↦ absurd (shorter_has_none text b.before a.before g from_first.0 b.taken a.taken from_first.1 short second)
+        | inr equal ↦ (omega (arith, a.at, b.at), same_fault text a.before b.before f g a.taken b.taken (omega arith) first second)
       ]
     ]
 
@@ -176,9 +176,9 @@ spelled_has_none text n f (p, spells, limits) a =
     let why = cause text a.before f a.has in
     let from = begun_by text a.before f why in
     elim (cases_lt (length a.before) (length (program_lines p))) [
-      inl short ↦ shorter_has_none text a.before (program_lines p) f [] a.taken limits.taken (at_end text (program_lines p) to) short why
-    | inr long ↦ elim (cases_lt (length (program_lines p)) (length a.before)) [
-        inl short ↦ longer_is_none text a.before (program_lines p) from.0 a.taken limits.taken from.1 to short
-      | inr equal ↦ ended_has_none text a.before (program_lines p) f a.taken limits.taken (omega arith) to limits.ended why
+      | inl short ↦ shorter_has_none text a.before (program_lines p) f [] a.taken limits.taken (at_end text (program_lines p) to) short why
+      | inr long ↦ elim (cases_lt (length (program_lines p)) (length a.before)) [
+        | inl short ↦ longer_is_none text a.before (program_lines p) from.0 a.taken limits.taken from.1 to short
+        | inr equal ↦ ended_has_none text a.before (program_lines p) f a.taken limits.taken (omega arith) to limits.ended why
       ]
     ]

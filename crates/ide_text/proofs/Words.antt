@@ -1,12 +1,12 @@
 -- Words between the spaces of a line, and that they tell the tokens.
-use Rattle.std.proofs.Common.{ℕ, zero, suc, ◌+◌, ◌<◌, ◌≤◌, ◌≡◌, ◌≢◌, ◌==◌, eqb, Bool, true, false, ◌&&◌, ◌||◌, List, [], ◌∷◌, ◌++◌, Option, Some, None, length, get_or, map, codes, decimal, unwrap_or, cond, bytes_eq, IfSome, ap, sym, refl, ◌∙◌, subst, arith, rules, append_assoc}
-use Rattle.std.specs.List.{All, AllByRecursion, list_all, slice_split, join_with_byte, flat_map}
+use Rattle.std.proofs.Common.{ℕ, ◌<◌, ◌≡◌, ◌≢◌, ◌==◌, Bool, true, false, ◌&&◌, ◌||◌, List, [], ◌∷◌, ◌++◌, Some, None, length, get_or, map, codes, decimal, unwrap_or, cond, bytes_eq, ap, sym, refl, ◌∙◌, subst, arith, append_assoc}
+use Rattle.std.specs.List.{AllByRecursion, list_all, slice_split, join_with_byte}
 use Rattle.std.specs.Map.{lookup}
 use Rattle.std.specs.Char.{is_ascii_digit}
 use Rattle.std.specs.Int.{IsInRange}
 use Rattle.std.specs.Str.Parse.{AllDigits, digits_value}
 use Rattle.std.proofs.lemmas.Bool.{false≢true}
-use Rattle.std.proofs.lemmas.Bool.Decides.{nat_tests, not_from_Decides}
+use Rattle.std.proofs.lemmas.Bool.Decides.{nat_tests}
 use Rattle.std.proofs.lemmas.List.{append-nil, map-append}
 use Rattle.std.proofs.lemmas.List.Concat.{flat_map-append}
 use Rattle.std.proofs.lemmas.List.Elements.{All-from_recursion}
@@ -21,9 +21,9 @@ use Rattle.ide_text.specs.declared.program.Statement.{Statement}
 use Rattle.ide_text.specs.declared.program.Statement.TheVariants.{Assign, Skip, At, Goto, Branch, Call, Return}
 use Rattle.ide_text.specs.declared.program.Expression.{Expression}
 use Rattle.ide_text.specs.declared.program.Expression.TheVariants.{Number, Copy, Sum, Difference, Unknown, Mix}
-use Rattle.ide_text.specs.Grammar.{HasNameBytes, IsName, IsNumber, IsExpression, IsStatement, IsLine, begins_name, continues_name, reserved_words}
+use Rattle.ide_text.specs.Grammar.{HasNameBytes, IsName, IsNumber, IsExpression, IsStatement, IsLine, begins_name, continues_name}
 use Rattle.ide_text.specs.Text.{line_text, names_text, statement_text, expression_text}
-use Rattle.ide_text.specs.Token.{HasOneCallee, HasOneCalleeOnLine, IsToken, Lacks, Tokenizes, token_text, expression_tokens, target_tokens, name_tokens, statement_tokens, line_tokens}
+use Rattle.ide_text.specs.Token.{HasOneCallee, HasOneCalleeOnLine, IsToken, Lacks, Tokenizes, token_text, expression_tokens, name_tokens, statement_tokens, line_tokens}
 use Rattle.ide_text.proofs.Numbers.{digits_from_decimal, value_from_decimal, nonempty_decimal}
 
 -- ---- the bytes of tokens
@@ -122,7 +122,7 @@ text_from_tokens text ts h = ap (join_with_byte 32) h.words ∙ join_with_byte-s
 pub Tokenizes-tokens_text : (text : List ℕ) (t : Token) (ts : List Token) → AllByRecursion IsToken (t ∷ ts) → tokens_text (t ∷ ts) ≡ text → Tokenizes text (t ∷ ts)
 Tokenizes-tokens_text text t ts h e = record {
   words = sym (split_join 32 (token_text t) (map token_text ts) (words_lack 32 refl (t ∷ ts) h)) ∙ ap (slice_split (λ b. b == 32)) e;
-  proper = h
+  proper = h;
 }
 
 -- ---- the text of a line is that of its tokens
@@ -277,9 +277,40 @@ name_unfixed : (name : List ℕ) → IsName name → AllByRecursion (λ entry. n
 name_unfixed [] h = absurd h.0
 name_unfixed (b ∷ bs) h =
     let other : (text : List ℕ) → begins_name (get_or text 0 0) ≡ false → b ∷ bs ≢ text = λ text. begins_other (b ∷ bs) text begins_name h.0.0 in
-    let r = h.1 in
-    (r.0, (r.1.0, (r.1.1.0, (r.1.1.1.0, (r.1.1.1.1.0, (r.1.1.1.1.1.0, (r.1.1.1.1.1.1.0, (r.1.1.1.1.1.1.1.0, (r.1.1.1.1.1.1.1.1.0, (r.1.1.1.1.1.1.1.1.1.0, (r.1.1.1.1.1.1.1.1.1.1.0,
-    (other _ refl, (other _ refl, (other _ refl, (other _ refl, tt)))))))))))))))
+    let r = h.1 in (
+      r.0,
+      (
+        r.1.0,
+        (
+          r.1.1.0,
+          (
+            r.1.1.1.0,
+            (
+              r.1.1.1.1.0,
+              (
+                r.1.1.1.1.1.0,
+                (
+                  r.1.1.1.1.1.1.0,
+                  (
+                    r.1.1.1.1.1.1.1.0,
+                    (
+                      r.1.1.1.1.1.1.1.1.0,
+                      (
+                        r.1.1.1.1.1.1.1.1.1.0,
+                        (
+                          r.1.1.1.1.1.1.1.1.1.1.0,
+                          (other _ refl, (other _ refl, (other _ refl, (other _ refl, tt)))),
+                        ),
+                      ),
+                    ),
+                  ),
+                ),
+              ),
+            ),
+          ),
+        ),
+      ),
+    )
 
 letter_no_digit : (b : ℕ) → begins_name b ≡ true → is_ascii_digit b ≡ false
 letter_no_digit b h = grind (arith, nat_tests)

@@ -1,5 +1,5 @@
 -- What a text may spell: names, numbers, lines and programs.
-use Rattle.std.specs.Prelude.{ℕ, ◌+◌, ◌^◌, ◌<◌, ◌≤◌, ◌≡◌, ◌==◌, ◌≢◌, Bool, ◌||◌, IsTrue, List, [], ◌∷◌, IfSome, length, codes}
+use Rattle.std.specs.Prelude.{ℕ, ◌^◌, ◌<◌, ◌≤◌, ◌≡◌, ◌==◌, ◌≢◌, Bool, ◌||◌, IsTrue, List, [], ◌∷◌, IfSome, length, codes}
 use Rattle.std.specs.Char.{is_ascii_alphabetic, is_ascii_alphanumeric}
 use Rattle.std.specs.List.{AllByRecursion, list_all}
 use Rattle.ide_text.specs.declared.line.Line.{Line}

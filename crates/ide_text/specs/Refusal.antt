@@ -1,5 +1,5 @@
 -- Refusals of a program text.
-use Rattle.std.specs.Prelude.{ℕ, List, ◌≤◌, ◌⊎◌}
+use Rattle.std.specs.Prelude.{ℕ, List, ◌≤◌}
 use Rattle.ide_wire.specs.declared.refused.Refused.{Refused}
 use Rattle.ide_wire.specs.declared.refused.Refused.TheVariants.{NoMemory, Text}
 use Rattle.ide_text.specs.declared.flaw.Flaw.{Flaw}

@@ -1,6 +1,5 @@
 //! Programs: globals, procedures and their statements, as a text spells them.
 ghost use Rattle.std.specs.Prelude.{◌≡◌, ◌≤◌};
-
 ghost use Rattle.ide_text.specs.declared.line.Line.TheVariants as line;
 ghost use Rattle.ide_text.specs.FirstFault.{nodes_on};
 

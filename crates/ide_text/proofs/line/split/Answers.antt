@@ -1,8 +1,6 @@
-use Rattle.std.proofs.Common.{◌≡◌, ◌==◌, ◌∷◌, ◌++◌, [], ◌∙◌, List, ℕ, map, ap, sym, refl}
-use Rattle.std.specs.List.{slice_split}
+use Rattle.std.proofs.Common.{◌++◌, [], ◌∙◌, List, ℕ, map, ap, sym}
 use Rattle.std.proofs.lemmas.List.{append-nil}
 use Rattle.std.proofs.lemmas.Result.{err_from_is_err_and}
-use Rattle.ide_text.specs.declared.token.Token.{Token}
 use Rattle.ide_text.specs.Token.{token_text}
 use Rattle.ide_text.proofs.Words.{no_tokens, first_word, last_word, proper_more, words_more}
 use Rattle.ide_text.proofs.line.split.Goals as goal
@@ -25,7 +23,7 @@ loop-word-preserved c =
     let found = rw c.in_ok-token.ensures.ok_part at c.of.ensures.found in
     rw c.in_ok-push.ensures.items (record {
       words = words ∙ sym (words_more c.loop-word.tokens.items c.in_ok-token.token c.in-Some.word.now _ found.1);
-      proper = proper_more c.loop-word.tokens.items c.in_ok-token.token c.loop-word.invariant.proper found.0
+      proper = proper_more c.loop-word.tokens.items c.in_ok-token.token c.loop-word.invariant.proper found.0;
     })
 
 pub returns-in_err-last-clause-none : goal.returns-in_err-last-clause-none
@@ -44,5 +42,5 @@ returns-clause-found c =
     let found = rw c.in_ok-last.ensures.ok_part at c.of-2.ensures.found in
     rw c.in_ok-push-2.ensures.items (record {
       words = sym (append-nil _) ∙ words_more c.loop-word.tokens.items c.in_ok-last.last c.loop-word.rest.now [] found.1 ∙ sym words;
-      proper = proper_more c.loop-word.tokens.items c.in_ok-last.last c.loop-word.invariant.proper found.0
+      proper = proper_more c.loop-word.tokens.items c.in_ok-last.last c.loop-word.invariant.proper found.0;
     })

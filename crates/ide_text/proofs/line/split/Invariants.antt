@@ -7,7 +7,7 @@ use Rattle.ide_text.proofs.line.split.Given as goal
 abbrev pub invariant-loop-word : goal.invariant-loop-word
 invariant-loop-word l = record {
   words : slice_split (λ b. b == 32) l.text ≡ map token_text l.tokens.items ++ slice_split (λ b. b == 32) l.rest;
-  proper : AllByRecursion IsToken l.tokens.items
+  proper : AllByRecursion IsToken l.tokens.items;
 }
 
 abbrev pub decreases-loop-word : goal.decreases-loop-word

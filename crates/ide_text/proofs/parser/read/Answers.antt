@@ -1,10 +1,7 @@
-use Rattle.std.proofs.Common.{◌≡◌, ◌≢◌, ◌≤◌, ◌∙◌, [], List, length, ap, sym, refl, arith}
+use Rattle.std.proofs.Common.{◌≡◌, ◌≢◌, [], length, ap, arith}
 use Rattle.std.proofs.lemmas.Bool.Decides.{nat_tests}
 use Rattle.std.proofs.lemmas.List.{nil_from_length}
-use Rattle.ide_wire.specs.declared.refused.Refused.{Refused}
-use Rattle.ide_text.specs.declared.flaw.Flaw.TheVariants.{Faulty}
 use Rattle.ide_text.specs.Reader.{taken_lines}
-use Rattle.ide_text.specs.Refusal.{IsFirstFault, refusal_on}
 use Rattle.ide_text.proofs.Refusal.{IsTextRefusal-wider}
 use Rattle.ide_text.proofs.Texts.{FirstFault-ended, FirstFault-unended, IsFirstFault-refused, Spells-at_end, lines_fit, program_fits}
 use Rattle.ide_text.proofs.parser.read.Goals as goal

@@ -9,7 +9,7 @@ invariant-loop-next l = record {
   counted : IsCounted l.reader;
   taken : AreTaken (taken_lines l.reader);
   text : l.text ≡ lines_text (taken_lines l.reader) ++ l.rest;
-  line : l.line ≡ length (taken_lines l.reader) + 1
+  line : l.line ≡ length (taken_lines l.reader) + 1;
 }
 
 abbrev pub decreases-loop-next : goal.decreases-loop-next

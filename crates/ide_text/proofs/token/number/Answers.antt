@@ -1,7 +1,6 @@
-use Rattle.std.proofs.Common.{arith, ◌≤◌, ◌<◌, ◌≡◌, length, get_or, take}
+use Rattle.std.proofs.Common.{arith, ◌<◌, ◌≡◌, length, get_or}
 use Rattle.std.specs.Str.Parse.{AllDigits, digits_value}
 use Rattle.std.specs.Char.{digit_value}
-use Rattle.std.proofs.lemmas.Grind.{common_steps}
 use Rattle.std.proofs.lemmas.Bool.Decides.{nat_tests}
 use Rattle.std.proofs.lemmas.List.{take_all}
 use Rattle.std.proofs.lemmas.Str.{digit_value_digit}
@@ -9,7 +8,6 @@ use Rattle.std.proofs.lemmas.Str.Parse.{digit_at}
 use Rattle.std.proofs.lemmas.Int.Digits.{digits_more, digits_value_more}
 use Rattle.ide_text.proofs.Numbers.{digits_from_decimal, no_leading_zero, value_fits, decimal_from_digits}
 use Rattle.ide_text.proofs.token.number.Goals as goal
-
 use Rattle.ide_text.proofs.token.number.Goals.{else-word-gt1-via-then-word-gt1+else-word-eq48, else-word-gt1-via-else-word-gt1}
 
 pub returns-then-word-eq48-clause-none : goal.returns-then-word-eq48-clause-none
@@ -34,10 +32,11 @@ loop-byte-preserved c =
     let i = c.loop-byte.byte-index in
     let digit = digit_value_digit (get_or word i 0) (grind (arith, nat_tests)) in
     let low : digit_value (get_or word i 0) < 10 = grind (arith, nat_tests) in
-    let more = digits_value_more 10 word i c.loop-byte-test.true in
-    (digits_more 10 word i c.loop-byte-test.true c.loop-byte.invariant.0 low,
-     omega (arith, c.in_ok-value.ensures, c.in_ok-checked_mul.ensures, c.from.ensures),
-     omega (arith, c.in_ok-value.ensures))
+    let more = digits_value_more 10 word i c.loop-byte-test.true in (
+      digits_more 10 word i c.loop-byte-test.true c.loop-byte.invariant.0 low,
+      omega (arith, c.in_ok-value.ensures, c.in_ok-checked_mul.ensures, c.from.ensures),
+      omega (arith, c.in_ok-value.ensures),
+    )
 
 pub returns-clause-found : goal.returns-clause-found
 returns-clause-found c =
@@ -46,6 +45,6 @@ returns-clause-found c =
     let digits : AllDigits 10 word = rw all at c.loop-byte.invariant.0 in
     let value : c.loop-byte.value ≡ digits_value 10 word = rw all at c.loop-byte.invariant.1 in
     let single : get_or word 0 0 ≡ 48 → length word ≡ 1 =
-        elim c.else-word-gt1.branch [ else-word-gt1-via-then-word-gt1+else-word-eq48 w ↦ omega arith | else-word-gt1-via-else-word-gt1 w ↦ omega arith ] in
+    elim c.else-word-gt1.branch [ else-word-gt1-via-then-word-gt1+else-word-eq48 w ↦ omega arith | else-word-gt1-via-else-word-gt1 w ↦ omega arith ] in
     let fits = decimal_from_digits word digits c.requires single (omega arith) in
     (omega arith, cc)

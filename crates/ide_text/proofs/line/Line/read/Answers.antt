@@ -1,10 +1,8 @@
-use Rattle.std.proofs.Common.{◌≡◌, ◌∙◌, List, Result, Ok, Err, IfOk, IfErr, refl, sym, subst}
+use Rattle.std.proofs.Common.{◌∙◌, sym}
 use Rattle.std.proofs.lemmas.Result.{err_from_is_err_and, IfOk-weaker, IfErr-weaker}
-use Rattle.ide_wire.specs.declared.refused.Fault.{Fault}
 use Rattle.ide_text.specs.declared.flaw.Flaw.{Flaw}
 use Rattle.ide_text.specs.declared.flaw.Flaw.TheVariants.{NoMemory, Faulty}
 use Rattle.ide_text.specs.Flaw.{IsNoLine}
-use Rattle.ide_text.specs.Token.{Tokenizes}
 use Rattle.ide_text.proofs.Words.{Tokenizes-line, Tokenizes-one, line_from_tokens, line_proper}
 use Rattle.ide_text.proofs.line.Line.read.Goals as goal
 

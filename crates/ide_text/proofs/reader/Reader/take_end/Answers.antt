@@ -1,9 +1,7 @@
-use Rattle.ide_text.specs.declared.line.Line.TheVariants.{Global, End, Statement}
-use Rattle.ide_text.specs.FirstFault.{last_variables}
+use Rattle.ide_text.specs.declared.line.Line.TheVariants.{End}
 use Rattle.ide_text.specs.Reader.{taken_lines}
-use Rattle.std.proofs.Common.{◌≡◌, ◌+◌, [], option_to_list, vec_len, length, ◌∷◌, ◌++◌, ◌∙◌, Some, None, ap, sym, refl, arith, append_assoc}
-use Rattle.std.proofs.lemmas.Bool.{false≢true}
-use Rattle.ide_text.proofs.Standing.{at_open, none_open, length_closed, counted_from, global_taken, end_taken, step_taken, ended_push, counts_end, no_inside_closed, inside_open}
+use Rattle.std.proofs.Common.{◌≡◌, [], option_to_list, length, ◌∷◌, ◌++◌, None, ap, sym, arith}
+use Rattle.ide_text.proofs.Standing.{counted_from, end_taken, counts_end, no_inside_closed, inside_open}
 use Rattle.ide_text.proofs.reader.Reader.take_end.Goals as goal
 
 pub returns-in_default-clause-fault : goal.returns-in_default-clause-fault

@@ -1,10 +1,8 @@
-use Rattle.ide_text.specs.declared.line.Line.TheVariants.{Global, End, Statement}
-use Rattle.ide_text.specs.FirstFault.{last_variables}
+use Rattle.ide_text.specs.declared.line.Line.TheVariants.{Global}
 use Rattle.ide_text.specs.Reader.{taken_lines}
-use Rattle.std.proofs.Common.{◌≡◌, ◌+◌, [], option_to_list, vec_len, ap, ◌++◌, ◌∷◌, ◌≢◌, ◌∙◌, sym, refl, length, arith}
+use Rattle.std.proofs.Common.{◌≡◌, ◌∷◌, ◌≢◌, sym, length, arith}
 use Rattle.std.proofs.lemmas.Bool.Decides.{nat_tests}
-use Rattle.std.proofs.lemmas.Bool.{false≢true}
-use Rattle.ide_text.proofs.Standing.{at_open, none_open, length_closed, counted_from, global_taken, end_taken, step_taken, counts_global, no_global_open, no_global_ended}
+use Rattle.ide_text.proofs.Standing.{none_open, counted_from, global_taken, counts_global, no_global_open, no_global_ended}
 use Rattle.ide_text.proofs.reader.Reader.take_global.Goals as goal
 use Rattle.ide_text.proofs.reader.Reader.take_global.Goals.{then-is_some-via-then-is_some, then-is_some-via-else-is_some+then-not-is_empty}
 
@@ -12,11 +10,11 @@ pub returns-then-is_some-clause-fault : goal.returns-then-is_some-clause-fault
 returns-then-is_some-clause-fault c =
     let r = c.args.self.now in
     elim c.then-is_some.branch [
-      then-is_some-via-then-is_some w ↦ no_global_open r.globals.items r.procedures.items r.open (sym w.if-is_some.ensures)
-    | then-is_some-via-else-is_some+then-not-is_empty w ↦
-        let ok = r.procedures.ok.0 in
-        let some : length r.procedures.items ≢ 0 = grind (arith, nat_tests, w.if-not-is_empty.ensures) in
-        no_global_ended r.globals.items r.procedures.items r.open (sym w.if-is_some.ensures) some
+      | then-is_some-via-then-is_some w ↦ no_global_open r.globals.items r.procedures.items r.open (sym w.if-is_some.ensures)
+      | then-is_some-via-else-is_some+then-not-is_empty w ↦
+          let ok = r.procedures.ok.0 in
+          let some : length r.procedures.items ≢ 0 = grind (arith, nat_tests, w.if-not-is_empty.ensures) in
+          no_global_ended r.globals.items r.procedures.items r.open (sym w.if-is_some.ensures) some
     ]
 
 pub returns-clause-counted : goal.returns-clause-counted

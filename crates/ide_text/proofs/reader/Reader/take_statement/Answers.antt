@@ -1,10 +1,8 @@
-use Rattle.ide_text.specs.declared.line.Line.TheVariants.{Global, End, Statement}
+use Rattle.ide_text.specs.declared.line.Line.TheVariants.{Statement}
 use Rattle.ide_text.specs.FirstFault.{last_variables}
 use Rattle.ide_text.specs.Reader.{taken_lines}
-use Rattle.std.proofs.Common.{◌≡◌, ◌+◌, [], option_to_list, vec_len, ap, ◌++◌, ◌∷◌, ◌≢◌, ◌∙◌, sym, refl, length, arith}
-use Rattle.std.proofs.lemmas.Bool.Decides.{nat_tests}
-use Rattle.std.proofs.lemmas.Bool.{false≢true}
-use Rattle.ide_text.proofs.Standing.{at_open, none_open, length_closed, counted_from, global_taken, end_taken, step_taken, counts_step, no_inside_closed, inside_open}
+use Rattle.std.proofs.Common.{◌≡◌, ◌+◌, option_to_list, vec_len, ap, ◌∷◌, sym, refl, length, arith}
+use Rattle.ide_text.proofs.Standing.{at_open, counted_from, step_taken, counts_step, no_inside_closed, inside_open}
 use Rattle.ide_text.proofs.reader.Reader.take_statement.Goals as goal
 
 pub returns-in_default-clause-fault : goal.returns-in_default-clause-fault
