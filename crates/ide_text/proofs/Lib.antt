@@ -1,9 +1,17 @@
 pub mod Extends
 pub mod FirstFault
 pub mod LineLemmas
+pub mod Lines
 pub mod NameLists
+pub mod Numbers
 pub mod PlaceLemmas
 pub mod ProgramLemmas
 pub mod Refusal
 pub mod Repeated
+pub mod Shapes
+pub mod Standing
 pub mod StatementLemmas
+pub mod Texts
+pub mod Tokens
+pub mod Unique
+pub mod Words

@@ -1,4 +1,9 @@
 pub mod First
+pub mod FirstFault
+pub mod Flaw
+pub mod Grammar
+pub mod Laws
+pub mod Lines
 pub mod NameFault
 pub mod Names
 pub mod Places
@@ -7,3 +12,4 @@ pub mod Reader
 pub mod Refusal
 pub mod Scope
 pub mod Text
+pub mod Token

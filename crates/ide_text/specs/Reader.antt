@@ -1,36 +1,36 @@
--- The reader, as the lines that it has taken.
-use Rattle.std.specs.Prelude.{ℕ, ◌+◌, List, [], ◌++◌, Option, Some, None, codes, vec_len, sum_by}
+-- The reader, as the lines that it has taken. Lists of lines have the latest line first.
+use Rattle.std.specs.Prelude.{ℕ, ◌+◌, ◌≡◌, ◌≢◌, List, ◌∷◌, IfSome, length, option_to_list, vec_len, sum_by, count_by}
 use Rattle.ide_text.specs.declared.line.Line.{Line}
-use Rattle.ide_text.specs.declared.line.Line.TheVariants.{Global, Procedure as Begin, Local, End, Statement as Step}
 use Rattle.ide_text.specs.declared.reader.Reader.{Reader}
-use Rattle.ide_text.specs.declared.program.Procedure.{Procedure}
-use Rattle.ide_text.specs.Program.{lines_of_procedure}
-use Rattle.ide_text.specs.Text.{names_text, statement_text, locals_text, statements_text, procedures_text, globals_text}
-
--- a line, without its LF
-abbrev pub line_text : Line → List ℕ
-line_text (Global g) = codes "global " ++ g
-line_text (Begin p parameters) = codes "proc " ++ p ++ names_text parameters.items
-line_text (Local x) = codes "var " ++ x
-line_text End = codes "end"
-line_text (Step s) = statement_text s
-
--- how many lines of a procedure were taken, whose `end` is still to come
-abbrev pub lines_of_open : Option Procedure → ℕ
-lines_of_open None = 0
-lines_of_open (Some p) = 1 + vec_len p.locals + vec_len p.statements
-
--- how many lines were taken
-abbrev pub lines_taken : Reader → ℕ
-lines_taken r = vec_len r.globals + sum_by lines_of_procedure r.procedures.items + lines_of_open r.open
-
--- the lines that were taken of a procedure whose `end` is still to come
-abbrev pub open_text : Option Procedure → List ℕ
-open_text None = []
-open_text (Some p) =
-    codes "proc " ++ p.name ++ names_text p.parameters.items ++ codes "\n"
-    ++ locals_text p.locals.items ++ statements_text p.statements.items
+use Rattle.ide_wire.specs.declared.refused.Fault.{Fault}
+use Rattle.ide_wire.specs.declared.refused.Fault.TheVariants.{NoSuchLine}
+use Rattle.ide_text.specs.FirstFault.{Fits, KeepsOut, MayFollow, is_global, is_procedure, last_variables, most_variables, nodes_on}
+use Rattle.ide_text.specs.Grammar.{IsLine}
+use Rattle.ide_text.specs.Lines.{lines_in}
+use Rattle.ide_text.specs.Text.{line_text}
 
 -- the lines that were taken
-abbrev pub taken_text : Reader → List ℕ
-taken_text r = globals_text r.globals.items ++ procedures_text r.procedures.items ++ open_text r.open
+abbrev pub taken_lines : Reader → List Line
+taken_lines r = lines_in r.globals.items r.procedures.items r.open
+
+-- the reader's counts are those of the lines that it has taken, which are within the limits
+pub record IsCounted (r : Reader) : Type 0 where
+  pub globals : vec_len r.globals ≡ count_by is_global (taken_lines r)
+  pub procedures : vec_len r.procedures + length (option_to_list r.open) ≡ count_by is_procedure (taken_lines r)
+  pub nodes : r.nodes ≡ sum_by nodes_on (taken_lines r)
+  pub variables : IfSome r.open (λ p. vec_len p.parameters + vec_len p.locals ≡ last_variables (taken_lines r))
+  pub most : r.most_variables ≡ most_variables (taken_lines r)
+  pub fits : Fits (taken_lines r)
+
+-- after those lines one more was taken, which the text spells
+pub record TakesLine (before after : List Line) (text : List ℕ) : Type 0 where
+  pub line : Line
+  pub is : IsLine line
+  pub spelled : line_text line ≡ text
+  pub taken : after ≡ line ∷ before
+  pub place : MayFollow before line
+
+-- the fault for which a text can't be taken as the line after those
+abbrev pub RefusesLine : List Line → List ℕ → Fault → Type 0
+RefusesLine before text NoSuchLine = (l : Line) → IsLine l → line_text l ≢ text
+RefusesLine before text fault = (l : Line) × IsLine l × (line_text l ≡ text) × KeepsOut before l fault

@@ -1,6 +1,8 @@
 -- The one text of a program.
 use Rattle.std.specs.Prelude.{ℕ, List, [], ◌++◌, Option, Some, None, codes, decimal, ◌≡◌}
 use Rattle.std.specs.List.{flat_map}
+use Rattle.ide_text.specs.declared.line.Line.{Line}
+use Rattle.ide_text.specs.declared.line.Line.TheVariants.{Global, Procedure as Begin, Local, End, Statement as Step}
 use Rattle.ide_text.specs.declared.program.Program.{Program}
 use Rattle.ide_text.specs.declared.program.Procedure.{Procedure}
 use Rattle.ide_text.specs.declared.program.Statement.{Statement}
@@ -71,3 +73,11 @@ program_text p = globals_text (globals_of p) ++ procedures_text (procedures_of p
 -- what stood there stands there still, before some more
 abbrev pub Extends : List ℕ → List ℕ → Type 0
 Extends old new = (rest : List ℕ) × (new ≡ old ++ rest)
+
+-- a line, without its LF
+abbrev pub line_text : Line → List ℕ
+line_text (Global g) = codes "global " ++ g
+line_text (Begin p parameters) = codes "proc " ++ p ++ names_text parameters.items
+line_text (Local x) = codes "var " ++ x
+line_text End = codes "end"
+line_text (Step s) = statement_text s

@@ -1,7 +1,7 @@
 //! What keeps a line from being taken.
 ghost use Rattle.std.specs.Prelude.{◌≡◌};
 ghost use Rattle.ide_text.specs.declared.flaw.Flaw.TheVariants.{NoMemory, Faulty};
-ghost use Rattle.ide_text.specs.Refusal.{IsTextRefusal};
+ghost use Rattle.ide_text.specs.Refusal.{IsTextRefusal, refusal_on};
 
 use ide_wire::{Fault, Refused};
 use std::alloc::{AllocError, AllocFailed};
@@ -18,7 +18,8 @@ pub(crate) enum Flaw {
 impl Flaw {
     /// The refusal of the text for this flaw on that line.
     pub(crate) fn on_line(self, line: u32) -> Refused
-        ensures { IsTextRefusal line line result }
+        ensures range { IsTextRefusal line line result }
+        ensures exact { result ≡ refusal_on line self }
     {
         match self {
             Flaw::NoMemory => Refused::NoMemory,

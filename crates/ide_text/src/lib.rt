@@ -6,7 +6,9 @@
 
 mod checker;
 mod copy;
+mod cut;
 mod flaw;
+mod laws;
 mod line;
 mod name;
 mod names;
@@ -19,6 +21,7 @@ mod scope;
 mod tables;
 mod token;
 
+pub use laws::{one_first_fault, spelled_have_no_fault};
 pub use name::Name;
 pub use parser::{MAX_TEXT, parse};
 pub use printer::print;

@@ -1,4 +1,11 @@
 //! Lines: the spelling of one line alone, whatever stands around it.
+ghost use Rattle.std.specs.Prelude.{ℕ, ◌≡◌, ◌≢◌, List, ◌∷◌, ◌++◌, MatchOption, IfSome, IfNone, IfOk, IfErr};
+ghost use Rattle.ide_text.specs.Flaw.{IsNoLine};
+ghost use Rattle.ide_text.specs.Grammar.{IsLine};
+ghost use Rattle.ide_text.specs.Text.{line_text};
+ghost use Rattle.ide_text.specs.Token.{HasOneCallee, HasOneCalleeOnLine, IsStep, Tokenizes, expression_tokens, line_tokens, name_tokens, statement_tokens, target_tokens};
+
+use crate::cut::cut;
 use crate::flaw::Flaw;
 use crate::name::Name;
 use crate::program::{Expression, Statement};
@@ -23,33 +30,54 @@ pub(crate) enum Line {
 
 impl Line {
     /// The line that these bytes, without the LF, spell. The one fault is [`Fault::NoSuchLine`].
-    pub(crate) fn read(alloc: Global, text: &[u8]) -> Result<Line, Flaw> {
+    pub(crate) fn read(alloc: Global, text: &[u8]) -> Result<Line, Flaw>
+        ensures found { IfOk result (λ line. (line_text line ≡ text.now) × IsLine line) }
+        ensures none { IfErr result (IsNoLine ((line : Line) → IsLine line → line_text line ≢ text.now)) }
+    {
         let tokens = split(alloc, text)?;
-        match tokens.as_slice() {
-            [Token::Global, Token::Name(name)] => Ok(Line::Global(name.copy())),
-            [Token::Proc, Token::Name(name), parameters @ ..] => Ok(Line::Procedure {
-                name: name.copy(),
-                parameters: names(alloc, parameters)?,
-            }),
-            [Token::Var, Token::Name(name)] => Ok(Line::Local(name.copy())),
-            [Token::End] => Ok(Line::End),
-            tokens => Ok(Line::Statement(statement(alloc, tokens)?)),
-        }
+        line_of(alloc, &tokens)
     }
 }
 
 /// The tokens between the single spaces of the line.
-fn split(alloc: Global, text: &[u8]) -> Result<Vec<Token>, Flaw> {
+fn split(alloc: Global, text: &[u8]) -> Result<Vec<Token>, Flaw>
+    ensures found { IfOk result (λ tokens. Tokenizes text.now tokens.items) }
+    ensures none { IfErr result (IsNoLine ((tokens : List Token) → ¬ (Tokenizes text.now tokens))) }
+{
     let mut tokens = Vec::new(alloc);
-    for word in text.split(|byte| *byte == b' ') {
+    let mut rest = text;
+    while let Some((word, after)) = cut(rest, b' ') {
         let token = Token::of(word).ok_or(Fault::NoSuchLine)?;
         tokens.push(token)?;
+        rest = after;
     }
+    let last = Token::of(rest).ok_or(Fault::NoSuchLine)?;
+    tokens.push(last)?;
     Ok(tokens)
 }
 
+/// The line of these tokens.
+fn line_of(alloc: Global, tokens: &[Token]) -> Result<Line, Flaw>
+    ensures found { IfOk result (λ line. (line_tokens line ≡ tokens.now) × HasOneCalleeOnLine line) }
+    ensures none { IfErr result (IsNoLine ((line : Line) → HasOneCalleeOnLine line → line_tokens line ≢ tokens.now)) }
+{
+    match tokens {
+        [Token::Global, Token::Name(name)] => Ok(Line::Global(name.copy())),
+        [Token::Proc, Token::Name(name), parameters @ ..] => Ok(Line::Procedure {
+            name: name.copy(),
+            parameters: names(alloc, parameters)?,
+        }),
+        [Token::Var, Token::Name(name)] => Ok(Line::Local(name.copy())),
+        [Token::End] => Ok(Line::End),
+        tokens => Ok(Line::Statement(statement(alloc, tokens)?)),
+    }
+}
+
 /// The names that these tokens are, each of them.
-fn names(alloc: Global, tokens: &[Token]) -> Result<Vec<Name>, Flaw> {
+fn names(alloc: Global, tokens: &[Token]) -> Result<Vec<Name>, Flaw>
+    ensures found { IfOk result (λ names. name_tokens names.items ≡ tokens.now) }
+    ensures none { IfErr result (IsNoLine ((names : List (List ℕ)) → name_tokens names ≢ tokens.now)) }
+{
     let mut names = Vec::with_capacity(alloc, tokens.len())?;
     for token in tokens {
         let Token::Name(name) = token else {
@@ -61,44 +89,54 @@ fn names(alloc: Global, tokens: &[Token]) -> Result<Vec<Name>, Flaw> {
 }
 
 /// The statement of these tokens.
-fn statement(alloc: Global, tokens: &[Token]) -> Result<Statement, Flaw> {
+fn statement(alloc: Global, tokens: &[Token]) -> Result<Statement, Flaw>
+    ensures found { IfOk result (λ statement. (statement_tokens statement ≡ tokens.now) × HasOneCallee statement) }
+    ensures none { IfErr result (IsNoLine ((statement : Statement) → HasOneCallee statement → statement_tokens statement ≢ tokens.now)) }
+{
     match tokens {
-        [Token::Call, Token::Name(callee), arguments @ ..] => {
-            Ok(call(alloc, None, callee, arguments)?)
-        }
-        [
-            Token::Name(target),
-            Token::Equals,
-            Token::Call,
-            Token::Name(callee),
-            arguments @ ..,
-        ] => { Ok(call(alloc, Some(target.copy()), callee, arguments)?) }
-        [Token::Name(target), Token::Equals, value @ ..] => {
-            let expression = expression(value).ok_or(Fault::NoSuchLine)?;
-            Ok(Statement::Assign(target.copy(), expression))
-        }
+        [Token::Call, called @ ..] => call(alloc, None, called),
+        [Token::Name(target), Token::Equals, value @ ..] => assignment(alloc, target, value),
         _ => Ok(step(tokens).ok_or(Fault::NoSuchLine)?),
     }
 }
 
-/// The call of these tokens after the callee.
-fn call(
-    alloc: Global,
-    target: Option<Name>,
-    callee: &Name,
-    arguments: &[Token],
-) -> Result<Statement, Flaw> {
+/// The statement that gives this variable a value, which these tokens spell.
+fn assignment(alloc: Global, target: &Name, value: &[Token]) -> Result<Statement, Flaw>
+    ensures found { IfOk result (λ statement. (statement_tokens statement ≡ Token.Name target.now ∷ Token.Equals ∷ value.now) × HasOneCallee statement) }
+    ensures none { IfErr result (IsNoLine ((statement : Statement) → HasOneCallee statement → statement_tokens statement ≢ Token.Name target.now ∷ Token.Equals ∷ value.now)) }
+{
+    match value {
+        [Token::Call, called @ ..] => call(alloc, Some(target.copy()), called),
+        _ => {
+            let expression = expression(value).ok_or(Fault::NoSuchLine)?;
+            Ok(Statement::Assign(target.copy(), expression))
+        }
+    }
+}
+
+/// The call of these tokens, which stand after the word `call`.
+fn call(alloc: Global, target: Option<Name>, called: &[Token]) -> Result<Statement, Flaw>
+    ensures found { IfOk result (λ call. (statement_tokens call ≡ target_tokens target ++ Token.Call ∷ called.now) × HasOneCallee call) }
+    ensures none { IfErr result (IsNoLine ((call : Statement) → HasOneCallee call → statement_tokens call ≢ target_tokens target ++ Token.Call ∷ called.now)) }
+{
+    let [Token::Name(callee), arguments @ ..] = called else {
+        return Err(Flaw::Faulty(Fault::NoSuchLine));
+    };
+    let arguments = names(alloc, arguments)?;
     let mut callees = Vec::with_capacity(alloc, 1)?;
     callees.push(callee.copy())?;
     Ok(Statement::Call {
         target,
         callees,
-        arguments: names(alloc, arguments)?,
+        arguments,
     })
 }
 
 /// The statement of these tokens where it is neither an assignment nor a call.
-fn step(tokens: &[Token]) -> Option<Statement> {
+fn step(tokens: &[Token]) -> Option<Statement>
+    ensures found { IfSome result (λ step. (statement_tokens step ≡ tokens.now) × HasOneCallee step) }
+    ensures none { IfNone result ((step : Statement) → IsStep step → statement_tokens step ≢ tokens.now) }
+{
     match tokens {
         [Token::Skip] => Some(Statement::Skip),
         [Token::At, Token::Name(label)] => Some(Statement::At(label.copy())),
@@ -111,7 +149,9 @@ fn step(tokens: &[Token]) -> Option<Statement> {
 }
 
 /// What these tokens after a `=` give, where they are no call.
-fn expression(tokens: &[Token]) -> Option<Expression> {
+fn expression(tokens: &[Token]) -> Option<Expression>
+    ensures { MatchOption result ((e : Expression) → expression_tokens e ≢ tokens.now) (λ e. expression_tokens e ≡ tokens.now) }
+{
     match tokens {
         [Token::Number(number)] => Some(Expression::Number(*number)),
         [Token::Name(name)] => Some(Expression::Copy(name.copy())),

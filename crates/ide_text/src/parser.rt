@@ -1,10 +1,14 @@
 //! The parser: a whole text into a program, or the first fault of the text.
-ghost use Rattle.std.specs.Prelude.{◌≡◌, ◌+◌, ◌<◌, ◌≤◌, ◌↔◌, length, OnOk, IfOk, IfErr};
+ghost use Rattle.std.specs.Prelude.{◌≡◌, ◌+◌, ◌<◌, ◌≤◌, ◌↔◌, ◌⊎◌, length, OnOk, IfOk, IfErr};
+ghost use Rattle.ide_text.specs.Flaw.{IfFaulty};
+ghost use Rattle.ide_text.specs.Grammar.{Spells};
+ghost use Rattle.ide_text.specs.Lines.{IsWithinLimits};
 ghost use Rattle.ide_text.specs.Program.{lines_of};
-ghost use Rattle.ide_text.specs.Reader.{lines_taken};
-ghost use Rattle.ide_text.specs.Refusal.{IsTextRefusal};
+ghost use Rattle.ide_text.specs.Reader.{IsCounted, RefusesLine, TakesLine, taken_lines};
+ghost use Rattle.ide_text.specs.Refusal.{IsFirstFault, IsSpelled, IsTextRefusal};
 
 use crate::checker::check;
+use crate::cut::cut;
 use crate::flaw::Flaw;
 use crate::line::Line;
 use crate::program::Program;
@@ -25,6 +29,9 @@ pub fn parse(alloc: Global, text: &[u8]) -> Result<Program, Refused>
     ensures too_long { (result ≡ Err (Refused.Text 0 Fault.TextTooLong)) ↔ (MAX_TEXT < length text.now) }
     ensures refusals { IfErr result (IsTextRefusal 0 (length text.now + 1)) }
     ensures lines { IfOk result (λ program. lines_of program ≤ length text.now) }
+    ensures spelled { IfOk result (Spells text.now) }
+    ensures limits { IfOk result IsWithinLimits }
+    ensures faults { length text.now ≤ MAX_TEXT → IfErr result (λ refused. IsFirstFault text.now refused ⊎ IsSpelled text.now) }
 {
     if text.len() > MAX_TEXT {
         return Err(Refused::Text {
@@ -42,28 +49,36 @@ fn read(alloc: Global, text: &[u8]) -> Result<Program, Refused>
     requires { length text.now ≤ MAX_TEXT }
     ensures refusals { IfErr result (IsTextRefusal 1 (length text.now + 1)) }
     ensures lines { IfOk result (λ program. lines_of program ≤ length text.now) }
+    ensures spelled { IfOk result (Spells text.now) }
+    ensures limits { IfOk result IsWithinLimits }
+    ensures faults { IfErr result (IsFirstFault text.now) }
 {
     let mut reader = Reader::new(alloc);
     let mut line: u32 = 1;
-    let mut start = 0;
-    for (index, byte) in text.iter().enumerate() {
-        if *byte == b'\n' {
-            read_line(alloc, &mut reader, &text[start..index]).map_err(|flaw| flaw.on_line(line))?;
-            line += 1;
-            start = index + 1;
+    let mut rest = text;
+    while let Some((next, after)) = cut(rest, b'\n') {
+        if let Err(flaw) = read_line(alloc, &mut reader, next) {
+            return Err(flaw.on_line(line));
         }
+        line += 1;
+        rest = after;
     }
-    if start < text.len() {
+    if !rest.is_empty() {
         return Err(Flaw::Faulty(Fault::NoSuchLine).on_line(line));
     }
-    reader
-        .finish()
-        .map_err(|fault| Flaw::Faulty(fault).on_line(line))
+    match reader.finish() {
+        Ok(program) => Ok(program),
+        Err(fault) => Err(Flaw::Faulty(fault).on_line(line)),
+    }
 }
 
 /// Takes the line that these bytes, without the LF, spell.
 fn read_line(alloc: Global, reader: &mut Reader, text: &[u8]) -> Result<(), Flaw>
-    ensures { OnOk result (lines_taken reader.new ≡ lines_taken reader.old + 1) }
+    requires { IsCounted reader.old }
+    ensures taken { OnOk result (TakesLine (taken_lines reader.old) (taken_lines reader.new) text.now) }
+    ensures counted { OnOk result (IsCounted reader.new) }
+    ensures fault { IfErr result (λ flaw. IfFaulty flaw (RefusesLine (taken_lines reader.old) text.now)) }
 {
-    reader.take(Line::read(alloc, text)?)
+    let line = Line::read(alloc, text)?;
+    reader.take(line)
 }

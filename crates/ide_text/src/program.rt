@@ -1,5 +1,7 @@
 //! Programs: globals, procedures and their statements, as a text spells them.
 ghost use Rattle.std.specs.Prelude.{◌≡◌, ◌≤◌};
+ghost use Rattle.ide_text.specs.declared.line.Line.TheVariants as line;
+ghost use Rattle.ide_text.specs.FirstFault.{nodes_on};
 
 use crate::name::Name;
 
@@ -94,7 +96,8 @@ impl Program {
 impl Statement {
     /// How many nodes the statement has: a call two, any other one.
     pub(crate) fn nodes(&self) -> usize
-        ensures { result ≤ 2 }
+        ensures few { result ≤ 2 }
+        ensures counted { result ≡ nodes_on (line.Statement self.now) }
     {
         match self {
             Statement::Call { .. } => 2,

@@ -1,8 +1,8 @@
 //! The reader: takes lines in order, and keeps the place of each and the limits.
-ghost use Rattle.std.specs.Prelude.{◌≡◌, ◌+◌, ◌≤◌, ◌↔◌, ◌++◌, [], IsTrue, OnOk, IfOk, codes, vec_len};
+ghost use Rattle.std.specs.Prelude.{◌≡◌, ◌+◌, ◌≤◌, ◌↔◌, ◌∷◌, [], IsTrue, OnOk, IfOk, IfErr, vec_len};
 ghost use Rattle.ide_text.specs.declared.reader.TheConstants.{MAX_FACTS, MAX_NODES};
-ghost use Rattle.ide_text.specs.Program.{lines_of};
-ghost use Rattle.ide_text.specs.Text.{names_text, statement_text, program_text};
+ghost use Rattle.ide_text.specs.FirstFault.{KeepsOut, MayEnd, MayFollow};
+ghost use Rattle.ide_text.specs.Flaw.{IfFaulty};
 
 use crate::flaw::Flaw;
 use crate::line::Line;
@@ -40,12 +40,13 @@ pub(crate) struct Reader {
 }
 
 impl Reader {
-    ghost use Rattle.ide_text.specs.Reader.{lines_taken, taken_text, line_text};
+    ghost use Rattle.ide_text.specs.Lines.{program_lines};
+    ghost use Rattle.ide_text.specs.Reader.{IsCounted, taken_lines};
 
     /// The reader at the head of a text.
     pub(crate) fn new(alloc: Global) -> Reader
-        ensures lines { lines_taken result ≡ 0 }
-        ensures text { taken_text result ≡ [] }
+        ensures taken { taken_lines result ≡ [] }
+        ensures counted { IsCounted result }
     {
         Reader {
             alloc,
@@ -59,8 +60,11 @@ impl Reader {
 
     /// Takes the next line. After a flaw the reader is of no more use.
     pub(crate) fn take(&mut self, line: Line) -> Result<(), Flaw>
-        ensures lines { OnOk result (lines_taken self.new ≡ lines_taken self.old + 1) }
-        ensures text { OnOk result (taken_text self.new ≡ taken_text self.old ++ line_text line ++ codes "\n") }
+        requires { IsCounted self.old }
+        ensures taken { OnOk result (taken_lines self.new ≡ line ∷ taken_lines self.old) }
+        ensures counted { OnOk result (IsCounted self.new) }
+        ensures place { OnOk result (MayFollow (taken_lines self.old) line) }
+        ensures fault { IfErr result (λ flaw. IfFaulty flaw (KeepsOut (taken_lines self.old) line)) }
     {
         match line {
             Line::Global(name) => self.take_global(name),
@@ -73,8 +77,9 @@ impl Reader {
 
     /// The program of all the lines, where a text may end after them.
     pub(crate) fn finish(self) -> Result<Program, Fault>
-        ensures lines { IfOk result (λ program. lines_of program ≡ lines_taken self) }
-        ensures text { IfOk result (λ program. program_text program ≡ taken_text self) }
+        ensures lines { IfOk result (λ program. program_lines program ≡ taken_lines self) }
+        ensures place { OnOk result (MayEnd (taken_lines self)) }
+        ensures fault { IfErr result (λ fault. (fault ≡ Fault.OutOfPlace) × ¬ (MayEnd (taken_lines self))) }
     {
         if self.open.is_some() || self.procedures.is_empty() {
             return Err(Fault::OutOfPlace);
@@ -84,8 +89,11 @@ impl Reader {
 
     /// Takes a `global` line, which stands before the first procedure.
     fn take_global(&mut self, name: Name) -> Result<(), Flaw>
-        ensures lines { OnOk result (lines_taken self.new ≡ lines_taken self.old + 1) }
-        ensures text { OnOk result (taken_text self.new ≡ taken_text self.old ++ codes "global " ++ name ++ codes "\n") }
+        requires { IsCounted self.old }
+        ensures taken { OnOk result (taken_lines self.new ≡ (Line.Global name) ∷ taken_lines self.old) }
+        ensures counted { OnOk result (IsCounted self.new) }
+        ensures place { OnOk result (MayFollow (taken_lines self.old) (Line.Global name)) }
+        ensures fault { IfErr result (λ flaw. IfFaulty flaw (KeepsOut (taken_lines self.old) (Line.Global name))) }
     {
         if self.open.is_some() || !self.procedures.is_empty() {
             return Err(Flaw::Faulty(Fault::OutOfPlace));
@@ -99,8 +107,11 @@ impl Reader {
 
     /// Takes a `proc` line, which stands outside every procedure.
     fn take_procedure(&mut self, name: Name, parameters: Vec<Name>) -> Result<(), Flaw>
-        ensures lines { OnOk result (lines_taken self.new ≡ lines_taken self.old + 1) }
-        ensures text { OnOk result (taken_text self.new ≡ taken_text self.old ++ codes "proc " ++ name ++ names_text parameters.items ++ codes "\n") }
+        requires { IsCounted self.old }
+        ensures taken { OnOk result (taken_lines self.new ≡ (Line.Procedure name parameters) ∷ taken_lines self.old) }
+        ensures counted { OnOk result (IsCounted self.new) }
+        ensures place { OnOk result (MayFollow (taken_lines self.old) (Line.Procedure name parameters)) }
+        ensures fault { IfErr result (λ flaw. IfFaulty flaw (KeepsOut (taken_lines self.old) (Line.Procedure name parameters))) }
     {
         if self.open.is_some() {
             return Err(Flaw::Faulty(Fault::OutOfPlace));
@@ -127,8 +138,11 @@ impl Reader {
 
     /// Takes a `var` line, which stands before the statements of a procedure.
     fn take_local(&mut self, name: Name) -> Result<(), Flaw>
-        ensures lines { OnOk result (lines_taken self.new ≡ lines_taken self.old + 1) }
-        ensures text { OnOk result (taken_text self.new ≡ taken_text self.old ++ codes "var " ++ name ++ codes "\n") }
+        requires { IsCounted self.old }
+        ensures taken { OnOk result (taken_lines self.new ≡ (Line.Local name) ∷ taken_lines self.old) }
+        ensures counted { OnOk result (IsCounted self.new) }
+        ensures place { OnOk result (MayFollow (taken_lines self.old) (Line.Local name)) }
+        ensures fault { IfErr result (λ flaw. IfFaulty flaw (KeepsOut (taken_lines self.old) (Line.Local name))) }
     {
         let Some(mut procedure) = self.open.take() else {
             return Err(Flaw::Faulty(Fault::OutOfPlace));
@@ -149,8 +163,11 @@ impl Reader {
 
     /// Takes the line of a statement, which stands in a procedure.
     fn take_statement(&mut self, statement: Statement) -> Result<(), Flaw>
-        ensures lines { OnOk result (lines_taken self.new ≡ lines_taken self.old + 1) }
-        ensures text { OnOk result (taken_text self.new ≡ taken_text self.old ++ statement_text statement ++ codes "\n") }
+        requires { IsCounted self.old }
+        ensures taken { OnOk result (taken_lines self.new ≡ (Line.Statement statement) ∷ taken_lines self.old) }
+        ensures counted { OnOk result (IsCounted self.new) }
+        ensures place { OnOk result (MayFollow (taken_lines self.old) (Line.Statement statement)) }
+        ensures fault { IfErr result (λ flaw. IfFaulty flaw (KeepsOut (taken_lines self.old) (Line.Statement statement))) }
     {
         let Some(mut procedure) = self.open.take() else {
             return Err(Flaw::Faulty(Fault::OutOfPlace));
@@ -167,8 +184,11 @@ impl Reader {
 
     /// Takes an `end` line, which stands in a procedure.
     fn take_end(&mut self) -> Result<(), Flaw>
-        ensures lines { OnOk result (lines_taken self.new ≡ lines_taken self.old + 1) }
-        ensures text { OnOk result (taken_text self.new ≡ taken_text self.old ++ codes "end" ++ codes "\n") }
+        requires { IsCounted self.old }
+        ensures taken { OnOk result (taken_lines self.new ≡ Line.End ∷ taken_lines self.old) }
+        ensures counted { OnOk result (IsCounted self.new) }
+        ensures place { OnOk result (MayFollow (taken_lines self.old) Line.End) }
+        ensures fault { IfErr result (λ flaw. IfFaulty flaw (KeepsOut (taken_lines self.old) Line.End)) }
     {
         let Some(procedure) = self.open.take() else {
             return Err(Flaw::Faulty(Fault::OutOfPlace));

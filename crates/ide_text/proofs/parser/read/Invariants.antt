@@ -1,7 +1,16 @@
-use Rattle.std.proofs.Common.{◌≡◌, ◌+◌, ◌≤◌}
-use Rattle.ide_text.specs.Reader.{lines_taken}
+use Rattle.std.proofs.Common.{◌≡◌, ◌+◌, ◌++◌, length}
+use Rattle.ide_text.specs.FirstFault.{AreTaken, lines_text}
+use Rattle.ide_text.specs.Reader.{IsCounted, taken_lines}
 use Rattle.ide_text.proofs.parser.read.Given as goal
 
-abbrev pub invariant-loop-index : goal.invariant-loop-index
-invariant-loop-index l =
-    (lines_taken l.reader + 1 ≡ l.line) × (l.line ≤ l.index + 1) × (l.start ≤ l.index)
+-- the lines so far were taken, and the rest follows them
+abbrev pub invariant-loop-next : goal.invariant-loop-next
+invariant-loop-next l = record {
+  counted : IsCounted l.reader;
+  taken : AreTaken (taken_lines l.reader);
+  text : l.text ≡ lines_text (taken_lines l.reader) ++ l.rest;
+  line : l.line ≡ length (taken_lines l.reader) + 1;
+}
+
+abbrev pub decreases-loop-next : goal.decreases-loop-next
+decreases-loop-next l = length l.rest

@@ -1,24 +1,35 @@
-use Rattle.std.proofs.Common.{◌≡◌, ◌++◌, [], ◌∷◌, List, Some, codes, length, ℕ, arith}
-use Rattle.std.proofs.lemmas.Grind.{common_steps}
-use Rattle.std.proofs.lemmas.List.Concat.{flat_map-append}
-use Rattle.ide_text.specs.declared.program.Statement.{Statement}
-use Rattle.ide_text.specs.Text.{names_text, locals_text, statements_text, procedures_text, globals_text}
+use Rattle.ide_text.specs.FirstFault.{last_variables}
+use Rattle.ide_text.specs.Reader.{taken_lines}
+use Rattle.std.proofs.Common.{◌≡◌, ◌+◌, vec_len, ◌≢◌, ◌∙◌, sym, length, arith}
+use Rattle.std.proofs.lemmas.Bool.Decides.{nat_tests}
+use Rattle.std.proofs.lemmas.Bool.{false≢true}
+use Rattle.ide_text.proofs.Standing.{at_open, counts_local, no_variable_closed, variable_open, no_variable_stated}
 use Rattle.ide_text.proofs.reader.Reader.take_local.Goals as goal
 
--- one more local, where there are no statements yet
-one_more : (before head : List ℕ) (locals : List (List ℕ)) (x : List ℕ) (statements : List Statement) → length statements ≡ 0 →
-    before ++ (head ++ locals_text (locals ++ x ∷ []) ++ statements_text statements)
-    ≡ before ++ (head ++ locals_text locals ++ statements_text statements) ++ codes "var " ++ x ++ codes "\n"
-one_more before head locals x [] none = grind (arith, common_steps, flat_map-append)
-one_more before head locals x (s ∷ statements) none = cc
+pub returns-in_default-clause-fault : goal.returns-in_default-clause-fault
+returns-in_default-clause-fault c = let r = c.args.self.now in no_variable_closed r.globals.items r.procedures.items r.open (sym c.in_default.ensures.value)
 
-pub returns-clause-text : goal.returns-clause-text
-returns-clause-text c =
+pub returns-then-not-is_empty-clause-fault : goal.returns-then-not-is_empty-clause-fault
+returns-then-not-is_empty-clause-fault c =
     let r = c.args.self.now in
-    let p = c.in-Some.procedure in
-    let is_open : r.open ≡ Some p = cc in
-    let none : length p.statements.items ≡ 0 = grind (arith, common_steps) in
-    rw (is_open, c.in_ok-push.ensures.items)
-    (one_more (globals_text r.globals.items ++ procedures_text r.procedures.items)
-    (codes "proc " ++ p.name ++ names_text p.parameters.items ++ codes "\n")
-    p.locals.items c.args.name p.statements.items none)
+    let ok = c.in-Some.procedure.statements.ok.0 in
+    let some : length c.in-Some.procedure.statements.items ≢ 0 = grind (arith, nat_tests, c.if-not-is_empty.ensures) in
+    no_variable_stated r.globals.items r.procedures.items r.open c.in-Some.procedure (sym c.in-Some.ensures.value) some
+
+pub returns-then-not-facts_fit-clause-fault : goal.returns-then-not-facts_fit-clause-fault
+returns-then-not-facts_fit-clause-fault c =
+    let r = c.args.self.now in
+    let ok = c.in-Some.procedure.statements.ok.0 in
+    let none : length c.in-Some.procedure.statements.items ≡ 0 = grind (arith, nat_tests, c.if-not-is_empty.ensures) in (
+      variable_open r.globals.items r.procedures.items r.open c.in-Some.procedure (sym c.in-Some.ensures.value) none,
+      λ fits. let counts = counts_local c.args.name (taken_lines r) in
+          let variables = at_open r.open c.in-Some.procedure (λ p. vec_len p.parameters + vec_len p.locals ≡ last_variables (taken_lines r)) (sym c.in-Some.ensures.value) c.requires.variables in
+          false≢true (sym c.if-not-facts_fit.true ∙ c.facts_fit.ensures.1 (omega (arith, counts.2, counts.3, fits.facts, c.requires.globals, c.requires.most, variables))),
+    )
+
+pub returns-clause-place : goal.returns-clause-place
+returns-clause-place c =
+    let r = c.args.self.now in
+    let ok = c.in-Some.procedure.statements.ok.0 in
+    let none : length c.in-Some.procedure.statements.items ≡ 0 = grind (arith, nat_tests, c.if-not-is_empty.ensures) in
+    variable_open r.globals.items r.procedures.items r.open c.in-Some.procedure (sym c.in-Some.ensures.value) none

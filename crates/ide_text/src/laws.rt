@@ -1,0 +1,12 @@
+//! Laws of texts and their faults. The functions do nothing: their clauses are the laws.
+ghost use Rattle.ide_text.specs.Laws.{HaveOneFirstFault, SpelledHaveNoFault};
+
+/// A text has at most one first fault of F2 to F4, on one line.
+pub fn one_first_fault()
+    ensures { HaveOneFirstFault }
+{}
+
+/// A text that spells a program within the limits has no fault of F2 to F4.
+pub fn spelled_have_no_fault()
+    ensures { SpelledHaveNoFault }
+{}
