@@ -6,6 +6,7 @@ pub mod Laws
 pub mod Lines
 pub mod NameFault
 pub mod Names
+pub mod Parsed
 pub mod Places
 pub mod Program
 pub mod Reader

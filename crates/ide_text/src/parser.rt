@@ -1,11 +1,12 @@
 //! The parser: a whole text into a program, or the first fault of the text.
-ghost use Rattle.std.specs.Prelude.{◌≡◌, ◌+◌, ◌<◌, ◌≤◌, ◌↔◌, ◌⊎◌, length, OnOk, IfOk, IfErr};
+ghost use Rattle.std.specs.Prelude.{◌≡◌, ◌+◌, ◌<◌, ◌≤◌, ◌↔◌, length, OnOk, IfOk, IfErr};
 ghost use Rattle.ide_text.specs.Flaw.{IfFaulty};
 ghost use Rattle.ide_text.specs.Grammar.{Spells};
 ghost use Rattle.ide_text.specs.Lines.{IsWithinLimits};
+ghost use Rattle.ide_text.specs.Parsed.{IsParsed, IsRefusalOf};
 ghost use Rattle.ide_text.specs.Program.{lines_of};
 ghost use Rattle.ide_text.specs.Reader.{IsCounted, RefusesLine, TakesLine, taken_lines};
-ghost use Rattle.ide_text.specs.Refusal.{IsFirstFault, IsSpelled, IsTextRefusal};
+ghost use Rattle.ide_text.specs.Refusal.{IsFirstFault, IsTextRefusal};
 
 use crate::checker::check;
 use crate::cut::cut;
@@ -29,9 +30,8 @@ pub fn parse(alloc: Global, text: &[u8]) -> Result<Program, Refused>
     ensures too_long { (result ≡ Err (Refused.Text 0 Fault.TextTooLong)) ↔ (MAX_TEXT < length text.now) }
     ensures refusals { IfErr result (IsTextRefusal 0 (length text.now + 1)) }
     ensures lines { IfOk result (λ program. lines_of program ≤ length text.now) }
-    ensures spelled { IfOk result (Spells text.now) }
-    ensures limits { IfOk result IsWithinLimits }
-    ensures faults { length text.now ≤ MAX_TEXT → IfErr result (λ refused. IsFirstFault text.now refused ⊎ IsSpelled text.now) }
+    ensures parsed { IfOk result (IsParsed text.now) }
+    ensures fault { IfErr result (IsRefusalOf text.now) }
 {
     if text.len() > MAX_TEXT {
         return Err(Refused::Text {
