@@ -4,6 +4,7 @@ pub mod LineLemmas
 pub mod Lines
 pub mod NameLists
 pub mod Numbers
+pub mod OneProgram
 pub mod PlaceLemmas
 pub mod ProgramLemmas
 pub mod Refusal
