@@ -15,4 +15,5 @@ pub mod StatementLemmas
 pub mod Texts
 pub mod Tokens
 pub mod Unique
+pub mod Value
 pub mod Words

@@ -11,7 +11,7 @@ pub fn spelled_have_no_fault()
     ensures { SpelledHaveNoFault }
 {}
 
-/// A text spells at most one program, up to its value.
+/// A text spells at most one program, up to the room that its vectors have.
 pub fn spell_one_program()
     ensures { SpellOneProgram }
 {}
