@@ -4,6 +4,7 @@ pub mod LineLemmas
 pub mod Lines
 pub mod NameLists
 pub mod Numbers
+pub mod OneProgram
 pub mod Parsed
 pub mod PlaceLemmas
 pub mod ProgramLemmas
@@ -15,4 +16,5 @@ pub mod StatementLemmas
 pub mod Texts
 pub mod Tokens
 pub mod Unique
+pub mod Value
 pub mod Words

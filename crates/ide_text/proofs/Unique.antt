@@ -1,5 +1,5 @@
 -- A text has one first fault at most, and none where it spells a program.
-use Rattle.std.proofs.Common.{ℕ, suc, ◌<◌, ◌≡◌, ◌≢◌, List, [], ◌∷◌, ◌++◌, codes, length, inl, inr, ap, sym, refl, ◌∙◌, arith, append_assoc}
+use Rattle.std.proofs.Common.{ℕ, suc, ◌<◌, ◌≡◌, ◌≢◌, List, [], ◌∷◌, ◌++◌, codes, length, map, inl, inr, ap, sym, refl, ◌∙◌, arith, append_assoc}
 use Rattle.std.specs.List.{AllByRecursion}
 use Rattle.std.proofs.lemmas.List.{append-nil}
 use Rattle.std.proofs.lemmas.Bool.{cases_lt}
@@ -17,15 +17,16 @@ use Rattle.ide_text.proofs.Texts.{AreTaken-lines, line_lacks, program_text_is, s
 line_apart : (ls : List Line) (l : Line) (rest : List ℕ) → lines_text (l ∷ ls) ++ rest ≡ lines_text ls ++ (line_text l ++ 10 ∷ rest)
 line_apart ls l rest = simp append_assoc
 
--- as many lines at the head of one text are the same lines
-same_lines : (ls ms : List Line) (r s : List ℕ) → length ls ≡ length ms → AllByRecursion IsLine ls → AllByRecursion IsLine ms → lines_text ls ++ r ≡ lines_text ms ++ s → (shapes ls ≡ shapes ms) × (r ≡ s)
-same_lines [] [] r s n h k e = (refl, e)
-same_lines [] (m ∷ ms) r s n h k e = absurd (omega arith)
-same_lines (l ∷ ls) [] r s n h k e = absurd (omega arith)
-same_lines (l ∷ ls) (m ∷ ms) r s n h k e =
-    let before = same_lines ls ms (line_text l ++ 10 ∷ r) (line_text m ++ 10 ∷ s) (omega arith) h.1 k.1 (sym (line_apart ls l r) ∙ e ∙ line_apart ms m s) in
+-- as many lines at the head of one text have the same of all that the text of a line tells
+pub same_lines : {X : Type 0} (f : Line → X) → ((l m : Line) → IsLine l → IsLine m → line_text l ≡ line_text m → f l ≡ f m) →
+    (ls ms : List Line) (r s : List ℕ) → length ls ≡ length ms → AllByRecursion IsLine ls → AllByRecursion IsLine ms → lines_text ls ++ r ≡ lines_text ms ++ s → (map f ls ≡ map f ms) × (r ≡ s)
+same_lines f told [] [] r s n h k e = (refl, e)
+same_lines f told [] (m ∷ ms) r s n h k e = absurd (omega arith)
+same_lines f told (l ∷ ls) [] r s n h k e = absurd (omega arith)
+same_lines f told (l ∷ ls) (m ∷ ms) r s n h k e =
+    let before = same_lines f told ls ms (line_text l ++ 10 ∷ r) (line_text m ++ 10 ∷ s) (omega arith) h.1 k.1 (sym (line_apart ls l r) ∙ e ∙ line_apart ms m s) in
     let last = same_before (line_text l) (line_text m) r s (line_lacks l h.0) (line_lacks m k.0) before.1 in
-    (ap (λ x. x ∷ shapes ls) (same_shape l m h.0 k.0 last.0) ∙ ap (λ xs. shape m ∷ xs) before.0, last.1)
+    (ap (λ x. x ∷ map f ls) (told l m h.0 k.0 last.0) ∙ ap (λ xs. f m ∷ xs) before.0, last.1)
 
 -- after so many lines a text goes on by a line that is taken
 abbrev GoesOn : List ℕ → ℕ → Type 0
@@ -49,7 +50,7 @@ some_line l rest e = no_text_empty (line_text l) rest e
 next_line : (text : List ℕ) (ls : List Line) (r : List ℕ) (ms : List Line) (m : Line) (more : List ℕ) → AreTaken ls → AreTaken ms → length ls ≡ length ms →
     text ≡ lines_text ls ++ r → text ≡ lines_text (m ∷ ms) ++ more → (shapes ls ≡ shapes ms) × (r ≡ line_text m ++ 10 ∷ more)
 next_line text ls r ms m more taken_l taken_m n at to =
-    same_lines ls ms r (line_text m ++ 10 ∷ more) n (AreTaken-lines ls taken_l) (AreTaken-lines ms taken_m) (sym at ∙ to ∙ line_apart ms m more)
+    same_lines shape same_shape ls ms r (line_text m ++ 10 ∷ more) n (AreTaken-lines ls taken_l) (AreTaken-lines ms taken_m) (sym at ∙ to ∙ line_apart ms m more)
 
 -- what a fault is, by its cause
 data Cause (text : List ℕ) (ls : List Line) (f : Fault) : Type 0 where
@@ -86,7 +87,7 @@ begun_by text ls f (no_end is at end) = ([], at_end text ls at)
 -- two next lines of a text have one shape
 one_shape : (text : List ℕ) (ls ms : List Line) (l m : Line) (r s : List ℕ) → AreTaken ls → AreTaken ms → length ls ≡ length ms → IsLine l → IsLine m → text ≡ lines_text (l ∷ ls) ++ r → text ≡ lines_text (m ∷ ms) ++ s → shapes (l ∷ ls) ≡ shapes (m ∷ ms)
 one_shape text ls ms l m r s taken_l taken_m n is_l is_m at to =
-    (same_lines (l ∷ ls) (m ∷ ms) r s (ap suc n) (is_l, AreTaken-lines ls taken_l) (is_m, AreTaken-lines ms taken_m) (sym at ∙ to)).0
+    (same_lines shape same_shape (l ∷ ls) (m ∷ ms) r s (ap suc n) (is_l, AreTaken-lines ls taken_l) (is_m, AreTaken-lines ms taken_m) (sym at ∙ to)).0
 
 place_kept : (ls ms : List Line) (l m : Line) → shapes (l ∷ ls) ≡ shapes (m ∷ ms) → MayFollow ls l → MayFollow ms m
 place_kept ls ms l m e h = let head : shape l ≡ shape m = cc in let tail : shapes ls ≡ shapes ms = cc in MayFollow-same ls ms l m tail head h
@@ -119,7 +120,7 @@ line_or_end text ls ms l r taken_l taken_m n at to =
 
 none_or_end : (text : List ℕ) (ls ms : List Line) (r : List ℕ) → AreTaken ls → AreTaken ms → length ls ≡ length ms → text ≡ lines_text ls ++ r → r ≢ [] → text ≢ lines_text ms
 none_or_end text ls ms r taken_l taken_m n at some to =
-    some (same_lines ls ms r [] n (AreTaken-lines ls taken_l) (AreTaken-lines ms taken_m) (sym at ∙ at_end text ms to)).1
+    some (same_lines shape same_shape ls ms r [] n (AreTaken-lines ls taken_l) (AreTaken-lines ms taken_m) (sym at ∙ at_end text ms to)).1
 
 same_fault : (text : List ℕ) (ls ms : List Line) (f g : Fault) → AreTaken ls → AreTaken ms → length ls ≡ length ms → Cause text ls f → Cause text ms g → f ≡ g
 same_fault text ls ms f g tl tm n (no_line r is at some none) (no_line s is' at' some' none') = is ∙ sym is'
@@ -162,7 +163,7 @@ ended_has_none text ls ms f tl tm n to end (no_line rest is at some none) = none
 ended_has_none text ls ms f tl tm n to end (no_place l rest is at line place) = line_or_end text ls ms l rest tl tm n at to
 ended_has_none text ls ms f tl tm n to end (no_room l rest is at line place room) = line_or_end text ls ms l rest tl tm n at to
 ended_has_none text ls ms f tl tm n to end (no_end is at never) =
-    let same = same_lines ms ls [] [] (sym n) (AreTaken-lines ms tm) (AreTaken-lines ls tl) (sym (at_end text ms to) ∙ at_end text ls at) in
+    let same = same_lines shape same_shape ms ls [] [] (sym n) (AreTaken-lines ms tm) (AreTaken-lines ls tl) (sym (at_end text ms to) ∙ at_end text ls at) in
     never (MayEnd-same ms ls same.0 end)
 
 longer_is_none : (text : List ℕ) (ls ms : List Line) (rest : List ℕ) → AreTaken ls → AreTaken ms → text ≡ lines_text ls ++ rest → text ≡ lines_text ms → length ms < length ls → ⊥

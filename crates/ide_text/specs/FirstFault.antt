@@ -53,10 +53,12 @@ abbrev pub MayEnd : List Line → Type 0
 MayEnd (End ∷ before) = Unit {0}
 MayEnd _ = ⊥
 
+-- a `global` line
 abbrev pub is_global : Line → Bool
 is_global (Global g) = true
 is_global _ = false
 
+-- a `proc` line
 abbrev pub is_procedure : Line → Bool
 is_procedure (Begin p parameters) = true
 is_procedure _ = false

@@ -14,3 +14,4 @@ pub mod Refusal
 pub mod Scope
 pub mod Text
 pub mod Token
+pub mod Value

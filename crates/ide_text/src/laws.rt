@@ -1,5 +1,5 @@
 //! Laws of texts and their faults. The functions do nothing: their clauses are the laws.
-ghost use Rattle.ide_text.specs.Laws.{HaveOneFirstFault, SpelledHaveNoFault};
+ghost use Rattle.ide_text.specs.Laws.{HaveOneFirstFault, SpellOneProgram, SpelledHaveNoFault};
 
 /// A text has at most one first fault of F2 to F4, on one line.
 pub fn one_first_fault()
@@ -9,4 +9,9 @@ pub fn one_first_fault()
 /// A text that spells a program within the limits has no fault of F2 to F4.
 pub fn spelled_have_no_fault()
     ensures { SpelledHaveNoFault }
+{}
+
+/// A text spells at most one program, up to the room that its vectors have.
+pub fn spell_one_program()
+    ensures { SpellOneProgram }
 {}
