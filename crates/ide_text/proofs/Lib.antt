@@ -4,6 +4,7 @@ pub mod LineLemmas
 pub mod Lines
 pub mod NameLists
 pub mod Numbers
+pub mod OneFault
 pub mod OneProgram
 pub mod Parsed
 pub mod PlaceLemmas

@@ -203,8 +203,13 @@ no_feeds (b ∷ bytes) h = omega (arith, sum_by-cons (λ c. cond (c == 10) 1 0) 
 
 feeds_are_lines : (ls : List Line) → AllByRecursion IsLine ls → count_by (λ b. b == 10) (lines_text ls) ≡ length ls
 feeds_are_lines [] h = refl
-feeds_are_lines (l ∷ ls) h = omega (arith, feeds_are_lines ls h.1, no_feeds (line_text l) (line_lacks l h.0),
-    sum_by-append (λ c. cond (c == 10) 1 0) (lines_text ls ++ line_text l) (codes "\n"), sum_by-append (λ c. cond (c == 10) 1 0) (lines_text ls) (line_text l))
+feeds_are_lines (l ∷ ls) h = omega (
+  arith,
+  feeds_are_lines ls h.1,
+  no_feeds (line_text l) (line_lacks l h.0),
+  sum_by-append (λ c. cond (c == 10) 1 0) (lines_text ls ++ line_text l) (codes "\n"),
+  sum_by-append (λ c. cond (c == 10) 1 0) (lines_text ls) (line_text l),
+)
 
 -- ---- the law
 lines_one : (ls ms : List Line) → AllByRecursion IsLine ls → AllByRecursion IsLine ms → lines_text ls ≡ lines_text ms → values ls ≡ values ms

@@ -18,12 +18,12 @@ refused_lines text (Text line fault) short h = In_lines short line fault h
 refused_lines text _ short h = h
 
 pub refused_names : (text : List ℕ) (p : Program) (refused : Refused) → length text ≤ MAX_TEXT → Spells text p → IsWithinLimits p
-  → TellsFirst (NameFault p) refused → IsRefusalOf text refused
+    → TellsFirst (NameFault p) refused → IsRefusalOf text refused
 refused_names text p NoMemory short spelled limits h = tt
 refused_names text p (Text line fault) short spelled limits h = In_names short p spelled limits line fault h
 refused_names text p _ short spelled limits h = h
 
 -- of a refusal that `?` hands on
 pub handed_on : {T : Type 0} (P : Refused → Type 0) (result : Result T Refused) (given handed : Refused)
-  → result ≡ Err handed → handed ≡ given → P given → IfErr result P
+    → result ≡ Err handed → handed ≡ given → P given → IfErr result P
 handed_on P result given handed is same h = subst (λ r. IfErr r P) (sym is) (subst P (sym same) h)

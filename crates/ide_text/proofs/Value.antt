@@ -155,8 +155,15 @@ statements_same : (p q : Procedure) → value_of_procedure p ≡ value_of_proced
 statements_same p q e = ap (λ (v : ProcedureValue). v.statements) e
 
 lines_same : (p q : Procedure) → value_of_procedure p ≡ value_of_procedure q → lines_of_procedure p ≡ lines_of_procedure q
-lines_same p q e = omega (arith, vec_len_same p.locals q.locals (locals_same p q e), ap length (statements_same p q e),
-    length-map p.statements.items value_of_statement, length-map q.statements.items value_of_statement, p.statements.ok, q.statements.ok)
+lines_same p q e = omega (
+  arith,
+  vec_len_same p.locals q.locals (locals_same p q e),
+  ap length (statements_same p q e),
+  length-map p.statements.items value_of_statement,
+  length-map q.statements.items value_of_statement,
+  p.statements.ok,
+  q.statements.ok,
+)
 
 -- ---- faults
 StatementFault-same : (variables : List (List ℕ)) (ps qs : List Procedure) → AreSame ps qs → (before before' ss ts : List Statement) → map value_of_statement before ≡ map value_of_statement before' → map value_of_statement ss ≡ map value_of_statement ts →
@@ -197,7 +204,7 @@ ProcedureFault-same globals ps qs procedures p q e start line fault h =
           let moved = StatementsFault-same (variables_in globals p) ps qs procedures p.statements.items q.statements.items (statements_same p q e) (start + 1 + vec_len p.locals) l f inner in
           let variables : variables_in globals p ≡ variables_in globals q = ap (λ names. globals ++ names ++ p.locals.items) parameters ∙ ap (λ names. globals ++ q.parameters.items ++ names) locals in
           In_statement l f (subst (λ n. StatementsFault (variables_in globals q) qs q.statements.items (start + 1 + n) l f) (vec_len_same p.locals q.locals locals)
-            (subst (λ names. StatementsFault names qs q.statements.items (start + 1 + vec_len p.locals) l f) variables moved))
+          (subst (λ names. StatementsFault names qs q.statements.items (start + 1 + vec_len p.locals) l f) variables moved))
     ]
 
 -- ---- programs
@@ -208,8 +215,11 @@ procedures_same : (p q : Program) → value_of p ≡ value_of q → AreSame (pro
 procedures_same p q e = ap (λ (v : ProgramValue). v.procedures) e
 
 line_same : (p q : Program) → value_of p ≡ value_of q → (j : ℕ) → line_of_procedure p j ≡ line_of_procedure q j
-line_same p q e j = omega (arith, ap length (globals_same p q e),
-    sum_same value_of_procedure lines_of_procedure lines_same (take j (procedures_of p)) (take j (procedures_of q)) (take_same value_of_procedure j (procedures_of p) (procedures_of q) (procedures_same p q e)))
+line_same p q e j = omega (
+  arith,
+  ap length (globals_same p q e),
+  sum_same value_of_procedure lines_of_procedure lines_same (take j (procedures_of p)) (take j (procedures_of q)) (take_same value_of_procedure j (procedures_of p) (procedures_of q) (procedures_same p q e)),
+)
 
 pub NameFault-same : (p q : Program) → value_of p ≡ value_of q → (line : ℕ) (fault : Fault) → NameFault p line fault → NameFault q line fault
 NameFault-same p q e line fault h =
@@ -223,12 +233,12 @@ NameFault-same p q e line fault h =
           let name : r.name ≡ found.0.name = ap (λ (v : ProcedureValue). v.name) found.2 in
           let any = any_same value_of_procedure (is_named found.0.name) (named_same found.0.name) (take j (procedures_of p)) (take j (procedures_of q)) firsts in
           subst (λ l. NameFault q l DeclaredTwice) (sym (line_same p q e j))
-            (Procedure_again j found.0 found.1 (sym any ∙ ap (λ n. list_any (is_named n) (take j (procedures_of p))) (sym name) ∙ again))
+          (Procedure_again j found.0 found.1 (sym any ∙ ap (λ n. list_any (is_named n) (take j (procedures_of p))) (sym name) ∙ again))
       | In_procedure j r at l f inner ↦
           let found = get_same value_of_procedure (procedures_of p) (procedures_of q) procedures j r at in
           let moved = ProcedureFault-same (globals_of p) (procedures_of p) (procedures_of q) procedures r found.0 found.2 (line_of_procedure p j) l f inner in
           In_procedure j found.0 found.1 l f (subst (λ n. ProcedureFault (globals_of q) (procedures_of q) found.0 n l f) (line_same p q e j)
-            (subst (λ names. ProcedureFault names (procedures_of q) found.0 (line_of_procedure p j) l f) globals moved))
+          (subst (λ names. ProcedureFault names (procedures_of q) found.0 (line_of_procedure p j) l f) globals moved))
     ]
 
 pub IsFirstNameFault-same : (p q : Program) → value_of p ≡ value_of q → (line : ℕ) (fault : Fault) → IsFirstNameFault p line fault → IsFirstNameFault q line fault

@@ -24,7 +24,7 @@ pub data TextFault (text : List ℕ) : ℕ → Fault → Type 0 where
   Too_long : MAX_TEXT < length text → TextFault text 0 TextTooLong
   In_lines : length text ≤ MAX_TEXT → (line : ℕ) (fault : Fault) → FirstFault text line fault → TextFault text line fault
   In_names : length text ≤ MAX_TEXT → (p : Program) → Spells text p → IsWithinLimits p
-    → (line : ℕ) (fault : Fault) → IsFirstNameFault p line fault → TextFault text line fault
+      → (line : ℕ) (fault : Fault) → IsFirstNameFault p line fault → TextFault text line fault
 
 -- a refusal of the text: for want of memory, or for its fault
 abbrev pub IsRefusalOf : List ℕ → Refused → Type 0

@@ -1,6 +1,6 @@
 //! Copies of programs.
-ghost use Rattle.std.specs.Prelude.{◌≡◌, IfOk, IfErr};
-ghost use Rattle.ide_text.specs.Text.{expression_text, statement_text, statements_text, procedure_text, procedures_text};
+ghost use Rattle.std.specs.Prelude.{◌≡◌, map, IfOk, IfErr};
+ghost use Rattle.ide_text.specs.Value.{value_of_statement, value_of_procedure};
 
 use crate::name::Name;
 use crate::program::{Expression, Procedure, Program, Statement};
@@ -8,13 +8,11 @@ use ide_wire::Refused;
 use std::alloc::{AllocError, Global};
 
 impl Program {
-    ghost use Rattle.ide_text.specs.Program.{globals_of};
-    ghost use Rattle.ide_text.specs.Text.{program_text};
+    ghost use Rattle.ide_text.specs.Value.{value_of};
 
     /// The same program again, or [`Refused::NoMemory`].
     pub fn copy(&self, alloc: Global) -> Result<Program, Refused>
-        ensures text { IfOk result (λ copy. program_text copy ≡ program_text self.now) }
-        ensures globals { IfOk result (λ copy. globals_of copy ≡ globals_of self.now) }
+        ensures value { IfOk result (λ copy. value_of copy ≡ value_of self.now) }
         ensures no_memory { IfErr result (λ refused. refused ≡ Refused.NoMemory) }
     {
         let globals = copy_names(alloc, self.globals())?;
@@ -25,7 +23,7 @@ impl Program {
 
 /// Copies of these procedures.
 fn copy_procedures(alloc: Global, procedures: &[Procedure]) -> Result<Vec<Procedure>, AllocError>
-    ensures { IfOk result (λ copies. procedures_text copies.items ≡ procedures_text procedures.now) }
+    ensures { IfOk result (λ copies. map value_of_procedure copies.items ≡ map value_of_procedure procedures.now) }
 {
     let mut copies = Vec::with_capacity(alloc, procedures.len())?;
     for procedure in procedures {
@@ -36,7 +34,7 @@ fn copy_procedures(alloc: Global, procedures: &[Procedure]) -> Result<Vec<Proced
 
 /// A copy of this procedure.
 fn copy_procedure(alloc: Global, procedure: &Procedure) -> Result<Procedure, AllocError>
-    ensures { IfOk result (λ copy. procedure_text copy ≡ procedure_text procedure.now) }
+    ensures { IfOk result (λ copy. value_of_procedure copy ≡ value_of_procedure procedure.now) }
 {
     Ok(Procedure {
         name: procedure.name.copy(),
@@ -48,7 +46,7 @@ fn copy_procedure(alloc: Global, procedure: &Procedure) -> Result<Procedure, All
 
 /// Copies of these statements.
 fn copy_statements(alloc: Global, statements: &[Statement]) -> Result<Vec<Statement>, AllocError>
-    ensures { IfOk result (λ copies. statements_text copies.items ≡ statements_text statements.now) }
+    ensures { IfOk result (λ copies. map value_of_statement copies.items ≡ map value_of_statement statements.now) }
 {
     let mut copies = Vec::with_capacity(alloc, statements.len())?;
     for statement in statements {
@@ -59,7 +57,7 @@ fn copy_statements(alloc: Global, statements: &[Statement]) -> Result<Vec<Statem
 
 /// A copy of this statement.
 fn copy_statement(alloc: Global, statement: &Statement) -> Result<Statement, AllocError>
-    ensures { IfOk result (λ copy. statement_text copy ≡ statement_text statement.now) }
+    ensures { IfOk result (λ copy. value_of_statement copy ≡ value_of_statement statement.now) }
 {
     match statement {
         Statement::Assign(target, expression) => Ok(Statement::Assign(
@@ -85,7 +83,7 @@ fn copy_statement(alloc: Global, statement: &Statement) -> Result<Statement, All
 
 /// A copy of this expression.
 fn copy_expression(expression: &Expression) -> Expression
-    ensures { expression_text result ≡ expression_text expression.now }
+    ensures { result ≡ expression.now }
 {
     match expression {
         Expression::Number(number) => Expression::Number(*number),

@@ -21,7 +21,9 @@ mod scope;
 mod tables;
 mod token;
 
-pub use laws::{one_first_fault, spell_one_program, spelled_have_no_fault};
+pub use laws::{
+    one_fault, one_first_fault, parsed_have_no_fault, spell_one_program, spelled_have_no_fault,
+};
 pub use name::Name;
 pub use parser::{MAX_TEXT, parse};
 pub use printer::print;
