@@ -92,6 +92,33 @@ fn prints_what_it_parsed(rt: HostRuntime) -> Result<(), Fail> {
     Ok(())
 }
 
+/// That the text with that byte at that place, if it is parsed, is printed as it stands.
+fn expect_told(rt: &impl Abort, alloc: Global, text: &[u8], place: usize, byte: u8) -> Result<(), Fail> {
+    let mut changed = Vec::from_slice(alloc, text)?;
+    if let Some(old) = changed.get_mut(place) {
+        *old = byte;
+    }
+    if let Ok(program) = parse(alloc, changed.as_slice()) {
+        let mut printed = Vec::new(alloc);
+        print(&program, &mut printed)?;
+        assert_eq!(rt; printed.as_slice(), changed.as_slice());
+    }
+    Ok(())
+}
+
+#[test]
+fn each_byte_tells(rt: HostRuntime) -> Result<(), Fail> {
+    let alloc = rt.alloc();
+    let text = b"global g\nproc f y\nvar x\nbranch b\nx = y + 10\nat b\ng = call f x\nend\n";
+    for place in 0..text.len() {
+        expect_told(&rt, alloc, text, place, b' ')?;
+        expect_told(&rt, alloc, text, place, b'\n')?;
+        expect_told(&rt, alloc, text, place, b'0')?;
+        expect_told(&rt, alloc, text, place, b'g')?;
+    }
+    Ok(())
+}
+
 #[test]
 fn spells_each_line_in_one_way(rt: HostRuntime) -> Result<(), Fail> {
     let lines = [
