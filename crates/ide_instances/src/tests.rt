@@ -71,6 +71,11 @@ fn meets_of_functions(rt: HostRuntime) {
         value_of_meet(&parts, ConstValue::Const(6)),
         ConstValue::Const(7)
     );
+    let parts = [UninitFn::AllTop, UninitFn::Id];
+    assert_eq!(rt;
+        value_of_meet(&parts, UninitValue::Bottom),
+        UninitValue::Bottom
+    );
 }
 
 #[test]
