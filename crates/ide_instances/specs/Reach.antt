@@ -1,9 +1,7 @@
 -- The flow of the least analysis: every edge carries `@zero` to `@zero` and nothing else.
-use Rattle.std.specs.Prelude.{◌≡◌, ℕ, ◌<◌, ◌≤◌, Bool, true, false, List, [], ◌∷◌, cond, nat_eq}
+use Rattle.std.specs.Prelude.{◌≡◌, ℕ, ◌<◌, ◌≤◌, Bool, true, false, [], ◌∷◌, cond, nat_eq}
 use Rattle.std.proofs.Common.{refl, arith}
 use Rattle.std.proofs.lemmas.Bool.Decides.{nat_tests}
-use Rattle.ide_graph.specs.declared.edge.EdgeData.{EdgeData}
-use Rattle.ide_graph.specs.Lawful.{IsEdge}
 use Rattle.ide_problem.specs.Flow.{Targets, AreTargets, IsFlow}
 use Rattle.ide_instances.specs.UninitFn.{uninit_edge}
 use Rattle.ide_instances.specs.declared.uninit_fn.UninitFn.{UninitFn}

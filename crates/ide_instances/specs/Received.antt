@@ -1,7 +1,6 @@
 -- What the fact that a statement assigns receives from a fact before it, for each analysis.
-use Rattle.std.specs.Prelude.{◌≡◌, ℕ, ◌+◌, ◌-◌, ◌%◌, ◌^◌, Bool, true, ◌||◌, List, Option, Some, None, IsTrue, nat_eq}
+use Rattle.std.specs.Prelude.{ℕ, ◌||◌, Option, None, nat_eq}
 use Rattle.std.specs.Bool.{then_some}
-use Rattle.ide_graph.specs.declared.edge.EdgeData.{EdgeData}
 use Rattle.ide_graph.specs.declared.edge.EdgeKind.{EdgeKind}
 use Rattle.ide_graph.specs.declared.edge.EdgeKind.TheVariants.{Normal, Call, Return, CallToReturn}
 use Rattle.ide_graph.specs.declared.edge.Effect.{Effect}

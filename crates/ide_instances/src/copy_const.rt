@@ -29,11 +29,7 @@ impl Problem for CopyConst {
 
     ghost targets = { copy_targets };
 
-    fn flow(
-        edge: &EdgeData,
-        fact: Fact,
-        out: &mut TargetList<ConstFn>,
-    ) -> Result<(), AllocError> {
+    fn flow(edge: &EdgeData, fact: Fact, out: &mut TargetList<ConstFn>) -> Result<(), AllocError> {
         let received = match &edge.kind {
             EdgeKind::Normal(effect) => received(*effect, fact),
             _ => None,

@@ -32,11 +32,7 @@ impl Problem for ShiftConst {
 
     ghost targets = { shift_targets };
 
-    fn flow(
-        edge: &EdgeData,
-        fact: Fact,
-        out: &mut TargetList<ConstFn>,
-    ) -> Result<(), AllocError> {
+    fn flow(edge: &EdgeData, fact: Fact, out: &mut TargetList<ConstFn>) -> Result<(), AllocError> {
         let received = match &edge.kind {
             EdgeKind::Normal(effect) => received(*effect, fact),
             _ => None,

@@ -5,8 +5,8 @@ use Rattle.std.proofs.lemmas.List.{append_assoc}
 use Rattle.std.proofs.lemmas.List.FromFn.{map-range_with_len_more}
 
 pub one_more : {X : Type 0} (f : ℕ → X) (before after all : List X) (first local : ℕ) → first ≤ local
-  → after ≡ before ++ map f (range_with_len first (local - first)) → all ≡ after ++ f local ∷ []
-  → all ≡ before ++ map f (range_with_len first (local + 1 - first))
+    → after ≡ before ++ map f (range_with_len first (local - first)) → all ≡ after ++ f local ∷ []
+    → all ≡ before ++ map f (range_with_len first (local + 1 - first))
 one_more f before after all first local h is more =
     let count : local + 1 - first ≡ local - first + 1 = omega (arith, h) in
     more

@@ -1,5 +1,5 @@
 -- The flow that analyses of assignments share: all of it but what an assigned fact receives.
-use Rattle.std.specs.Prelude.{ℕ, ◌-◌, Bool, true, false, not, ◌&&◌, ◌||◌, List, [], ◌∷◌, ◌++◌, Option, Some, None, cond, nat_eq, nat_lt, nat_le, map}
+use Rattle.std.specs.Prelude.{ℕ, ◌-◌, Bool, false, not, ◌&&◌, ◌||◌, List, [], ◌∷◌, ◌++◌, Option, Some, None, cond, nat_eq, nat_lt, nat_le, map}
 use Rattle.std.specs.List.{flat_map, range_with_len}
 use Rattle.ide_graph.specs.declared.edge.EdgeData.{EdgeData}
 use Rattle.ide_graph.specs.declared.edge.EdgeKind.{EdgeKind}
@@ -30,8 +30,8 @@ is_entered result first end fact = nat_eq fact result || (nat_le first fact && n
 abbrev pub entered_targets : {F : Type 0} → F → F → ℕ → ℕ → ℕ → ℕ → List (ℕ × F)
 entered_targets id at_entry result first end fact =
     cond (nat_eq fact 0)
-      ((0, id) ∷ (result, at_entry) ∷ map (λ local. (local, at_entry)) (range_with_len first (end - first)))
-      (kept id (not (is_entered result first end fact)) fact)
+    ((0, id) ∷ (result, at_entry) ∷ map (λ local. (local, at_entry)) (range_with_len first (end - first)))
+    (kept id (not (is_entered result first end fact)) fact)
 
 -- over a call: `@zero` and the globals to themselves, and each argument to its parameter
 abbrev pub call_targets : {F : Type 0} → F → ℕ → List (ℕ × ℕ) → ℕ → List (ℕ × F)

@@ -24,11 +24,7 @@ pub trait Problem {
 
     /// Fills the empty list with the targets of `fact` over `edge`, ascending, each with its
     /// function. It depends on the edge and the fact alone. At an error the list is empty.
-    fn flow(
-        edge: &EdgeData,
-        fact: Fact,
-        out: &mut TargetList<Self::F>,
-    ) -> Result<(), AllocError>
+    fn flow(edge: &EdgeData, fact: Fact, out: &mut TargetList<Self::F>) -> Result<(), AllocError>
         requires { out.old.list.items ≡ [] }
         ensures ok { OnOk result (out.new.list.items ≡ targets edge.now fact) }
         ensures err { OnErr result (out.new.list.items ≡ []) };

@@ -1,6 +1,6 @@
 -- What contracts see of a core, and when its calls are refused.
-use Rattle.std.specs.Prelude.{◌≡◌, ℕ, Bool, true, false, ◌&&◌, ◌≢◌, slice_index, List, [], Option, None, Some, nat_eq}
-use Rattle.std.specs.Option.{is_some, IfSome}
+use Rattle.std.specs.Prelude.{◌≡◌, ℕ, Bool, false, ◌&&◌, ◌≢◌, slice_index, List, Option, None, Some, nat_eq}
+use Rattle.std.specs.Option.{is_some}
 use Rattle.std.specs.List.{Contains}
 use Rattle.ide_graph.specs.Supergraph.{Supergraph, procedure_named}
 use Rattle.ide_tables.specs.Tables.{Table}
@@ -8,7 +8,7 @@ use Rattle.ide_tasks.specs.Task.{TaskData, same_task}
 use Rattle.ide_tasks.specs.Work.{WorkData}
 use Rattle.ide_tasks.specs.declared.partners.Partners.{Partners}
 use Rattle.ide_worklist.specs.declared.claim.Claim.{Claim}
-use Rattle.ide_worklist.specs.Worklist.{Pile, claim_at, is_pending}
+use Rattle.ide_worklist.specs.Worklist.{Pile, claim_at}
 
 -- the graph of the loaded program, if one is loaded; the roots, as indices of procedures; the tables;
 -- and the pending keys with the claims

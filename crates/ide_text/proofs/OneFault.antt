@@ -1,16 +1,10 @@
 -- A text has one fault at most, and none where it is parsed.
-use Rattle.std.proofs.Common.{◌≡◌, ◌<◌, ◌≤◌, ◌⊎◌, ℕ, List, length, refl, arith, inl, inr, Ok, Err, Result}
-use Rattle.std.specs.Prelude.{IfOk, IfErr}
+use Rattle.std.proofs.Common.{◌≡◌, ℕ, List, refl, arith}
 use Rattle.ide_wire.specs.declared.refused.Fault.{Fault}
-use Rattle.ide_wire.specs.declared.refused.Refused.{Refused}
-use Rattle.ide_wire.specs.declared.refused.Refused.TheVariants.{NoMemory, Text}
-use Rattle.ide_text.specs.declared.parser.TheConstants.{MAX_TEXT}
 use Rattle.ide_text.specs.declared.program.Program.{Program}
-use Rattle.ide_text.specs.FirstFault.{FirstFault}
 use Rattle.ide_text.specs.Grammar.{Spells}
-use Rattle.ide_text.specs.Lines.{IsWithinLimits}
 use Rattle.ide_text.specs.NameFault.{IsFirstNameFault}
-use Rattle.ide_text.specs.Parsed.{IsParsed, TextFault, Too_long, In_lines, In_names, IsRefusalOf}
+use Rattle.ide_text.specs.Parsed.{IsParsed, TextFault, Too_long, In_lines, In_names}
 use Rattle.ide_text.proofs.FirstFault.{IsFirstNameFault-unique}
 use Rattle.ide_text.proofs.OneProgram.{one_program}
 use Rattle.ide_text.proofs.Unique.{FirstFault-one, spelled_has_none}

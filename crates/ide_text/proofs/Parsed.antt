@@ -1,5 +1,5 @@
 -- A refusal of lines, or of names, as a refusal of the whole text.
-use Rattle.std.proofs.Common.{◌≡◌, ◌≤◌, ℕ, List, length, sym, subst, ◌∙◌, Err, Result}
+use Rattle.std.proofs.Common.{◌≡◌, ◌≤◌, ℕ, List, length, sym, subst, Err, Result}
 use Rattle.std.specs.Prelude.{IfErr}
 use Rattle.ide_wire.specs.declared.refused.Refused.{Refused}
 use Rattle.ide_wire.specs.declared.refused.Refused.TheVariants.{NoMemory, Text}

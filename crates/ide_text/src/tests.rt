@@ -93,7 +93,13 @@ fn prints_what_it_parsed(rt: HostRuntime) -> Result<(), Fail> {
 }
 
 /// That the text with that byte at that place, if it is parsed, is printed as it stands.
-fn expect_told(rt: &impl Abort, alloc: Global, text: &[u8], place: usize, byte: u8) -> Result<(), Fail> {
+fn expect_told(
+    rt: &impl Abort,
+    alloc: Global,
+    text: &[u8],
+    place: usize,
+    byte: u8,
+) -> Result<(), Fail> {
     let mut changed = Vec::from_slice(alloc, text)?;
     if let Some(old) = changed.get_mut(place) {
         *old = byte;

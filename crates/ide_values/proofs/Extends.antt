@@ -1,5 +1,5 @@
 -- Appending in steps: what each step appended stands at the end.
-use Rattle.std.proofs.Common.{◌≡◌, ◌++◌, List, ◌∙◌, ap, append_assoc}
+use Rattle.std.proofs.Common.{◌++◌, List, ◌∙◌, ap, append_assoc}
 use Rattle.ide_values.specs.Extends.{Extends}
 
 -- what extends a list that extends another extends that

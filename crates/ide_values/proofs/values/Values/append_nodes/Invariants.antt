@@ -1,4 +1,3 @@
-use Rattle.std.proofs.Common.{◌≡◌}
 use Rattle.ide_values.specs.Extends.{Extends}
 use Rattle.ide_values.proofs.values.Values.append_nodes.Given as goal
 
