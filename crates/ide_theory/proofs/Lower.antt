@@ -176,7 +176,7 @@ module _ (K : Frame) (laws : IsLawful K) (jump summary : ℕ → ℕ → ℕ →
             (λ c g. below-trans A laws.lattice (jumped (from ret) entered c) (path_effect K fs entered c)
               (path_effect K fs (edge_effect K call (path_effect K es env)) c) (within_callee c g) (higher c g)) d))
 
-  module _ (start : ℕ → ℕ → L) (closed : IsClosed K jump start) (roots : (r d : ℕ) → IsRoot r → d < facts → IsDecreasing K (jump r d d)) where
+  module _ (start : ℕ → ℕ → L) (closed : IsClosed K jump start) (roots : (r : ℕ) → IsRoot r → IsSeeded r entry) where
     -- the start values of a callee are below what a call hands on
     pub start-lower : (e : Edge) → IsCall e → IsLower K laws (start (to e)) (edge_effect K e (jumped (from e) (start (start_of (from e)))))
     start-lower e call c h =
@@ -194,9 +194,9 @@ module _ (K : Frame) (laws : IsLawful K) (jump summary : ℕ → ℕ → ℕ →
     valid-lower {r} {n} (within {es = es} path) root d h =
         let low : IsLower K laws (start r) entry = λ k g. closed.root r k root g in
         subst (λ s. IsBelow A (jumped n (start s) d) (path_effect K es entry d)) (sym (same-start K laws path (laws.root r root)))
-          (below-trans A laws.lattice (jumped n (start r) d) (path_effect K es (start r) d) (path_effect K es entry d)
-            (same-lower path (start r) (closed.proper r) (λ k g. inr (roots r k root g)) d h)
-            (path-mono K laws es (start r) entry low d h))
+          (below-trans A laws.lattice (jumped n (start r) d) (jumped n entry d) (path_effect K es entry d)
+            (jumped-mono n (start r) entry low d)
+            (same-lower path entry laws.entry (roots r root) d h))
     valid-lower {r} {n} (enters {es = es} {fs = fs} e path call inner) root d h =
         let env : ℕ → L = start (start_of (from e)) in
         let p : IsProper K laws env = closed.proper (start_of (from e)) in
