@@ -1,7 +1,9 @@
 pub mod Bridge
+pub mod Changes
 pub mod Effects
 pub mod Folds
 pub mod Greatest
 pub mod Lower
+pub mod Ready
 pub mod Sound
 pub mod Targets

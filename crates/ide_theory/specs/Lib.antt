@@ -3,6 +3,9 @@ pub mod Effect
 pub mod Entry
 pub mod Frame
 pub mod Image
+pub mod Invariant
 pub mod Member
 pub mod Path
+pub mod Run
+pub mod State
 pub mod Value
