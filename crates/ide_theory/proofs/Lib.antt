@@ -3,7 +3,9 @@ pub mod Changes
 pub mod Effects
 pub mod Folds
 pub mod Greatest
+pub mod Kept
 pub mod Lower
 pub mod Ready
+pub mod Runs
 pub mod Sound
 pub mod Targets
