@@ -13,9 +13,9 @@ use Rattle.ide_theory.specs.Entry.{MeetOf, OfKey, IsSound}
 use Rattle.ide_theory.specs.State.{Claim, State, put, rest_of, without_first, marked, new_claim, with_claim, part_done, lowered_at, finished}
 use Rattle.ide_theory.specs.Run.{ArePartsOf}
 use Rattle.ide_theory.specs.Invariant.{IsOpen, IsSettled, met, awaits, owed, IsReady, IsHeld}
-use Rattle.ide_theory.proofs.Changes.{key-tells, hand-tells, same-or, some-inj, none-some, map-tells, or-true, left-with, has-claim, kept-with, left-without, left-done, kept-done}
-use Rattle.ide_theory.proofs.Bridge.{HasProper, proper-function_of, present-is}
-use Rattle.ide_theory.proofs.Sound.{proper-meets, proper-key, has-proper, instance-sound}
+use Rattle.ide_theory.specs.Laws.Changes.{key-tells, hand-tells, same-or, some-inj, none-some, map-tells, or-true, left-with, has-claim, kept-with, left-without, left-done, kept-done}
+use Rattle.ide_theory.specs.Laws.Bridge.{HasProper, proper-function_of, present-is}
+use Rattle.ide_theory.specs.Laws.Sound.{proper-meets, proper-key, has-proper, instance-sound}
 
 -- what stands in a list is its first, or stands in the rest
 pub first-or : {T : Type 0} {x y : T} {xs : List T} → IsIn x (y ∷ xs) → (x ≡ y) ⊎ IsIn x xs

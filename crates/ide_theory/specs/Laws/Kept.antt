@@ -12,10 +12,10 @@ use Rattle.ide_theory.specs.Entry.{done, MeetOf, one, both, OfKey, IsSound}
 use Rattle.ide_theory.specs.State.{Claim, State, put, rest_of, without_first, marked, new_claim, with_claim, part_done, lowered_at, finished, nothing_done}
 use Rattle.ide_theory.specs.Run.{ArePartsOf, Step, claim, skip, lower, release, finish, root, Run, begins, goes_on, IsQuiet}
 use Rattle.ide_theory.specs.Invariant.{IsOpen, IsSettled, met, awaits, owed, IsReady, IsHeld, AreOwed, IsInvariant}
-use Rattle.ide_theory.proofs.Changes.{key-tells, hand-tells, some-inj, none-some, map-tells, left-with, left-without, left-done}
-use Rattle.ide_theory.proofs.Bridge.{HasProper, present-or, present-is, absent-is}
-use Rattle.ide_theory.proofs.Sound.{proper-meets, proper-key, has-proper, instance-sound, at-start}
-use Rattle.ide_theory.proofs.Ready.{all_top-meet, other-instance, met-lowered, met-now, settled-claim, settled-done, open-lowered, pending-lowered, settled-lowered, settled-release, settled-finish}
+use Rattle.ide_theory.specs.Laws.Changes.{key-tells, hand-tells, some-inj, none-some, map-tells, left-with, left-without, left-done}
+use Rattle.ide_theory.specs.Laws.Bridge.{HasProper, present-or, present-is, absent-is}
+use Rattle.ide_theory.specs.Laws.Sound.{proper-meets, proper-key, has-proper, instance-sound, at-start}
+use Rattle.ide_theory.specs.Laws.Ready.{all_top-meet, other-instance, met-lowered, met-now, settled-claim, settled-done, open-lowered, pending-lowered, settled-lowered, settled-release, settled-finish}
 
 -- a claim that a part was taken from has the key that it had
 pub same-claim-key : {F : Type 0} (d c : Claim F) → (d ≡ c) ⊎ (without_first d ≡ c) → d.key ≡ c.key
