@@ -7,6 +7,8 @@ pub mod Given
 pub mod Greatest
 pub mod Kept
 pub mod Lower
+pub mod Members
+pub mod Parts
 pub mod Ready
 pub mod Runs
 pub mod Sound

@@ -7,6 +7,7 @@ pub mod Image
 pub mod Invariant
 pub mod Laws
 pub mod Member
+pub mod Parts
 pub mod Path
 pub mod Run
 pub mod State
