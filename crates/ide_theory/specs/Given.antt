@@ -1,10 +1,10 @@
--- Supergraphs given as lists of edges, and the frame of an analysis over one.
-use Rattle.std.specs.Prelude.{◌≡◌, ℕ, ◌<◌, List, IsTrue}
+-- Supergraphs given as lists of edges, the frame of an analysis over one, and its roots.
+use Rattle.std.specs.Prelude.{◌≡◌, ℕ, List}
 use Rattle.ide_graph.specs.declared.edge.EdgeData.{EdgeData}
 use Rattle.ide_graph.specs.Lawful.{IsEdge}
 use Rattle.ide_lattice.specs.Algebra.{LatticeAlgebra, EdgeAlgebra}
 use Rattle.ide_problem.specs.Flow.{Targets}
-use Rattle.ide_theory.specs.Frame.{Frame}
+use Rattle.ide_theory.specs.Frame.{Frame, Roots}
 use Rattle.ide_theory.specs.Member.{IsIn}
 use Rattle.ide_theory.specs.Path.{Supergraph}
 
@@ -15,12 +15,11 @@ pub record Edge (facts : ℕ) : Type 0 where
   pub lawful : IsEdge edge
   pub counted : edge.facts ≡ facts
 
--- the flat edges, each call edge with its return edge, the roots, and the start of each node's procedure
+-- the flat edges, each call edge with its return edge, and the start of each node's procedure
 pub record Edges : Type 0 where
   pub facts : ℕ
   pub flat : List (Edge facts)
   pub calls : List (Edge facts × Edge facts)
-  pub roots : List ℕ
   pub start_of : ℕ → ℕ
 
 -- the edge is the return edge of the call edge
@@ -39,19 +38,18 @@ supergraph_of G = record {
 }
 
 -- where the edges of a program lead: flat edges stay in their procedure, calls lead to starts and
--- come back from that procedure to the one site of their node, and roots are starts
+-- come back from that procedure to the one site of their node
 pub record IsGraph (G : Edges) : Type 0 where
   pub flat : (e : Edge G.facts) → IsIn e G.flat → G.start_of e.edge.end ≡ G.start_of e.from
   pub back : (call ret : Edge G.facts) → AreMatched G call ret → G.start_of ret.edge.end ≡ G.start_of call.from
   pub callee : (call ret : Edge G.facts) → AreMatched G call ret → G.start_of call.edge.end ≡ call.edge.end
   pub exit : (call ret : Edge G.facts) → AreMatched G call ret → G.start_of ret.from ≡ call.edge.end
-  pub root : (r : ℕ) → IsIn r G.roots → G.start_of r ≡ r
   pub one_site : (call ret other back : Edge G.facts) → AreMatched G call ret → AreMatched G other back → call.from ≡ other.from
       → ret.edge.end ≡ back.edge.end
 
--- an analysis over a supergraph, with the values at the entry of its roots
-abbrev pub frame_of : {L F : Type 0} → LatticeAlgebra L → EdgeAlgebra F L → Targets F → Edges → (ℕ → L) → Frame
-frame_of {L} {F} lattice functions targets G entry = record {
+-- an analysis over a supergraph
+abbrev pub frame_of : {L F : Type 0} → LatticeAlgebra L → EdgeAlgebra F L → Targets F → Edges → Frame
+frame_of {L} {F} lattice functions targets G = record {
   L = L;
   F = F;
   lattice = lattice;
@@ -59,10 +57,8 @@ frame_of {L} {F} lattice functions targets G entry = record {
   graph = supergraph_of G;
   facts = G.facts;
   targets = λ e k. targets e.edge k;
-  IsRoot = λ r. IsIn r G.roots;
-  entry = entry;
 }
 
--- each fact has a proper value at the entry of a root
-abbrev pub IsEntry : {L : Type 0} → LatticeAlgebra L → Edges → (ℕ → L) → Type 0
-IsEntry lattice G entry = (k : ℕ) → k < G.facts → IsTrue (lattice.proper (entry k))
+-- the roots of a list, with the values at their entry
+abbrev pub roots_of : (K : Frame) → List ℕ → (ℕ → K.L) → Roots K
+roots_of K roots entry = record { IsRoot = λ r. IsIn r roots; entry = entry }

@@ -2,7 +2,7 @@
 use Rattle.std.specs.Prelude.{◌≡◌, ℕ, ◌<◌, ◌⊎◌, List, [], ◌∷◌, Option, Some, unwrap_or}
 use Rattle.ide_wire.specs.declared.key.Key.{Key}
 use Rattle.ide_wire.specs.declared.key.Key.TheVariants.{Jump, Summary}
-use Rattle.ide_theory.specs.Frame.{Frame}
+use Rattle.ide_theory.specs.Frame.{Frame, Roots}
 use Rattle.ide_theory.specs.Member.{IsIn}
 
 -- the flow over the edge lists fact `d` with that function for fact `k`
@@ -33,5 +33,5 @@ abbrev pub IsMet : (K : Frame) → (Key → Option K.F) → Key → K.F → Type
 IsMet K get key g = K.functions.meet (function_of K get key) g ≡ function_of K get key
 
 -- each root has the identity for each fact whose entry is not top
-abbrev pub HasRoots : (K : Frame) → (Key → Option K.F) → Type 0
-HasRoots K get = (r d : ℕ) → K.IsRoot r → d < K.facts → (K.entry d ≡ K.lattice.top) ⊎ IsMet K get (Jump r d d) K.functions.id
+abbrev pub HasRoots : (K : Frame) → Roots K → (Key → Option K.F) → Type 0
+HasRoots K R get = (r d : ℕ) → R.IsRoot r → d < K.facts → (R.entry d ≡ K.lattice.top) ⊎ IsMet K get (Jump r d d) K.functions.id

@@ -13,7 +13,7 @@ pub record ArePartsOf (K : Frame) (get : Key → Option K.F) (q : Key) (parts : 
   pub right : (k : Key) (g : K.F) → IsIn {T = Key × K.F} (k, g) parts → (ks : List Key) × Instance K get ks k g
 
 -- one step: a hand claims a pending key that no hand has, does its first part, which may be met or
--- lowers a key, gives the claim back, or ends it with no part left; or a root gets its identity
+-- lowers a key, gives the claim back, or ends it with no part left; or the start of a procedure gets the identity for a fact
 pub data Step (K : Frame) : State K.F → State K.F → Type 0 where
   claim : {s : State K.F} → (h : ℕ) (q : Key) (parts : List (Key × K.F)) → s.claims h ≡ None → s.pending q ≡ true
       → ((j : ℕ) (c : Claim K.F) → s.claims j ≡ Some c → c.key ≢ q) → ArePartsOf K s.get q parts
@@ -24,7 +24,7 @@ pub data Step (K : Frame) : State K.F → State K.F → Type 0 where
       → c.parts ≡ (t, g) ∷ rest → Step K s (part_done (lowered_at K s t g) h)
   release : {s : State K.F} → (h : ℕ) → Step K s (with_claim s h None)
   finish : {s : State K.F} → (h : ℕ) (c : Claim K.F) → s.claims h ≡ Some c → c.parts ≡ [] → Step K s (finished s h c)
-  root : {s : State K.F} → (r d : ℕ) → K.IsRoot r → d < K.facts → Step K s (lowered_at K s (Jump r d d) K.functions.id)
+  root : {s : State K.F} → (r d : ℕ) → K.graph.start_of r ≡ r → d < K.facts → Step K s (lowered_at K s (Jump r d d) K.functions.id)
 
 -- the state after some steps, from nothing on
 pub data Run (K : Frame) : State K.F → Type 0 where

@@ -2,7 +2,7 @@
 use Rattle.std.specs.Prelude.{◌≡◌, ℕ, ◌<◌, List}
 use Rattle.ide_lattice.specs.Algebra.{LatticeAlgebra, EdgeAlgebra}
 use Rattle.ide_problem.specs.Flow.{Targets}
-use Rattle.ide_theory.specs.Frame.{Frame}
+use Rattle.ide_theory.specs.Frame.{Frame, Roots, AreRoots}
 use Rattle.ide_theory.specs.Path.{Valid}
 use Rattle.ide_theory.specs.Best.{IsBest}
 use Rattle.ide_theory.specs.Image.{HasRoots}
@@ -10,36 +10,42 @@ use Rattle.ide_theory.specs.Value.{IsStarted, value_at}
 use Rattle.ide_theory.specs.State.{State}
 use Rattle.ide_theory.specs.Run.{Run, IsQuiet}
 use Rattle.ide_theory.specs.Invariant.{IsInvariant}
-use Rattle.ide_theory.specs.Given.{Edge, Edges, IsGraph, IsEntry, supergraph_of, frame_of}
+use Rattle.ide_theory.specs.Given.{Edges, IsGraph, frame_of, roots_of}
 
--- the values that follow from the image and the start values are best, at each node and fact
-abbrev pub HasBestValues : (K : Frame) → State K.F → (ℕ → ℕ → K.L) → Type 0
-HasBestValues K s start = (n d : ℕ) → d < K.facts → IsBest K n d (value_at K s.get start n d)
+-- where nothing is pending, the roots have their identities and the start values stand, the values
+-- that follow are best, at each node and fact
+abbrev pub GivesBest : (K : Frame) → Roots K → State K.F → Type 0
+GivesBest K R s =
+    IsQuiet s → HasRoots K R s.get → (start : ℕ → ℕ → K.L) → IsStarted K R s.get start
+    → (n d : ℕ) → d < K.facts → IsBest K R n d (value_at K s.get start n d)
+
+-- two best values are the same
+abbrev pub HasOneBest : (K : Frame) → Roots K → Type 0
+HasOneBest K R = (n d : ℕ) (v w : K.L) → IsBest K R n d v → IsBest K R n d w → v ≡ w
+
+-- where no valid path from a root leads, top is best
+abbrev pub HasTopUnreached : (K : Frame) → Roots K → Type 0
+HasTopUnreached K R =
+    (n d : ℕ) → ((r : ℕ) (es : List K.graph.Edge) → R.IsRoot r → Valid K.graph r es n → ⊥) → IsBest K R n d K.lattice.top
 
 module _ {L F : Type 0} (lattice : LatticeAlgebra L) (functions : EdgeAlgebra F L) (targets : Targets F) where
-  -- a quiet state that keeps the invariant, and in which the roots have their identities, gives best values
+  -- it holds over each supergraph with roots
+  abbrev pub ForEach : ((K : Frame) → Roots K → Type 0) → Type 0
+  ForEach P =
+      (G : Edges) → IsGraph G → (roots : List ℕ) (entry : ℕ → L)
+      → AreRoots (frame_of lattice functions targets G) (roots_of (frame_of lattice functions targets G) roots entry)
+      → P (frame_of lattice functions targets G) (roots_of (frame_of lattice functions targets G) roots entry)
+
+  -- a state that keeps the invariant gives best values
   abbrev pub ValuesAreBest : Type 0
-  ValuesAreBest =
-      (G : Edges) → IsGraph G → (entry : ℕ → L) → IsEntry lattice G entry → (s : State F) (start : ℕ → ℕ → L)
-      → IsInvariant (frame_of lattice functions targets G entry) s → IsQuiet s → HasRoots (frame_of lattice functions targets G entry) s.get
-      → IsStarted (frame_of lattice functions targets G entry) s.get start → HasBestValues (frame_of lattice functions targets G entry) s start
+  ValuesAreBest = ForEach (λ K R. (s : State K.F) → IsInvariant K s → GivesBest K R s)
 
-  -- a run from nothing on, by any hands, that ends in a quiet state with the roots' identities gives best values
+  -- a run from nothing on, by any hands, gives best values
   abbrev pub RunsAreBest : Type 0
-  RunsAreBest =
-      (G : Edges) → IsGraph G → (entry : ℕ → L) → IsEntry lattice G entry → (s : State F) (start : ℕ → ℕ → L)
-      → Run (frame_of lattice functions targets G entry) s → IsQuiet s → HasRoots (frame_of lattice functions targets G entry) s.get
-      → IsStarted (frame_of lattice functions targets G entry) s.get start → HasBestValues (frame_of lattice functions targets G entry) s start
+  RunsAreBest = ForEach (λ K R. (s : State K.F) → Run K s → GivesBest K R s)
 
-  -- two best values are the same
   abbrev pub BestIsUnique : Type 0
-  BestIsUnique =
-      (G : Edges) → IsGraph G → (entry : ℕ → L) → IsEntry lattice G entry → (n d : ℕ) (v w : L)
-      → IsBest (frame_of lattice functions targets G entry) n d v → IsBest (frame_of lattice functions targets G entry) n d w → v ≡ w
+  BestIsUnique = ForEach HasOneBest
 
-  -- where no valid path from a root leads, top is best
   abbrev pub TopIsBest : Type 0
-  TopIsBest =
-      (G : Edges) → IsGraph G → (entry : ℕ → L) → IsEntry lattice G entry → (n d : ℕ)
-      → ((r : ℕ) (es : List (Edge G.facts)) → (frame_of lattice functions targets G entry).IsRoot r → Valid (supergraph_of G) r es n → ⊥)
-      → IsBest (frame_of lattice functions targets G entry) n d lattice.top
+  TopIsBest = ForEach HasTopUnreached

@@ -8,7 +8,7 @@ use Rattle.ide_lattice.specs.Laws.{IsEdgeAlgebra}
 use Rattle.ide_lattice.specs.Order.{IsBelow, IsDistributive, below-refl, below-trans, below-antisym, below-top, distributive-mono}
 use Rattle.ide_lattice.specs.Meets.{meet_of, proper-meet_of, meet_of-below, below-meet_of, distributive-apply}
 use Rattle.ide_problem.specs.Flow.{function_to, AreTargets}
-use Rattle.ide_theory.specs.Frame.{Frame, IsLawful}
+use Rattle.ide_theory.specs.Frame.{Frame, Roots, IsLawful}
 use Rattle.ide_theory.specs.Path.{Valid}
 use Rattle.ide_theory.specs.Effect.{arrow, edge_effect, path_effect}
 use Rattle.ide_theory.specs.Best.{IsBelowPaths, IsBest}
@@ -26,7 +26,7 @@ proper-function_to A B laws d low count (t ∷ ts) lawful =
     choose false p q = q
 
 module _ (K : Frame) (laws : IsLawful K) where
-  open K use {L, F, lattice as A, functions as B, facts, targets, entry, graph.{Edge}}
+  open K use {L, F, lattice as A, functions as B, facts, targets, graph.{Edge}}
 
   -- an environment gives each fact a proper value
   abbrev pub IsProper : (ℕ → L) → Type 0
@@ -71,13 +71,13 @@ module _ (K : Frame) (laws : IsLawful K) where
   path-append (e ∷ es) fs env = path-append es fs (edge_effect K e env)
 
   -- two best values are the same
-  pub best-unique : (n d : ℕ) (v w : L) → IsBest K n d v → IsBest K n d w → v ≡ w
-  best-unique n d v w a b =
+  pub best-unique : (R : Roots K) (n d : ℕ) (v w : L) → IsBest K R n d v → IsBest K R n d w → v ≡ w
+  best-unique R n d v w a b =
       below-antisym A laws.lattice v w (b.greatest v a.proper a.lower) (a.greatest w b.proper b.lower)
 
   -- where no valid path from a root leads, top is best
-  pub top-best : (n d : ℕ) → ((r : ℕ) (es : List Edge) → K.IsRoot r → Valid K.graph r es n → ⊥) → IsBest K n d A.top
-  top-best n d none = record {
+  pub top-best : (R : Roots K) (n d : ℕ) → ((r : ℕ) (es : List Edge) → R.IsRoot r → Valid K.graph r es n → ⊥) → IsBest K R n d A.top
+  top-best R n d none = record {
     proper = laws.lattice.proper_top;
     lower = λ r es root path. elim (none r es root path) [ ];
     greatest = λ w p below. below-top A laws.lattice w p;

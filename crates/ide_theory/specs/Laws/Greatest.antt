@@ -7,7 +7,7 @@ use Rattle.ide_lattice.specs.Meets.{proper-meet_of, meet_of-below, below-meet_of
 use Rattle.ide_problem.specs.Flow.{function_to}
 use Rattle.ide_wire.specs.declared.key.Key.{Key}
 use Rattle.ide_wire.specs.declared.key.Key.TheVariants.{Jump, Summary}
-use Rattle.ide_theory.specs.Frame.{Frame, IsLawful}
+use Rattle.ide_theory.specs.Frame.{Frame, Roots, AreRoots, IsLawful}
 use Rattle.ide_theory.specs.Path.{SameLevel, Valid, within, enters}
 use Rattle.ide_theory.specs.Effect.{arrow, edge_effect, path_effect}
 use Rattle.ide_theory.specs.Best.{IsBelowPaths, IsBest}
@@ -27,19 +27,19 @@ pub data Entered (K : Frame) (r : ℕ) : List K.graph.Edge → ℕ → Type 0 wh
   by_call : {es : List K.graph.Edge} → (e : K.graph.Edge) → Valid K.graph r es (K.graph.from e) → K.graph.IsCall e → Entered K r (es ++ (e ∷ [])) (K.graph.to e)
 
 -- a value that one path which has just entered gives a fact at a start
-pub record OfEntered (K : Frame) (s d : ℕ) (y : K.L) : Type 0 where
+pub record OfEntered (K : Frame) (R : Roots K) (s d : ℕ) (y : K.L) : Type 0 where
   pub root : ℕ
-  pub is_root : K.IsRoot root
+  pub is_root : R.IsRoot root
   pub path : List K.graph.Edge
   pub entered : Entered K root path s
   pub fact : ℕ
   pub in_range : fact < K.facts
   pub function : K.F
   pub exploded : Exploded K path fact d function
-  pub same : y ≡ K.functions.apply function (K.entry fact)
+  pub same : y ≡ K.functions.apply function (R.entry fact)
 
 module _ (K : Frame) (laws : IsLawful K) where
-  open K use {L, F, lattice as A, functions as B, facts, targets, entry, IsRoot, graph, graph.{Edge, from, to, IsFlat, IsCall, Matched, start_of}}
+  open K use {L, F, lattice as A, functions as B, facts, targets, graph, graph.{Edge, from, to, IsFlat, IsCall, Matched, start_of}}
 
   -- the effect of a path is below what it does from fact to fact
   pub exploded-above : {es : List Edge} {k d : ℕ} {f : F} → Exploded K es k d f → (env : ℕ → L) → IsProper K laws env → k < facts
@@ -77,7 +77,9 @@ module _ (K : Frame) (laws : IsLawful K) where
   entered-then {r} {n = n} {fs = fs} (by_call {es = es} e valid call) path =
       subst (λ gs. Valid graph r gs n) (sym (append_assoc es (e ∷ []) fs)) (enters e valid call path)
 
-  module _ (get : Key → Option F) (sound : IsSound K get) where
+  module _ (R : Roots K) (given_roots : AreRoots K R) (get : Key → Option F) (sound : IsSound K get) where
+    open R use {IsRoot, entry}
+
     pub proper : HasProper K get
     proper = has-proper K laws get sound
 
@@ -91,22 +93,22 @@ module _ (K : Frame) (laws : IsLawful K) where
             (meets-cover (proper-jump K laws n a b) (sound (Jump n a b) found.0 found.1) h dist x w p below)
       ]
 
-    pub proper-found : {s k : ℕ} {x : L} → Found K get s k x → IsTrue (A.proper x)
+    pub proper-found : {s k : ℕ} {x : L} → Found K R get s k x → IsTrue (A.proper x)
     proper-found nothing = laws.lattice.proper_top
-    proper-found (given {k = k} root h) = laws.entry k h
+    proper-found (given {k = k} root h) = given_roots.proper k h
     proper-found (passed {a = a} {x = x} e b c call before) =
         proper-arrow K laws get proper e b c (jump_map K get (from e) a b x) (proper-at K laws get proper (Jump (from e) a b) x (proper-found before))
     proper-found (meet {x = x} {y = y} m n) = laws.lattice.proper_meet x y (proper-found m) (proper-found n)
 
     -- a path that has just entered goes on through its procedure and over a call
-    pub passed-on : (e : Edge) → IsCall e → (a b c : ℕ) (q g : F) (y : L) → IsTarget K e b c q → OfJump K (from e) a b g → OfEntered K (start_of (from e)) a y
-        → OfEntered K (to e) c (B.apply q (B.apply g y))
+    pub passed-on : (e : Edge) → IsCall e → (a b c : ℕ) (q g : F) (y : L) → IsTarget K e b c q → OfJump K (from e) a b g → OfEntered K R (start_of (from e)) a y
+        → OfEntered K R (to e) c (B.apply q (B.apply g y))
     passed-on e call a b c q g y is of before =
         let pf : IsTrue (B.proper before.function) = proper-exploded K laws before.exploded in
         let pg : IsTrue (B.proper g) = proper-exploded K laws of.exploded in
         let pq : IsTrue (B.proper q) = proper-listed K laws e b c q is in
         let fg : F = B.compose before.function g in
-        let pe : IsTrue (A.proper (entry before.fact)) = laws.entry before.fact before.in_range in
+        let pe : IsTrue (A.proper (entry before.fact)) = given_roots.proper before.fact before.in_range in
         record {
           root = before.root;
           is_root = before.is_root;
@@ -124,8 +126,8 @@ module _ (K : Frame) (laws : IsLawful K) where
 
     -- what is below a distributive map of the value of each path that has just entered is below that
     -- of the start value
-    pub found-cover : {s k : ℕ} {x : L} → Found K get s k x → (h : L → L) → IsDistributive A h → (w : L) → IsTrue (A.proper w)
-        → ((y : L) → OfEntered K s k y → IsBelow A w (h y)) → IsBelow A w (h x)
+    pub found-cover : {s k : ℕ} {x : L} → Found K R get s k x → (h : L → L) → IsDistributive A h → (w : L) → IsTrue (A.proper w)
+        → ((y : L) → OfEntered K R s k y → IsBelow A w (h y)) → IsBelow A w (h x)
     found-cover nothing h dist w q below = below-when-top K laws get proper w (h A.top) q dist.top
     found-cover (given {r = r} {k = k} root i) h dist w q below =
         below (entry k) (record {
@@ -137,7 +139,7 @@ module _ (K : Frame) (laws : IsLawful K) where
           in_range = i;
           function = B.id;
           exploded = done;
-          same = sym (laws.functions.apply_id (entry k) (laws.entry k i));
+          same = sym (laws.functions.apply_id (entry k) (given_roots.proper k i));
         })
     found-cover (passed {a = a} {x = x} e b c call before) h dist w q below =
         let px : IsTrue (A.proper x) = proper-found before in
@@ -161,25 +163,25 @@ module _ (K : Frame) (laws : IsLawful K) where
           (below-meet A laws.lattice w (h x) (h y) (found-cover m h dist w q below) (found-cover n h dist w q below))
 
     -- what is below each valid path's effect is below the value of one that has entered and goes on within the procedure
-    pub below-joined : (n d : ℕ) (w : L) → IsBelowPaths K n d w → (k : ℕ) (g : F) → OfJump K n k d g → (y : L) → OfEntered K (start_of n) k y
+    pub below-joined : (n d : ℕ) (w : L) → IsBelowPaths K R n d w → (k : ℕ) (g : F) → OfJump K n k d g → (y : L) → OfEntered K R (start_of n) k y
         → IsBelow A w (B.apply g y)
     below-joined n d w below k g of y before =
         let pf : IsTrue (B.proper before.function) = proper-exploded K laws before.exploded in
         let pg : IsTrue (B.proper g) = proper-exploded K laws of.exploded in
         let path : List Edge = before.path ++ of.path in
-        let pe : IsTrue (A.proper (entry before.fact)) = laws.entry before.fact before.in_range in
+        let pe : IsTrue (A.proper (entry before.fact)) = given_roots.proper before.fact before.in_range in
         subst (IsBelow A w)
           (laws.functions.apply_compose before.function g (entry before.fact) pf pg pe ∙ ap (B.apply g) (sym before.same))
           (below-trans A laws.lattice w (path_effect K path entry d) (B.apply (B.compose before.function g) (entry before.fact))
             (below before.root path before.is_root (entered-then before.entered of.level))
-            (exploded-above (exploded-append K laws before.exploded of.exploded) entry laws.entry before.in_range))
+            (exploded-above (exploded-append K laws before.exploded of.exploded) entry given_roots.proper before.in_range))
 
-    module _ (start : ℕ → ℕ → L) (found : (s k : ℕ) → k < facts → Found K get s k (start s k)) where
-      pub value-greatest : (n d : ℕ) (w : L) → IsTrue (A.proper w) → IsBelowPaths K n d w → IsBelow A w (value_at K get start n d)
+    module _ (start : ℕ → ℕ → L) (found : (s k : ℕ) → k < facts → Found K R get s k (start s k)) where
+      pub value-greatest : (n d : ℕ) (w : L) → IsTrue (A.proper w) → IsBelowPaths K R n d w → IsBelow A w (value_at K get start n d)
       value-greatest n d w q below =
           below-meet_of A laws.lattice w (λ k. jump_map K get n k d (start (start_of n) k)) facts q
             (λ k h. let x : L = start (start_of n) k in
-              let begun : Found K get (start_of n) k x = found (start_of n) k h in
+              let begun : Found K R get (start_of n) k x = found (start_of n) k h in
               jump-cover n k d (λ y. y) (record { proper = λ y p. p; carries = λ y z p r. refl; top = refl }) x w (proper-found begun) q
                 (λ g of. let pg : IsTrue (B.proper g) = proper-exploded K laws of.exploded in
                   found-cover begun (B.apply g) (distributive-apply A laws.lattice B laws.functions g pg) w q
@@ -187,14 +189,14 @@ module _ (K : Frame) (laws : IsLawful K) where
 
 -- in a sound image in which the roots' identities stand and each instance is met, the values that
 -- follow from found start values are best
-pub best-value : (K : Frame) → IsLawful K → (get : Key → Option K.F) → IsSound K get → HasRoots K get
+pub best-value : (K : Frame) → IsLawful K → (R : Roots K) → AreRoots K R → (get : Key → Option K.F) → IsSound K get → HasRoots K R get
     → ((ks : List Key) (key : Key) (g : K.F) → Instance K get ks key g → IsMet K get key g)
-    → (start : ℕ → ℕ → K.L) → IsStarted K get start → (n d : ℕ) → d < K.facts → IsBest K n d (value_at K get start n d)
-best-value K laws get sound roots met start started n d h =
+    → (start : ℕ → ℕ → K.L) → IsStarted K R get start → (n d : ℕ) → d < K.facts → IsBest K R n d (value_at K get start n d)
+best-value K laws R given_roots get sound roots met start started n d h =
     let ok : HasProper K get = has-proper K laws get sound in
-    let proper_start : (s k : ℕ) → k < K.facts → IsTrue (K.lattice.proper (start s k)) = λ s k i. proper-found K laws get sound (started.found s k i) in
-    let closed : IsClosed K (jump_map K get) start = record { proper = proper_start; root = started.root; call = started.call } in
-    let seeded : (r : ℕ) → K.IsRoot r → (k : ℕ) → k < K.facts → (K.entry k ≡ K.lattice.top) ⊎ IsDecreasing K (jump_map K get r k k) = λ r root k i.
+    let proper_start : (s k : ℕ) → k < K.facts → IsTrue (K.lattice.proper (start s k)) = λ s k i. proper-found K laws R given_roots get sound (started.found s k i) in
+    let closed : IsClosed K R (jump_map K get) start = record { proper = proper_start; root = started.root; call = started.call } in
+    let seeded : (r : ℕ) → R.IsRoot r → (k : ℕ) → k < K.facts → (R.entry k ≡ K.lattice.top) ⊎ IsDecreasing K (jump_map K get r k k) = λ r root k i.
           elim (roots r k root i) [
             | inl top ↦ inl top
             | inr identity ↦ inr (λ x p. subst (IsBelow K.lattice (jump_map K get r k k x)) (laws.functions.apply_id x p)
@@ -204,6 +206,6 @@ best-value K laws get sound roots met start started n d h =
       proper = proper-meet_of K.lattice laws.lattice (λ k. jump_map K get n k d (start (K.graph.start_of n) k)) K.facts
         (λ k i. proper-at K laws get ok (Jump n k d) (start (K.graph.start_of n) k) (proper_start (K.graph.start_of n) k i));
       lower = λ r es root path. valid-lower K laws (jump_map K get) (λ c a b. K.functions.apply (function_of K get (Summary c a b)))
-        (λ m a b. distributive-of K laws get ok (Jump m a b)) (satisfied-of K laws get ok met) start closed seeded path root d h;
-      greatest = value-greatest K laws get sound start started.found n d;
+        (λ m a b. distributive-of K laws get ok (Jump m a b)) (satisfied-of K laws get ok met) R given_roots start closed seeded path root d h;
+      greatest = value-greatest K laws R given_roots get sound start started.found n d;
     }

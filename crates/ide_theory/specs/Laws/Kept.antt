@@ -166,8 +166,8 @@ module _ (K : Frame) (laws : IsLawful K) where
     sound = inv.sound;
     owed = λ j d left k g part. inv.owed j d (left-without s h j d left).1 k g part;
   }
-  inv-step (root {s = s} r d is_root in_range) inv =
-      inv-lowered s inv (Jump r d d) B.id (one (record { path = []; level = at-start K laws (sym (laws.root r is_root)) here; exploded = done }))
+  inv-step (root {s = s} r d is_start in_range) inv =
+      inv-lowered s inv (Jump r d d) B.id (one (record { path = []; level = at-start K laws (sym is_start) here; exploded = done }))
 
   -- an image in which no key is present has no instance
   pub none-present : (get : Key → Option F) → ((k : Key) → get k ≡ None) → {ks : List Key} {k : Key} {g : F} → Instance K get ks k g → ⊥

@@ -4,7 +4,7 @@
 use Rattle.std.proofs.Common.{◌≡◌, ℕ, ◌<◌, ◌⊎◌, List, [], ◌∷◌, ◌++◌, IsTrue, ap, sym, subst, refl, ◌∙◌, inl, inr}
 use Rattle.ide_lattice.specs.Order.{IsBelow, IsDistributive, below-trans, below-top, distributive-mono}
 use Rattle.ide_lattice.specs.Meets.{meet_of, proper-meet_of, meet_of-below, below-meet_of, distributive-meet_of, below-through}
-use Rattle.ide_theory.specs.Frame.{Frame, IsLawful}
+use Rattle.ide_theory.specs.Frame.{Frame, Roots, AreRoots, IsLawful}
 use Rattle.ide_theory.specs.Path.{SameLevel, here, step, through, Valid, within, enters}
 use Rattle.ide_theory.specs.Effect.{arrow, edge_effect, path_effect}
 use Rattle.ide_theory.specs.Laws.Folds.{all-or, meet_of-top, distributive-then}
@@ -28,9 +28,9 @@ pub record IsSatisfied (K : Frame) (jump summary : ℕ → ℕ → ℕ → K.L �
       → IsBelow K.lattice (jump (K.graph.to ret) a d x) (summary (K.graph.from call) b d (jump (K.graph.from call) a b x))
 
 -- what the value phase leaves at the starts, on maps
-pub record IsClosed (K : Frame) (jump : ℕ → ℕ → ℕ → K.L → K.L) (start : ℕ → ℕ → K.L) : Type 0 where
+pub record IsClosed (K : Frame) (R : Roots K) (jump : ℕ → ℕ → ℕ → K.L → K.L) (start : ℕ → ℕ → K.L) : Type 0 where
   pub proper : (s k : ℕ) → k < K.facts → IsTrue (K.lattice.proper (start s k))
-  pub root : (r k : ℕ) → K.IsRoot r → k < K.facts → IsBelow K.lattice (start r k) (K.entry k)
+  pub root : (r k : ℕ) → R.IsRoot r → k < K.facts → IsBelow K.lattice (start r k) (R.entry k)
   pub call : (e : K.graph.Edge) → K.graph.IsCall e → (a b c : ℕ) → a < K.facts → b < K.facts → c < K.facts
       → IsBelow K.lattice (start (K.graph.to e) c) (arrow K e b c (jump (K.graph.from e) a b (start (K.graph.start_of (K.graph.from e)) a)))
 
@@ -43,7 +43,7 @@ same-start K laws (through call ret path matched inner) own = laws.back call ret
 
 module _ (K : Frame) (laws : IsLawful K) (jump summary : ℕ → ℕ → ℕ → K.L → K.L)
     (good : (n a b : ℕ) → IsDistributive K.lattice (jump n a b)) (rules : IsSatisfied K jump summary) where
-  open K use {L, lattice as A, facts, entry, IsRoot, graph, graph.{Edge, from, to, IsFlat, IsCall, Matched, start_of}}
+  open K use {L, lattice as A, facts, graph, graph.{Edge, from, to, IsFlat, IsCall, Matched, start_of}}
 
   -- the environment at a node, from one at the start of its procedure
   abbrev pub jumped : ℕ → (ℕ → L) → ℕ → L
@@ -176,7 +176,9 @@ module _ (K : Frame) (laws : IsLawful K) (jump summary : ℕ → ℕ → ℕ →
             (λ c g. below-trans A laws.lattice (jumped (from ret) entered c) (path_effect K fs entered c)
               (path_effect K fs (edge_effect K call (path_effect K es env)) c) (within_callee c g) (higher c g)) d))
 
-  module _ (start : ℕ → ℕ → L) (closed : IsClosed K jump start) (roots : (r : ℕ) → IsRoot r → IsSeeded r entry) where
+  module _ (R : Roots K) (given : AreRoots K R) (start : ℕ → ℕ → L) (closed : IsClosed K R jump start) (roots : (r : ℕ) → R.IsRoot r → IsSeeded r R.entry) where
+    open R use {IsRoot, entry}
+
     -- the start values of a callee are below what a call hands on
     pub start-lower : (e : Edge) → IsCall e → IsLower K laws (start (to e)) (edge_effect K e (jumped (from e) (start (start_of (from e)))))
     start-lower e call c h =
@@ -193,10 +195,10 @@ module _ (K : Frame) (laws : IsLawful K) (jump summary : ℕ → ℕ → ℕ →
         → IsLower K laws (jumped n (start (start_of n))) (path_effect K es entry)
     valid-lower {r} {n} (within {es = es} path) root d h =
         let low : IsLower K laws (start r) entry = λ k g. closed.root r k root g in
-        subst (λ s. IsBelow A (jumped n (start s) d) (path_effect K es entry d)) (sym (same-start K laws path (laws.root r root)))
+        subst (λ s. IsBelow A (jumped n (start s) d) (path_effect K es entry d)) (sym (same-start K laws path (given.start r root)))
           (below-trans A laws.lattice (jumped n (start r) d) (jumped n entry d) (path_effect K es entry d)
             (jumped-mono n (start r) entry low d)
-            (same-lower path entry laws.entry (roots r root) d h))
+            (same-lower path entry given.proper (roots r root) d h))
     valid-lower {r} {n} (enters {es = es} {fs = fs} e path call inner) root d h =
         let env : ℕ → L = start (start_of (from e)) in
         let p : IsProper K laws env = closed.proper (start_of (from e)) in

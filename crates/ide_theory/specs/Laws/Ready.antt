@@ -14,16 +14,9 @@ use Rattle.ide_theory.specs.State.{Claim, State, put, rest_of, without_first, ma
 use Rattle.ide_theory.specs.Run.{ArePartsOf}
 use Rattle.ide_theory.specs.Invariant.{IsOpen, IsSettled, met, awaits, owed, IsReady, IsHeld}
 use Rattle.ide_theory.specs.Laws.Changes.{key-tells, hand-tells, same-or, some-inj, none-some, map-tells, or-true, left-with, has-claim, kept-with, left-without, left-done, kept-done}
+use Rattle.ide_theory.specs.Laws.Members.{first-or, not-in-empty}
 use Rattle.ide_theory.specs.Laws.Bridge.{HasProper, proper-function_of, present-is}
 use Rattle.ide_theory.specs.Laws.Sound.{proper-meets, proper-key, has-proper, instance-sound}
-
--- what stands in a list is its first, or stands in the rest
-pub first-or : {T : Type 0} {x y : T} {xs : List T} → IsIn x (y ∷ xs) → (x ≡ y) ⊎ IsIn x xs
-first-or first = inl refl
-first-or (later is) = inr is
-
-pub not-in-empty : {T : Type 0} {x : T} → IsIn x [] → ⊥
-not-in-empty is = elim is [ ]
 
 module _ {F L : Type 0} (A : LatticeAlgebra L) (B : EdgeAlgebra F L) (lattice : IsLattice A) (laws : IsEdgeAlgebra A B) where
   -- functions meet as their values do

@@ -3,7 +3,7 @@
 use Rattle.std.proofs.Common.{◌≡◌, ℕ, ◌<◌, Bool, true, false, List, Option, Some, option_map, IsTrue, sym, ◌∙◌, true≢false, refl}
 use Rattle.ide_wire.specs.declared.key.Key.{Key}
 use Rattle.ide_wire.specs.declared.key.Key.TheVariants.{Jump}
-use Rattle.ide_theory.specs.Frame.{Frame, IsLawful}
+use Rattle.ide_theory.specs.Frame.{Frame, Roots, AreRoots, IsLawful}
 use Rattle.ide_theory.specs.Best.{IsBest}
 use Rattle.ide_theory.specs.Image.{Instance, IsMet, HasRoots}
 use Rattle.ide_theory.specs.Value.{IsStarted, value_at}
@@ -37,7 +37,7 @@ met-step K laws (lower {s = s} h c t g rest mine parts) inv k f p has =
       (proper-owed K laws t g (inv.owed h c mine t g (subst (IsIn {T = Key × K.F} (t, g)) (sym parts) first))) k f p has
 met-step K laws (release h) inv k f p has = has
 met-step K laws (finish h c mine none) inv k f p has = has
-met-step K laws (root {s = s} r d is_root in_range) inv k f p has =
+met-step K laws (root {s = s} r d is_start in_range) inv k f p has =
     met-lowered K laws s (has-proper K laws s.get inv.sound) (Jump r d d) K.functions.id laws.functions.proper_id k f p has
 
 -- a root's identity is received when it is given
@@ -45,11 +45,11 @@ pub met-root : (K : Frame) → IsLawful K → (s : State K.F) → IsInvariant K 
     → IsMet K (lowered_at K s (Jump r d d) K.functions.id).get (Jump r d d) K.functions.id
 met-root K laws s inv r d = met-now K laws s (has-proper K laws s.get inv.sound) (Jump r d d) K.functions.id laws.functions.proper_id
 
-pub quiet-best : (K : Frame) → IsLawful K → (s : State K.F) → IsInvariant K s → IsQuiet s → HasRoots K s.get
-    → (start : ℕ → ℕ → K.L) → IsStarted K s.get start → (n d : ℕ) → d < K.facts → IsBest K n d (value_at K s.get start n d)
-quiet-best K laws s inv quiet roots start started n d h =
-    best-value K laws s.get inv.sound roots (quiet-met K s inv quiet) start started n d h
+pub quiet-best : (K : Frame) → IsLawful K → (R : Roots K) → AreRoots K R → (s : State K.F) → IsInvariant K s → IsQuiet s → HasRoots K R s.get
+    → (start : ℕ → ℕ → K.L) → IsStarted K R s.get start → (n d : ℕ) → d < K.facts → IsBest K R n d (value_at K s.get start n d)
+quiet-best K laws R given s inv quiet roots start started n d h =
+    best-value K laws R given s.get inv.sound roots (quiet-met K s inv quiet) start started n d h
 
-pub run-best : (K : Frame) → IsLawful K → {s : State K.F} → Run K s → IsQuiet s → HasRoots K s.get
-    → (start : ℕ → ℕ → K.L) → IsStarted K s.get start → (n d : ℕ) → d < K.facts → IsBest K n d (value_at K s.get start n d)
-run-best K laws {s} run quiet roots start started n d h = quiet-best K laws s (inv-run K laws run) quiet roots start started n d h
+pub run-best : (K : Frame) → IsLawful K → (R : Roots K) → AreRoots K R → {s : State K.F} → Run K s → IsQuiet s → HasRoots K R s.get
+    → (start : ℕ → ℕ → K.L) → IsStarted K R s.get start → (n d : ℕ) → d < K.facts → IsBest K R n d (value_at K s.get start n d)
+run-best K laws R given {s} run quiet roots start started n d h = quiet-best K laws R given s (inv-run K laws run) quiet roots start started n d h
