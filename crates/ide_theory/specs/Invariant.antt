@@ -1,5 +1,5 @@
 -- What each step of a tabulation keeps.
-use Rattle.std.specs.Prelude.{◌≡◌, ℕ, Bool, true, false, List, Option, Some}
+use Rattle.std.specs.Prelude.{◌≡◌, ◌⊎◌, ℕ, Bool, true, false, List, Option, Some, None}
 use Rattle.ide_wire.specs.declared.key.Key.{Key}
 use Rattle.ide_theory.specs.Frame.{Frame}
 use Rattle.ide_theory.specs.Member.{IsIn}
@@ -36,3 +36,12 @@ pub record IsInvariant (K : Frame) (s : State K.F) : Type 0 where
   pub held : IsHeld s
   pub sound : IsSound K s.get
   pub owed : AreOwed K s
+
+-- the state with no claim, as it is found after a stop
+abbrev pub unclaimed : {F : Type 0} → State F → State F
+unclaimed s = record s { claims = λ _. None }
+
+-- what a state without claims has to have: sound entries, and each instance met or with a pending premise
+pub record IsSettledPlainly (K : Frame) (s : State K.F) : Type 0 where
+  pub ready : (ks : List Key) (k : Key) (g : K.F) → Instance K s.get ks k g → IsMet K s.get k g ⊎ ((q : Key) × IsIn q ks × (s.pending q ≡ true))
+  pub sound : IsSound K s.get

@@ -9,7 +9,9 @@ pub mod Kept
 pub mod Lower
 pub mod Members
 pub mod Parts
+pub mod Ranged
 pub mod Ready
 pub mod Runs
 pub mod Sound
 pub mod Targets
+pub mod Unclaimed

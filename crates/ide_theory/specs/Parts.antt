@@ -6,6 +6,7 @@ use Rattle.ide_wire.specs.declared.key.Key.{Key}
 use Rattle.ide_wire.specs.declared.key.Key.TheVariants.{Jump, Summary}
 use Rattle.ide_theory.specs.Frame.{Frame}
 use Rattle.ide_theory.specs.Member.{IsIn}
+use Rattle.ide_theory.specs.State.{Claim, State}
 
 -- what stands at a node: the call edges and the flat edges out of it, where its calls return to, and
 -- each call that leaves its procedure there, with its return edge
@@ -86,3 +87,8 @@ IsKeyInRange facts (Summary c a d) = (a < facts) × (d < facts)
 -- each present key has its facts in range
 abbrev pub AreKeysInRange : (K : Frame) → (Key → Option K.F) → Type 0
 AreKeysInRange K get = (key : Key) (f : K.F) → get key ≡ Some f → IsKeyInRange K.facts key
+
+-- and so has each part of each claim
+pub record AreAllInRange (K : Frame) (s : State K.F) : Type 0 where
+  pub keys : AreKeysInRange K s.get
+  pub parts : (h : ℕ) (c : Claim K.F) → s.claims h ≡ Some c → (k : Key) (g : K.F) → IsIn {T = Key × K.F} (k, g) c.parts → IsKeyInRange K.facts k

@@ -8,9 +8,11 @@ use Rattle.ide_theory.specs.Best.{IsBest}
 use Rattle.ide_theory.specs.Image.{HasRoots}
 use Rattle.ide_theory.specs.Value.{IsStarted, value_at}
 use Rattle.ide_theory.specs.State.{State}
-use Rattle.ide_theory.specs.Run.{Run, IsQuiet}
+use Rattle.ide_theory.specs.Run.{ArePartsOf, Run, IsQuiet}
+use Rattle.ide_theory.specs.Parts.{NodeEdges, AreEdgesOf, parts_of}
+use Rattle.ide_wire.specs.declared.key.Key.{Key}
 use Rattle.ide_theory.specs.Invariant.{IsInvariant}
-use Rattle.ide_theory.specs.Given.{Edges, IsGraph, frame_of, roots_of}
+use Rattle.ide_theory.specs.Given.{Edge, Edges, IsGraph, frame_of, roots_of}
 
 -- where nothing is pending, the roots have their identities and the start values stand, the values
 -- that follow are best, at each node and fact
@@ -49,3 +51,10 @@ module _ {L F : Type 0} (lattice : LatticeAlgebra L) (functions : EdgeAlgebra F 
 
   abbrev pub TopIsBest : Type 0
   TopIsBest = ForEach HasTopUnreached
+
+  -- the list of a key's parts is what a claim of it owes, in each state that a run comes to
+  abbrev pub PartsAreOwed : Type 0
+  PartsAreOwed =
+      (G : Edges) → IsGraph G → (at : ℕ → NodeEdges (Edge G.facts)) → AreEdgesOf (frame_of lattice functions targets G) at
+      → (s : State F) → Run (frame_of lattice functions targets G) s
+      → (q : Key) → ArePartsOf (frame_of lattice functions targets G) s.get q (parts_of (frame_of lattice functions targets G) s.get at q)

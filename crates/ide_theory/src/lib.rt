@@ -7,7 +7,7 @@
 //! lattice and edge functions, and the functions below do nothing but carry the theorems as their
 //! contracts, for every analysis.
 #![tactic(auto)]
-ghost use Rattle.ide_theory.specs.Theorem.{ValuesAreBest, RunsAreBest, BestIsUnique, TopIsBest};
+ghost use Rattle.ide_theory.specs.Theorem.{ValuesAreBest, RunsAreBest, BestIsUnique, TopIsBest, PartsAreOwed};
 
 use ide_problem::Problem;
 
@@ -32,5 +32,12 @@ pub fn best_is_unique<P: Problem>()
 /// Top is best where no valid path leads.
 pub fn top_is_best<P: Problem>()
     ensures { TopIsBest P.L.algebra P.F.edge P.targets }
+{
+}
+
+/// The parts of a key, listed by edge, partner and target, are what a claim of it owes: what each
+/// rule instance with the key gives, and nothing else.
+pub fn parts_are_owed<P: Problem>()
+    ensures { PartsAreOwed P.L.algebra P.F.edge P.targets }
 {
 }

@@ -6,8 +6,9 @@ use Rattle.ide_lattice.specs.Laws.{IsLattice, IsEdgeAlgebra}
 use Rattle.ide_problem.specs.Flow.{Targets, IsFlow, AreTargets}
 use Rattle.ide_theory.specs.Frame.{IsLawful}
 use Rattle.ide_theory.specs.Given.{Edges, IsGraph, frame_of, roots_of}
-use Rattle.ide_theory.specs.Theorem.{ValuesAreBest, RunsAreBest, BestIsUnique, TopIsBest}
+use Rattle.ide_theory.specs.Theorem.{ValuesAreBest, RunsAreBest, BestIsUnique, TopIsBest, PartsAreOwed}
 use Rattle.ide_theory.specs.Laws.Effects.{best-unique, top-best}
+use Rattle.ide_theory.specs.Laws.Ranged.{run-parts}
 use Rattle.ide_theory.specs.Laws.Runs.{quiet-best, run-best}
 
 module _ {L F : Type 0} (lattice : LatticeAlgebra L) (functions : EdgeAlgebra F L) (targets : Targets F)
@@ -43,3 +44,6 @@ module _ {L F : Type 0} (lattice : LatticeAlgebra L) (functions : EdgeAlgebra F 
   pub top-is-best : TopIsBest lattice functions targets
   top-is-best G graph roots entry given n d none =
       top-best (frame_of lattice functions targets G) (lawful-frame G graph) (roots_of (frame_of lattice functions targets G) roots entry) n d none
+
+  pub parts-are-owed : PartsAreOwed lattice functions targets
+  parts-are-owed G graph at edges s run q = run-parts (frame_of lattice functions targets G) (lawful-frame G graph) run at edges q

@@ -184,7 +184,7 @@ module _ (K : Frame) (laws : IsLawful K) (get : Key → Option K.F) where
         let listed : IsTarget K call x a g = subst (λ k. IsTarget K call x k g) (nat_eq-exact over.0.0 a chosen.0) over.1 in
         let target : (u : ℕ × F) × IsIn u (targets ret b) × ((Summary (from call) x u.0, compose (compose g f) u.1) ≡ p) =
               of-map (λ u. (Summary (from call) x u.0, compose (compose g f) u.1)) (targets ret b) chosen.1 in
-        subst FromRule target.2
+        subst FromRule {x = (Summary (from call) x target.0.0, compose (compose g f) target.0.1)} target.2
           (Jump (from ret) a b ∷ [],
             summarised call ret x a b target.0.0 g f target.0.1 leaves.0 listed (subst (λ m. get (Jump m a b) ≡ Some f) (sym leaves.1) same) target.1)
 
