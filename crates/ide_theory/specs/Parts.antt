@@ -1,6 +1,6 @@
 -- The parts that a claim owes, as a list: by the edges at the key's node, then by partner, then by
 -- target.
-use Rattle.std.specs.Prelude.{◌≡◌, ℕ, ◌<◌, Bool, List, [], ◌∷◌, ◌++◌, Option, Some, None, cond, nat_eq, map}
+use Rattle.std.specs.Prelude.{◌≡◌, ℕ, ◌<◌, List, [], ◌∷◌, ◌++◌, Option, Some, None, cond, nat_eq, map}
 use Rattle.std.specs.List.{flat_map, range_with_len}
 use Rattle.ide_wire.specs.declared.key.Key.{Key}
 use Rattle.ide_wire.specs.declared.key.Key.TheVariants.{Jump, Summary}
@@ -61,7 +61,7 @@ module _ (K : Frame) (get : Key → Option K.F) where
   abbrev pub exit_parts : ℕ → ℕ → F → Edge × Edge → List (Key × F)
   exit_parts a b f pair =
       flat_map (λ x. flat_map (λ t. cond (nat_eq t.0 a) (map (λ u. (Summary (from pair.0) x u.0, compose (compose t.1 f) u.1)) (targets pair.1 b)) [])
-        (targets pair.0 x)) (range_with_len 0 facts)
+      (targets pair.0 x)) (range_with_len 0 facts)
 
   -- for a summary: each jump function to its fact goes on
   abbrev pub resumed_parts : ℕ → ℕ → ℕ → F → ℕ → List (Key × F)

@@ -35,9 +35,9 @@ absent-is K get key same = ap (λ o. unwrap_or o K.functions.all_top) same
 
 pub proper-function_of : (K : Frame) → IsLawful K → (get : Key → Option K.F) → HasProper K get → (key : Key) → IsTrue (K.functions.proper (function_of K get key))
 proper-function_of K laws get proper key = elim (present-or K get key) [
-    | inl found ↦ subst (λ f. IsTrue (K.functions.proper f)) (sym (present-is K get key found.0 found.1)) (proper key found.0 found.1)
-    | inr absent ↦ subst (λ f. IsTrue (K.functions.proper f)) (sym (absent-is K get key absent)) laws.functions.proper_all_top
-  ]
+  | inl found ↦ subst (λ f. IsTrue (K.functions.proper f)) (sym (present-is K get key found.0 found.1)) (proper key found.0 found.1)
+  | inr absent ↦ subst (λ f. IsTrue (K.functions.proper f)) (sym (absent-is K get key absent)) laws.functions.proper_all_top
+]
 
 module _ (K : Frame) (laws : IsLawful K) (get : Key → Option K.F) (proper : HasProper K get) where
   open K use {L, F, lattice as A, functions as B, facts, targets, graph, graph.{Edge, from, to, IsFlat, IsCall, Matched}}
@@ -99,15 +99,15 @@ module _ (K : Frame) (laws : IsLawful K) (get : Key → Option K.F) (proper : Ha
         elim (listed-or e b c) [
           | inr unlisted ↦ below-when-top w (arrow K e b c y) q (unlisted-top e b c y (proper-at (Jump (from e) a b) x p) unlisted)
           | inl listed ↦ elim (present-or K get (Jump (from e) a b)) [
-              | inr absent ↦ below-when-top w (arrow K e b c y) q (arrow-top e b c y (absent-top (Jump (from e) a b) x p absent))
-              | inl found ↦
-                  let pf : IsTrue (B.proper found.0) = proper (Jump (from e) a b) found.0 found.1 in
-                  subst (IsBelow A w)
-                    (laws.functions.apply_compose found.0 g x pf pg p
-                      ∙ ap (λ f. B.apply g (B.apply f x)) (sym (present-is K get (Jump (from e) a b) found.0 found.1)))
-                    (met-below (Jump (to e) a c) (B.compose found.0 g) x (laws.functions.proper_compose found.0 g pf pg) p
-                      (met (Jump (from e) a b ∷ []) (Jump (to e) a c) (B.compose found.0 g) (flat e a b c found.0 g is_flat found.1 listed)))
-            ]
+            | inr absent ↦ below-when-top w (arrow K e b c y) q (arrow-top e b c y (absent-top (Jump (from e) a b) x p absent))
+            | inl found ↦
+                let pf : IsTrue (B.proper found.0) = proper (Jump (from e) a b) found.0 found.1 in
+                subst (IsBelow A w)
+                (laws.functions.apply_compose found.0 g x pf pg p
+                ∙ ap (λ f. B.apply g (B.apply f x)) (sym (present-is K get (Jump (from e) a b) found.0 found.1)))
+                (met-below (Jump (to e) a c) (B.compose found.0 g) x (laws.functions.proper_compose found.0 g pf pg) p
+                (met (Jump (from e) a b ∷ []) (Jump (to e) a c) (B.compose found.0 g) (flat e a b c found.0 g is_flat found.1 listed)))
+          ]
         ]
 
     pub seeds-met : (e : Edge) → IsCall e → (a b c : ℕ)
@@ -116,12 +116,12 @@ module _ (K : Frame) (laws : IsLawful K) (get : Key → Option K.F) (proper : Ha
         elim (listed-or e b c) [
           | inr unlisted ↦ inl (λ x p. unlisted-top e b c (jump_map K get (from e) a b x) (proper-at (Jump (from e) a b) x p) unlisted)
           | inl listed ↦ elim (present-or K get (Jump (from e) a b)) [
-              | inr absent ↦ inl (λ x p. arrow-top e b c (jump_map K get (from e) a b x) (absent-top (Jump (from e) a b) x p absent))
-              | inl found ↦ inr (λ x p. subst (IsBelow A (jump_map K get (to e) c c x)) (laws.functions.apply_id x p)
-                  (met-below (Jump (to e) c c) B.id x laws.functions.proper_id p
-                    (met (Jump (from e) a b ∷ []) (Jump (to e) c c) B.id
-                      (seed e a b c found.0 (function_to B c (targets e b)) is_call found.1 listed))))
-            ]
+            | inr absent ↦ inl (λ x p. arrow-top e b c (jump_map K get (from e) a b x) (absent-top (Jump (from e) a b) x p absent))
+            | inl found ↦ inr (λ x p. subst (IsBelow A (jump_map K get (to e) c c x)) (laws.functions.apply_id x p)
+                (met-below (Jump (to e) c c) B.id x laws.functions.proper_id p
+                (met (Jump (from e) a b ∷ []) (Jump (to e) c c) B.id
+                (seed e a b c found.0 (function_to B c (targets e b)) is_call found.1 listed))))
+          ]
         ]
 
     pub after-met : (call ret : Edge) → Matched call ret → (a b d : ℕ) (x : L) → IsTrue (A.proper x)
@@ -134,18 +134,18 @@ module _ (K : Frame) (laws : IsLawful K) (get : Key → Option K.F) (proper : Ha
         elim (present-or K get (Jump (from call) a b)) [
           | inr absent ↦ below-when-top w (summary_map (from call) b d y) q (of-top (Summary (from call) b d) y (absent-top (Jump (from call) a b) x p absent))
           | inl found ↦ elim (present-or K get (Summary (from call) b d)) [
-              | inr absent ↦ below-when-top w (summary_map (from call) b d y) q (absent-top (Summary (from call) b d) y r absent)
-              | inl passed ↦
-                  let pf : IsTrue (B.proper found.0) = proper (Jump (from call) a b) found.0 found.1 in
-                  let ps : IsTrue (B.proper passed.0) = proper (Summary (from call) b d) passed.0 passed.1 in
-                  subst (IsBelow A w)
-                    (laws.functions.apply_compose found.0 passed.0 x pf ps p
-                      ∙ ap (λ f. B.apply passed.0 (B.apply f x)) (sym (present-is K get (Jump (from call) a b) found.0 found.1))
-                      ∙ ap (λ s. B.apply s y) (sym (present-is K get (Summary (from call) b d) passed.0 passed.1)))
-                    (met-below (Jump (to ret) a d) (B.compose found.0 passed.0) x (laws.functions.proper_compose found.0 passed.0 pf ps) p
-                      (met (Jump (from call) a b ∷ Summary (from call) b d ∷ []) (Jump (to ret) a d) (B.compose found.0 passed.0)
-                        (after call ret a b d found.0 passed.0 matched found.1 passed.1)))
-            ]
+            | inr absent ↦ below-when-top w (summary_map (from call) b d y) q (absent-top (Summary (from call) b d) y r absent)
+            | inl passed ↦
+                let pf : IsTrue (B.proper found.0) = proper (Jump (from call) a b) found.0 found.1 in
+                let ps : IsTrue (B.proper passed.0) = proper (Summary (from call) b d) passed.0 passed.1 in
+                subst (IsBelow A w)
+                (laws.functions.apply_compose found.0 passed.0 x pf ps p
+                ∙ ap (λ f. B.apply passed.0 (B.apply f x)) (sym (present-is K get (Jump (from call) a b) found.0 found.1))
+                ∙ ap (λ s. B.apply s y) (sym (present-is K get (Summary (from call) b d) passed.0 passed.1)))
+                (met-below (Jump (to ret) a d) (B.compose found.0 passed.0) x (laws.functions.proper_compose found.0 passed.0 pf ps) p
+                (met (Jump (from call) a b ∷ Summary (from call) b d ∷ []) (Jump (to ret) a d) (B.compose found.0 passed.0)
+                (after call ret a b d found.0 passed.0 matched found.1 passed.1)))
+          ]
         ]
 
     pub summarised-met : (call ret : Edge) → Matched call ret → (a b c d : ℕ) (x : L) → IsTrue (A.proper x)
@@ -165,22 +165,22 @@ module _ (K : Frame) (laws : IsLawful K) (get : Key → Option K.F) (proper : Ha
         elim (listed-or call a b) [
           | inr unlisted ↦ below-when-top w (arrow K ret c d z) q (arrow-top ret c d z (of-top key y (unlisted-top call a b x p unlisted)))
           | inl called ↦ elim (listed-or ret c d) [
-              | inr unlisted ↦ below-when-top w (arrow K ret c d z) q (unlisted-top ret c d z pz unlisted)
-              | inl returned ↦ elim (present-or K get key) [
-                  | inr absent ↦ below-when-top w (arrow K ret c d z) q (arrow-top ret c d z (absent-top key y py absent))
-                  | inl found ↦
-                      let pf : IsTrue (B.proper found.0) = proper key found.0 found.1 in
-                      let gf : F = B.compose g found.0 in
-                      let pgf : IsTrue (B.proper gf) = laws.functions.proper_compose g found.0 pg pf in
-                      subst (IsBelow A w)
-                        (laws.functions.apply_compose gf h x pgf ph p
-                          ∙ ap (B.apply h) (laws.functions.apply_compose g found.0 x pg pf p)
-                          ∙ ap (λ f. B.apply h (B.apply f y)) (sym (present-is K get key found.0 found.1)))
-                        (met-below (Summary (from call) a d) (B.compose gf h) x (laws.functions.proper_compose gf h pgf ph) p
-                          (met (key ∷ []) (Summary (from call) a d) (B.compose gf h)
-                            (summarised call ret a b c d g found.0 h matched called found.1 returned)))
-                ]
+            | inr unlisted ↦ below-when-top w (arrow K ret c d z) q (unlisted-top ret c d z pz unlisted)
+            | inl returned ↦ elim (present-or K get key) [
+              | inr absent ↦ below-when-top w (arrow K ret c d z) q (arrow-top ret c d z (absent-top key y py absent))
+              | inl found ↦
+                  let pf : IsTrue (B.proper found.0) = proper key found.0 found.1 in
+                  let gf : F = B.compose g found.0 in
+                  let pgf : IsTrue (B.proper gf) = laws.functions.proper_compose g found.0 pg pf in
+                  subst (IsBelow A w)
+                  (laws.functions.apply_compose gf h x pgf ph p
+                  ∙ ap (B.apply h) (laws.functions.apply_compose g found.0 x pg pf p)
+                  ∙ ap (λ f. B.apply h (B.apply f y)) (sym (present-is K get key found.0 found.1)))
+                  (met-below (Summary (from call) a d) (B.compose gf h) x (laws.functions.proper_compose gf h pgf ph) p
+                  (met (key ∷ []) (Summary (from call) a d) (B.compose gf h)
+                  (summarised call ret a b c d g found.0 h matched called found.1 returned)))
             ]
+          ]
         ]
 
     pub satisfied-of : IsSatisfied K (jump_map K get) summary_map

@@ -1,9 +1,9 @@
 -- What a change at one argument tells of each argument, and which claims each step leaves.
-use Rattle.std.proofs.Common.{◌≡◌, ◌≢◌, ℕ, ◌⊎◌, Bool, true, false, ◌||◌, cond, nat_eq, List, [], ◌∷◌, Option, Some, None, option_map, ap, sym, subst, refl, ◌∙◌, inl, inr, true≢false}
+use Rattle.std.proofs.Common.{◌≡◌, ◌≢◌, ℕ, ◌⊎◌, Bool, true, false, ◌||◌, cond, nat_eq, Option, Some, None, option_map, ap, sym, refl, ◌∙◌, inl, inr, true≢false}
 use Rattle.std.specs.Prelude.{unwrap_or, is_some}
 use Rattle.ide_wire.specs.Key.{same_key, same_key_exact, same_key_refl}
 use Rattle.ide_wire.specs.declared.key.Key.{Key}
-use Rattle.ide_theory.specs.State.{Claim, State, put, rest_of, without_first, marked, with_claim, part_done}
+use Rattle.ide_theory.specs.State.{Claim, State, put, without_first, part_done}
 use Rattle.ide_theory.specs.Laws.Targets.{nat_eq-exact, nat_eq-refl}
 
 pub put-tells : {X T : Type 0} (same : X → X → Bool) → ((x y : X) → same x y ≡ true → x ≡ y) → ((x : X) → same x x ≡ true)
@@ -49,42 +49,42 @@ module _ {F : Type 0} (s : State F) (h : ℕ) where
   pub left-with : (d : Claim F) (j : ℕ) (c : Claim F) → put nat_eq s.claims h (Some d) j ≡ Some c
       → ((h ≡ j) × (d ≡ c)) ⊎ ((h ≢ j) × (s.claims j ≡ Some c))
   left-with d j c has = elim (hand-tells s.claims h (Some d) j) [
-      | inl here ↦ inl (here.0, some-inj (sym here.1 ∙ has))
-      | inr other ↦ inr (other.0, sym other.1 ∙ has)
-    ]
+    | inl here ↦ inl (here.0, some-inj (sym here.1 ∙ has))
+    | inr other ↦ inr (other.0, sym other.1 ∙ has)
+  ]
 
   pub has-claim : (d : Claim F) → put nat_eq s.claims h (Some d) h ≡ Some d
   has-claim d = elim (hand-tells s.claims h (Some d) h) [
-      | inl here ↦ here.1
-      | inr other ↦ elim (other.0 refl) [ ]
-    ]
+    | inl here ↦ here.1
+    | inr other ↦ elim (other.0 refl) [ ]
+  ]
 
   pub kept-with : (d : Option (Claim F)) (j : ℕ) (c : Claim F) → h ≢ j → s.claims j ≡ Some c → put nat_eq s.claims h d j ≡ Some c
   kept-with d j c apart has = elim (hand-tells s.claims h d j) [
-      | inl here ↦ elim (apart here.0) [ ]
-      | inr other ↦ other.1 ∙ has
-    ]
+    | inl here ↦ elim (apart here.0) [ ]
+    | inr other ↦ other.1 ∙ has
+  ]
 
   -- without the hand's claim, each claim is one of before by another hand
   pub left-without : (j : ℕ) (c : Claim F) → put nat_eq s.claims h None j ≡ Some c → (h ≢ j) × (s.claims j ≡ Some c)
   left-without j c has = elim (hand-tells s.claims h None j) [
-      | inl here ↦ elim (none-some (sym here.1 ∙ has)) [ ]
-      | inr other ↦ (other.0, sym other.1 ∙ has)
-    ]
+    | inl here ↦ elim (none-some (sym here.1 ∙ has)) [ ]
+    | inr other ↦ (other.0, sym other.1 ∙ has)
+  ]
 
   -- after a part is done, each claim is one of before, or one of before but for its first part
   pub left-done : (j : ℕ) (c : Claim F) → (part_done s h).claims j ≡ Some c
       → (d : Claim F) × (s.claims j ≡ Some d) × ((d ≡ c) ⊎ (without_first d ≡ c))
   left-done j c has = elim (hand-tells s.claims h (option_map without_first (s.claims h)) j) [
-      | inl here ↦
-          let found : (d : Claim F) × (s.claims h ≡ Some d) × (without_first d ≡ c) = map-tells without_first (s.claims h) (sym here.1 ∙ has) in
-          (found.0, ap s.claims (sym here.0) ∙ found.1, inr found.2)
-      | inr other ↦ (c, sym other.1 ∙ has, inl refl)
-    ]
+    | inl here ↦
+        let found : (d : Claim F) × (s.claims h ≡ Some d) × (without_first d ≡ c) = map-tells without_first (s.claims h) (sym here.1 ∙ has) in
+        (found.0, ap s.claims (sym here.0) ∙ found.1, inr found.2)
+    | inr other ↦ (c, sym other.1 ∙ has, inl refl)
+  ]
 
   pub kept-done : (j : ℕ) (c : Claim F) → s.claims j ≡ Some c
       → ((h ≡ j) × ((part_done s h).claims j ≡ Some (without_first c))) ⊎ ((part_done s h).claims j ≡ Some c)
   kept-done j c has = elim (hand-tells s.claims h (option_map without_first (s.claims h)) j) [
-      | inl here ↦ inl (here.0, here.1 ∙ ap (option_map without_first) (ap s.claims here.0 ∙ has))
-      | inr other ↦ inr (other.1 ∙ has)
-    ]
+    | inl here ↦ inl (here.0, here.1 ∙ ap (option_map without_first) (ap s.claims here.0 ∙ has))
+    | inr other ↦ inr (other.1 ∙ has)
+  ]

@@ -1,17 +1,16 @@
 -- Effects of edges and paths keep proper environments and their order, and a path of two parts has
 -- the effect of the second after that of the first. From this a best value is unique, and it is
 -- top where no path leads.
-use Rattle.std.proofs.Common.{◌≡◌, ℕ, ◌+◌, ◌<◌, Bool, true, false, cond, nat_eq, List, [], ◌∷◌, ◌++◌, IsTrue, ap, sym, subst, refl, ◌∙◌, arith}
-use Rattle.std.proofs.lemmas.Bool.Decides.{nat_tests}
+use Rattle.std.proofs.Common.{◌≡◌, ℕ, ◌+◌, ◌<◌, Bool, true, false, cond, nat_eq, List, [], ◌∷◌, ◌++◌, IsTrue, refl}
 use Rattle.ide_lattice.specs.Algebra.{LatticeAlgebra, EdgeAlgebra}
 use Rattle.ide_lattice.specs.Laws.{IsEdgeAlgebra}
-use Rattle.ide_lattice.specs.Order.{IsBelow, IsDistributive, below-refl, below-trans, below-antisym, below-top, distributive-mono}
-use Rattle.ide_lattice.specs.Meets.{meet_of, proper-meet_of, meet_of-below, below-meet_of, distributive-apply}
+use Rattle.ide_lattice.specs.Order.{IsBelow, IsDistributive, below-trans, below-antisym, below-top, distributive-mono}
+use Rattle.ide_lattice.specs.Meets.{proper-meet_of, meet_of-below, below-meet_of, distributive-apply}
 use Rattle.ide_problem.specs.Flow.{function_to, AreTargets}
 use Rattle.ide_theory.specs.Frame.{Frame, Roots, IsLawful}
 use Rattle.ide_theory.specs.Path.{Valid}
 use Rattle.ide_theory.specs.Effect.{arrow, edge_effect, path_effect}
-use Rattle.ide_theory.specs.Best.{IsBelowPaths, IsBest}
+use Rattle.ide_theory.specs.Best.{IsBest}
 
 -- the listed function or always-top is proper
 pub proper-function_to : {F L : Type 0} (A : LatticeAlgebra L) (B : EdgeAlgebra F L) → IsEdgeAlgebra A B → (d low count : ℕ) (ts : List (ℕ × F))
@@ -56,10 +55,10 @@ module _ (K : Frame) (laws : IsLawful K) where
   pub edge-mono : (e : Edge) (low high : ℕ → L) → IsLower low high → (d : ℕ) → IsBelow A (edge_effect K e low d) (edge_effect K e high d)
   edge-mono e low high under d =
       below-meet_of A laws.lattice (edge_effect K e low d) (λ k. arrow K e k d (high k)) facts
-        (proper-edge e low (λ k h. (under k h).left) d)
-        (λ k h. below-trans A laws.lattice (edge_effect K e low d) (arrow K e k d (low k)) (arrow K e k d (high k))
-          (meet_of-below A laws.lattice (λ j. arrow K e j d (low j)) facts (proper-term e low (λ j b. (under j b).left) d) k h)
-          (distributive-mono A laws.lattice (arrow K e k d) (distributive-arrow e k d) (low k) (high k) (under k h)))
+      (proper-edge e low (λ k h. (under k h).left) d)
+      (λ k h. below-trans A laws.lattice (edge_effect K e low d) (arrow K e k d (low k)) (arrow K e k d (high k))
+      (meet_of-below A laws.lattice (λ j. arrow K e j d (low j)) facts (proper-term e low (λ j b. (under j b).left) d) k h)
+      (distributive-mono A laws.lattice (arrow K e k d) (distributive-arrow e k d) (low k) (high k) (under k h)))
 
   pub path-mono : (es : List Edge) (low high : ℕ → L) → IsLower low high → IsLower (path_effect K es low) (path_effect K es high)
   path-mono [] low high under = under

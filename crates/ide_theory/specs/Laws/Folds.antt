@@ -1,5 +1,5 @@
 -- Finite meets and distributive maps, where neither edges nor tables matter.
-use Rattle.std.proofs.Common.{◌≡◌, ℕ, zero, suc, ◌<◌, ◌⊎◌, IsTrue, ap, ap₂, sym, subst, refl, ◌∙◌, inl, inr, ⊎_elim, arith}
+use Rattle.std.proofs.Common.{◌≡◌, ℕ, zero, suc, ◌<◌, ◌⊎◌, ap, ap₂, sym, subst, refl, ◌∙◌, inl, inr, arith}
 use Rattle.ide_lattice.specs.Algebra.{LatticeAlgebra}
 use Rattle.ide_lattice.specs.Laws.{IsLattice}
 use Rattle.ide_lattice.specs.Order.{IsDistributive}
@@ -12,12 +12,12 @@ all-or A B (suc n) each =
     elim (all-or A B n (λ k h. each k (omega (arith, h)))) [
       | inr b ↦ inr b
       | inl below ↦ elim (each n (omega arith)) [
-          | inr b ↦ inr b
-          | inl last ↦ inl (λ k h. elim (last-or k n h) [
-              | inl h ↦ below k h
-              | inr same ↦ subst A (sym same) last
-            ])
-        ]
+        | inr b ↦ inr b
+        | inl last ↦ inl (λ k h. elim (last-or k n h) [
+          | inl h ↦ below k h
+          | inr same ↦ subst A (sym same) last
+        ])
+      ]
     ]
 
 module _ {L : Type 0} (A : LatticeAlgebra L) where

@@ -1,6 +1,6 @@
 -- The frame of a lawful analysis over a supergraph that is given as lists is lawful, so the theorems
 -- hold of it.
-use Rattle.std.proofs.Common.{ℕ, ◌≤◌, sym, subst}
+use Rattle.std.proofs.Common.{◌≤◌, sym, subst}
 use Rattle.ide_lattice.specs.Algebra.{LatticeAlgebra, EdgeAlgebra}
 use Rattle.ide_lattice.specs.Laws.{IsLattice, IsEdgeAlgebra}
 use Rattle.ide_problem.specs.Flow.{Targets, IsFlow, AreTargets}
@@ -30,12 +30,12 @@ module _ {L F : Type 0} (lattice : LatticeAlgebra L) (functions : EdgeAlgebra F 
   pub values-are-best : ValuesAreBest lattice functions targets
   values-are-best G graph roots entry given s inv quiet identities start started n d h =
       quiet-best (frame_of lattice functions targets G) (lawful-frame G graph) (roots_of (frame_of lattice functions targets G) roots entry) given
-        s inv quiet identities start started n d h
+      s inv quiet identities start started n d h
 
   pub runs-are-best : RunsAreBest lattice functions targets
   runs-are-best G graph roots entry given s run quiet identities start started n d h =
       run-best (frame_of lattice functions targets G) (lawful-frame G graph) (roots_of (frame_of lattice functions targets G) roots entry) given
-        run quiet identities start started n d h
+      run quiet identities start started n d h
 
   pub best-is-unique : BestIsUnique lattice functions targets
   best-is-unique G graph roots entry given n d v w a b =

@@ -1,21 +1,20 @@
 -- Each step keeps the invariant: who holds which key, that entries are sound, and that parts owe
 -- what their keys may receive.
-use Rattle.std.proofs.Common.{◌≡◌, ◌≢◌, ℕ, ◌⊎◌, Bool, true, false, ◌||◌, nat_eq, List, [], ◌∷◌, Option, Some, None, option_map, IsTrue, ap, sym, subst, refl, ◌∙◌, inl, inr}
-use Rattle.ide_wire.specs.Key.{same_key}
+use Rattle.std.proofs.Common.{◌≡◌, ◌≢◌, ℕ, ◌⊎◌, true, List, [], ◌∷◌, Option, Some, None, option_map, IsTrue, ap, sym, subst, refl, ◌∙◌, inl, inr}
 use Rattle.ide_wire.specs.declared.key.Key.{Key}
-use Rattle.ide_wire.specs.declared.key.Key.TheVariants.{Jump, Summary}
+use Rattle.ide_wire.specs.declared.key.Key.TheVariants.{Jump}
 use Rattle.ide_theory.specs.Frame.{Frame, IsLawful}
 use Rattle.ide_theory.specs.Path.{here}
 use Rattle.ide_theory.specs.Member.{IsIn, first, later}
 use Rattle.ide_theory.specs.Image.{function_of, Instance, flat, seed, after, summarised, IsMet}
 use Rattle.ide_theory.specs.Entry.{done, MeetOf, one, both, OfKey, IsSound}
-use Rattle.ide_theory.specs.State.{Claim, State, put, rest_of, without_first, marked, new_claim, with_claim, part_done, lowered_at, finished, nothing_done}
-use Rattle.ide_theory.specs.Run.{ArePartsOf, Step, claim, skip, lower, release, finish, root, Run, begins, goes_on, IsQuiet}
-use Rattle.ide_theory.specs.Invariant.{IsOpen, IsSettled, met, awaits, owed, IsReady, IsHeld, AreOwed, IsInvariant}
-use Rattle.ide_theory.specs.Laws.Changes.{key-tells, hand-tells, some-inj, none-some, map-tells, left-with, left-without, left-done}
-use Rattle.ide_theory.specs.Laws.Bridge.{HasProper, present-or, present-is, absent-is}
+use Rattle.ide_theory.specs.State.{Claim, State, rest_of, without_first, marked, new_claim, with_claim, part_done, lowered_at, finished, nothing_done}
+use Rattle.ide_theory.specs.Run.{Step, claim, skip, lower, release, finish, root, Run, begins, goes_on}
+use Rattle.ide_theory.specs.Invariant.{awaits, IsHeld, IsInvariant}
+use Rattle.ide_theory.specs.Laws.Changes.{key-tells, some-inj, none-some, map-tells, left-with, left-without, left-done}
+use Rattle.ide_theory.specs.Laws.Bridge.{present-or, present-is, absent-is}
 use Rattle.ide_theory.specs.Laws.Sound.{proper-meets, proper-key, has-proper, instance-sound, at-start}
-use Rattle.ide_theory.specs.Laws.Ready.{all_top-meet, other-instance, met-lowered, met-now, settled-claim, settled-done, open-lowered, pending-lowered, settled-lowered, settled-release, settled-finish}
+use Rattle.ide_theory.specs.Laws.Ready.{all_top-meet, other-instance, met-now, settled-claim, settled-done, open-lowered, pending-lowered, settled-lowered, settled-release, settled-finish}
 
 -- a claim that a part was taken from has the key that it had
 pub same-claim-key : {F : Type 0} (d c : Claim F) → (d ≡ c) ⊎ (without_first d ≡ c) → d.key ≡ c.key
@@ -31,30 +30,30 @@ module _ {F : Type 0} (s : State F) (held : IsHeld s) where
       → IsHeld (with_claim s h (Some (new_claim q parts)))
   held-claim h q parts waits alone = record {
     pending = λ j c left. elim (left-with s h (new_claim q parts) j c left) [
-        | inl own ↦ subst (λ u. s.pending u ≡ true) (ap (λ e. e.key) own.1) waits
-        | inr other ↦ held.pending j c other.1
-      ];
+      | inl own ↦ subst (λ u. s.pending u ≡ true) (ap (λ e. e.key) own.1) waits
+      | inr other ↦ held.pending j c other.1
+    ];
     one = λ i j c d left right same. elim (left-with s h (new_claim q parts) i c left) [
-        | inl own ↦ elim (left-with s h (new_claim q parts) j d right) [
-            | inl also ↦ sym own.0 ∙ also.0
-            | inr other ↦ elim (alone j d other.1 (sym same ∙ sym (ap (λ e. e.key) own.1))) [ ]
-          ]
-        | inr before ↦ elim (left-with s h (new_claim q parts) j d right) [
-            | inl own ↦ elim (alone i c before.1 (same ∙ sym (ap (λ e. e.key) own.1))) [ ]
-            | inr other ↦ held.one i j c d before.1 other.1 same
-          ]
-      ];
+      | inl own ↦ elim (left-with s h (new_claim q parts) j d right) [
+        | inl also ↦ sym own.0 ∙ also.0
+        | inr other ↦ elim (alone j d other.1 (sym same ∙ sym (ap (λ e. e.key) own.1))) [ ]
+      ]
+      | inr before ↦ elim (left-with s h (new_claim q parts) j d right) [
+        | inl own ↦ elim (alone i c before.1 (same ∙ sym (ap (λ e. e.key) own.1))) [ ]
+        | inr other ↦ held.one i j c d before.1 other.1 same
+      ]
+    ];
   }
 
   pub held-done : (h : ℕ) → IsHeld (part_done s h)
   held-done h = record {
     pending = λ j c left.
-      let was : (e : Claim F) × (s.claims j ≡ Some e) × ((e ≡ c) ⊎ (without_first e ≡ c)) = left-done s h j c left in
-      subst (λ u. s.pending u ≡ true) (same-claim-key was.0 c was.2) (held.pending j was.0 was.1);
+        let was : (e : Claim F) × (s.claims j ≡ Some e) × ((e ≡ c) ⊎ (without_first e ≡ c)) = left-done s h j c left in
+        subst (λ u. s.pending u ≡ true) (same-claim-key was.0 c was.2) (held.pending j was.0 was.1);
     one = λ i j c d left right same.
-      let was : (e : Claim F) × (s.claims i ≡ Some e) × ((e ≡ c) ⊎ (without_first e ≡ c)) = left-done s h i c left in
-      let too : (e : Claim F) × (s.claims j ≡ Some e) × ((e ≡ d) ⊎ (without_first e ≡ d)) = left-done s h j d right in
-      held.one i j was.0 too.0 was.1 too.1 (same-claim-key was.0 c was.2 ∙ same ∙ sym (same-claim-key too.0 d too.2));
+        let was : (e : Claim F) × (s.claims i ≡ Some e) × ((e ≡ c) ⊎ (without_first e ≡ c)) = left-done s h i c left in
+        let too : (e : Claim F) × (s.claims j ≡ Some e) × ((e ≡ d) ⊎ (without_first e ≡ d)) = left-done s h j d right in
+        held.one i j was.0 too.0 was.1 too.1 (same-claim-key was.0 c was.2 ∙ same ∙ sym (same-claim-key too.0 d too.2));
   }
 
   pub held-release : (h : ℕ) → IsHeld (with_claim s h None)
@@ -66,11 +65,11 @@ module _ {F : Type 0} (s : State F) (held : IsHeld s) where
   pub held-finish : (h : ℕ) (c : Claim F) → s.claims h ≡ Some c → IsHeld (finished s h c)
   held-finish h c mine = record {
     pending = λ j d left.
-      let was : (h ≢ j) × (s.claims j ≡ Some d) = left-without s h j d left in
-      elim (key-tells s.pending c.key c.lowered d.key) [
-        | inl same ↦ elim (was.0 (held.one h j c d mine was.1 same.0)) [ ]
-        | inr other ↦ other.1 ∙ held.pending j d was.1
-      ];
+        let was : (h ≢ j) × (s.claims j ≡ Some d) = left-without s h j d left in
+        elim (key-tells s.pending c.key c.lowered d.key) [
+          | inl same ↦ elim (was.0 (held.one h j c d mine was.1 same.0)) [ ]
+          | inr other ↦ other.1 ∙ held.pending j d was.1
+        ];
     one = λ i j d e left right same. held.one i j d e (left-without s h i d left).1 (left-without s h j e right).1 same;
   }
 
@@ -80,12 +79,12 @@ module _ (K : Frame) (laws : IsLawful K) where
   pub held-lowered : (s : State F) → IsHeld s → (t : Key) (f : F) → IsHeld (lowered_at K s t f)
   held-lowered s held t f = record {
     pending = λ j c left.
-      let was : (e : Claim F) × (s.claims j ≡ Some e) × (marked t e ≡ c) = map-tells (marked t) (s.claims j) left in
-      pending-lowered K laws s t f c.key (subst (λ u. s.pending u ≡ true) (ap (λ e. e.key) was.2) (held.pending j was.0 was.1));
+        let was : (e : Claim F) × (s.claims j ≡ Some e) × (marked t e ≡ c) = map-tells (marked t) (s.claims j) left in
+        pending-lowered K laws s t f c.key (subst (λ u. s.pending u ≡ true) (ap (λ e. e.key) was.2) (held.pending j was.0 was.1));
     one = λ i j c d left right same.
-      let was : (e : Claim F) × (s.claims i ≡ Some e) × (marked t e ≡ c) = map-tells (marked t) (s.claims i) left in
-      let too : (e : Claim F) × (s.claims j ≡ Some e) × (marked t e ≡ d) = map-tells (marked t) (s.claims j) right in
-      held.one i j was.0 too.0 was.1 too.1 (ap (λ e. e.key) was.2 ∙ same ∙ sym (ap (λ e. e.key) too.2));
+        let was : (e : Claim F) × (s.claims i ≡ Some e) × (marked t e ≡ c) = map-tells (marked t) (s.claims i) left in
+        let too : (e : Claim F) × (s.claims j ≡ Some e) × (marked t e ≡ d) = map-tells (marked t) (s.claims j) right in
+        held.one i j was.0 too.0 was.1 too.1 (ap (λ e. e.key) was.2 ∙ same ∙ sym (ap (λ e. e.key) too.2));
   }
 
   pub proper-owed : (k : Key) (g : F) → MeetOf B (OfKey K k) g → IsTrue (B.proper g)
@@ -94,31 +93,31 @@ module _ (K : Frame) (laws : IsLawful K) where
   -- what a key has after it received a function that it may receive
   pub meets-lowered : (get : Key → Option F) → IsSound K get → (t : Key) (g : F) → MeetOf B (OfKey K t) g → MeetOf B (OfKey K t) (B.meet (function_of K get t) g)
   meets-lowered get sound t g meets = elim (present-or K get t) [
-      | inl found ↦ subst (λ u. MeetOf B (OfKey K t) (B.meet u g)) (sym (present-is K get t found.0 found.1)) (both (sound t found.0 found.1) meets)
-      | inr absent ↦ subst (λ u. MeetOf B (OfKey K t) (B.meet u g)) (sym (absent-is K get t absent))
-          (subst (MeetOf B (OfKey K t)) (sym (all_top-meet A B laws.lattice laws.functions g (proper-owed t g meets))) meets)
-    ]
+    | inl found ↦ subst (λ u. MeetOf B (OfKey K t) (B.meet u g)) (sym (present-is K get t found.0 found.1)) (both (sound t found.0 found.1) meets)
+    | inr absent ↦ subst (λ u. MeetOf B (OfKey K t) (B.meet u g)) (sym (absent-is K get t absent))
+        (subst (MeetOf B (OfKey K t)) (sym (all_top-meet A B laws.lattice laws.functions g (proper-owed t g meets))) meets)
+  ]
 
   pub sound-lowered : (s : State F) → IsSound K s.get → (t : Key) (g : F) → MeetOf B (OfKey K t) g → IsSound K (lowered_at K s t g).get
   sound-lowered s sound t g meets k f same = elim (key-tells s.get t (Some (B.meet (function_of K s.get t) g)) k) [
-      | inl at_key ↦
-          let is : B.meet (function_of K s.get t) g ≡ f = some-inj (sym at_key.1 ∙ same) in
-          subst (λ u. MeetOf B (OfKey K u) f) at_key.0 (subst (MeetOf B (OfKey K t)) is (meets-lowered s.get sound t g meets))
-      | inr other ↦ sound k f (sym other.1 ∙ same)
-    ]
+    | inl at_key ↦
+        let is : B.meet (function_of K s.get t) g ≡ f = some-inj (sym at_key.1 ∙ same) in
+        subst (λ u. MeetOf B (OfKey K u) f) at_key.0 (subst (MeetOf B (OfKey K t)) is (meets-lowered s.get sound t g meets))
+    | inr other ↦ sound k f (sym other.1 ∙ same)
+  ]
 
   pub inv-lowered : (s : State F) → IsInvariant K s → (t : Key) (f : F) → MeetOf B (OfKey K t) f → IsInvariant K (lowered_at K s t f)
   inv-lowered s inv t f meets = record {
     ready = λ ks k g instance. elim (other-instance K laws s.get t (Some (B.meet (function_of K s.get t) f)) instance) [
-        | inl among ↦ awaits t among (open-lowered K laws s t f)
-        | inr before ↦ settled-lowered K laws s (has-proper K laws s.get inv.sound) t f (proper-owed t f meets)
-            (proper-owed k g (instance-sound K laws s.get inv.sound before)) (inv.ready ks k g before)
-      ];
+      | inl among ↦ awaits t among (open-lowered K laws s t f)
+      | inr before ↦ settled-lowered K laws s (has-proper K laws s.get inv.sound) t f (proper-owed t f meets)
+          (proper-owed k g (instance-sound K laws s.get inv.sound before)) (inv.ready ks k g before)
+    ];
     held = held-lowered s inv.held t f;
     sound = sound-lowered s inv.sound t f meets;
     owed = λ j c left k g part.
-      let was : (e : Claim F) × (s.claims j ≡ Some e) × (marked t e ≡ c) = map-tells (marked t) (s.claims j) left in
-      inv.owed j was.0 was.1 k g (subst (IsIn {T = Key × F} (k, g)) (sym (ap (λ e. e.parts) was.2)) part);
+        let was : (e : Claim F) × (s.claims j ≡ Some e) × (marked t e ≡ c) = map-tells (marked t) (s.claims j) left in
+        inv.owed j was.0 was.1 k g (subst (IsIn {T = Key × F} (k, g)) (sym (ap (λ e. e.parts) was.2)) part);
   }
 
   pub inv-done : (s : State F) → IsInvariant K s → (h : ℕ) (c : Claim F) (t : Key) (f : F) (rest : List (Key × F)) → s.claims h ≡ Some c
@@ -128,11 +127,11 @@ module _ (K : Frame) (laws : IsLawful K) where
     held = held-done s inv.held h;
     sound = inv.sound;
     owed = λ j d left k g part.
-      let was : (e : Claim F) × (s.claims j ≡ Some e) × ((e ≡ d) ⊎ (without_first e ≡ d)) = left-done s h j d left in
-      inv.owed j was.0 was.1 k g (elim (was.2) [
-        | inl same ↦ subst (IsIn {T = Key × F} (k, g)) (sym (ap (λ e. e.parts) same)) part
-        | inr same ↦ in-rest (was.0.parts) (subst (IsIn {T = Key × F} (k, g)) (sym (ap (λ e. e.parts) same)) part)
-      ]);
+        let was : (e : Claim F) × (s.claims j ≡ Some e) × ((e ≡ d) ⊎ (without_first e ≡ d)) = left-done s h j d left in
+        inv.owed j was.0 was.1 k g (elim (was.2) [
+          | inl same ↦ subst (IsIn {T = Key × F} (k, g)) (sym (ap (λ e. e.parts) same)) part
+          | inr same ↦ in-rest (was.0.parts) (subst (IsIn {T = Key × F} (k, g)) (sym (ap (λ e. e.parts) same)) part)
+        ]);
   }
 
   -- each step keeps the invariant
@@ -142,18 +141,18 @@ module _ (K : Frame) (laws : IsLawful K) where
     held = held-claim s inv.held h q parts waits alone;
     sound = inv.sound;
     owed = λ j c left k g part. elim (left-with s h (new_claim q parts) j c left) [
-        | inl own ↦
-            let from_rule : (ks : List Key) × Instance K s.get ks k g =
-                  all.right k g (subst (IsIn {T = Key × F} (k, g)) (sym (ap (λ e. e.parts) own.1)) part) in
-            instance-sound K laws s.get inv.sound from_rule.1
-        | inr other ↦ inv.owed j c other.1 k g part
-      ];
+      | inl own ↦
+          let from_rule : (ks : List Key) × Instance K s.get ks k g =
+          all.right k g (subst (IsIn {T = Key × F} (k, g)) (sym (ap (λ e. e.parts) own.1)) part) in
+          instance-sound K laws s.get inv.sound from_rule.1
+      | inr other ↦ inv.owed j c other.1 k g part
+    ];
   }
   inv-step (skip {s = s} h c t f rest mine parts has) inv = inv-done s inv h c t f rest mine parts has
   inv-step (lower {s = s} h c t f rest mine parts) inv =
       let meets : MeetOf B (OfKey K t) f = inv.owed h c mine t f (subst (IsIn {T = Key × F} (t, f)) (sym parts) first) in
       inv-done (lowered_at K s t f) (inv-lowered s inv t f meets) h (marked t c) t f rest (ap (option_map (marked t)) mine) parts
-        (met-now K laws s (has-proper K laws s.get inv.sound) t f (proper-owed t f meets))
+      (met-now K laws s (has-proper K laws s.get inv.sound) t f (proper-owed t f meets))
   inv-step (release {s = s} h) inv = record {
     ready = λ ks k g instance. settled-release K laws s h inv.held (inv.ready ks k g instance);
     held = held-release s inv.held h;

@@ -1,5 +1,5 @@
 -- What stands in lists that are joined, mapped and ranged over.
-use Rattle.std.proofs.Common.{◌≡◌, ℕ, zero, suc, ◌+◌, ◌<◌, ◌≤◌, ◌⊎◌, List, [], ◌∷◌, ◌++◌, map, ap, sym, subst, refl, ◌∙◌, inl, inr, arith}
+use Rattle.std.proofs.Common.{◌≡◌, ℕ, zero, suc, ◌+◌, ◌<◌, ◌≤◌, ◌⊎◌, List, [], ◌∷◌, ◌++◌, map, sym, subst, refl, inl, inr, arith}
 use Rattle.std.specs.List.{flat_map, range_with_len}
 use Rattle.ide_theory.specs.Member.{IsIn, first, later}
 
@@ -13,9 +13,9 @@ not-in-empty is = elim is [ ]
 
 pub in-one : {T : Type 0} {x y : T} → IsIn x (y ∷ []) → x ≡ y
 in-one is = elim (first-or is) [
-    | inl same ↦ same
-    | inr none ↦ elim (not-in-empty none) [ ]
-  ]
+  | inl same ↦ same
+  | inr none ↦ elim (not-in-empty none) [ ]
+]
 
 module _ {T : Type 0} where
   pub in-left : {x : T} {xs : List T} (ys : List T) → IsIn x xs → IsIn x (xs ++ ys)
@@ -29,12 +29,12 @@ module _ {T : Type 0} where
   pub in-either : {x : T} (xs ys : List T) → IsIn x (xs ++ ys) → IsIn x xs ⊎ IsIn x ys
   in-either [] ys is = inr is
   in-either {x} (y ∷ xs) ys is = elim (first-or is) [
-      | inl same ↦ inl (subst (λ u. IsIn u (y ∷ xs)) (sym same) first)
-      | inr rest ↦ elim (in-either xs ys rest) [
-          | inl left ↦ inl (later left)
-          | inr right ↦ inr right
-        ]
+    | inl same ↦ inl (subst (λ u. IsIn u (y ∷ xs)) (sym same) first)
+    | inr rest ↦ elim (in-either xs ys rest) [
+      | inl left ↦ inl (later left)
+      | inr right ↦ inr right
     ]
+  ]
 
 module _ {S T : Type 0} where
   pub in-map : (f : S → T) {x : S} {xs : List S} → IsIn x xs → IsIn (f x) (map f xs)
@@ -44,9 +44,9 @@ module _ {S T : Type 0} where
   pub of-map : (f : S → T) {y : T} (xs : List S) → IsIn y (map f xs) → (x : S) × IsIn x xs × (f x ≡ y)
   of-map f [] is = elim (not-in-empty is) [ ]
   of-map f (x ∷ xs) is = elim (first-or is) [
-      | inl same ↦ (x, first, sym same)
-      | inr rest ↦ let found : (u : S) × IsIn u xs × (f u ≡ _) = of-map f xs rest in (found.0, later found.1, found.2)
-    ]
+    | inl same ↦ (x, first, sym same)
+    | inr rest ↦ let found : (u : S) × IsIn u xs × (f u ≡ _) = of-map f xs rest in (found.0, later found.1, found.2)
+  ]
 
   pub in-flat_map : (f : S → List T) {x : S} {y : T} {xs : List S} → IsIn x xs → IsIn y (f x) → IsIn y (flat_map f xs)
   in-flat_map f (first {xs = xs}) is = in-left (flat_map f xs) is
@@ -55,16 +55,16 @@ module _ {S T : Type 0} where
   pub of-flat_map : (f : S → List T) {y : T} (xs : List S) → IsIn y (flat_map f xs) → (x : S) × IsIn x xs × IsIn y (f x)
   of-flat_map f [] is = elim (not-in-empty is) [ ]
   of-flat_map f {y} (x ∷ xs) is = elim (in-either (f x) (flat_map f xs) is) [
-      | inl here ↦ (x, first, here)
-      | inr rest ↦ let found : (u : S) × IsIn u xs × IsIn y (f u) = of-flat_map f xs rest in (found.0, later found.1, found.2)
-    ]
+    | inl here ↦ (x, first, here)
+    | inr rest ↦ let found : (u : S) × IsIn u xs × IsIn y (f u) = of-flat_map f xs rest in (found.0, later found.1, found.2)
+  ]
 
 pub in-range_from : (low n k : ℕ) → low ≤ k → k < low + n → IsIn k (range_with_len low n)
 in-range_from low zero k least most = let no : ⊥ = omega (arith, least, most) in elim no [ ]
 in-range_from low (suc n) k least most = elim (first-or-past low k least) [
-    | inl same ↦ subst (λ u. IsIn u (low ∷ range_with_len (low + 1) n)) same first
-    | inr past ↦ later (in-range_from (low + 1) n k past (omega (arith, most)))
-  ]
+  | inl same ↦ subst (λ u. IsIn u (low ∷ range_with_len (low + 1) n)) same first
+  | inr past ↦ later (in-range_from (low + 1) n k past (omega (arith, most)))
+]
   where
     first-or-past : (low k : ℕ) → low ≤ k → (low ≡ k) ⊎ (low + 1 ≤ k)
     first-or-past low k least = grind (arith)

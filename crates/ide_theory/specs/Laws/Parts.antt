@@ -1,10 +1,10 @@
 -- The parts of a key are what each instance with the key gives, and nothing else.
-use Rattle.std.proofs.Common.{◌≡◌, ℕ, ◌<◌, ◌≤◌, ◌⊎◌, Bool, true, false, cond, nat_eq, List, [], ◌∷◌, ◌++◌, Option, Some, None, map, ap, sym, subst, refl, ◌∙◌, inl, inr, arith}
+use Rattle.std.proofs.Common.{◌≡◌, ℕ, ◌<◌, ◌≤◌, ◌⊎◌, Bool, true, false, cond, nat_eq, List, [], ◌∷◌, ◌++◌, Option, Some, None, map, sym, subst, refl, inl, inr, arith}
 use Rattle.std.specs.List.{flat_map, range_with_len}
 use Rattle.ide_wire.specs.declared.key.Key.{Key}
 use Rattle.ide_wire.specs.declared.key.Key.TheVariants.{Jump, Summary}
 use Rattle.ide_theory.specs.Frame.{Frame, IsLawful}
-use Rattle.ide_theory.specs.Member.{IsIn, first, later}
+use Rattle.ide_theory.specs.Member.{IsIn, first}
 use Rattle.ide_theory.specs.Image.{IsTarget, Instance, flat, seed, after, summarised}
 use Rattle.ide_theory.specs.Run.{ArePartsOf}
 use Rattle.ide_theory.specs.Parts.{NodeEdges, CallBetween, AreEdgesOf, if_some, seed_parts, flat_parts, after_parts, exit_parts, resumed_parts, jump_parts, parts_of, IsKeyInRange, AreKeysInRange}
@@ -31,9 +31,9 @@ module _ (K : Frame) (laws : IsLawful K) (get : Key → Option K.F) where
   -- a fact that has a target is in range
   pub source-in-range : (e : Edge) (k d : ℕ) (f : F) → IsTarget K e k d f → k < facts
   source-in-range e k d f is = elim (below-or k facts) [
-      | inl below ↦ below
-      | inr past ↦ elim (not-in-empty (subst (IsIn {T = ℕ × F} (d, f)) (laws.none_outside e k past) is)) [ ]
-    ]
+    | inl below ↦ below
+    | inr past ↦ elim (not-in-empty (subst (IsIn {T = ℕ × F} (d, f)) (laws.none_outside e k past) is)) [ ]
+  ]
     where
       below-or : (k n : ℕ) → (k < n) ⊎ (n ≤ k)
       below-or k n = grind (arith)
@@ -79,40 +79,40 @@ module _ (K : Frame) (laws : IsLawful K) (get : Key → Option K.F) where
         → IsIn {T = Key × F} (k, g) (parts_of K get at q)
     parts-complete ranged {k = k} {g = g} (flat e a b c f h is_flat same is) among =
         subst (λ u. IsIn {T = Key × F} (k, g) (parts_of K get at u)) (sym (in-one among))
-          (in-jump (from e) a b f same (in-flats (from e) a b f
-            (in-flat_map (λ e. flat_parts K get e a b f) (edges.has_flat e is_flat)
-              (in-map (λ (t : ℕ × F). (Jump (to e) a t.0, compose f t.1)) is))))
+        (in-jump (from e) a b f same (in-flats (from e) a b f
+        (in-flat_map (λ e. flat_parts K get e a b f) (edges.has_flat e is_flat)
+        (in-map (λ (t : ℕ × F). (Jump (to e) a t.0, compose f t.1)) is))))
     parts-complete ranged {k = k} {g = g} (seed e a b c f h is_call same is) among =
         subst (λ u. IsIn {T = Key × F} (k, g) (parts_of K get at u)) (sym (in-one among))
-          (in-jump (from e) a b f same (in-seeds (from e) a b f
-            (in-flat_map (λ e. seed_parts K get e b) (edges.has_call e is_call)
-              (in-map (λ (t : ℕ × F). (Jump (to e) t.0 t.0, id)) is))))
+        (in-jump (from e) a b f same (in-seeds (from e) a b f
+        (in-flat_map (λ e. seed_parts K get e b) (edges.has_call e is_call)
+        (in-map (λ (t : ℕ × F). (Jump (to e) t.0 t.0, id)) is))))
     parts-complete ranged {k = k} {g = g} (after call ret a b d f s matched same passed) {q} among =
         let site : IsIn (to ret) (at (from call)).return_sites = edges.has_site call ret matched in
         elim (first-or among) [
           | inl jump ↦ subst (λ u. IsIn {T = Key × F} (k, g) (parts_of K get at u)) (sym jump)
               (in-jump (from call) a b f same (in-afters (from call) a b f
-                (in-flat_map (after_parts K get (from call) a b f) site
-                  (in-flat_map (λ d. if_some (get (Summary (from call) b d)) (λ s. (Jump (to ret) a d, compose f s) ∷ []))
-                    (in-range_below facts d (ranged (Summary (from call) b d) s passed).1)
-                    (in-if_some (get (Summary (from call) b d)) (λ s. (Jump (to ret) a d, compose f s) ∷ []) s passed first)))))
+              (in-flat_map (after_parts K get (from call) a b f) site
+              (in-flat_map (λ d. if_some (get (Summary (from call) b d)) (λ s. (Jump (to ret) a d, compose f s) ∷ []))
+              (in-range_below facts d (ranged (Summary (from call) b d) s passed).1)
+              (in-if_some (get (Summary (from call) b d)) (λ s. (Jump (to ret) a d, compose f s) ∷ []) s passed first)))))
           | inr rest ↦ subst (λ u. IsIn {T = Key × F} (k, g) (parts_of K get at u)) (sym (in-one rest))
               (in-summary (from call) b d s passed
-                (in-flat_map (resumed_parts K get (from call) b d s) site
-                  (in-flat_map (λ a. if_some (get (Jump (from call) a b)) (λ f. (Jump (to ret) a d, compose f s) ∷ []))
-                    (in-range_below facts a (ranged (Jump (from call) a b) f same).0)
-                    (in-if_some (get (Jump (from call) a b)) (λ f. (Jump (to ret) a d, compose f s) ∷ []) f same first))))
+              (in-flat_map (resumed_parts K get (from call) b d s) site
+              (in-flat_map (λ a. if_some (get (Jump (from call) a b)) (λ f. (Jump (to ret) a d, compose f s) ∷ []))
+              (in-range_below facts a (ranged (Jump (from call) a b) f same).0)
+              (in-if_some (get (Jump (from call) a b)) (λ f. (Jump (to ret) a d, compose f s) ∷ []) f same first))))
         ]
     parts-complete ranged {k = k} {g = g} (summarised call ret a b c d h f l matched is same out) among =
         let returns : List (Key × F) = map (λ u. (Summary (from call) a u.0, compose (compose h f) u.1)) (targets ret c) in
         let listed : IsIn {T = Key × F} (k, g) returns = in-map (λ (u : ℕ × F). (Summary (from call) a u.0, compose (compose h f) u.1)) out in
         subst (λ u. IsIn {T = Key × F} (k, g) (parts_of K get at u)) (sym (in-one among))
-          (in-jump (from ret) b c f same (in-exits (from ret) b c f
-            (in-flat_map (exit_parts K get b c f) (edges.has_caller call ret matched)
-              (in-flat_map (λ x. flat_map (λ t. cond (nat_eq t.0 b) (map (λ u. (Summary (from call) x u.0, compose (compose t.1 f) u.1)) (targets ret c)) []) (targets call x))
-                (in-range_below facts a (source-in-range call a b h is))
-                (in-flat_map (λ t. cond (nat_eq t.0 b) (map (λ u. (Summary (from call) a u.0, compose (compose t.1 f) u.1)) (targets ret c)) []) is
-                  (subst (λ v. IsIn {T = Key × F} (k, g) (cond v returns [])) (sym (nat_eq-refl b)) listed))))))
+        (in-jump (from ret) b c f same (in-exits (from ret) b c f
+        (in-flat_map (exit_parts K get b c f) (edges.has_caller call ret matched)
+        (in-flat_map (λ x. flat_map (λ t. cond (nat_eq t.0 b) (map (λ u. (Summary (from call) x u.0, compose (compose t.1 f) u.1)) (targets ret c)) []) (targets call x))
+        (in-range_below facts a (source-in-range call a b h is))
+        (in-flat_map (λ t. cond (nat_eq t.0 b) (map (λ u. (Summary (from call) a u.0, compose (compose t.1 f) u.1)) (targets ret c)) []) is
+        (subst (λ v. IsIn {T = Key × F} (k, g) (cond v returns [])) (sym (nat_eq-refl b)) listed))))))
 
     -- what a part is of
     abbrev pub FromRule : Key × F → Type 0
@@ -123,46 +123,49 @@ module _ (K : Frame) (laws : IsLawful K) (get : Key → Option K.F) where
         let edge : (e : Edge) × IsIn e (at n).calls × IsIn p (seed_parts K get e b) = of-flat_map (λ e. seed_parts K get e b) (at n).calls is in
         let call : IsCall edge.0 × (from edge.0 ≡ n) = edges.is_call n edge.0 edge.1 in
         let target : (t : ℕ × F) × IsIn t (targets edge.0 b) × ((Jump (to edge.0) t.0 t.0, id) ≡ p) =
-              of-map (λ t. (Jump (to edge.0) t.0 t.0, id)) (targets edge.0 b) edge.2 in
-        subst FromRule target.2
-          (Jump (from edge.0) a b ∷ [],
-            seed edge.0 a b target.0.0 f target.0.1 call.0 (subst (λ m. get (Jump m a b) ≡ Some f) (sym call.1) same) target.1)
+        of-map (λ t. (Jump (to edge.0) t.0 t.0, id)) (targets edge.0 b) edge.2 in
+        subst FromRule target.2 (
+          Jump (from edge.0) a b ∷ [],
+          seed edge.0 a b target.0.0 f target.0.1 call.0 (subst (λ m. get (Jump m a b) ≡ Some f) (sym call.1) same) target.1,
+        )
 
     pub flats-right : (n a b : ℕ) (f : F) → get (Jump n a b) ≡ Some f → {p : Key × F} → IsIn p (flat_map (λ e. flat_parts K get e a b f) (at n).flat) → FromRule p
     flats-right n a b f same {p} is =
         let edge : (e : Edge) × IsIn e (at n).flat × IsIn p (flat_parts K get e a b f) = of-flat_map (λ e. flat_parts K get e a b f) (at n).flat is in
         let stays : IsFlat edge.0 × (from edge.0 ≡ n) = edges.is_flat n edge.0 edge.1 in
         let target : (t : ℕ × F) × IsIn t (targets edge.0 b) × ((Jump (to edge.0) a t.0, compose f t.1) ≡ p) =
-              of-map (λ t. (Jump (to edge.0) a t.0, compose f t.1)) (targets edge.0 b) edge.2 in
-        subst FromRule target.2
-          (Jump (from edge.0) a b ∷ [],
-            flat edge.0 a b target.0.0 f target.0.1 stays.0 (subst (λ m. get (Jump m a b) ≡ Some f) (sym stays.1) same) target.1)
+        of-map (λ t. (Jump (to edge.0) a t.0, compose f t.1)) (targets edge.0 b) edge.2 in
+        subst FromRule target.2 (
+          Jump (from edge.0) a b ∷ [],
+          flat edge.0 a b target.0.0 f target.0.1 stays.0 (subst (λ m. get (Jump m a b) ≡ Some f) (sym stays.1) same) target.1,
+        )
 
     -- a jump function at a call node and a summary there give one part
     pub over-call : (n m a b d : ℕ) (f s : F) → CallBetween K n m → get (Jump n a b) ≡ Some f → get (Summary n b d) ≡ Some s → FromRule (Jump m a d, compose f s)
     over-call n m a b d f s between same passed =
-        subst (λ u. FromRule (Jump u a d, compose f s)) between.returns
-          (Jump (from between.call) a b ∷ Summary (from between.call) b d ∷ [],
-            after between.call between.ret a b d f s between.matched
+        subst (λ u. FromRule (Jump u a d, compose f s)) between.returns (
+          Jump (from between.call) a b ∷ Summary (from between.call) b d ∷ [],
+          after between.call between.ret a b d f s between.matched
               (subst (λ u. get (Jump u a b) ≡ Some f) (sym between.leaves) same)
-              (subst (λ u. get (Summary u b d) ≡ Some s) (sym between.leaves) passed))
+              (subst (λ u. get (Summary u b d) ≡ Some s) (sym between.leaves) passed),
+        )
 
     pub afters-right : (n a b : ℕ) (f : F) → get (Jump n a b) ≡ Some f → {p : Key × F} → IsIn p (flat_map (after_parts K get n a b f) (at n).return_sites) → FromRule p
     afters-right n a b f same {p} is =
         let site : (m : ℕ) × IsIn m (at n).return_sites × IsIn p (after_parts K get n a b f m) = of-flat_map (after_parts K get n a b f) (at n).return_sites is in
         let fact : (d : ℕ) × IsIn d (range_with_len 0 facts) × IsIn p (if_some (get (Summary n b d)) (λ s. (Jump site.0 a d, compose f s) ∷ [])) =
-              of-flat_map (λ d. if_some (get (Summary n b d)) (λ s. (Jump site.0 a d, compose f s) ∷ [])) (range_with_len 0 facts) site.2 in
+        of-flat_map (λ d. if_some (get (Summary n b d)) (λ s. (Jump site.0 a d, compose f s) ∷ [])) (range_with_len 0 facts) site.2 in
         let summary : (s : F) × (get (Summary n b fact.0) ≡ Some s) × IsIn p ((Jump site.0 a fact.0, compose f s) ∷ []) =
-              of-if_some (get (Summary n b fact.0)) (λ s. (Jump site.0 a fact.0, compose f s) ∷ []) fact.2 in
+        of-if_some (get (Summary n b fact.0)) (λ s. (Jump site.0 a fact.0, compose f s) ∷ []) fact.2 in
         subst FromRule (sym (in-one summary.2)) (over-call n site.0 a b fact.0 f summary.0 (edges.is_site n site.0 site.1) same summary.1)
 
     pub resumed-right : (c b d : ℕ) (s : F) → get (Summary c b d) ≡ Some s → {p : Key × F} → IsIn p (flat_map (resumed_parts K get c b d s) (at c).return_sites) → FromRule p
     resumed-right c b d s same {p} is =
         let site : (m : ℕ) × IsIn m (at c).return_sites × IsIn p (resumed_parts K get c b d s m) = of-flat_map (resumed_parts K get c b d s) (at c).return_sites is in
         let fact : (a : ℕ) × IsIn a (range_with_len 0 facts) × IsIn p (if_some (get (Jump c a b)) (λ f. (Jump site.0 a d, compose f s) ∷ [])) =
-              of-flat_map (λ a. if_some (get (Jump c a b)) (λ f. (Jump site.0 a d, compose f s) ∷ [])) (range_with_len 0 facts) site.2 in
+        of-flat_map (λ a. if_some (get (Jump c a b)) (λ f. (Jump site.0 a d, compose f s) ∷ [])) (range_with_len 0 facts) site.2 in
         let jump : (f : F) × (get (Jump c fact.0 b) ≡ Some f) × IsIn p ((Jump site.0 fact.0 d, compose f s) ∷ []) =
-              of-if_some (get (Jump c fact.0 b)) (λ f. (Jump site.0 fact.0 d, compose f s) ∷ []) fact.2 in
+        of-if_some (get (Jump c fact.0 b)) (λ f. (Jump site.0 fact.0 d, compose f s) ∷ []) fact.2 in
         subst FromRule (sym (in-one jump.2)) (over-call c site.0 fact.0 b d jump.0 s (edges.is_site c site.0 site.1) jump.1 same)
 
     pub exits-right : (n a b : ℕ) (f : F) → get (Jump n a b) ≡ Some f → {p : Key × F} → IsIn p (flat_map (exit_parts K get a b f) (at n).callers) → FromRule p
@@ -172,21 +175,22 @@ module _ (K : Frame) (laws : IsLawful K) (get : Key → Option K.F) where
         let ret : Edge = caller.0.1 in
         let leaves : Matched call ret × (from ret ≡ n) = edges.is_caller n call ret caller.1 in
         let source : (x : ℕ) × IsIn x (range_with_len 0 facts)
-                × IsIn p (flat_map (λ t. cond (nat_eq t.0 a) (map (λ u. (Summary (from call) x u.0, compose (compose t.1 f) u.1)) (targets ret b)) []) (targets call x)) =
-              of-flat_map (λ x. flat_map (λ t. cond (nat_eq t.0 a) (map (λ u. (Summary (from call) x u.0, compose (compose t.1 f) u.1)) (targets ret b)) []) (targets call x))
-                (range_with_len 0 facts) caller.2 in
+        × IsIn p (flat_map (λ t. cond (nat_eq t.0 a) (map (λ u. (Summary (from call) x u.0, compose (compose t.1 f) u.1)) (targets ret b)) []) (targets call x)) =
+        of-flat_map (λ x. flat_map (λ t. cond (nat_eq t.0 a) (map (λ u. (Summary (from call) x u.0, compose (compose t.1 f) u.1)) (targets ret b)) []) (targets call x))
+        (range_with_len 0 facts) caller.2 in
         let x : ℕ = source.0 in
         let over : (t : ℕ × F) × IsIn t (targets call x) × IsIn p (cond (nat_eq t.0 a) (map (λ u. (Summary (from call) x u.0, compose (compose t.1 f) u.1)) (targets ret b)) []) =
-              of-flat_map (λ t. cond (nat_eq t.0 a) (map (λ u. (Summary (from call) x u.0, compose (compose t.1 f) u.1)) (targets ret b)) []) (targets call x) source.2 in
+        of-flat_map (λ t. cond (nat_eq t.0 a) (map (λ u. (Summary (from call) x u.0, compose (compose t.1 f) u.1)) (targets ret b)) []) (targets call x) source.2 in
         let g : F = over.0.1 in
         let chosen : (nat_eq over.0.0 a ≡ true) × IsIn p (map (λ u. (Summary (from call) x u.0, compose (compose g f) u.1)) (targets ret b)) =
-              of-cond (nat_eq over.0.0 a) (map (λ u. (Summary (from call) x u.0, compose (compose g f) u.1)) (targets ret b)) over.2 in
+        of-cond (nat_eq over.0.0 a) (map (λ u. (Summary (from call) x u.0, compose (compose g f) u.1)) (targets ret b)) over.2 in
         let listed : IsTarget K call x a g = subst (λ k. IsTarget K call x k g) (nat_eq-exact over.0.0 a chosen.0) over.1 in
         let target : (u : ℕ × F) × IsIn u (targets ret b) × ((Summary (from call) x u.0, compose (compose g f) u.1) ≡ p) =
-              of-map (λ u. (Summary (from call) x u.0, compose (compose g f) u.1)) (targets ret b) chosen.1 in
-        subst FromRule {x = (Summary (from call) x target.0.0, compose (compose g f) target.0.1)} target.2
-          (Jump (from ret) a b ∷ [],
-            summarised call ret x a b target.0.0 g f target.0.1 leaves.0 listed (subst (λ m. get (Jump m a b) ≡ Some f) (sym leaves.1) same) target.1)
+        of-map (λ u. (Summary (from call) x u.0, compose (compose g f) u.1)) (targets ret b) chosen.1 in
+        subst FromRule {x = (Summary (from call) x target.0.0, compose (compose g f) target.0.1)} target.2 (
+          Jump (from ret) a b ∷ [],
+          summarised call ret x a b target.0.0 g f target.0.1 leaves.0 listed (subst (λ m. get (Jump m a b) ≡ Some f) (sym leaves.1) same) target.1,
+        )
 
     pub parts-right : (q : Key) {p : Key × F} → IsIn p (parts_of K get at q) → FromRule p
     parts-right (Jump n a b) {p} is =
@@ -199,16 +203,16 @@ module _ (K : Frame) (laws : IsLawful K) (get : Key → Option K.F) where
         elim (in-either seeds (flats ++ (afters ++ exits)) present.2) [
           | inl there ↦ seeds-right n a b f present.1 there
           | inr rest ↦ elim (in-either flats (afters ++ exits) rest) [
-              | inl there ↦ flats-right n a b f present.1 there
-              | inr more ↦ elim (in-either afters exits more) [
-                  | inl there ↦ afters-right n a b f present.1 there
-                  | inr there ↦ exits-right n a b f present.1 there
-                ]
+            | inl there ↦ flats-right n a b f present.1 there
+            | inr more ↦ elim (in-either afters exits more) [
+              | inl there ↦ afters-right n a b f present.1 there
+              | inr there ↦ exits-right n a b f present.1 there
             ]
+          ]
         ]
     parts-right (Summary c b d) {p} is =
         let present : (s : F) × (get (Summary c b d) ≡ Some s) × IsIn p (flat_map (resumed_parts K get c b d s) (at c).return_sites) =
-              of-if_some (get (Summary c b d)) (λ s. flat_map (resumed_parts K get c b d s) (at c).return_sites) is in
+        of-if_some (get (Summary c b d)) (λ s. flat_map (resumed_parts K get c b d s) (at c).return_sites) is in
         resumed-right c b d present.0 present.1 present.2
 
     -- so the list is what a claim of the key owes

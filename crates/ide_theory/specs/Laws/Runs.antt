@@ -1,6 +1,6 @@
 -- Where nothing is pending each instance is met, so the values that follow from a quiet image, and
 -- from a run that ended in one, are best.
-use Rattle.std.proofs.Common.{◌≡◌, ℕ, ◌<◌, Bool, true, false, List, Option, Some, option_map, IsTrue, sym, ◌∙◌, true≢false, refl}
+use Rattle.std.proofs.Common.{ℕ, ◌<◌, List, IsTrue, sym, ◌∙◌, true≢false}
 use Rattle.ide_wire.specs.declared.key.Key.{Key}
 use Rattle.ide_wire.specs.declared.key.Key.TheVariants.{Jump}
 use Rattle.ide_theory.specs.Frame.{Frame, Roots, AreRoots, IsLawful}
@@ -9,13 +9,12 @@ use Rattle.ide_theory.specs.Image.{Instance, IsMet, HasRoots}
 use Rattle.ide_theory.specs.Value.{IsStarted, value_at}
 use Rattle.ide_theory.specs.State.{State, lowered_at}
 use Rattle.ide_theory.specs.Run.{Step, claim, skip, lower, release, finish, root, Run, IsQuiet}
-use Rattle.ide_theory.specs.Invariant.{IsOpen, IsSettled, met, awaits, owed, IsHeld, IsInvariant}
+use Rattle.ide_theory.specs.Invariant.{IsSettled, met, awaits, owed, IsHeld, IsInvariant}
 use Rattle.ide_theory.specs.Laws.Sound.{has-proper}
 use Rattle.ide_theory.specs.Laws.Ready.{met-lowered, met-now}
 use Rattle.ide_theory.specs.Laws.Kept.{proper-owed, inv-run}
 use Rattle.ide_theory.specs.Laws.Greatest.{best-value}
 use Rattle.ide_theory.specs.Member.{IsIn, first}
-use Rattle.std.specs.Prelude.{◌∷◌}
 use Rattle.std.proofs.Common.{subst}
 
 -- what is settled where nothing is pending is met
@@ -34,7 +33,7 @@ met-step K laws (claim h q parts free waits alone all) inv k f p has = has
 met-step K laws (skip h c t g rest mine parts is) inv k f p has = has
 met-step K laws (lower {s = s} h c t g rest mine parts) inv k f p has =
     met-lowered K laws s (has-proper K laws s.get inv.sound) t g
-      (proper-owed K laws t g (inv.owed h c mine t g (subst (IsIn {T = Key × K.F} (t, g)) (sym parts) first))) k f p has
+    (proper-owed K laws t g (inv.owed h c mine t g (subst (IsIn {T = Key × K.F} (t, g)) (sym parts) first))) k f p has
 met-step K laws (release h) inv k f p has = has
 met-step K laws (finish h c mine none) inv k f p has = has
 met-step K laws (root {s = s} r d is_start in_range) inv k f p has =

@@ -1,15 +1,15 @@
 -- All claims may go at once, as at a stop; and at the start of a procedure each entry is the identity.
-use Rattle.std.proofs.Common.{◌≡◌, ◌≢◌, ℕ, ◌⊎◌, Bool, true, List, [], ◌∷◌, ◌++◌, Option, Some, None, IsTrue, ap, ap₂, sym, subst, refl, ◌∙◌, inl, inr}
+use Rattle.std.proofs.Common.{◌≡◌, ◌≢◌, ℕ, ◌⊎◌, true, List, [], ◌∷◌, None, ap₂, sym, refl, ◌∙◌, inl, inr}
 use Rattle.ide_wire.specs.declared.key.Key.{Key}
 use Rattle.ide_wire.specs.declared.key.Key.TheVariants.{Jump}
 use Rattle.ide_theory.specs.Frame.{Frame, Roots, IsLawful}
 use Rattle.ide_theory.specs.Path.{SameLevel, here, step, through}
 use Rattle.ide_theory.specs.Member.{IsIn}
-use Rattle.ide_theory.specs.Image.{Instance, IsMet, HasRoots}
+use Rattle.ide_theory.specs.Image.{IsMet, HasRoots}
 use Rattle.ide_theory.specs.Entry.{Exploded, done, more, MeetOf, one, both, OfJump}
-use Rattle.ide_theory.specs.State.{Claim, State}
+use Rattle.ide_theory.specs.State.{State}
 use Rattle.ide_theory.specs.Run.{Step}
-use Rattle.ide_theory.specs.Invariant.{IsOpen, IsSettled, met, awaits, owed, IsHeld, IsInvariant, IsSettledPlainly, unclaimed}
+use Rattle.ide_theory.specs.Invariant.{IsSettled, met, awaits, owed, IsHeld, IsInvariant, IsSettledPlainly, unclaimed}
 use Rattle.ide_theory.specs.Laws.Changes.{none-some}
 use Rattle.ide_theory.specs.Laws.Ready.{meet-idempotent}
 use Rattle.ide_theory.specs.Laws.Runs.{met-step}
@@ -26,12 +26,12 @@ each-of K s held (owed h c has among fresh part) = inr (c.key, among, held.pendi
 pub inv-of : (K : Frame) (s : State K.F) → ((h : ℕ) → s.claims h ≡ None) → IsSettledPlainly K s → IsInvariant K s
 inv-of K s free all = record {
   ready = λ ks k g instance. elim (all.ready ks k g instance) [
-      | inl has ↦ met has
-      | inr waits ↦ awaits waits.0 waits.1 (record {
-          pending = waits.2;
-          stale = λ h c has is. elim (none-some (sym (free h) ∙ has)) [ ];
-        })
-    ];
+    | inl has ↦ met has
+    | inr waits ↦ awaits waits.0 waits.1 (record {
+      pending = waits.2;
+      stale = λ h c has is. elim (none-some (sym (free h) ∙ has)) [ ];
+    })
+  ];
   held = record {
     pending = λ h c has. elim (none-some (sym (free h) ∙ has)) [ ];
     one = λ h j c d has other same. elim (none-some (sym (free h) ∙ has)) [ ];
@@ -42,16 +42,16 @@ inv-of K s free all = record {
 
 pub inv-unclaimed : (K : Frame) (s : State K.F) → IsInvariant K s → IsInvariant K (unclaimed s)
 inv-unclaimed K s inv = inv-of K (unclaimed s) (λ _. refl) (record {
-    ready = λ ks k g instance. each-of K s inv.held (inv.ready ks k g instance);
-    sound = inv.sound;
-  })
+  ready = λ ks k g instance. each-of K s inv.held (inv.ready ks k g instance);
+  sound = inv.sound;
+})
 
 -- the roots' identities stay in each step
 pub has-roots-step : (K : Frame) → IsLawful K → (R : Roots K) → {s t : State K.F} → Step K s t → IsInvariant K s → HasRoots K R s.get → HasRoots K R t.get
 has-roots-step K laws R happens inv roots r d is_root within = elim (roots r d is_root within) [
-    | inl top ↦ inl top
-    | inr has ↦ inr (met-step K laws happens inv (Jump r d d) K.functions.id laws.functions.proper_id has)
-  ]
+  | inl top ↦ inl top
+  | inr has ↦ inr (met-step K laws happens inv (Jump r d d) K.functions.id laws.functions.proper_id has)
+]
 
 -- no same-level path but the empty one ends at a node that neither flat edges nor returns enter
 pub empty-at : (K : Frame) {s n : ℕ} {es : List K.graph.Edge} → SameLevel K.graph s es n
