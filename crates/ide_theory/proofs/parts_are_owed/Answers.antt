@@ -1,0 +1,7 @@
+use Rattle.ide_theory.specs.Laws.Given.{parts-are-owed}
+use Rattle.ide_theory.proofs.parts_are_owed.Goals as goal
+
+pub returns : goal.returns
+returns g c =
+    parts-are-owed g.P.L.Lattice.algebra g.P.F.EdgeFn.edge g.P.Problem.targets
+    g.met.P.L.Lattice.lawful g.met.P.F.EdgeFn.lawful g.met.P.Problem.lawful

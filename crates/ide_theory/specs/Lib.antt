@@ -1,0 +1,15 @@
+pub mod Best
+pub mod Effect
+pub mod Entry
+pub mod Frame
+pub mod Given
+pub mod Image
+pub mod Invariant
+pub mod Laws
+pub mod Member
+pub mod Parts
+pub mod Path
+pub mod Run
+pub mod State
+pub mod Theorem
+pub mod Value

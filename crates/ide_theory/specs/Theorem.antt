@@ -1,0 +1,60 @@
+-- What the theorems of the crate say, for any analysis over any supergraph.
+use Rattle.std.specs.Prelude.{◌≡◌, ℕ, ◌<◌, List}
+use Rattle.ide_lattice.specs.Algebra.{LatticeAlgebra, EdgeAlgebra}
+use Rattle.ide_problem.specs.Flow.{Targets}
+use Rattle.ide_theory.specs.Frame.{Frame, Roots, AreRoots}
+use Rattle.ide_theory.specs.Path.{Valid}
+use Rattle.ide_theory.specs.Best.{IsBest}
+use Rattle.ide_theory.specs.Image.{HasRoots}
+use Rattle.ide_theory.specs.Value.{IsStarted, value_at}
+use Rattle.ide_theory.specs.State.{State}
+use Rattle.ide_theory.specs.Run.{ArePartsOf, Run, IsQuiet}
+use Rattle.ide_theory.specs.Parts.{NodeEdges, AreEdgesOf, parts_of}
+use Rattle.ide_wire.specs.declared.key.Key.{Key}
+use Rattle.ide_theory.specs.Invariant.{IsInvariant}
+use Rattle.ide_theory.specs.Given.{Edge, Edges, IsGraph, frame_of, roots_of}
+
+-- where nothing is pending, the roots have their identities and the start values stand, the values
+-- that follow are best, at each node and fact
+abbrev pub GivesBest : (K : Frame) → Roots K → State K.F → Type 0
+GivesBest K R s =
+    IsQuiet s → HasRoots K R s.get → (start : ℕ → ℕ → K.L) → IsStarted K R s.get start
+    → (n d : ℕ) → d < K.facts → IsBest K R n d (value_at K s.get start n d)
+
+-- two best values are the same
+abbrev pub HasOneBest : (K : Frame) → Roots K → Type 0
+HasOneBest K R = (n d : ℕ) (v w : K.L) → IsBest K R n d v → IsBest K R n d w → v ≡ w
+
+-- where no valid path from a root leads, top is best
+abbrev pub HasTopUnreached : (K : Frame) → Roots K → Type 0
+HasTopUnreached K R =
+    (n d : ℕ) → ((r : ℕ) (es : List K.graph.Edge) → R.IsRoot r → Valid K.graph r es n → ⊥) → IsBest K R n d K.lattice.top
+
+module _ {L F : Type 0} (lattice : LatticeAlgebra L) (functions : EdgeAlgebra F L) (targets : Targets F) where
+  -- it holds over each supergraph with roots
+  abbrev pub ForEach : ((K : Frame) → Roots K → Type 0) → Type 0
+  ForEach P =
+      (G : Edges) → IsGraph G → (roots : List ℕ) (entry : ℕ → L)
+      → AreRoots (frame_of lattice functions targets G) (roots_of (frame_of lattice functions targets G) roots entry)
+      → P (frame_of lattice functions targets G) (roots_of (frame_of lattice functions targets G) roots entry)
+
+  -- a state that keeps the invariant gives best values
+  abbrev pub ValuesAreBest : Type 0
+  ValuesAreBest = ForEach (λ K R. (s : State K.F) → IsInvariant K s → GivesBest K R s)
+
+  -- a run from nothing on, by any hands, gives best values
+  abbrev pub RunsAreBest : Type 0
+  RunsAreBest = ForEach (λ K R. (s : State K.F) → Run K s → GivesBest K R s)
+
+  abbrev pub BestIsUnique : Type 0
+  BestIsUnique = ForEach HasOneBest
+
+  abbrev pub TopIsBest : Type 0
+  TopIsBest = ForEach HasTopUnreached
+
+  -- the list of a key's parts is what a claim of it owes, in each state that a run comes to
+  abbrev pub PartsAreOwed : Type 0
+  PartsAreOwed =
+      (G : Edges) → IsGraph G → (at : ℕ → NodeEdges (Edge G.facts)) → AreEdgesOf (frame_of lattice functions targets G) at
+      → (s : State F) → Run (frame_of lattice functions targets G) s
+      → (q : Key) → ArePartsOf (frame_of lattice functions targets G) s.get q (parts_of (frame_of lattice functions targets G) s.get at q)

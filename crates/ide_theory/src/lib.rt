@@ -1,0 +1,39 @@
+//! What an answer of the solver means, and that a quiet image gives it.
+//!
+//! An interprocedural distributive environment problem (Sagiv, Reps and Horwitz, Theoretical
+//! Computer Science 167, 1996) asks, for each node and fact, for the greatest value below the
+//! effect of every valid path from a root. The crate has no code: its definitions say what paths,
+//! effects, best values, rule instances, claims and runs are, over any supergraph and any lawful
+//! lattice and edge functions, and the functions below do nothing but carry the theorems as their
+//! contracts, for every analysis.
+#![tactic(auto)]
+
+ghost use Rattle.ide_theory.specs.Theorem.{ValuesAreBest, RunsAreBest, BestIsUnique, TopIsBest, PartsAreOwed};
+
+use ide_problem::Problem;
+
+/// Values that follow from a quiet image, in which the roots have their identities, are best.
+pub fn values_are_best<P: Problem>()
+    ensures { ValuesAreBest P.L.algebra P.F.edge P.targets }
+{}
+
+/// Values that follow from the end of a run are best, whatever hands took part, in whatever order.
+pub fn runs_are_best<P: Problem>()
+    ensures { RunsAreBest P.L.algebra P.F.edge P.targets }
+{}
+
+/// A node and a fact have no two best values.
+pub fn best_is_unique<P: Problem>()
+    ensures { BestIsUnique P.L.algebra P.F.edge P.targets }
+{}
+
+/// Top is best where no valid path leads.
+pub fn top_is_best<P: Problem>()
+    ensures { TopIsBest P.L.algebra P.F.edge P.targets }
+{}
+
+/// The parts of a key, listed by edge, partner and target, are what a claim of it owes: what each
+/// rule instance with the key gives, and nothing else.
+pub fn parts_are_owed<P: Problem>()
+    ensures { PartsAreOwed P.L.algebra P.F.edge P.targets }
+{}
