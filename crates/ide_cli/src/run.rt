@@ -86,7 +86,13 @@ fn answer<'a, R: Files + AllocGlobal>(
             procedure,
         } => {
             let text = read_file(rt, file)?;
-            answered(solve_by(rt.alloc(), instance, text.as_slice(), procedure.as_bytes(), out))
+            answered(solve_by(
+                rt.alloc(),
+                instance,
+                text.as_slice(),
+                procedure.as_bytes(),
+                out,
+            ))
         }
         Words::Check { file } => {
             let text = read_file(rt, file)?;

@@ -66,7 +66,10 @@ fn expect<P: Problem>(
     want: P::L,
 ) {
     let found = value::<P>(rt.alloc(), text, procedure, position, fact);
-    assert!(rt; found == Ok(want), "{fact} at {position} of {procedure} in {text}");
+    assert!(rt;
+        found == Ok(want),
+        "{fact} at {position} of {procedure} in {text}"
+    );
 }
 
 /// Asserts a value of copy-constant propagation.
