@@ -3,7 +3,6 @@ use crate::{solve, values_of};
 use ide_graph::Graph;
 use ide_instances::{ConstFn, ConstValue, CopyConst, Reach, ShiftConst, Uninit, UninitValue};
 use ide_lattice::{EdgeFn, Lattice};
-use ide_problem::Problem;
 use ide_steps::{Claimed, Core};
 use ide_tasks::Work;
 use ide_text::parse;
@@ -43,36 +42,20 @@ const NUMBER: &str = "proc main\nvar x\nx = 5\nend\n";
 const EMPTY: &str = "proc main\nend\n";
 
 /// The value of a fact at a position of a procedure, with `main` as the root.
-fn value<P: Problem>(
+fn value(
     alloc: Global,
     text: &str,
     procedure: &str,
     position: u32,
     fact: &str,
-) -> Result<P::L, Refused> {
-    let values = values_of::<P>(alloc, text.as_bytes(), &[b"main".as_slice()])?;
+) -> Result<ConstValue, Refused> {
+    let values = values_of::<CopyConst>(alloc, text.as_bytes(), &[b"main".as_slice()])?;
     let graph = &values.loaded().graph;
     let (node, fact) = graph.find(procedure.as_bytes(), position, fact.as_bytes())?;
     values.at(node, fact)
 }
 
 /// Asserts the value of a fact at a position of a procedure.
-fn expect<P: Problem>(
-    rt: &(impl Abort + AllocGlobal),
-    text: &str,
-    procedure: &str,
-    position: u32,
-    fact: &str,
-    want: P::L,
-) {
-    let found = value::<P>(rt.alloc(), text, procedure, position, fact);
-    assert!(rt;
-        found == Ok(want),
-        "{fact} at {position} of {procedure} in {text}"
-    );
-}
-
-/// Asserts a value of copy-constant propagation.
 fn expect_value(
     rt: &(impl Abort + AllocGlobal),
     text: &str,
@@ -81,10 +64,29 @@ fn expect_value(
     fact: &str,
     want: ConstValue,
 ) {
-    expect::<CopyConst>(rt, text, procedure, position, fact, want);
+    let found = value(rt.alloc(), text, procedure, position, fact);
+    assert_eq!(rt;
+        found,
+        Ok(want),
+        "{fact} at {position} of {procedure} in {text}"
+    );
 }
 
-/// Asserts a value where sums are followed too.
+/// A value where sums are followed too.
+fn shifted_value(
+    alloc: Global,
+    text: &str,
+    procedure: &str,
+    position: u32,
+    fact: &str,
+) -> Result<ConstValue, Refused> {
+    let values = values_of::<ShiftConst>(alloc, text.as_bytes(), &[b"main".as_slice()])?;
+    let graph = &values.loaded().graph;
+    let (node, fact) = graph.find(procedure.as_bytes(), position, fact.as_bytes())?;
+    values.at(node, fact)
+}
+
+/// Asserts such a value.
 fn expect_shifted(
     rt: &(impl Abort + AllocGlobal),
     text: &str,
@@ -93,7 +95,43 @@ fn expect_shifted(
     fact: &str,
     want: ConstValue,
 ) {
-    expect::<ShiftConst>(rt, text, procedure, position, fact, want);
+    let found = shifted_value(rt.alloc(), text, procedure, position, fact);
+    assert_eq!(rt;
+        found,
+        Ok(want),
+        "{fact} at {position} of {procedure} in {text}"
+    );
+}
+
+/// Whether a variable may be uninitialised.
+fn uninit_value(
+    alloc: Global,
+    text: &str,
+    procedure: &str,
+    position: u32,
+    fact: &str,
+) -> Result<UninitValue, Refused> {
+    let values = values_of::<Uninit>(alloc, text.as_bytes(), &[b"main".as_slice()])?;
+    let graph = &values.loaded().graph;
+    let (node, fact) = graph.find(procedure.as_bytes(), position, fact.as_bytes())?;
+    values.at(node, fact)
+}
+
+/// Asserts such a value.
+fn expect_uninit(
+    rt: &(impl Abort + AllocGlobal),
+    text: &str,
+    procedure: &str,
+    position: u32,
+    fact: &str,
+    want: UninitValue,
+) {
+    let found = uninit_value(rt.alloc(), text, procedure, position, fact);
+    assert_eq!(rt;
+        found,
+        Ok(want),
+        "{fact} at {position} of {procedure} in {text}"
+    );
 }
 
 #[test]
@@ -107,22 +145,38 @@ fn linear_constants(rt: HostRuntime) {
 }
 
 #[test]
-fn uninitialised_variables(rt: HostRuntime) -> Result<(), Fail> {
-    expect::<Uninit>(&rt, EMPTY, "main", 0, "@zero", UninitValue::Bottom);
-    expect::<Uninit>(&rt, EMPTY, "main", 0, "@result", UninitValue::Top);
-    expect::<Uninit>(&rt, EMPTY, "main", 1, "@zero", UninitValue::Bottom);
-    expect::<Uninit>(&rt, EMPTY, "main", 1, "@result", UninitValue::Bottom);
-    expect::<Uninit>(&rt, UNINITIALISED, "main", 3, "y", UninitValue::Bottom);
-    expect::<Uninit>(&rt, UNINITIALISED, "main", 3, "x", UninitValue::Top);
-    let mut core: Core<Uninit> = begun(rt.alloc(), EMPTY)?;
-    assert_eq!(rt; core.drain()?, 3);
-    Ok(())
+fn uninitialised_variables(rt: HostRuntime) {
+    expect_uninit(&rt, EMPTY, "main", 0, "@zero", UninitValue::Bottom);
+    expect_uninit(&rt, EMPTY, "main", 0, "@result", UninitValue::Top);
+    expect_uninit(&rt, EMPTY, "main", 1, "@zero", UninitValue::Bottom);
+    expect_uninit(&rt, EMPTY, "main", 1, "@result", UninitValue::Bottom);
+    expect_uninit(&rt, UNINITIALISED, "main", 3, "y", UninitValue::Bottom);
+    expect_uninit(&rt, UNINITIALISED, "main", 3, "x", UninitValue::Top);
+}
+
+/// Whether a statement of `main` is reached.
+fn reached(alloc: Global, text: &str, position: u32) -> Result<UninitValue, Refused> {
+    let values = values_of::<Reach>(alloc, text.as_bytes(), &[b"main".as_slice()])?;
+    let (node, fact) = values.loaded().graph.find(b"main", position, b"@zero")?;
+    values.at(node, fact)
 }
 
 #[test]
 fn reached_statements(rt: HostRuntime) {
-    expect::<Reach>(&rt, UNREACHABLE, "main", 3, "@zero", UninitValue::Top);
-    expect::<Reach>(&rt, UNREACHABLE, "main", 5, "@zero", UninitValue::Bottom);
+    assert_eq!(rt; reached(rt.alloc(), UNREACHABLE, 3), Ok(UninitValue::Top));
+    assert_eq!(rt;
+        reached(rt.alloc(), UNREACHABLE, 5),
+        Ok(UninitValue::Bottom)
+    );
+}
+
+#[test]
+fn tasks_of_the_empty_main(rt: HostRuntime) -> Result<(), Fail> {
+    let mut core: Core<Uninit> = Core::new(rt.alloc());
+    core.load(parse(rt.alloc(), EMPTY.as_bytes())?)?;
+    core.root(b"main")?;
+    assert_eq!(rt; core.drain()?, 3);
+    Ok(())
 }
 
 #[test]
@@ -208,7 +262,7 @@ fn roots_that_are_refused(rt: HostRuntime) -> Result<(), Fail> {
 }
 
 /// A core with the text loaded and `main` as its root.
-fn begun<P: Problem>(alloc: Global, text: &str) -> Result<Core<P>, Refused> {
+fn begun(alloc: Global, text: &str) -> Result<Core<CopyConst>, Refused> {
     let mut core = Core::new(alloc);
     core.load(parse(alloc, text.as_bytes())?)?;
     core.root(b"main")?;
@@ -217,9 +271,9 @@ fn begun<P: Problem>(alloc: Global, text: &str) -> Result<Core<P>, Refused> {
 
 #[test]
 fn tasks_and_quiescent_tables(rt: HostRuntime) -> Result<(), Fail> {
-    let mut core: Core<CopyConst> = begun(rt.alloc(), COPIES)?;
+    let mut core = begun(rt.alloc(), COPIES)?;
     assert_eq!(rt; core.drain()?, 13);
-    let mut core: Core<CopyConst> = begun(rt.alloc(), TWO_CALLS)?;
+    let mut core = begun(rt.alloc(), TWO_CALLS)?;
     core.drain()?;
     assert!(rt; core.is_quiet());
     assert_eq!(rt; core.key_count(), 51 + 4);
@@ -287,7 +341,7 @@ fn expect_refused_claim(
 fn claims_of_several_hands(rt: HostRuntime) -> Result<(), Fail> {
     let mut core: Core<CopyConst> = Core::new(rt.alloc());
     expect_refused_claim(&rt, &mut core, 0, Refused::NoProgram);
-    let mut core: Core<CopyConst> = begun(rt.alloc(), NUMBER)?;
+    let mut core = begun(rt.alloc(), NUMBER)?;
     assert!(rt; matches!(core.claim(0)?, Claimed::Task(_)));
     assert!(rt; matches!(core.claim(1)?, Claimed::Idle));
     expect_refused_claim(&rt, &mut core, 0, Refused::Busy);
@@ -300,7 +354,7 @@ fn claims_of_several_hands(rt: HostRuntime) -> Result<(), Fail> {
 
 #[test]
 fn work_of_before_a_load_is_stale(rt: HostRuntime) -> Result<(), Fail> {
-    let mut core: Core<CopyConst> = begun(rt.alloc(), NUMBER)?;
+    let mut core = begun(rt.alloc(), NUMBER)?;
     let Claimed::Task(task) = core.claim(0)? else {
         return Err("no task".into());
     };
