@@ -18,7 +18,7 @@ module _ {L F : Type 0} (lattice : LatticeAlgebra L) (functions : EdgeAlgebra F 
     lattice = lattice_laws;
     functions = function_laws;
     in_order = λ e k. subst (λ n. AreTargets functions.proper 0 n (targets e.edge k)) e.counted (flow.in_order e.edge k e.lawful);
-    none_outside = λ e k h. flow.none_outside e.edge k (subst (λ n. n ≤ k) (sym e.counted) h);
+    none_outside = λ e k h. flow.none_outside e.edge k e.lawful (subst (λ n. n ≤ k) (sym e.counted) h);
     flat = graph.flat;
     back = graph.back;
     callee = λ e call. graph.callee e call.0 call.1;
