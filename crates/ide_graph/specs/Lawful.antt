@@ -35,7 +35,7 @@ IsAssigned facts (Some fact) = IsVariable facts fact
 -- what is stated of an edge of each kind
 abbrev pub IsKind : ℕ → ℕ → EdgeKind → Type 0
 IsKind result facts (Normal effect) = IsEffect result facts effect
-IsKind result facts (Call pairs) = AreParameters facts (result + 1) pairs.items
+IsKind result facts (Call pairs) = AreParameters facts (result + 1) pairs
 IsKind result facts (Return assigned) = IsAssigned facts assigned
 IsKind result facts (CallToReturn assigned) = IsAssigned facts assigned
 

@@ -4,5 +4,6 @@ pub mod Lawful
 pub mod Named
 pub mod Numbered
 pub mod Numbers
+pub mod Passed
 pub mod Supergraph
 pub mod Whole

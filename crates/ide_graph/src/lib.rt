@@ -16,11 +16,13 @@ mod graph;
 mod layout;
 mod names;
 mod numbering;
+mod passed;
 mod scope;
 mod site;
 
 pub use edge::{EdgeData, EdgeKind, Effect};
 pub use graph::Graph;
+pub use passed::Passed;
 pub use site::{Caller, Site};
 
 #[cfg(test)]

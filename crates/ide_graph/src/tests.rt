@@ -33,7 +33,7 @@ fn shown_edge(alloc: Global, edge: &EdgeData) -> Result<String, Fail> {
     let end = edge.end;
     let shown = match &edge.kind {
         EdgeKind::Normal(effect) => format!(in alloc; " normal {end} {effect:?}")?,
-        EdgeKind::Call(passed) => format!(in alloc; " call {end} {passed:?}")?,
+        EdgeKind::Call(passed) => format!(in alloc; " call {end} {:?}", passed.as_slice())?,
         EdgeKind::Return(target) => format!(in alloc; " return {end} {target:?}")?,
         EdgeKind::CallToReturn(target) => format!(in alloc; " along {end} {target:?}")?,
     };

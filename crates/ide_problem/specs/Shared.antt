@@ -68,7 +68,7 @@ effect_targets id received at_entry result (Enter first end) fact = entered_targ
 -- over an edge of each kind
 abbrev pub kind_targets : {F : Type 0} → F → Option F → F → ℕ → EdgeKind → ℕ → List (ℕ × F)
 kind_targets id received at_entry result (Normal effect) fact = effect_targets id received at_entry result effect fact
-kind_targets id received at_entry result (Call pairs) fact = call_targets id result pairs.items fact
+kind_targets id received at_entry result (Call pairs) fact = call_targets id result pairs fact
 kind_targets id received at_entry result (Return assigned) fact = return_targets id result assigned fact
 kind_targets id received at_entry result (CallToReturn assigned) fact = along_targets id result assigned fact
 

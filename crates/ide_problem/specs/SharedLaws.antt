@@ -133,7 +133,7 @@ module _ {F L : Type 0} (A : LatticeAlgebra L) (B : EdgeAlgebra F L) (laws : IsE
       → (facts result fact : ℕ) (kind : EdgeKind) → fact < facts → 0 < result → result < facts → IsKind result facts kind
       → AreTargets B.proper 0 facts (kind_targets B.id received at_entry result kind fact)
   are_kind received at_entry rp ap facts result fact (Normal effect) few some within lawful = are_effect received at_entry rp ap facts result fact effect few some within lawful
-  are_kind received at_entry rp ap facts result fact (Call pairs) few some within lawful = are_call facts result fact pairs.items few within lawful
+  are_kind received at_entry rp ap facts result fact (Call pairs) few some within lawful = are_call facts result fact pairs few within lawful
   are_kind received at_entry rp ap facts result fact (Return None) few some within lawful =
       are_kept B.proper B.id laws.proper_id (nat_lt fact result) 0 fact facts (λ same. omega arith) (λ same. few)
   are_kind received at_entry rp ap facts result fact (Return (Some target)) few some within lawful =
