@@ -1,6 +1,7 @@
 //! What meets, compositions and values come to, and the coded and printed forms.
-use crate::{ConstFn, ConstValue, UninitFn, UninitValue};
+use crate::{ConstFn, ConstValue, CopyConst, ShiftConst, Uninit, UninitFn, UninitValue};
 use ide_lattice::{EdgeFn, Lattice, value_of_meet};
+use ide_problem::Problem;
 use ide_wire::Wire;
 use std::alloc::AllocGlobal;
 use std::process::Abort;
@@ -66,16 +67,19 @@ fn meets_of_functions(rt: HostRuntime) {
     expect_value(&rt, met, ConstValue::Const(5), ConstValue::Bottom);
     expect_value(&rt, met, ConstValue::Bottom, ConstValue::Bottom);
     expect_value(&rt, met, ConstValue::Top, ConstValue::Top);
-    let parts = [ConstFn::Shift(1), ConstFn::Const(7)];
-    assert_eq!(rt;
-        value_of_meet(&parts, ConstValue::Const(6)),
-        ConstValue::Const(7)
-    );
+}
+
+#[test]
+fn values_of_meets_at_each_analysis(rt: HostRuntime) {
     let parts = [UninitFn::AllTop, UninitFn::Id];
-    assert_eq!(rt;
-        value_of_meet(&parts, UninitValue::Bottom),
-        UninitValue::Bottom
-    );
+    let value = value_of_meet::<<Uninit as Problem>::F>(&parts, UninitValue::Bottom);
+    assert_eq!(rt; value, UninitValue::Bottom);
+    let parts = [ConstFn::Const(6), ConstFn::id()];
+    let value = value_of_meet::<<CopyConst as Problem>::F>(&parts, ConstValue::Const(6));
+    assert_eq!(rt; value, ConstValue::Const(6));
+    let parts = [ConstFn::Shift(1), ConstFn::Const(7)];
+    let value = value_of_meet::<<ShiftConst as Problem>::F>(&parts, ConstValue::Const(6));
+    assert_eq!(rt; value, ConstValue::Const(7));
 }
 
 #[test]
