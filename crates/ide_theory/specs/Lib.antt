@@ -5,7 +5,6 @@ pub mod Frame
 pub mod Given
 pub mod Image
 pub mod Invariant
-pub mod Laws
 pub mod Member
 pub mod Parts
 pub mod Path

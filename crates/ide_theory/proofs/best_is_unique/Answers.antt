@@ -1,4 +1,4 @@
-use Rattle.ide_theory.specs.Laws.Given.{best-is-unique}
+use Rattle.ide_theory.proofs.Laws.Given.{best-is-unique}
 use Rattle.ide_theory.proofs.best_is_unique.Goals as goal
 
 pub returns : goal.returns

@@ -1,4 +1,4 @@
-use Rattle.ide_theory.specs.Laws.Given.{parts-are-owed}
+use Rattle.ide_theory.proofs.Laws.Given.{parts-are-owed}
 use Rattle.ide_theory.proofs.parts_are_owed.Goals as goal
 
 pub returns : goal.returns

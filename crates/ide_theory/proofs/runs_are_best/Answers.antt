@@ -1,4 +1,4 @@
-use Rattle.ide_theory.specs.Laws.Given.{runs-are-best}
+use Rattle.ide_theory.proofs.Laws.Given.{runs-are-best}
 use Rattle.ide_theory.proofs.runs_are_best.Goals as goal
 
 pub returns : goal.returns

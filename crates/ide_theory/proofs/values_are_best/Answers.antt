@@ -1,4 +1,4 @@
-use Rattle.ide_theory.specs.Laws.Given.{values-are-best}
+use Rattle.ide_theory.proofs.Laws.Given.{values-are-best}
 use Rattle.ide_theory.proofs.values_are_best.Goals as goal
 
 pub returns : goal.returns

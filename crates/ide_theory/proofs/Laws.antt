@@ -1,4 +1,4 @@
--- The lemmas. They stand here, and not in `proofs/`, since crates above cite them.
+-- The lemmas.
 pub mod Bridge
 pub mod Changes
 pub mod Effects

@@ -7,9 +7,9 @@ use Rattle.ide_problem.specs.Flow.{Targets, IsFlow, AreTargets}
 use Rattle.ide_theory.specs.Frame.{IsLawful}
 use Rattle.ide_theory.specs.Given.{Edges, IsGraph, frame_of, roots_of}
 use Rattle.ide_theory.specs.Theorem.{ValuesAreBest, RunsAreBest, BestIsUnique, TopIsBest, PartsAreOwed}
-use Rattle.ide_theory.specs.Laws.Effects.{best-unique, top-best}
-use Rattle.ide_theory.specs.Laws.Ranged.{run-parts}
-use Rattle.ide_theory.specs.Laws.Runs.{quiet-best, run-best}
+use Rattle.ide_theory.proofs.Laws.Effects.{best-unique, top-best}
+use Rattle.ide_theory.proofs.Laws.Ranged.{run-parts}
+use Rattle.ide_theory.proofs.Laws.Runs.{quiet-best, run-best}
 
 module _ {L F : Type 0} (lattice : LatticeAlgebra L) (functions : EdgeAlgebra F L) (targets : Targets F)
     (lattice_laws : IsLattice lattice) (function_laws : IsEdgeAlgebra lattice functions) (flow : IsFlow functions targets) where

@@ -10,9 +10,9 @@ use Rattle.ide_theory.specs.Entry.{Exploded, done, more, MeetOf, one, both, OfJu
 use Rattle.ide_theory.specs.State.{State}
 use Rattle.ide_theory.specs.Run.{Step}
 use Rattle.ide_theory.specs.Invariant.{IsSettled, met, awaits, owed, IsHeld, IsInvariant, IsSettledPlainly, unclaimed}
-use Rattle.ide_theory.specs.Laws.Changes.{none-some}
-use Rattle.ide_theory.specs.Laws.Ready.{meet-idempotent}
-use Rattle.ide_theory.specs.Laws.Runs.{met-step}
+use Rattle.ide_theory.proofs.Laws.Changes.{none-some}
+use Rattle.ide_theory.proofs.Laws.Ready.{meet-idempotent}
+use Rattle.ide_theory.proofs.Laws.Runs.{met-step}
 
 -- a settled instance is met, or one of its premises is pending
 pub each-of : (K : Frame) (s : State K.F) → IsHeld s → {ks : List Key} {k : Key} {g : K.F} → IsSettled K s ks k g

@@ -9,8 +9,8 @@ use Rattle.ide_theory.specs.Frame.{Frame, IsLawful}
 use Rattle.ide_theory.specs.Path.{SameLevel, here, step, through}
 use Rattle.ide_theory.specs.Image.{IsTarget, Instance, flat, seed, after, summarised}
 use Rattle.ide_theory.specs.Entry.{Exploded, done, more, MeetOf, one, both, OfJump, OfSummary, OfKey, IsSound}
-use Rattle.ide_theory.specs.Laws.Targets.{IsInRange, in-range}
-use Rattle.ide_theory.specs.Laws.Bridge.{HasProper}
+use Rattle.ide_theory.proofs.Laws.Targets.{IsInRange, in-range}
+use Rattle.ide_theory.proofs.Laws.Bridge.{HasProper}
 
 module _ {F L : Type 0} (A : LatticeAlgebra L) (B : EdgeAlgebra F L) (laws : IsEdgeAlgebra A B) where
   -- identity and composition, by what they do to each value

@@ -8,9 +8,9 @@ use Rattle.ide_theory.specs.Image.{function_of, Instance}
 use Rattle.ide_theory.specs.State.{Claim, State, nothing_done, without_first, marked, new_claim, part_done, lowered_at}
 use Rattle.ide_theory.specs.Run.{ArePartsOf, Step, claim, skip, lower, release, finish, root, Run, begins, goes_on}
 use Rattle.ide_theory.specs.Parts.{NodeEdges, AreEdgesOf, parts_of, IsKeyInRange, AreAllInRange}
-use Rattle.ide_theory.specs.Laws.Changes.{key-tells, none-some, map-tells, left-with, left-without, left-done}
-use Rattle.ide_theory.specs.Laws.Kept.{in-rest}
-use Rattle.ide_theory.specs.Laws.Parts.{instance-in-range, parts-are}
+use Rattle.ide_theory.proofs.Laws.Changes.{key-tells, none-some, map-tells, left-with, left-without, left-done}
+use Rattle.ide_theory.proofs.Laws.Kept.{in-rest}
+use Rattle.ide_theory.proofs.Laws.Parts.{instance-in-range, parts-are}
 
 module _ (K : Frame) (laws : IsLawful K) where
   open K use {F, functions as B, facts}

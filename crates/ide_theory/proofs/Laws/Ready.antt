@@ -12,9 +12,9 @@ use Rattle.ide_theory.specs.Image.{function_of, Instance, flat, seed, after, sum
 use Rattle.ide_theory.specs.State.{Claim, State, put, rest_of, without_first, marked, new_claim, with_claim, part_done, lowered_at, finished}
 use Rattle.ide_theory.specs.Run.{ArePartsOf}
 use Rattle.ide_theory.specs.Invariant.{IsOpen, IsSettled, met, awaits, owed, IsHeld}
-use Rattle.ide_theory.specs.Laws.Changes.{key-tells, hand-tells, same-or, some-inj, none-some, map-tells, or-true, left-with, has-claim, kept-with, left-without, left-done, kept-done}
-use Rattle.ide_theory.specs.Laws.Members.{first-or, not-in-empty}
-use Rattle.ide_theory.specs.Laws.Bridge.{HasProper, proper-function_of}
+use Rattle.ide_theory.proofs.Laws.Changes.{key-tells, hand-tells, same-or, some-inj, none-some, map-tells, or-true, left-with, has-claim, kept-with, left-without, left-done, kept-done}
+use Rattle.ide_theory.proofs.Laws.Members.{first-or, not-in-empty}
+use Rattle.ide_theory.proofs.Laws.Bridge.{HasProper, proper-function_of}
 
 module _ {F L : Type 0} (A : LatticeAlgebra L) (B : EdgeAlgebra F L) (lattice : IsLattice A) (laws : IsEdgeAlgebra A B) where
   -- functions meet as their values do

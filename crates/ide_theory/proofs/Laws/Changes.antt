@@ -4,7 +4,7 @@ use Rattle.std.specs.Prelude.{unwrap_or, is_some}
 use Rattle.ide_wire.specs.Key.{same_key, same_key_exact, same_key_refl}
 use Rattle.ide_wire.specs.declared.key.Key.{Key}
 use Rattle.ide_theory.specs.State.{Claim, State, put, without_first, part_done}
-use Rattle.ide_theory.specs.Laws.Targets.{nat_eq-exact, nat_eq-refl}
+use Rattle.ide_theory.proofs.Laws.Targets.{nat_eq-exact, nat_eq-refl}
 
 pub put-tells : {X T : Type 0} (same : X → X → Bool) → ((x y : X) → same x y ≡ true → x ≡ y) → ((x : X) → same x x ≡ true)
     → (f : X → T) (at : X) (value : T) (x : X) → ((at ≡ x) × (put same f at value x ≡ value)) ⊎ ((at ≢ x) × (put same f at value x ≡ f x))

@@ -11,9 +11,9 @@ use Rattle.ide_theory.specs.Frame.{Frame, IsLawful}
 use Rattle.ide_theory.specs.Effect.{arrow}
 use Rattle.ide_theory.specs.Image.{IsTarget, function_of, Instance, flat, seed, after, summarised, IsMet}
 use Rattle.ide_theory.specs.Value.{jump_map}
-use Rattle.ide_theory.specs.Laws.Effects.{proper-target}
-use Rattle.ide_theory.specs.Laws.Targets.{target-or}
-use Rattle.ide_theory.specs.Laws.Lower.{IsDecreasing, IsSatisfied}
+use Rattle.ide_theory.proofs.Laws.Effects.{proper-target}
+use Rattle.ide_theory.proofs.Laws.Targets.{target-or}
+use Rattle.ide_theory.proofs.Laws.Lower.{IsDecreasing, IsSatisfied}
 
 -- each present key has a proper function
 abbrev pub HasProper : (K : Frame) → (Key → Option K.F) → Type 0

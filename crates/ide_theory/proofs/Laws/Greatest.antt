@@ -14,12 +14,12 @@ use Rattle.ide_theory.specs.Best.{IsBelowPaths, IsBest}
 use Rattle.ide_theory.specs.Image.{IsTarget, function_of, Instance, IsMet, HasRoots}
 use Rattle.ide_theory.specs.Entry.{Exploded, done, more, MeetOf, one, both, OfJump, IsSound}
 use Rattle.ide_theory.specs.Value.{jump_map, Found, nothing, given, passed, meet, IsStarted, value_at}
-use Rattle.ide_theory.specs.Laws.Folds.{distributive-then}
-use Rattle.ide_theory.specs.Laws.Effects.{IsProper, distributive-arrow, proper-edge, proper-term}
-use Rattle.ide_theory.specs.Laws.Targets.{target-is}
-use Rattle.ide_theory.specs.Laws.Lower.{IsDecreasing, IsClosed, valid-lower}
-use Rattle.ide_theory.specs.Laws.Bridge.{present-or, present-is, HasProper, proper-at, proper-arrow, distributive-of, below-when-top, absent-top, unlisted-top, listed-or, met-below, satisfied-of}
-use Rattle.ide_theory.specs.Laws.Sound.{proper-meets, proper-listed, target-in-range, proper-exploded, exploded-append, exploded-edge, proper-jump, has-proper}
+use Rattle.ide_theory.proofs.Laws.Folds.{distributive-then}
+use Rattle.ide_theory.proofs.Laws.Effects.{IsProper, distributive-arrow, proper-edge, proper-term}
+use Rattle.ide_theory.proofs.Laws.Targets.{target-is}
+use Rattle.ide_theory.proofs.Laws.Lower.{IsDecreasing, IsClosed, valid-lower}
+use Rattle.ide_theory.proofs.Laws.Bridge.{present-or, present-is, HasProper, proper-at, proper-arrow, distributive-of, below-when-top, absent-top, unlisted-top, listed-or, met-below, satisfied-of}
+use Rattle.ide_theory.proofs.Laws.Sound.{proper-meets, proper-listed, target-in-range, proper-exploded, exploded-append, exploded-edge, proper-jump, has-proper}
 
 -- a path from the root that ends where it enters a procedure
 pub data Entered (K : Frame) (r : ℕ) : List K.graph.Edge → ℕ → Type 0 where

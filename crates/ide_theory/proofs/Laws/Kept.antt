@@ -11,10 +11,10 @@ use Rattle.ide_theory.specs.Entry.{done, MeetOf, one, both, OfKey, IsSound}
 use Rattle.ide_theory.specs.State.{Claim, State, rest_of, without_first, marked, new_claim, with_claim, part_done, lowered_at, finished, nothing_done}
 use Rattle.ide_theory.specs.Run.{Step, claim, skip, lower, release, finish, root, Run, begins, goes_on}
 use Rattle.ide_theory.specs.Invariant.{awaits, IsHeld, IsInvariant}
-use Rattle.ide_theory.specs.Laws.Changes.{key-tells, some-inj, none-some, map-tells, left-with, left-without, left-done}
-use Rattle.ide_theory.specs.Laws.Bridge.{present-or, present-is, absent-is}
-use Rattle.ide_theory.specs.Laws.Sound.{proper-meets, proper-key, has-proper, instance-sound, at-start}
-use Rattle.ide_theory.specs.Laws.Ready.{all_top-meet, other-instance, met-now, settled-claim, settled-done, open-lowered, pending-lowered, settled-lowered, settled-release, settled-finish}
+use Rattle.ide_theory.proofs.Laws.Changes.{key-tells, some-inj, none-some, map-tells, left-with, left-without, left-done}
+use Rattle.ide_theory.proofs.Laws.Bridge.{present-or, present-is, absent-is}
+use Rattle.ide_theory.proofs.Laws.Sound.{proper-meets, proper-key, has-proper, instance-sound, at-start}
+use Rattle.ide_theory.proofs.Laws.Ready.{all_top-meet, other-instance, met-now, settled-claim, settled-done, open-lowered, pending-lowered, settled-lowered, settled-release, settled-finish}
 
 -- a claim that a part was taken from has the key that it had
 pub same-claim-key : {F : Type 0} (d c : Claim F) → (d ≡ c) ⊎ (without_first d ≡ c) → d.key ≡ c.key

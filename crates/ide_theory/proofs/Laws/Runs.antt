@@ -10,10 +10,10 @@ use Rattle.ide_theory.specs.Value.{IsStarted, value_at}
 use Rattle.ide_theory.specs.State.{State, lowered_at}
 use Rattle.ide_theory.specs.Run.{Step, claim, skip, lower, release, finish, root, Run, IsQuiet}
 use Rattle.ide_theory.specs.Invariant.{IsSettled, met, awaits, owed, IsHeld, IsInvariant}
-use Rattle.ide_theory.specs.Laws.Sound.{has-proper}
-use Rattle.ide_theory.specs.Laws.Ready.{met-lowered, met-now}
-use Rattle.ide_theory.specs.Laws.Kept.{proper-owed, inv-run}
-use Rattle.ide_theory.specs.Laws.Greatest.{best-value}
+use Rattle.ide_theory.proofs.Laws.Sound.{has-proper}
+use Rattle.ide_theory.proofs.Laws.Ready.{met-lowered, met-now}
+use Rattle.ide_theory.proofs.Laws.Kept.{proper-owed, inv-run}
+use Rattle.ide_theory.proofs.Laws.Greatest.{best-value}
 use Rattle.ide_theory.specs.Member.{IsIn, first}
 use Rattle.std.proofs.Common.{subst}
 

@@ -7,8 +7,8 @@ use Rattle.ide_lattice.specs.Meets.{meet_of, proper-meet_of, meet_of-below, belo
 use Rattle.ide_theory.specs.Frame.{Frame, Roots, AreRoots, IsLawful}
 use Rattle.ide_theory.specs.Path.{SameLevel, here, step, through, Valid, within, enters}
 use Rattle.ide_theory.specs.Effect.{arrow, edge_effect, path_effect}
-use Rattle.ide_theory.specs.Laws.Folds.{all-or, meet_of-top, distributive-then}
-use Rattle.ide_theory.specs.Laws.Effects.{IsProper, IsLower, distributive-arrow, proper-edge, edge-mono, path-mono, path-append}
+use Rattle.ide_theory.proofs.Laws.Folds.{all-or, meet_of-top, distributive-then}
+use Rattle.ide_theory.proofs.Laws.Effects.{IsProper, IsLower, distributive-arrow, proper-edge, edge-mono, path-mono, path-append}
 
 -- a map gives each proper value one below it
 abbrev pub IsDecreasing : (K : Frame) → (K.L → K.L) → Type 0

@@ -8,9 +8,9 @@ use Rattle.ide_theory.specs.Member.{IsIn, first}
 use Rattle.ide_theory.specs.Image.{IsTarget, Instance, flat, seed, after, summarised}
 use Rattle.ide_theory.specs.Run.{ArePartsOf}
 use Rattle.ide_theory.specs.Parts.{NodeEdges, CallBetween, AreEdgesOf, if_some, seed_parts, flat_parts, after_parts, exit_parts, resumed_parts, jump_parts, parts_of, IsKeyInRange, AreKeysInRange}
-use Rattle.ide_theory.specs.Laws.Members.{first-or, not-in-empty, in-one, in-left, in-right, in-either, in-map, of-map, in-flat_map, of-flat_map, in-range_below}
-use Rattle.ide_theory.specs.Laws.Targets.{nat_eq-refl, nat_eq-exact}
-use Rattle.ide_theory.specs.Laws.Sound.{target-in-range}
+use Rattle.ide_theory.proofs.Laws.Members.{first-or, not-in-empty, in-one, in-left, in-right, in-either, in-map, of-map, in-flat_map, of-flat_map, in-range_below}
+use Rattle.ide_theory.proofs.Laws.Targets.{nat_eq-refl, nat_eq-exact}
+use Rattle.ide_theory.proofs.Laws.Sound.{target-in-range}
 
 -- what stands in the list that follows from a value, if there is one
 pub of-if_some : {X Y : Type 0} (o : Option X) (f : X → List Y) {y : Y} → IsIn y (if_some o f) → (x : X) × (o ≡ Some x) × IsIn y (f x)
