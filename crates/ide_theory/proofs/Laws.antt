@@ -12,6 +12,8 @@ pub mod Parts
 pub mod Ranged
 pub mod Ready
 pub mod Runs
+pub mod SameEdge
+pub mod Sites
 pub mod Sound
 pub mod Targets
 pub mod Unclaimed

@@ -9,6 +9,7 @@ pub mod Member
 pub mod Parts
 pub mod Path
 pub mod Run
+pub mod Sites
 pub mod State
 pub mod Theorem
 pub mod Value

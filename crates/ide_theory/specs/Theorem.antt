@@ -12,6 +12,8 @@ use Rattle.ide_theory.specs.Run.{ArePartsOf, Run, IsQuiet}
 use Rattle.ide_theory.specs.Parts.{NodeEdges, AreEdgesOf, parts_of}
 use Rattle.ide_wire.specs.declared.key.Key.{Key}
 use Rattle.ide_theory.specs.Invariant.{IsInvariant}
+use Rattle.ide_theory.specs.Sites.{HaveEdgesOf, AreJoined, edges_of, node_edges}
+use Rattle.ide_graph.specs.declared.site.Site.{Site}
 use Rattle.ide_theory.specs.Given.{Edge, Edges, IsGraph, frame_of, roots_of}
 
 -- where nothing is pending, the roots have their identities and the start values stand, the values
@@ -58,3 +60,10 @@ module _ {L F : Type 0} (lattice : LatticeAlgebra L) (functions : EdgeAlgebra F 
       (G : Edges) → IsGraph G → (at : ℕ → NodeEdges (Edge G.facts)) → AreEdgesOf (frame_of lattice functions targets G) at
       → (s : State F) → Run (frame_of lattice functions targets G) s
       → (q : Key) → ArePartsOf (frame_of lattice functions targets G) s.get q (parts_of (frame_of lattice functions targets G) s.get at q)
+
+  -- sites that fit together make a supergraph, and their edges are what stands at its nodes
+  abbrev pub SitesMakeAGraph : Type 0
+  SitesMakeAGraph =
+      (facts : ℕ) (sites : List Site) (all : HaveEdgesOf facts sites) (start_of : ℕ → ℕ) → AreJoined sites start_of
+      → IsGraph (edges_of facts sites all start_of)
+      × AreEdgesOf (frame_of lattice functions targets (edges_of facts sites all start_of)) (node_edges facts sites all)

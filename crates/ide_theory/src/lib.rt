@@ -8,7 +8,7 @@
 //! contracts, for every analysis.
 #![tactic(auto)]
 
-ghost use Rattle.ide_theory.specs.Theorem.{ValuesAreBest, RunsAreBest, BestIsUnique, TopIsBest, PartsAreOwed};
+ghost use Rattle.ide_theory.specs.Theorem.{ValuesAreBest, RunsAreBest, BestIsUnique, TopIsBest, PartsAreOwed, SitesMakeAGraph};
 
 use ide_problem::Problem;
 
@@ -36,4 +36,11 @@ pub fn top_is_best<P: Problem>()
 /// rule instance with the key gives, and nothing else.
 pub fn parts_are_owed<P: Problem>()
     ensures { PartsAreOwed P.L.algebra P.F.edge P.targets }
+{}
+
+/// Sites of which each edge along a procedure stays in it, each call leads to a start whose exit has
+/// it among its callers, and each caller is a call that returns where its site says, make a
+/// supergraph; and what stands at its nodes is what the sites have.
+pub fn sites_make_a_graph<P: Problem>()
+    ensures { SitesMakeAGraph P.L.algebra P.F.edge P.targets }
 {}
