@@ -7,9 +7,11 @@
 #![tactic(auto)]
 
 mod key;
+mod listing;
 mod refused;
 mod wire;
 
 pub use key::{Fact, Key, Node};
+pub use listing::Listing;
 pub use refused::{Fault, Refused};
 pub use wire::Wire;
