@@ -1,7 +1,7 @@
 -- Looking up in a list whose keys or elements are mapped is looking up by the mapped test.
-use Rattle.std.proofs.Common.{◌≡◌, ℕ, ◌+◌, Bool, List, [], ◌∷◌, Option, Some, None, cond, length, map, not, nat_lt, ap, refl}
+use Rattle.std.proofs.Common.{◌≡◌, ◌+◌, Bool, List, [], ◌∷◌, Some, cond, map, not, ap, refl}
 use Rattle.std.proofs.lemmas.List.{length-map}
-use Rattle.std.specs.List.{position, position_or_len, prefix_len}
+use Rattle.std.specs.List.{position, prefix_len}
 use Rattle.std.specs.Map.{lookup}
 
 module _ {K B : Type 0} (h : K → B) where

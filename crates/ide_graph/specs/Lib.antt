@@ -2,7 +2,9 @@ pub mod Building
 pub mod Edges
 pub mod Lawful
 pub mod Named
+pub mod Naming
 pub mod Numbered
+pub mod Numbering
 pub mod Numbers
 pub mod Passed
 pub mod Supergraph

@@ -1,5 +1,5 @@
 -- How the nodes and the facts of a program are numbered.
-use Rattle.std.specs.Prelude.{ℕ, ◌+◌, ◌-◌, List, [], ◌∷◌, ◌++◌, Option, Some, None, codes, length, map, max, slice_get, take}
+use Rattle.std.specs.Prelude.{ℕ, ◌+◌, ◌-◌, List, [], ◌∷◌, ◌++◌, Option, codes, length, map, max, take}
 use Rattle.std.specs.List.{flat_map, position}
 use Rattle.std.specs.Option.{option_map}
 use Rattle.ide_text.specs.declared.program.Procedure.{Procedure}
@@ -43,9 +43,13 @@ start_of procedures index = length (nodes_of (take index procedures))
 abbrev pub exit_of : List Procedure → ℕ → ℕ
 exit_of procedures index = start_of procedures (index + 1) - 1
 
--- the node of the first `at` of the label, in a procedure that begins at `begin`
+-- the node of the first `at` of the label, among statements whose nodes begin there
+abbrev pub label_among : ℕ → List Statement → List ℕ → Option ℕ
+label_among begin statements label = option_map (λ place. begin + length (flat_map spots_on (take place statements))) (position (declares label) statements)
+
+-- the same in a procedure that begins at `begin`
 abbrev pub label_from : ℕ → Procedure → List ℕ → Option ℕ
-label_from begin p label = option_map (λ place. begin + 1 + length (flat_map spots_on (take place p.statements.items))) (position (declares label) p.statements.items)
+label_from begin p label = label_among (begin + 1) p.statements.items label
 
 -- the index of the first procedure of the name
 abbrev pub procedure_of : List Procedure → List ℕ → Option ℕ

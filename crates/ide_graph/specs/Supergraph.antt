@@ -1,5 +1,5 @@
 -- What contracts see of a graph.
-use Rattle.std.specs.Prelude.{ℕ, ◌+◌, ◌<◌, ◌≤◌, ◌≡◌, List, Option, IfSome, slice_index, slice_index_or, []}
+use Rattle.std.specs.Prelude.{ℕ, ◌+◌, ◌<◌, ◌≤◌, ◌≡◌, List, Option, slice_index, slice_index_or, []}
 use Rattle.ide_graph.specs.Named.{procedure_of_name, fact_of_name}
 use Rattle.ide_graph.specs.declared.site.Site.{Site}
 

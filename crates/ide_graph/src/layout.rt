@@ -1,5 +1,6 @@
 //! Where a procedure stands among the nodes, and what its own facts are called.
 ghost use Rattle.std.specs.Prelude.{◌≡◌, ◌≤◌, length, IfOk, IfErr, SomeIff, ◌+◌};
+ghost use Rattle.ide_graph.specs.Numbering.{IsLayout};
 ghost use Rattle.ide_wire.specs.declared.refused.Refused.TheVariants.{NoMemory};
 
 use crate::names::Names;
@@ -25,8 +26,7 @@ impl Layout {
         exit: Node,
         procedure: &Procedure,
     ) -> Result<Layout, Refused>
-        ensures start { IfOk result (λ layout. layout.start ≡ start) }
-        ensures exit { IfOk result (λ layout. layout.exit ≡ exit) }
+        ensures layout { IfOk result (IsLayout start exit procedure.now) }
         ensures parameters { IfOk result (λ layout. layout.parameter_count ≤ length layout.own) }
         ensures refused { IfErr result (λ refused. refused ≡ NoMemory) }
     {

@@ -13,6 +13,7 @@ mod directory;
 mod edge;
 mod globals;
 mod graph;
+mod labels;
 mod layout;
 mod names;
 mod numbering;

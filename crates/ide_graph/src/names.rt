@@ -1,7 +1,8 @@
 //! Lists of names that are looked up both ways.
-ghost use Rattle.std.specs.Prelude.{◌≡◌, ◌<◌, ◌≤◌, [], length, slice_get, IfSome, IfErr, IsSome, OnOk, ◌↔◌};
+ghost use Rattle.std.specs.Prelude.{◌≡◌, ◌+◌, ◌<◌, ◌≤◌, ◌++◌, [], length, slice_get, IfSome, IfErr, IsSome, OnOk, ◌↔◌};
 ghost use Rattle.std.specs.Option.{option_copied};
 ghost use Rattle.std.specs.List.{position};
+ghost use Rattle.ide_graph.specs.Naming.{AreNew, with_name};
 ghost use Rattle.ide_graph.specs.Named.{same_name};
 ghost use Rattle.ide_wire.specs.declared.refused.Refused.TheVariants.{NoMemory};
 
@@ -38,7 +39,9 @@ impl Names {
 
     /// Adds each name that is not there yet.
     pub fn add_all(&mut self, alloc: Global, names: &[Name]) -> Result<(), Refused>
+        ensures added { OnOk result (AreNew self.old names.now → self.new ≡ self.old ++ names.now) }
         ensures longer { OnOk result (length self.old ≤ length self.new) }
+        ensures few { OnOk result (length self.new ≤ length self.old + length names.now) }
         ensures refused { IfErr result (λ refused. refused ≡ NoMemory) }
     {
         for name in names {
@@ -49,7 +52,9 @@ impl Names {
 
     /// Adds a name, unless it is there.
     fn add(&mut self, alloc: Global, name: &Name) -> Result<(), Refused>
+        ensures added { OnOk result (self.new ≡ with_name self.old name.now) }
         ensures longer { OnOk result (length self.old ≤ length self.new) }
+        ensures few { OnOk result (length self.new ≤ length self.old + 1) }
         ensures refused { IfErr result (λ refused. refused ≡ NoMemory) }
     {
         self.set.insert(name.as_bytes().to_vec(alloc)?)?;

@@ -1,12 +1,17 @@
 //! The first pass over a program: its nodes in order, with the procedures' places and labels.
-ghost use Rattle.std.specs.Prelude.{◌≡◌, ◌+◌, ◌<◌, ◌≤◌, ◌^◌, length, IfOk, IfErr, OnOk};
+ghost use Rattle.std.specs.Prelude.{◌≡◌, ◌+◌, ◌<◌, ◌≤◌, ◌^◌, ℕ, List, [], ◌∷◌, ◌++◌, length, IfOk, IfErr, OnOk};
+ghost use Rattle.std.specs.List.{flat_map};
 ghost use Rattle.ide_wire.specs.declared.refused.Refused.TheVariants.{NoMemory};
+ghost use Rattle.ide_text.specs.declared.program.Procedure.{Procedure};
+ghost use Rattle.ide_graph.specs.Naming.{number_of};
 ghost use Rattle.ide_graph.specs.Numbered.{BelongTo, IsNumbered};
+ghost use Rattle.ide_graph.specs.Numbering.{nodes_at, nodes_in, spot_value, IsNumberingOf};
+ghost use Rattle.ide_graph.specs.Numbers.{label_among, spots_on};
 
+use crate::labels::Labels;
 use crate::layout::Layout;
 use ide_text::{Procedure, Statement};
 use ide_wire::{Node, Refused};
-use indexmap::IndexMap;
 use std::alloc::Global;
 
 /// What stands at a node of the program.
@@ -26,9 +31,6 @@ pub(crate) struct Spot<'a> {
     pub place: Place<'a>,
 }
 
-/// The labels of a procedure, each with the node of its `at`.
-pub(crate) type Labels<'a> = IndexMap<&'a [u8], Node>;
-
 /// The nodes of a program in order, and for each procedure its layout and its labels.
 #[derive(Drop)]
 pub(crate) struct Numbering<'a> {
@@ -40,6 +42,7 @@ pub(crate) struct Numbering<'a> {
 impl<'a> Numbering<'a> {
     /// The nodes of these procedures. Time grows with their size.
     pub fn of(alloc: Global, procedures: &'a [Procedure]) -> Result<Numbering<'a>, Refused>
+        ensures numbering { IfOk result (IsNumberingOf procedures.now) }
         ensures numbered { IfOk result IsNumbered }
         ensures whole { IfOk result (λ numbering. length numbering.layouts.items ≡ length procedures.now) }
         ensures refused { IfErr result (λ refused. refused ≡ NoMemory) }
@@ -58,6 +61,7 @@ impl<'a> Numbering<'a> {
     /// Adds the nodes of the next procedure. A refusal may leave some of them.
     fn add_procedure(&mut self, alloc: Global, procedure: &'a Procedure) -> Result<(), Refused>
         requires { IsNumbered self.old }
+        ensures numbering { OnOk result ((before : List Procedure) → IsNumberingOf before self.old → IsNumberingOf (before ++ procedure.now ∷ []) self.new) }
         ensures numbered { OnOk result (IsNumbered self.new) }
         ensures added { OnOk result (length self.new.layouts.items ≡ length self.old.layouts.items + 1) }
         ensures refused { IfErr result (λ refused. refused ≡ NoMemory) }
@@ -82,17 +86,19 @@ fn add_statements<'a>(
 ) -> Result<Labels<'a>, Refused>
     requires few { length spots.old.items < 2 ^ 32 }
     requires owned { BelongTo (procedure + 1) spots.old.items }
+    ensures added { OnOk result (nodes_in spots.new.items ≡ nodes_in spots.old.items ++ nodes_at procedure (flat_map spots_on statements.now)) }
+    ensures labels { IfOk result (λ labels. (name : List ℕ) → number_of labels name ≡ label_among (length spots.old.items) statements.now name) }
     ensures few { OnOk result (length spots.new.items < 2 ^ 32) }
     ensures owned { OnOk result (BelongTo (procedure + 1) spots.new.items) }
     ensures longer { OnOk result (length spots.old.items ≤ length spots.new.items) }
     ensures refused { IfErr result (λ refused. refused ≡ NoMemory) }
 {
-    let mut labels = IndexMap::new(alloc);
+    let mut labels = Labels::new(alloc);
     for statement in statements {
         let node = add_spot(spots, procedure, Place::Statement(statement))?;
         match statement {
             Statement::At(label) => {
-                labels.insert(label.as_bytes(), node)?;
+                labels.add(label, node)?;
             }
             Statement::Call { .. } => {
                 add_spot(spots, procedure, Place::ReturnSite)?;
@@ -111,6 +117,7 @@ fn add_spot<'a>(
 ) -> Result<Node, Refused>
     requires owned { BelongTo (procedure + 1) spots.old.items }
     ensures number { IfOk result (λ node. node ≡ length spots.old.items) }
+    ensures added { OnOk result (nodes_in spots.new.items ≡ nodes_in spots.old.items ++ (procedure, spot_value place.entry) ∷ []) }
     ensures longer { OnOk result (length spots.new.items ≡ length spots.old.items + 1) }
     ensures few { OnOk result (length spots.new.items < 2 ^ 32) }
     ensures owned { OnOk result (BelongTo (procedure + 1) spots.new.items) }

@@ -3,8 +3,8 @@ ghost use Rattle.std.specs.Prelude.{◌≡◌};
 
 use crate::edge::Effect;
 use crate::globals::Globals;
+use crate::labels::Labels;
 use crate::layout::Layout;
-use crate::numbering::Labels;
 use ide_text::{Expression, Name};
 use ide_wire::{Fact, Node};
 
@@ -28,10 +28,7 @@ impl<'a, 'p> Scope<'a, 'p> {
 
     /// The node of a label: the exit where none is declared.
     pub fn label(self, name: &Name) -> Node {
-        self.labels
-            .get(name.as_bytes())
-            .copied()
-            .unwrap_or(self.layout.exit)
+        self.labels.find(name).unwrap_or(self.layout.exit)
     }
 
     /// What entering the procedure does.

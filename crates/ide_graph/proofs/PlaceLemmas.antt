@@ -1,0 +1,118 @@
+-- The first place in a list that passes a test, and the first number that a name is given.
+use Rattle.std.proofs.Common.{◌≡◌, ℕ, suc, ◌+◌, ◌<◌, Bool, true, false, true≢false, cond, List, [], ◌∷◌, ◌++◌, length, take, Option, None, Some, is_some, ◌∙◌, sym, ap, refl, arith}
+use Rattle.std.specs.List.{flat_map, position}
+use Rattle.std.specs.Option.{option_map}
+use Rattle.std.proofs.Math.Seq.{take-append_seam}
+use Rattle.std.proofs.lemmas.Bool.Decides.{nat_tests}
+use Rattle.std.proofs.lemmas.List.{take-append-le}
+use Rattle.std.proofs.lemmas.Slice.Eq.{bytes_eq-Decides}
+use Rattle.ide_text.specs.declared.program.Statement.{Statement}
+use Rattle.ide_text.specs.Names.{declares}
+use Rattle.ide_graph.specs.Named.{same_name}
+use Rattle.ide_graph.specs.Naming.{number_of, with_number}
+use Rattle.ide_graph.specs.Numbers.{label_among, spots_on}
+use Rattle.ide_graph.proofs.NameLemmas.{none_from_is_some}
+
+-- the first of two options that has a value
+abbrev pub or_else : {X : Type 0} → Option X → Option X → Option X
+or_else first second = cond (is_some first) first second
+
+abbrev later : Bool → Option ℕ → Option ℕ
+later b o = cond b (Some 0) (option_map suc o)
+
+-- the place of the first element that passes, by recursion
+abbrev place_in : {X : Type 0} → (X → Bool) → List X → Option ℕ
+place_in p [] = None
+place_in p (x ∷ xs) = later (p x) (place_in p xs)
+
+module _ {X : Type 0} (p : X → Bool) where
+  position-cons : (x : X) (xs : List X) (b : Bool) → p x ≡ b → position p (x ∷ xs) ≡ later b (position p xs)
+  position-cons x xs true e = grind (arith, nat_tests)
+  position-cons x xs false e = grind (arith, nat_tests)
+
+  position-place_in : (xs : List X) → position p xs ≡ place_in p xs
+  position-place_in [] = refl
+  position-place_in (x ∷ xs) = position-cons x xs (p x) refl ∙ ap (later (p x)) (position-place_in xs)
+
+  later-append : (n : ℕ) (b : Bool) (o r q : Option ℕ) → r ≡ or_else o (option_map (λ i. n + i) q) → later b r ≡ or_else (later b o) (option_map (λ i. suc n + i) q)
+  later-append n true o r q e = refl
+  later-append n false (Some i) r q e = ap (option_map suc) e
+  later-append n false None r None e = ap (option_map suc) e
+  later-append n false None r (Some i) e = ap (option_map suc) e ∙ ap Some (omega arith)
+
+  none-append : (o : Option ℕ) → o ≡ option_map (λ i. 0 + i) o
+  none-append None = refl
+  none-append (Some i) = ap Some (omega arith)
+
+  place_in-append : (xs ys : List X) → place_in p (xs ++ ys) ≡ or_else (place_in p xs) (option_map (λ i. length xs + i) (place_in p ys))
+  place_in-append [] ys = none-append (place_in p ys)
+  place_in-append (x ∷ xs) ys = later-append (length xs) (p x) (place_in p xs) (place_in p (xs ++ ys)) (place_in p ys) (place_in-append xs ys)
+
+  -- in two lists, one after the other
+  pub position-append : (xs ys : List X) → position p (xs ++ ys) ≡ or_else (position p xs) (option_map (λ i. length xs + i) (position p ys))
+  position-append xs ys = rw (position-place_in (xs ++ ys), position-place_in xs, position-place_in ys) (place_in-append xs ys)
+
+  pub position-one : (x : X) → position p (x ∷ []) ≡ cond (p x) (Some 0) None
+  position-one x = position-place_in (x ∷ []) ∙ by (p x)
+    where
+      by : (b : Bool) → later b None ≡ cond b (Some 0) None
+      by true = refl
+      by false = refl
+
+  -- one more element is the first that passes only where none was
+  pub position-push : (xs : List X) (x : X) → position p (xs ++ x ∷ []) ≡ or_else (position p xs) (cond (p x) (Some (length xs)) None)
+  position-push xs x = position-append xs (x ∷ []) ∙ ap (or_else (position p xs)) (ap (option_map (λ i. length xs + i)) (position-one x) ∙ by (p x))
+    where
+      by : (b : Bool) → option_map (λ i. length xs + i) (cond b (Some 0) None) ≡ cond b (Some (length xs)) None
+      by true = ap Some (omega arith)
+      by false = refl
+
+  within-cons : (x : X) (xs : List X) (b : Bool) (o : Option ℕ) → ((j : ℕ) → o ≡ Some j → j < length xs) → (i : ℕ) → later b o ≡ Some i → i < length (x ∷ xs)
+  within-cons x xs true o inside i e = let h : Some 0 ≡ Some i = e in let z : 0 ≡ i = cc in omega arith
+  within-cons x xs false None inside i e = let no : None ≡ Some i = e in cc
+  within-cons x xs false (Some j) inside i e = let h : Some (suc j) ≡ Some i = e in let z : suc j ≡ i = cc in let w = inside j refl in omega (arith, w)
+
+  place_within : (xs : List X) (i : ℕ) → place_in p xs ≡ Some i → i < length xs
+  place_within [] i e = let no : None ≡ Some i = e in cc
+  place_within (x ∷ xs) i e = within-cons x xs (p x) (place_in p xs) (place_within xs) i e
+
+  pub position_within : (xs : List X) (i : ℕ) → position p xs ≡ Some i → i < length xs
+  position_within xs i e = place_within xs i (sym (position-place_in xs) ∙ e)
+
+number-cons : (e : List ℕ × ℕ) (es new : List (List ℕ × ℕ)) (other : List ℕ) (next : Option ℕ) (b : Bool) → number_of new other ≡ or_else (number_of es other) next
+    → cond b (Some e.1) (number_of new other) ≡ or_else (cond b (Some e.1) (number_of es other)) next
+number-cons e es new other next true h = refl
+number-cons e es new other next false h = h
+
+-- one more name finds its number where it had none
+number-push : (numbers : List (List ℕ × ℕ)) (name other : List ℕ) (n : ℕ) → number_of (numbers ++ (name, n) ∷ []) other ≡ or_else (number_of numbers other) (cond (same_name other name) (Some n) None)
+number-push [] name other n = refl
+number-push (e ∷ es) name other n = number-cons e es (es ++ (name, n) ∷ []) other (cond (same_name other name) (Some n) None) (same_name other e.0) (number-push es name other n)
+
+-- the number of each name, where one more name may have been given one
+pub number_of-with : (numbers : List (List ℕ × ℕ)) (name other : List ℕ) (n : ℕ) → number_of (with_number numbers name n) other ≡ or_else (number_of numbers other) (cond (same_name other name) (Some n) None)
+number_of-with numbers name other n = by (is_some (number_of numbers name)) (is_some (number_of numbers other)) (same_name other name) refl refl refl
+  where
+    by : (there found same : Bool) → is_some (number_of numbers name) ≡ there → is_some (number_of numbers other) ≡ found → same_name other name ≡ same
+        → number_of (cond there numbers (numbers ++ (name, n) ∷ [])) other ≡ cond found (number_of numbers other) (cond same (Some n) None)
+    by true true same e f s = refl
+    by true false true e f s = absurd (true≢false (sym e ∙ (ap (λ x. is_some (number_of numbers x)) (sym ((bytes_eq-Decides other name).0 s)) ∙ f)))
+    by true false false e f s = none_from_is_some (number_of numbers other) f
+    by false found same e f s =
+        number-push numbers name other n
+        ∙ (ap (λ b. cond b (number_of numbers other) (cond (same_name other name) (Some n) None)) f ∙ ap (λ b. cond found (number_of numbers other) (cond b (Some n) None)) s)
+
+-- one more statement
+pub label_among-push : (begin : ℕ) (statements : List Statement) (s : Statement) (label : List ℕ)
+    → label_among begin (statements ++ s ∷ []) label ≡ or_else (label_among begin statements label) (cond (declares label s) (Some (begin + length (flat_map spots_on statements))) None)
+label_among-push begin statements s label =
+    ap (option_map (at (statements ++ s ∷ []))) (position-push (declares label) statements s) ∙ by (position (declares label) statements) (declares label s) refl
+  where
+    at : List Statement → ℕ → ℕ
+    at xs place = begin + length (flat_map spots_on (take place xs))
+
+    by : (o : Option ℕ) (b : Bool) → position (declares label) statements ≡ o
+        → option_map (at (statements ++ s ∷ [])) (or_else o (cond b (Some (length statements)) None)) ≡ or_else (option_map (at statements) o) (cond b (Some (begin + length (flat_map spots_on statements))) None)
+    by (Some i) b e = let inside = position_within (declares label) statements i e in ap Some (ap (λ (front : List Statement). begin + length (flat_map spots_on front)) (take-append-le i statements (s ∷ []) (omega (arith, inside))))
+    by None true e = ap Some (ap (λ (front : List Statement). begin + length (flat_map spots_on front)) (take-append_seam statements (s ∷ [])))
+    by None false e = refl
