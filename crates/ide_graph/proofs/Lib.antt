@@ -1,4 +1,5 @@
 pub mod DirectoryLemmas
+pub mod FactLemmas
 pub mod GraphLemmas
 pub mod NameLemmas
 pub mod NamedLemmas

@@ -1,6 +1,6 @@
 -- The first place in a list that passes a test, and the first number that a name is given.
-use Rattle.std.proofs.Common.{◌≡◌, ℕ, suc, ◌+◌, ◌<◌, Bool, true, false, true≢false, cond, List, [], ◌∷◌, ◌++◌, length, take, Option, None, Some, is_some, ◌∙◌, sym, ap, refl, arith}
-use Rattle.std.specs.List.{flat_map, position}
+use Rattle.std.proofs.Common.{◌≡◌, ℕ, zero, suc, ◌+◌, ◌<◌, Bool, ◌||◌, true, false, true≢false, cond, List, [], ◌∷◌, ◌++◌, length, take, get_or, Option, None, Some, is_some, ◌∙◌, sym, ap, refl, arith}
+use Rattle.std.specs.List.{flat_map, list_any, position}
 use Rattle.std.specs.Option.{option_map}
 use Rattle.std.proofs.Math.Seq.{take-append_seam}
 use Rattle.std.proofs.lemmas.Bool.Decides.{nat_tests}
@@ -17,7 +17,7 @@ use Rattle.ide_graph.proofs.NameLemmas.{none_from_is_some}
 abbrev pub or_else : {X : Type 0} → Option X → Option X → Option X
 or_else first second = cond (is_some first) first second
 
-abbrev later : Bool → Option ℕ → Option ℕ
+abbrev pub later : Bool → Option ℕ → Option ℕ
 later b o = cond b (Some 0) (option_map suc o)
 
 -- the place of the first element that passes, by recursion
@@ -26,7 +26,7 @@ place_in p [] = None
 place_in p (x ∷ xs) = later (p x) (place_in p xs)
 
 module _ {X : Type 0} (p : X → Bool) where
-  position-cons : (x : X) (xs : List X) (b : Bool) → p x ≡ b → position p (x ∷ xs) ≡ later b (position p xs)
+  pub position-cons : (x : X) (xs : List X) (b : Bool) → p x ≡ b → position p (x ∷ xs) ≡ later b (position p xs)
   position-cons x xs true e = grind (arith, nat_tests)
   position-cons x xs false e = grind (arith, nat_tests)
 
@@ -78,6 +78,33 @@ module _ {X : Type 0} (p : X → Bool) where
 
   pub position_within : (xs : List X) (i : ℕ) → position p xs ≡ Some i → i < length xs
   position_within xs i e = place_within xs i (sym (position-place_in xs) ∙ e)
+
+  found-cons : (x : X) (xs : List X) (d : X) (b : Bool) (o : Option ℕ) → p x ≡ b → ((j : ℕ) → o ≡ Some j → p (get_or xs j d) ≡ true) → (i : ℕ) → later b o ≡ Some i → p (get_or (x ∷ xs) i d) ≡ true
+  found-cons x xs d true o is found zero e = is
+  found-cons x xs d true o is found (suc i) e = let h : Some 0 ≡ Some (suc i) = e in let z : 0 ≡ suc i = cc in absurd (omega arith)
+  found-cons x xs d false None is found i e = let no : None ≡ Some i = e in cc
+  found-cons x xs d false (Some j) is found zero e = let h : Some (suc j) ≡ Some 0 = e in let z : suc j ≡ 0 = cc in absurd (omega arith)
+  found-cons x xs d false (Some j) is found (suc i) e = let h : Some (suc j) ≡ Some (suc i) = e in let z : suc j ≡ suc i = cc in found i (ap Some (omega (arith, z)))
+
+  place_found : (xs : List X) (d : X) (i : ℕ) → place_in p xs ≡ Some i → p (get_or xs i d) ≡ true
+  place_found [] d i e = let no : None ≡ Some i = e in cc
+  place_found (x ∷ xs) d i e = found-cons x xs d (p x) (place_in p xs) refl (place_found xs d) i e
+
+  -- the element there passes
+  pub position_found : (xs : List X) (d : X) (i : ℕ) → position p xs ≡ Some i → p (get_or xs i d) ≡ true
+  position_found xs d i e = place_found xs d i (sym (position-place_in xs) ∙ e)
+
+  is_some-later : (b : Bool) (o : Option ℕ) → is_some (later b o) ≡ (b || is_some o)
+  is_some-later true o = refl
+  is_some-later false None = refl
+  is_some-later false (Some i) = refl
+
+  is_some-place_in : (xs : List X) → is_some (place_in p xs) ≡ list_any p xs
+  is_some-place_in [] = refl
+  is_some-place_in (x ∷ xs) = is_some-later (p x) (place_in p xs) ∙ ap (λ b. p x || b) (is_some-place_in xs)
+
+  pub is_some-position : (xs : List X) → is_some (position p xs) ≡ list_any p xs
+  is_some-position xs = ap is_some (position-place_in xs) ∙ is_some-place_in xs
 
 number-cons : (e : List ℕ × ℕ) (es new : List (List ℕ × ℕ)) (other : List ℕ) (next : Option ℕ) (b : Bool) → number_of new other ≡ or_else (number_of es other) next
     → cond b (Some e.1) (number_of new other) ≡ or_else (cond b (Some e.1) (number_of es other)) next

@@ -1,6 +1,7 @@
 //! The numbers of facts: `@zero`, the globals, `@result`, and after them a procedure's own.
-ghost use Rattle.std.specs.Prelude.{◌≡◌, ◌+◌, ◌<◌, ◌≤◌, min, length, IfOk, IfSome, IfErr};
+ghost use Rattle.std.specs.Prelude.{◌≡◌, ◌+◌, ◌<◌, ◌≤◌, [], min, length, IfOk, IfSome, IfErr};
 ghost use Rattle.ide_graph.specs.Named.{fact_of_name, shared_fact_of_name};
+ghost use Rattle.ide_graph.specs.Naming.{AreNew};
 ghost use Rattle.ide_wire.specs.declared.refused.Refused.TheVariants.{NoMemory};
 
 use crate::names::Names;
@@ -26,6 +27,8 @@ const RESULT: &[u8] = b"@result";
 impl Globals {
     /// The globals of these names.
     pub fn of(alloc: Global, globals: &[Name]) -> Result<Globals, Refused>
+        ensures named { IfOk result (λ made. AreNew [] globals.now → made.names ≡ globals.now) }
+        ensures few { IfOk result (λ made. length made.names ≤ length globals.now) }
         ensures refused { IfErr result (λ refused. refused ≡ NoMemory) }
     {
         let mut names = Names::new(alloc);
