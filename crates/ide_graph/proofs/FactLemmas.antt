@@ -1,10 +1,10 @@
 -- The fact that a name finds is its place among the names of a procedure's facts.
-use Rattle.std.proofs.Common.{◌≡◌, ◌≢◌, ℕ, suc, zero, ◌+◌, ◌<◌, ◌≤◌, min, Bool, ◌||◌, true, false, cond, codes, List, [], ◌∷◌, ◌++◌, length, get_or, take, Option, None, Some, is_some, ◌∙◌, sym, ap, refl, arith}
+use Rattle.std.proofs.Common.{◌≡◌, ◌≢◌, ℕ, suc, ◌+◌, ◌<◌, ◌≤◌, min, Bool, ◌||◌, true, false, cond, codes, List, [], ◌∷◌, ◌++◌, length, get_or, take, Option, None, Some, is_some, ◌∙◌, sym, ap, refl, arith}
 use Rattle.std.specs.List.{list_any, position}
 use Rattle.std.specs.Option.{option_map}
 use Rattle.std.proofs.lemmas.List.Folds.{list_any-append}
 use Rattle.std.proofs.lemmas.Slice.Eq.{bytes_eq-Decides}
-use Rattle.ide_text.specs.Names.{IsRepeated, is_among}
+use Rattle.ide_text.specs.Names.{is_among}
 use Rattle.ide_graph.specs.Named.{same_name, fact_of_name, own_or_shared}
 use Rattle.ide_graph.specs.Naming.{AreNew}
 use Rattle.ide_graph.proofs.PlaceLemmas.{or_else, later, position-cons, position-append, position_within, position_found, is_some-position}

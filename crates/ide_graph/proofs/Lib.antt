@@ -1,6 +1,8 @@
 pub mod DirectoryLemmas
 pub mod FactLemmas
 pub mod GraphLemmas
+pub mod GraphOfLemmas
+pub mod LimitLemmas
 pub mod NameLemmas
 pub mod NamedLemmas
 pub mod NumberedLemmas

@@ -1,5 +1,6 @@
 pub mod Building
 pub mod Edges
+pub mod GraphOf
 pub mod Lawful
 pub mod Named
 pub mod Naming

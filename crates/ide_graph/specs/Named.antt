@@ -1,5 +1,5 @@
 -- What a name finds: a procedure of the program, or a fact of one of its procedures.
-use Rattle.std.specs.Prelude.{ℕ, ◌+◌, Bool, List, Option, None, Some, cond, codes, length, min, nat_eq}
+use Rattle.std.specs.Prelude.{ℕ, ◌+◌, Bool, List, ◌∷◌, ◌++◌, Option, None, Some, cond, codes, length, min, nat_eq}
 use Rattle.std.specs.List.{position}
 use Rattle.std.specs.Map.{lookup}
 use Rattle.std.specs.Option.{option_map}
@@ -32,3 +32,7 @@ own_or_shared globals name (Some index) = Some (min (length globals + 2 + index)
 
 abbrev pub fact_of_name : List (List ℕ) → List (List ℕ) → List ℕ → Option ℕ
 fact_of_name globals own name = own_or_shared globals name (position (same_name name) own)
+
+-- the names of facts, in the order of their numbers, where these are the globals and a procedure's own
+abbrev pub names_of_facts : List (List ℕ) → List (List ℕ) → List (List ℕ)
+names_of_facts globals own = (codes "@zero" ∷ globals) ++ codes "@result" ∷ own

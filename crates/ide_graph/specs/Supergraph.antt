@@ -1,6 +1,6 @@
 -- What contracts see of a graph.
 use Rattle.std.specs.Prelude.{ℕ, ◌+◌, ◌<◌, ◌≤◌, ◌≡◌, List, Option, slice_index, slice_index_or, []}
-use Rattle.ide_graph.specs.Named.{procedure_of_name, fact_of_name}
+use Rattle.ide_graph.specs.Named.{procedure_of_name, fact_of_name, names_of_facts}
 use Rattle.ide_graph.specs.declared.site.Site.{Site}
 
 -- how many procedures, nodes and facts it has, and how many facts may hold at its entry; the
@@ -33,3 +33,7 @@ procedure_named graph name = procedure_of_name graph.named name
 -- the fact of the name at the nodes of a procedure
 abbrev pub fact_named : Supergraph → ℕ → List ℕ → Option ℕ
 fact_named graph procedure name = fact_of_name graph.globals (slice_index_or graph.own procedure []) name
+
+-- the names of the facts at the nodes of a procedure, in the order of their numbers
+abbrev pub fact_names : Supergraph → ℕ → List (List ℕ)
+fact_names graph procedure = names_of_facts graph.globals (slice_index_or graph.own procedure [])

@@ -4,6 +4,7 @@ ghost use Rattle.std.specs.List.{All};
 ghost use Rattle.std.specs.Arc.{arc_value};
 ghost use Rattle.ide_wire.specs.declared.refused.Refused.TheVariants.{NoMemory, NoProcedure, OutOfRange};
 ghost use Rattle.ide_graph.specs.Edges.{EdgesWithin};
+ghost use Rattle.ide_graph.specs.GraphOf.{IsGraphOf};
 
 use crate::builder::Builder;
 use crate::directory::Directory;
@@ -56,6 +57,7 @@ impl Graph {
 
     /// The graph of a program. Time grows with the number of edges and the program's size.
     pub fn of(alloc: Global, program: &Program) -> Result<Graph, Refused>
+        ensures numbered { IfOk result (IsGraphOf program.now) }
         ensures refused { IfErr result (λ refused. refused ≡ NoMemory) }
     {
         let globals = Globals::of(alloc, program.globals())?;
@@ -217,7 +219,8 @@ fn owners_of(alloc: Global, spots: &[Spot]) -> Result<Vec<u32>, AllocError>
 
 /// The most parameters and locals that one of the procedures has.
 fn most_own_of(layouts: &[Layout]) -> usize
-    ensures { All (λ layout. length layout.own ≤ result) layouts.now }
+    ensures most { All (λ layout. length layout.own ≤ result) layouts.now }
+    ensures least { (bound : ℕ) → All (λ layout. length layout.own ≤ bound) layouts.now → result ≤ bound }
 {
     layouts
         .iter()

@@ -3,6 +3,7 @@ pub mod FirstFault
 pub mod Flaw
 pub mod Grammar
 pub mod Laws
+pub mod Limits
 pub mod Lines
 pub mod NameFault
 pub mod Names

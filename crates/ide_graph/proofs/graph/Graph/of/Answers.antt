@@ -1,11 +1,19 @@
-use Rattle.std.proofs.Common.{◌≡◌, ℕ, ◌≤◌, length, map, ap, ◌∙◌, sym, subst}
+use Rattle.std.proofs.Common.{◌≡◌, ℕ, ◌≤◌, List, [], length, map, ap, ◌∙◌, sym, subst, refl}
 use Rattle.std.specs.Arc.{arc_value}
 use Rattle.std.specs.List.{All}
 use Rattle.std.proofs.lemmas.List.{length-map}
 use Rattle.std.proofs.lemmas.List.Elements.{All-same}
 use Rattle.ide_graph.specs.Edges.{EdgesWithin}
+use Rattle.ide_graph.specs.declared.graph.Graph.TheInside.{Inside}
 use Rattle.ide_graph.specs.declared.numbering.Spot.{Spot}
+use Rattle.ide_text.specs.declared.program.Procedure.{Procedure}
+use Rattle.ide_text.specs.Program.{globals_of, procedures_of}
+use Rattle.ide_graph.specs.Named.{procedure_of_name}
+use Rattle.ide_graph.specs.Naming.{AreNew}
+use Rattle.ide_graph.specs.Numbering.{IsNumberingOf}
+use Rattle.ide_graph.specs.Numbers.{procedure_of}
 use Rattle.ide_graph.proofs.GraphLemmas.{All-owners}
+use Rattle.ide_graph.proofs.GraphOfLemmas.{graph_of}
 use Rattle.ide_graph.proofs.graph.Graph.of.Goals as goal
 
 -- the first pass counted what the second made
@@ -24,5 +32,33 @@ invariant_of-result c =
       owned = All-owners _ _ _ owners numbered.owned;
       placed = rw sites numbered.placed;
       named = c.in_ok-directory.ensures.counted ∙ sym c.in_ok-numbering.ensures.whole;
-      own = All-same (λ layout. length layout.own ≤ c.most_own_of-most_own.result) _ _ (sym c.deref.ensures.value) c.most_own_of-most_own.ensures;
+      own = All-same (λ layout. length layout.own ≤ c.most_own_of-most_own.result) _ _ (sym c.deref.ensures.value) c.most_own_of-most_own.ensures.most;
     }
+
+pub returns-clause-numbered : goal.returns-clause-numbered
+returns-clause-numbered c =
+    let procedure : Spot → ℕ = λ spot. spot.procedure in
+    let p = c.args.program.now in
+    let numbering = c.in_ok-numbering.numbering in
+    let procedures : c.procedures-procedures.result.now ≡ procedures_of p = c.procedures-procedures.ensures in
+    let globals : c.globals.result.now ≡ globals_of p = c.globals.ensures in
+    let owners : c.in_ok-owners.owners.items ≡ map procedure numbering.spots.items =
+    c.in_ok-owners.ensures ∙ ap (map procedure) c.deref-2.ensures.value in
+    let layouts = c.deref.ensures.value in
+    let made : Inside = record {
+      globals = c.in_ok-globals.globals;
+      directory = c.in_ok-directory.directory;
+      layouts = numbering.layouts;
+      sites = c.in_ok-sites.sites;
+      owners = c.in_ok-owners.owners;
+      most_own = c.most_own_of-most_own.result;
+    } in
+    graph_of p made numbering
+    (subst (λ (ps : List Procedure). IsNumberingOf ps numbering) procedures c.in_ok-numbering.ensures.numbering)
+    refl
+    (subst (λ (gs : List (List ℕ)). AreNew [] gs → c.in_ok-globals.globals.names ≡ gs) globals c.in_ok-globals.ensures.named)
+    (subst (λ (ps : List Procedure). (name : List ℕ) → procedure_of_name c.in_ok-directory.directory.procedures name ≡ procedure_of ps name) procedures c.in_ok-directory.ensures.named)
+    owners
+    (c.in_ok-sites.ensures.whole ∙ ap (λ n. length n.now.spots.items) c.new.ensures.same)
+    (All-same (λ layout. length layout.own ≤ c.most_own_of-most_own.result) _ _ (sym layouts) c.most_own_of-most_own.ensures.most)
+    (λ bound all. c.most_own_of-most_own.ensures.least bound (All-same (λ layout. length layout.own ≤ bound) _ _ layouts all))
