@@ -1,5 +1,6 @@
 -- What contracts see of a graph.
-use Rattle.std.specs.Prelude.{ℕ, ◌+◌, ◌<◌, ◌≤◌, ◌≡◌, List, Option, slice_index, slice_index_or, []}
+use Rattle.std.specs.Prelude.{ℕ, ◌+◌, ◌<◌, ◌≤◌, ◌≡◌, List, Option, slice_get, slice_index, slice_index_or, []}
+use Rattle.std.specs.Option.{option_and_then}
 use Rattle.ide_graph.specs.Named.{procedure_of_name, fact_of_name, names_of_facts}
 use Rattle.ide_graph.specs.declared.site.Site.{Site}
 
@@ -37,3 +38,7 @@ fact_named graph procedure name = fact_of_name graph.globals (slice_index_or gra
 -- the names of the facts at the nodes of a procedure, in the order of their numbers
 abbrev pub fact_names : Supergraph → ℕ → List (List ℕ)
 fact_names graph procedure = names_of_facts graph.globals (slice_index_or graph.own procedure [])
+
+-- the name of a fact at a node: none past the nodes
+abbrev pub name_at : Supergraph → ℕ → ℕ → Option (List ℕ)
+name_at graph node fact = option_and_then (λ owner. slice_get (fact_names graph owner) fact) (slice_get graph.owners node)

@@ -1,6 +1,7 @@
 //! The numbers of facts: `@zero`, the globals, `@result`, and after them a procedure's own.
-ghost use Rattle.std.specs.Prelude.{◌≡◌, ◌+◌, ◌<◌, ◌≤◌, [], min, length, IfOk, IfSome, IfErr};
-ghost use Rattle.ide_graph.specs.Named.{fact_of_name, shared_fact_of_name};
+ghost use Rattle.std.specs.Prelude.{◌≡◌, ◌+◌, ◌<◌, ◌≤◌, [], min, length, slice_get, IfOk, IfSome, IfErr};
+ghost use Rattle.std.specs.Option.{option_copied};
+ghost use Rattle.ide_graph.specs.Named.{fact_of_name, names_of_facts, shared_fact_of_name};
 ghost use Rattle.ide_graph.specs.Naming.{AreNew};
 ghost use Rattle.ide_wire.specs.declared.refused.Refused.TheVariants.{NoMemory};
 
@@ -93,7 +94,9 @@ impl Globals {
     }
 
     /// The name of a fact, where a procedure's own facts have these names.
-    pub fn name_of<'a>(&'a self, own: &'a Names, fact: Fact) -> Option<&'a [u8]> {
+    pub fn name_of<'a>(&'a self, own: &'a Names, fact: Fact) -> Option<&'a [u8]>
+        ensures { option_copied result ≡ slice_get (names_of_facts self.now.names own.now) fact }
+    {
         let fact = usize::from(fact);
         let globals = self.names.len();
         if fact == 0 {

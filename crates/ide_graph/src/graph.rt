@@ -2,6 +2,7 @@
 ghost use Rattle.std.specs.Prelude.{◌≡◌, ℕ, ◌+◌, ◌↔◌, Some, None, Err, ◌<◌, ◌≤◌, ◌^◌, ◌⊎◌, IfOk, IfErr, IfSome, length, map, slice_index, slice_index_or};
 ghost use Rattle.std.specs.List.{All};
 ghost use Rattle.std.specs.Arc.{arc_value};
+ghost use Rattle.std.specs.Option.{option_copied};
 ghost use Rattle.ide_wire.specs.declared.refused.Refused.TheVariants.{NoMemory, NoProcedure, OutOfRange};
 ghost use Rattle.ide_graph.specs.Edges.{EdgesWithin};
 ghost use Rattle.ide_graph.specs.GraphOf.{IsGraphOf};
@@ -53,7 +54,7 @@ impl Model for Graph {
 }
 
 impl Graph {
-    ghost use Rattle.ide_graph.specs.Supergraph.{StandsAt, procedure_named, fact_named};
+    ghost use Rattle.ide_graph.specs.Supergraph.{StandsAt, procedure_named, fact_named, name_at};
 
     /// The graph of a program. Time grows with the number of edges and the program's size.
     pub fn of(alloc: Global, program: &Program) -> Result<Graph, Refused>
@@ -177,7 +178,9 @@ impl Graph {
 
     /// What a fact is called at a node: `None` past the facts of the node's procedure, and past
     /// the nodes.
-    pub fn fact_name(&self, node: Node, fact: Fact) -> Option<&[u8]> {
+    pub fn fact_name(&self, node: Node, fact: Fact) -> Option<&[u8]>
+        ensures { option_copied result ≡ name_at self.now node fact }
+    {
         let owner = *self.owners.get(node as usize)?;
         let layout = &self.layouts[owner as usize];
         self.globals.name_of(&layout.own, fact)
