@@ -1,5 +1,6 @@
 pub mod DirectoryLemmas
 pub mod FactLemmas
+pub mod FirstPass
 pub mod GraphLemmas
 pub mod GraphOfLemmas
 pub mod LimitLemmas

@@ -1,6 +1,6 @@
 -- What is known of a program that `parse` answers: few nodes, few facts, and names that are declared
 -- once and are none of the reserved ones.
-use Rattle.std.proofs.Common.{◌≡◌, ◌≢◌, ℕ, zero, suc, ◌+◌, ◌-◌, ◌<◌, ◌≤◌, Bool, true, false, true≢false, ◌||◌, codes, List, [], ◌∷◌, ◌++◌, length, map, take, get_or, slice_get, Some, sum_by, inl, inr, ◌∙◌, sym, ap, subst, refl, arith, append_assoc, length-append}
+use Rattle.std.proofs.Common.{◌≡◌, ◌≢◌, ℕ, zero, suc, ◌+◌, ◌-◌, ◌<◌, ◌≤◌, Bool, true, false, true≢false, ◌||◌, codes, List, [], ◌∷◌, ◌++◌, length, map, take, get_or, slice_get, Some, None, sum_by, inl, inr, ◌∙◌, sym, ap, subst, refl, arith, append_assoc, length-append}
 use Rattle.std.specs.List.{AllByRecursion, flat_map, list_any, position}
 use Rattle.std.proofs.Math.Seq.{take-append-add}
 use Rattle.std.proofs.lemmas.Bool.{cases_lt}
@@ -12,8 +12,8 @@ use Rattle.ide_text.specs.declared.program.Program.{Program}
 use Rattle.ide_text.specs.declared.program.Procedure.{Procedure}
 use Rattle.ide_text.specs.declared.program.Statement.{Statement}
 use Rattle.ide_text.specs.declared.program.Statement.TheVariants.{Assign, Skip, At, Goto, Branch, Call, Return}
-use Rattle.ide_text.specs.Grammar.{IsName}
-use Rattle.ide_text.specs.Limits.{statement_nodes, procedure_nodes, own_count, limits_nodes, limits_facts, limits_shared_facts, limits_globals, limits_own}
+use Rattle.ide_text.specs.Grammar.{IsName, IsProcedure}
+use Rattle.ide_text.specs.Limits.{statement_nodes, procedure_nodes, own_count, limits_nodes, limits_facts, limits_shared_facts, limits_program}
 use Rattle.ide_text.specs.Lines.{IsWithinLimits}
 use Rattle.ide_text.specs.NameFault.{IsWellNamed, Global_again, In_procedure, Parameter_again, Local_again}
 use Rattle.ide_text.specs.Names.{IsRepeated, is_among}
@@ -134,15 +134,21 @@ module _ (p : Program) (named : IsWellNamed p) (i : ℕ) (q : Procedure) (at : s
   pub own_new : AreNew (globals_of p) (q.parameters.items ++ q.locals.items)
   own_new = new_names (globals_of p) q.parameters.items q.locals.items parameter_names local_names
 
+all_at : {X : Type 0} (P : X → Type 0) (xs : List X) → AllByRecursion P xs → (i : ℕ) (x : X) → slice_get xs i ≡ Some x → P x
+all_at P [] all i x at = let no : None ≡ Some x = at in cc
+all_at P (y ∷ ys) all zero x at = let first : Some y ≡ Some x = at in let same : y ≡ x = cc in subst P same all.0
+all_at P (y ∷ ys) all (suc i) x at = all_at P ys all.1 i x at
+
 -- ---- facts by name
 module _ (p : Program) (named : IsWellNamed p) (limits : IsWithinLimits p) (i : ℕ) (q : Procedure) (at : slice_get (procedures_of p) i ≡ Some q) where
   pub fact_names : AreFactNames (globals_of p) (q.parameters.items ++ q.locals.items)
   fact_names =
-      let own = limits_own p limits i q at in
+      let program = limits_program p limits in
+      let own = all_at IsProcedure (procedures_of p) program.procedures i q at in
       record {
         new = own_new p named i q at;
-        free_globals = free_names (globals_of p) (limits_globals p limits);
-        free_own = free_names (q.parameters.items ++ q.locals.items) (all_names q.parameters.items q.locals.items own.0 own.1);
+        free_globals = free_names (globals_of p) program.globals;
+        free_own = free_names (q.parameters.items ++ q.locals.items) (all_names q.parameters.items q.locals.items own.parameters own.locals);
         few = omega (arith, limits_facts p limits i q at, length-append q.parameters.items q.locals.items);
       }
 

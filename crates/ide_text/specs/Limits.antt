@@ -1,5 +1,5 @@
--- What the limits say of a program's parts: how many nodes and facts it has, and that its names are
--- of the grammar.
+-- What the limits say of a program's parts: how many nodes and facts it has, and that it is of the
+-- grammar.
 use Rattle.std.specs.Prelude.{◌≡◌, ℕ, ◌+◌, ◌≤◌, List, [], ◌∷◌, ◌++◌, length, map, reverse, slice_get, Some, None, sum_by, count_by, refl}
 use Rattle.std.specs.List.{AllByRecursion}
 use Rattle.std.proofs.Common.{zero, suc, cond, ◌∙◌, sym, ap, subst, arith, append_assoc}
@@ -12,7 +12,7 @@ use Rattle.ide_text.specs.declared.program.Procedure.{Procedure}
 use Rattle.ide_text.specs.declared.program.Statement.{Statement}
 use Rattle.ide_text.specs.declared.program.Statement.TheVariants.{Assign, Skip, At, Goto, Branch, Call, Return}
 use Rattle.ide_text.specs.FirstFault.{AreTaken, Fits, MayEnd, is_global, last_variables, most_variables, nodes_on}
-use Rattle.ide_text.specs.Grammar.{IsLine, IsName}
+use Rattle.ide_text.specs.Grammar.{IsLine, IsProcedure, IsProgram}
 use Rattle.ide_text.specs.Lines.{open_lines, ended_lines, global_lines, program_lines, IsWithinLimits}
 use Rattle.ide_text.specs.Program.{globals_of, procedures_of}
 
@@ -168,7 +168,7 @@ limits_shared_facts p limits =
     let fits = taken_fit (program_lines p) limits.taken limits.ended in
     omega (arith, fits.facts, globals_below (ended_lines (procedures_of p)) (globals_of p))
 
--- ---- names
+-- ---- the grammar
 module _ {X : Type 0} (P : X → Type 0) where
   all_left : (xs ys : List X) → AllByRecursion P (xs ++ ys) → AllByRecursion P xs
   all_left [] ys all = tt
@@ -184,22 +184,29 @@ all_map P f (x ∷ xs) all =
     let split = subst (AllByRecursion P) (reverse_map f x xs) all in
     ((all_right P (reverse (map f xs)) (f x ∷ []) split).0, all_map P f xs (all_left P (reverse (map f xs)) (f x ∷ []) split))
 
--- each global is a name of the grammar
-pub limits_globals : (p : Program) → IsWithinLimits p → AllByRecursion IsName (globals_of p)
-limits_globals p limits =
-    all_map IsLine (λ g. Global g) (globals_of p) (all_right IsLine (ended_lines (procedures_of p)) (global_lines (globals_of p)) (taken_lines (program_lines p) limits.taken))
-
-ended_open : (ps : List Procedure) → AllByRecursion IsLine (ended_lines ps) → (i : ℕ) (q : Procedure) → slice_get ps i ≡ Some q → AllByRecursion IsLine (open_lines q)
-ended_open [] all i q at = let no : None ≡ Some q = at in cc
-ended_open (r ∷ ps) all zero q at =
-    subst (λ (s : Procedure). AllByRecursion IsLine (open_lines s)) (same_first r q at) (all_right IsLine (ended_lines ps) (End ∷ open_lines r) all).1
-ended_open (r ∷ ps) all (suc i) q at = ended_open ps (all_left IsLine (ended_lines ps) (End ∷ open_lines r) all) i q at
-
--- and so is each parameter and each local
-pub limits_own : (p : Program) → IsWithinLimits p → (i : ℕ) (q : Procedure) → slice_get (procedures_of p) i ≡ Some q → AllByRecursion IsName q.parameters.items × AllByRecursion IsName q.locals.items
-limits_own p limits i q at =
+open_procedure : (q : Procedure) → AllByRecursion IsLine (open_lines q) → IsProcedure q
+open_procedure q lines =
     let steps = reverse (map (λ s. Step s) q.statements.items) in
     let locals = reverse (map (λ x. Local x) q.locals.items) in
-    let lines = ended_open (procedures_of p) (all_left IsLine (ended_lines (procedures_of p)) (global_lines (globals_of p)) (taken_lines (program_lines p) limits.taken)) i q at in
     let after = all_right IsLine steps (locals ++ Begin q.name q.parameters ∷ []) lines in
-    ((all_right IsLine locals (Begin q.name q.parameters ∷ []) after).0.1, all_map IsLine (λ x. Local x) q.locals.items (all_left IsLine locals (Begin q.name q.parameters ∷ []) after))
+    let first = all_right IsLine locals (Begin q.name q.parameters ∷ []) after in
+    record {
+      name = first.0.0;
+      parameters = first.0.1;
+      locals = all_map IsLine (λ x. Local x) q.locals.items (all_left IsLine locals (Begin q.name q.parameters ∷ []) after);
+      statements = all_map IsLine (λ s. Step s) q.statements.items (all_left IsLine steps (locals ++ Begin q.name q.parameters ∷ []) lines);
+    }
+
+ended_procedures : (ps : List Procedure) → AllByRecursion IsLine (ended_lines ps) → AllByRecursion IsProcedure ps
+ended_procedures [] all = tt
+ended_procedures (q ∷ ps) all =
+    (open_procedure q (all_right IsLine (ended_lines ps) (End ∷ open_lines q) all).1, ended_procedures ps (all_left IsLine (ended_lines ps) (End ∷ open_lines q) all))
+
+-- a program within the limits is of the grammar
+pub limits_program : (p : Program) → IsWithinLimits p → IsProgram p
+limits_program p limits =
+    let lines = taken_lines (program_lines p) limits.taken in
+    record {
+      globals = all_map IsLine (λ g. Global g) (globals_of p) (all_right IsLine (ended_lines (procedures_of p)) (global_lines (globals_of p)) lines);
+      procedures = ended_procedures (procedures_of p) (all_left IsLine (ended_lines (procedures_of p)) (global_lines (globals_of p)) lines);
+    }
