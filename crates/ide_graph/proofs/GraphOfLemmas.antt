@@ -19,7 +19,7 @@ use Rattle.ide_graph.specs.Numbering.{node_value, IsLayoutOf, IsNumberingOf}
 use Rattle.ide_graph.specs.Numbers.{procedure_of}
 use Rattle.ide_graph.specs.Whole.{counts_of}
 use Rattle.ide_graph.proofs.FirstPass.{some_at, layout_at, facts_are}
-use Rattle.ide_graph.proofs.LimitLemmas.{few_facts, global_names, own_names, fact_of_name_at}
+use Rattle.ide_graph.proofs.LimitLemmas.{few_facts, few_nodes, global_names, own_names, fact_of_name_at}
 
 mapped_at : {X Y : Type 0} (f : X → Y) (xs : List X) (i : ℕ) (x : X) (d : Y) → slice_get xs i ≡ Some x → get_or (map f xs) i d ≡ f x
 mapped_at f xs i x d at = get_or_from_slice_get (map f xs) i (f x) d (slice_get-map f xs i ∙ ap (option_map f) at)
@@ -58,6 +58,11 @@ module _ (p : Program) (graph : Inside) (numbering : Numbering) (is : IsNumberin
         let names = ap length same in
         let few = few_facts p named.1 in
         (facts_are p numbering is named.0 graph.most_own most least named.1 graph.globals.names same, omega (arith, names, few));
+    few = λ named.
+    let same = globals (global_names p named.0) in
+    let facts = facts_are p numbering is named.0 graph.most_own most least named.1 graph.globals.names same in
+    let nodes = sites ∙ (sym (length-map numbering.spots.items node_value) ∙ ap length is.spots) in
+    (omega (arith, nodes, few_nodes p named.1), omega (arith, facts, few_facts p named.1));
     parameters = λ named i q at. let l = from_layout (λ layout. layout.parameter_count) 0 i q at in l.1 ∙ l.2.parameters (own_names p named.0 i q at);
     names = λ named i q at.
         ap (λ names. names_of_facts names (get_or (map (λ layout. layout.own) graph.layouts.items) i [])) (globals (global_names p named.0))

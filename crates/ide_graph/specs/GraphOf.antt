@@ -1,5 +1,5 @@
 -- The graph of a program.
-use Rattle.std.specs.Prelude.{ℕ, ◌<◌, ◌≡◌, List, Some, length, map, slice_get, slice_index}
+use Rattle.std.specs.Prelude.{ℕ, ◌<◌, ◌≤◌, ◌≡◌, List, Some, length, map, slice_get, slice_index}
 use Rattle.ide_text.specs.declared.program.Procedure.{Procedure}
 use Rattle.ide_text.specs.declared.program.Program.{Program}
 use Rattle.ide_text.specs.Lines.{IsWithinLimits}
@@ -21,6 +21,7 @@ pub record IsGraphOf (p : Program) (graph : Supergraph) : Type 0 where
   pub exits : (i : ℕ) → i < length (procedures_of p) → slice_index graph.exits i ≡ exit_of (procedures_of p) i
   pub named : (name : List ℕ) → procedure_named graph name ≡ procedure_of (procedures_of p) name
   pub counts : IsNamed p → (graph.facts ≡ facts_of p) × (graph.entries ≡ result_of p)
+  pub few : IsNamed p → (graph.nodes ≤ 65536) × (graph.facts ≤ 4096)
   pub parameters : IsNamed p → (i : ℕ) (q : Procedure) → slice_get (procedures_of p) i ≡ Some q → slice_index graph.parameters i ≡ length q.parameters.items
   pub names : IsNamed p → (i : ℕ) (q : Procedure) → slice_get (procedures_of p) i ≡ Some q → fact_names graph i ≡ names_at (globals_of p) q
   pub fact : IsNamed p → (i : ℕ) (q : Procedure) → slice_get (procedures_of p) i ≡ Some q → (name : List ℕ) → fact_named graph i name ≡ fact_at (globals_of p) q name
