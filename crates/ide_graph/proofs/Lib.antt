@@ -1,5 +1,5 @@
 pub mod DirectoryLemmas
-pub mod FactLemmas
+pub mod FactPlaces
 pub mod FirstPass
 pub mod GraphLemmas
 pub mod GraphOfLemmas

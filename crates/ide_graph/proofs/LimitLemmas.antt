@@ -21,7 +21,7 @@ use Rattle.ide_text.specs.Program.{globals_of, procedures_of}
 use Rattle.ide_graph.specs.Named.{same_name, fact_of_name}
 use Rattle.ide_graph.specs.Naming.{AreNew, HasOwnNames}
 use Rattle.ide_graph.specs.Numbers.{exit, spots_on, spots_of, nodes_from, nodes_of, most_own, facts_of, fact_at}
-use Rattle.ide_graph.proofs.FactLemmas.{AreFree, AreFactNames, fact_place}
+use Rattle.ide_graph.proofs.FactPlaces.{AreFree, AreFactNames, fact_place}
 
 -- ---- nodes and facts
 spots_count : (s : Statement) → length (spots_on s) ≡ statement_nodes s
