@@ -59,10 +59,10 @@ module _ (p : Program) (graph : Inside) (numbering : Numbering) (is : IsNumberin
         let few = few_facts p named.1 in
         (facts_are p numbering is named.0 graph.most_own most least named.1 graph.globals.names same, omega (arith, names, few));
     few = λ named.
-    let same = globals (global_names p named.0) in
-    let facts = facts_are p numbering is named.0 graph.most_own most least named.1 graph.globals.names same in
-    let nodes = sites ∙ (sym (length-map numbering.spots.items node_value) ∙ ap length is.spots) in
-    (omega (arith, nodes, few_nodes p named.1), omega (arith, facts, few_facts p named.1));
+        let same = globals (global_names p named.0) in
+        let facts = facts_are p numbering is named.0 graph.most_own most least named.1 graph.globals.names same in
+        let nodes = sites ∙ (sym (length-map numbering.spots.items node_value) ∙ ap length is.spots) in
+        (omega (arith, nodes, few_nodes p named.1), omega (arith, facts, few_facts p named.1));
     parameters = λ named i q at. let l = from_layout (λ layout. layout.parameter_count) 0 i q at in l.1 ∙ l.2.parameters (own_names p named.0 i q at);
     names = λ named i q at.
         ap (λ names. names_of_facts names (get_or (map (λ layout. layout.own) graph.layouts.items) i [])) (globals (global_names p named.0))
