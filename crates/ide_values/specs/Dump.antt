@@ -1,0 +1,30 @@
+-- The lines of a dump.
+use Rattle.std.specs.Prelude.{ℕ, ◌-◌, List, [], ◌++◌, Option, Some, None, codes, decimal, length, replicate}
+use Rattle.std.specs.List.{flat_map, range_with_len}
+use Rattle.ide_graph.specs.Supergraph.{Supergraph, name_at}
+
+-- a text at the right end of a column
+abbrev pub right : ℕ → List ℕ → List ℕ
+right width text = replicate (width - length text) 32 ++ text
+
+-- a text at the left end of a column
+abbrev pub left : ℕ → List ℕ → List ℕ
+left width text = text ++ replicate (width - length text) 32
+
+-- the line of a fact at a node: both numbers, the fact's name, and its value as it is shown
+abbrev pub line_of : ℕ → ℕ → List ℕ → List ℕ → List ℕ
+line_of node fact name shown =
+    right 6 (decimal node) ++ codes " " ++ right 4 (decimal fact) ++ codes " " ++ left 31 name ++ codes " " ++ shown ++ codes "\n"
+
+-- the line of a fact that has a name
+abbrev pub line_if : ℕ → ℕ → Option (List ℕ) → List ℕ → List ℕ
+line_if node fact None shown = []
+line_if node fact (Some name) shown = line_of node fact name shown
+
+-- the lines of a node: one for each fact that has a name there, ascending
+abbrev pub lines_at : Supergraph → (ℕ → ℕ → List ℕ) → ℕ → List ℕ
+lines_at graph shown node = flat_map (λ fact. line_if node fact (name_at graph node fact) (shown node fact)) (range_with_len 0 graph.facts)
+
+-- the dump of the values of a graph's facts at its nodes, where these are shown
+abbrev pub dump_of : Supergraph → (ℕ → ℕ → List ℕ) → List ℕ
+dump_of graph shown = flat_map (lines_at graph shown) (range_with_len 0 graph.nodes)
