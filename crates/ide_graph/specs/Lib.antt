@@ -2,11 +2,13 @@ pub mod Building
 pub mod Edges
 pub mod GraphOf
 pub mod Lawful
+pub mod Lists
 pub mod Named
 pub mod Naming
 pub mod Numbered
 pub mod Numbering
 pub mod Numbers
 pub mod Passed
+pub mod ProgramEdges
 pub mod Supergraph
 pub mod Whole

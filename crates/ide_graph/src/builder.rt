@@ -1,10 +1,19 @@
 //! The second pass over a program: the sites of its nodes.
-ghost use Rattle.std.specs.Prelude.{◌≡◌, ◌+◌, ◌-◌, ◌<◌, ◌≤◌, length, IfOk, IfErr, IfSome, OnOk};
+ghost use Rattle.std.specs.Prelude.{ℕ, ◌≡◌, ◌⊎◌, ◌+◌, ◌-◌, ◌<◌, ◌≤◌, [], length, map, slice_get, Some, IfOk, IfErr, IfSome, OnOk};
 ghost use Rattle.std.specs.List.{All};
 ghost use Rattle.std.specs.Arc.{arc_value};
 ghost use Rattle.ide_wire.specs.declared.refused.Refused.TheVariants.{NoMemory};
 ghost use Rattle.ide_graph.specs.Edges.{EdgesWithin, EndsWithin, IsCallerWithin, AllCallersWithin};
+ghost use Rattle.ide_graph.specs.Lists.{Lists};
 ghost use Rattle.ide_graph.specs.Numbered.{IsNumbered};
+ghost use Rattle.ide_graph.specs.Numbers as spot;
+ghost use Rattle.ide_graph.specs.ProgramEdges.{CallAt, IsCall, IsCallee, IsSiteOf, Stands, edge_of};
+ghost use Rattle.ide_graph.specs.declared.site.Site.{Site};
+ghost use Rattle.ide_graph.specs.declared.edge.EdgeKind.TheVariants as kind;
+ghost use Rattle.ide_graph.specs.declared.edge.Effect.TheVariants.{Nothing};
+ghost use Rattle.ide_text.specs.Program.{procedures_of};
+ghost use Rattle.ide_text.specs.declared.program.Procedure.{Procedure};
+ghost use Rattle.ide_text.specs.declared.program.Program.{Program};
 
 use crate::call::Call;
 use crate::directory::Directory;
@@ -34,7 +43,8 @@ pub(crate) struct Builder<'a, 'p> {
 }
 
 impl<'a, 'p> Builder<'a, 'p> {
-    ghost use Rattle.ide_graph.specs.Building.{IsReady, AreProcedures, node_count, procedure_count};
+    ghost use Rattle.ide_graph.specs.Building.{IsReady, IsBuilderOf, IsCallOf, IsScopeOf, AllCallersBefore, AllCallersFrom, AreProcedures, HasNormal, node_count, procedure_count};
+    ghost use Rattle.ide_graph.specs.Numbering.{spot_value};
 
     /// A builder over what the first pass found.
     pub fn new(
@@ -48,6 +58,9 @@ impl<'a, 'p> Builder<'a, 'p> {
         requires counted { directory.now.count ≡ length numbering.now.layouts.items }
         ensures ready { IsReady result }
         ensures same { result.numbering ≡ numbering.entry }
+        ensures globals { result.globals ≡ globals.entry }
+        ensures directory { result.directory ≡ directory.entry }
+        ensures facts { result.facts ≡ facts }
     {
         let last = (numbering.spots.len() as Node).saturating_sub(1);
         Builder {
@@ -65,6 +78,7 @@ impl<'a, 'p> Builder<'a, 'p> {
         requires { IsReady self.now }
         ensures whole { IfOk result (λ sites. length sites.items ≡ node_count self.now) }
         ensures within { IfOk result (λ sites. All (λ site. EdgesWithin (node_count self.now) (arc_value site)) sites.items) }
+        ensures exact { (p : Program) → IsBuilderOf p self.now → IfOk result (λ sites. (node : ℕ) (site : Site) → slice_get (map arc_value sites.items) node ≡ Some site → IsSiteOf p node site) }
         ensures refused { IfErr result (λ refused. refused ≡ NoMemory) }
     {
         let mut callers = self.callers()?;
@@ -81,22 +95,12 @@ impl<'a, 'p> Builder<'a, 'p> {
         requires { IsReady self.now }
         ensures whole { IfOk result (λ callers. length callers.items ≡ procedure_count self.now) }
         ensures within { IfOk result (λ callers. AllCallersWithin (node_count self.now) callers.items) }
+        ensures exact { (p : Program) → IsBuilderOf p self.now → IfOk result (λ callers. AllCallersBefore p (node_count self.now) callers.items) }
         ensures refused { IfErr result (λ refused. refused ≡ NoMemory) }
     {
         let mut callers = self.no_callers()?;
         for (node, spot) in self.numbering.spots.iter().enumerate() {
-            if let Place::Statement(
-                Statement::Call {
-                    target,
-                    callees,
-                    arguments,
-                },
-            ) = spot.place
-            {
-                let scope = self.scope(*spot);
-                let call = self.call(node as Node, scope, target, callees, arguments)?;
-                self.add_callers(&call, &mut callers)?;
-            }
+            self.add_call_at(node as Node, *spot, &mut callers)?;
         }
         Ok(callers)
     }
@@ -105,6 +109,7 @@ impl<'a, 'p> Builder<'a, 'p> {
     fn no_callers(&self) -> Result<Vec<Vec<Caller>>, Refused>
         ensures whole { IfOk result (λ callers. length callers.items ≡ procedure_count self.now) }
         ensures within { IfOk result (λ callers. AllCallersWithin (node_count self.now) callers.items) }
+        ensures empty { IfOk result (λ callers. All (λ calls. calls.items ≡ []) callers.items) }
         ensures refused { IfErr result (λ refused. refused ≡ NoMemory) }
     {
         let mut callers = Vec::with_capacity(self.alloc, self.numbering.layouts.len())?;
@@ -112,6 +117,40 @@ impl<'a, 'p> Builder<'a, 'p> {
             callers.push(Vec::new(self.alloc))?;
         }
         Ok(callers)
+    }
+
+    /// Adds the call that stands at a node, where one does, to the callers of each procedure that
+    /// it may call.
+    fn add_call_at(
+        &self,
+        node: Node,
+        spot: Spot<'p>,
+        callers: &mut Vec<Vec<Caller>>,
+    ) -> Result<(), Refused>
+        requires ready { IsReady self.now }
+        requires node { node < node_count self.now }
+        requires procedure { spot.procedure < procedure_count self.now }
+        requires whole { length callers.old.items ≡ procedure_count self.now }
+        requires within { AllCallersWithin (node_count self.now) callers.old.items }
+        ensures whole { length callers.new.items ≡ procedure_count self.now }
+        ensures within { AllCallersWithin (node_count self.now) callers.new.items }
+        ensures exact { (p : Program) (q : Procedure) → IsBuilderOf p self.now → Stands p node spot.entry.procedure q (spot_value spot.entry.place) → AllCallersBefore p node callers.old.items → OnOk result (AllCallersBefore p (node + 1) callers.new.items) }
+        ensures refused { IfErr result (λ refused. refused ≡ NoMemory) }
+    {
+        let Place::Statement(statement) = spot.place else {
+            return Ok(());
+        };
+        let Statement::Call {
+            target,
+            callees,
+            arguments,
+        } = statement
+        else {
+            return Ok(());
+        };
+        let scope = self.scope(spot);
+        let call = self.call(node, scope, target, callees, arguments)?;
+        self.add_callers(&call, callers)
     }
 
     /// Adds a call to the callers of each procedure that it may call.
@@ -127,6 +166,7 @@ impl<'a, 'p> Builder<'a, 'p> {
         requires within { AllCallersWithin (node_count self.now) callers.old.items }
         ensures whole { length callers.new.items ≡ procedure_count self.now }
         ensures within { AllCallersWithin (node_count self.now) callers.new.items }
+        ensures exact { (p : Program) → IsBuilderOf p self.now → IsCallOf p call.now → AllCallersBefore p call.now.node callers.old.items → OnOk result (AllCallersBefore p (call.now.node + 1) callers.new.items) }
         ensures refused { IfErr result (λ refused. refused ≡ NoMemory) }
     {
         for callee in &call.callees {
@@ -154,6 +194,8 @@ impl<'a, 'p> Builder<'a, 'p> {
         ensures whole { length callers.new.items ≡ procedure_count self.now }
         ensures within { AllCallersWithin (node_count self.now) callers.new.items }
         ensures edges { IfOk result (λ site. EdgesWithin (node_count self.now) site) }
+        ensures exact { (p : Program) (q : Procedure) → IsBuilderOf p self.now → Stands p node spot.entry.procedure q (spot_value spot.entry.place) → AllCallersFrom p node callers.old.items → IfOk result (IsSiteOf p node) }
+        ensures left { (p : Program) (q : Procedure) → IsBuilderOf p self.now → Stands p node spot.entry.procedure q (spot_value spot.entry.place) → AllCallersFrom p node callers.old.items → AllCallersFrom p (node + 1) callers.new.items }
         ensures refused { IfErr result (λ refused. refused ≡ NoMemory) }
     {
         let scope = self.scope(spot);
@@ -179,6 +221,7 @@ impl<'a, 'p> Builder<'a, 'p> {
         requires ready { IsReady self.now }
         requires node { node < node_count self.now }
         ensures edges { IfOk result (λ site. EdgesWithin (node_count self.now) site) }
+        ensures exact { (p : Program) (index : ℕ) (q : Procedure) → IsBuilderOf p self.now → IsScopeOf p index q scope.entry → Stands p node index q (spot.statement statement.now) → IfOk result (IsSiteOf p node) }
         ensures refused { IfErr result (λ refused. refused ≡ NoMemory) }
     {
         let next = node.saturating_add(1);
@@ -206,6 +249,7 @@ impl<'a, 'p> Builder<'a, 'p> {
         requires ready { IsReady self.now }
         requires some { 0 < node_count self.now }
         ensures edges { IfOk result (λ site. EdgesWithin (node_count self.now) site) }
+        ensures exact { (p : Program) → IsBuilderOf p self.now → end < node_count self.now → IfOk result (HasNormal (λ edge. edge ≡ edge_of p end (kind.Normal effect))) }
         ensures refused { IfErr result (λ refused. refused ≡ NoMemory) }
     {
         let mut edges = Vec::with_capacity(self.alloc, 1)?;
@@ -218,6 +262,7 @@ impl<'a, 'p> Builder<'a, 'p> {
         requires ready { IsReady self.now }
         requires some { 0 < node_count self.now }
         ensures edges { IfOk result (λ site. EdgesWithin (node_count self.now) site) }
+        ensures exact { (p : Program) → IsBuilderOf p self.now → next < node_count self.now → label < node_count self.now → IfOk result (HasNormal (λ edge. (edge ≡ edge_of p next (kind.Normal Nothing)) ⊎ (edge ≡ edge_of p label (kind.Normal Nothing)))) }
         ensures refused { IfErr result (λ refused. refused ≡ NoMemory) }
     {
         if next == label {
@@ -235,6 +280,7 @@ impl<'a, 'p> Builder<'a, 'p> {
         requires node { call.now.node < node_count self.now }
         requires callees { AreProcedures self.now call.now.callees.items }
         ensures edges { IfOk result (λ site. EdgesWithin (node_count self.now) site) }
+        ensures exact { (p : Program) → IsBuilderOf p self.now → IsCallOf p call.now → IfOk result (IsSiteOf p call.now.node) }
         ensures refused { IfErr result (λ refused. refused ≡ NoMemory) }
     {
         let mut calls = Vec::with_capacity(self.alloc, call.callees.len())?;
@@ -259,12 +305,13 @@ impl<'a, 'p> Builder<'a, 'p> {
         requires { IsReady self.now }
         ensures node { IfOk result (λ call. call.node ≡ node) }
         ensures callees { IfOk result (λ call. AreProcedures self.now call.callees.items) }
+        ensures exact { (p : Program) → IsBuilderOf p self.now → (at : CallAt p node) → IsScopeOf p at.index at.procedure scope.entry → target.now ≡ at.target → callees.now ≡ at.callees.items → arguments.now ≡ at.arguments.items → IfOk result (IsCallOf p) }
         ensures refused { IfErr result (λ refused. refused ≡ NoMemory) }
     {
         Ok(Call {
             node,
             scope,
-            target: target.as_ref().map(|name| scope.fact(name)),
+            target: scope.assigned(target),
             callees: self.callees(callees)?,
             arguments,
         })
@@ -275,6 +322,7 @@ impl<'a, 'p> Builder<'a, 'p> {
     fn callees(&self, names: &[Name]) -> Result<Vec<usize>, Refused>
         requires { IsReady self.now }
         ensures callees { IfOk result (λ callees. AreProcedures self.now callees.items) }
+        ensures exact { (p : Program) → IsBuilderOf p self.now → IfOk result (λ callees. Lists (IsCallee p names.now) (λ callee. callee) callees.items) }
         ensures refused { IfErr result (λ refused. refused ≡ NoMemory) }
     {
         let mut callees = Vec::with_capacity(self.alloc, names.len())?;
@@ -294,6 +342,7 @@ impl<'a, 'p> Builder<'a, 'p> {
         requires some { 0 < node_count self.now }
         requires callee { callee < procedure_count self.now }
         ensures within { IfOk result (λ edge. EndsWithin (node_count self.now) edge) }
+        ensures exact { (p : Program) → IsBuilderOf p self.now → (is : IsCallOf p call.now) → IsCallee p is.at.callees.items callee → IfOk result (IsCall p call.now.node callee) }
         ensures refused { IfErr result (λ refused. refused ≡ NoMemory) }
     {
         let layout = &self.numbering.layouts[callee];
@@ -311,7 +360,8 @@ impl<'a, 'p> Builder<'a, 'p> {
     fn edge(&self, end: Node, kind: EdgeKind) -> EdgeData
         requires ready { IsReady self.now }
         requires some { 0 < node_count self.now }
-        ensures { EndsWithin (node_count self.now) result }
+        ensures within { EndsWithin (node_count self.now) result }
+        ensures exact { (p : Program) → IsBuilderOf p self.now → end < node_count self.now → result ≡ edge_of p end kind }
     {
         EdgeData {
             end: end.min(self.last),
@@ -325,7 +375,8 @@ impl<'a, 'p> Builder<'a, 'p> {
     fn scope(&self, spot: Spot<'p>) -> Scope<'a, 'p>
         requires ready { IsReady self.now }
         requires procedure { spot.procedure < procedure_count self.now }
-        ensures { result.layout.now.start < node_count self.now }
+        ensures within { result.layout.now.start < node_count self.now }
+        ensures exact { (p : Program) (q : Procedure) → IsBuilderOf p self.now → slice_get (procedures_of p) spot.entry.procedure ≡ Some q → IsScopeOf p spot.entry.procedure q result }
     {
         let procedure = spot.procedure as usize;
         Scope {

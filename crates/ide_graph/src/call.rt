@@ -1,4 +1,6 @@
 //! A call statement, with its names looked up.
+ghost use Rattle.std.specs.Prelude.{◌≡◌, ◌+◌, ◌<◌, ◌^◌};
+
 use crate::scope::Scope;
 use ide_text::Name;
 use ide_wire::{Fact, Node};
@@ -18,7 +20,9 @@ pub(crate) struct Call<'a, 'p> {
 impl Call<'_, '_> {
     /// The node that the call returns to. Its saturation is never met: the call's procedure has an
     /// exit past it.
-    pub fn return_site(&self) -> Node {
+    pub fn return_site(&self) -> Node
+        ensures { self.now.node + 1 < 2 ^ 32 → result ≡ self.now.node + 1 }
+    {
         self.node.saturating_add(1)
     }
 }

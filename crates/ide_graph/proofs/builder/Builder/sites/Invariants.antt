@@ -1,8 +1,12 @@
-use Rattle.std.proofs.Common.{◌≡◌, length}
+use Rattle.std.proofs.Common.{◌≡◌, ℕ, Some, length, map}
+use Rattle.std.specs.Prelude.{slice_get}
 use Rattle.std.specs.Arc.{arc_value}
 use Rattle.std.specs.List.{All}
-use Rattle.ide_graph.specs.Building.{node_count, procedure_count}
+use Rattle.ide_text.specs.declared.program.Program.{Program}
+use Rattle.ide_graph.specs.Building.{AllCallersFrom, IsBuilderOf, node_count, procedure_count}
 use Rattle.ide_graph.specs.Edges.{EdgesWithin, AllCallersWithin}
+use Rattle.ide_graph.specs.declared.site.Site.{Site}
+use Rattle.ide_graph.specs.ProgramEdges.{IsSiteOf}
 use Rattle.ide_graph.proofs.builder.Builder.sites.Given as goal
 
 abbrev pub invariant-loop-node : goal.invariant-loop-node
@@ -11,4 +15,6 @@ invariant-loop-node l = record {
   callers : AllCallersWithin (node_count l.self) l.callers.items;
   whole : length l.sites.items ≡ l.node;
   within : All (λ site. EdgesWithin (node_count l.self) (arc_value site)) l.sites.items;
+  exact : (p : Program) → IsBuilderOf p l.self → (node : ℕ) (site : Site) → slice_get (map arc_value l.sites.items) node ≡ Some site → IsSiteOf p node site;
+  left : (p : Program) → IsBuilderOf p l.self → AllCallersFrom p l.node l.callers.items;
 }

@@ -1,0 +1,13 @@
+use Rattle.std.proofs.Common.{◌≡◌, [], ◌∷◌, refl}
+use Rattle.ide_graph.specs.declared.edge.EdgeData.{EdgeData}
+use Rattle.ide_graph.specs.declared.edge.EdgeKind.TheVariants as kind
+use Rattle.ide_graph.specs.ProgramEdges.{edge_of}
+use Rattle.ide_graph.proofs.ListsLemmas.{lists_one}
+use Rattle.ide_graph.proofs.builder.Builder.normal.Goals as goal
+
+pub returns-clause-exact : goal.returns-clause-exact
+returns-clause-exact c = λ p is within.
+    let edge : EdgeData = edge_of p c.args.end (kind.Normal c.args.effect) in
+    let made : c.edge.result ≡ edge = c.edge.ensures.exact p is within in
+    let items : c.push.new.self.items ≡ edge ∷ [] = cc (c.in_ok-push.ensures.items, c.in_ok-edges.ensures.items) in
+    rw items (lists_one (λ x. x.end) (λ x. x ≡ edge) edge refl (λ x e. e))
