@@ -19,6 +19,7 @@ pub mod NumberedLemmas
 pub mod PlaceLemmas
 pub mod ProcedureLemmas
 pub mod ProgramLemmas
+pub mod SecondPass
 pub mod SiteLemmas
 pub mod SliceLemmas
 pub mod SpotLemmas

@@ -1,9 +1,7 @@
 -- What the second pass over a program rests on.
-use Rattle.std.specs.Prelude.{ℕ, ◌≡◌, ◌-◌, ◌<◌, ◌≤◌, ◌^◌, List, ◌++◌, Option, Some, length, map, slice_get}
-use Rattle.std.specs.Borrow.{Bor}
+use Rattle.std.specs.Prelude.{ℕ, ◌≡◌, ◌-◌, ◌<◌, ◌≤◌, ◌^◌, List, ◌++◌, Some, length, slice_get}
 use Rattle.std.specs.Global.{Vec}
 use Rattle.std.specs.List.{All, Contains}
-use Rattle.std.specs.Map.{lookup}
 use Rattle.ide_text.specs.declared.program.Procedure.{Procedure}
 use Rattle.ide_text.specs.declared.program.Program.{Program}
 use Rattle.ide_text.specs.Grammar.{IsProgram}
@@ -13,18 +11,16 @@ use Rattle.ide_graph.specs.declared.builder.Builder.{Builder}
 use Rattle.ide_graph.specs.declared.call.Call.{Call}
 use Rattle.ide_graph.specs.declared.edge.EdgeData.{EdgeData}
 use Rattle.ide_graph.specs.declared.layout.Layout.{Layout}
-use Rattle.ide_graph.specs.declared.numbering.Place.{Place}
-use Rattle.ide_graph.specs.declared.numbering.Place.TheVariants.{Start, Statement, ReturnSite, Exit}
 use Rattle.ide_graph.specs.declared.scope.Scope.{Scope}
 use Rattle.ide_graph.specs.declared.site.Caller.{Caller}
 use Rattle.ide_graph.specs.declared.site.Site.{Site}
 use Rattle.ide_graph.specs.declared.site.Site.TheVariants as site
 use Rattle.ide_graph.specs.Lists.{Lists}
-use Rattle.ide_graph.specs.Named.{same_name, procedure_of_name, fact_of_name}
+use Rattle.ide_graph.specs.Named.{procedure_of_name, fact_of_name}
 use Rattle.ide_graph.specs.Naming.{number_of}
 use Rattle.ide_graph.specs.Numbered.{IsNumbered}
 use Rattle.ide_graph.specs.Numbering.{nodes_in}
-use Rattle.ide_graph.specs.Numbers.{Spot, start, statement, return_site, exit, nodes_of, start_of, exit_of, label_from, procedure_of, fact_at, facts_of}
+use Rattle.ide_graph.specs.Numbers.{nodes_of, start_of, exit_of, label_from, procedure_of, fact_at, facts_of}
 use Rattle.ide_graph.specs.ProgramEdges.{CallAt, HasFact, IsCallee, IsCallerOf, IsAssigned}
 
 -- how many nodes the program has

@@ -14,6 +14,8 @@ use Rattle.ide_graph.specs.Numbering.{IsNumberingOf}
 use Rattle.ide_graph.specs.Numbers.{procedure_of}
 use Rattle.ide_graph.proofs.GraphLemmas.{All-owners}
 use Rattle.ide_graph.proofs.GraphOfLemmas.{graph_of}
+use Rattle.ide_graph.proofs.LimitLemmas.{global_names}
+use Rattle.ide_graph.proofs.SecondPass.{builder_of}
 use Rattle.ide_graph.proofs.graph.Graph.of.Goals as goal
 
 -- the first pass counted what the second made
@@ -62,3 +64,22 @@ returns-clause-numbered c =
     (c.in_ok-sites.ensures.whole ∙ ap (λ n. length n.now.spots.items) c.new.ensures.same)
     (All-same (λ layout. length layout.own ≤ c.most_own_of-most_own.result) _ _ (sym layouts) c.most_own_of-most_own.ensures.most)
     (λ bound all. c.most_own_of-most_own.ensures.least bound (All-same (λ layout. length layout.own ≤ bound) _ _ layouts all))
+
+pub returns-clause-sites : goal.returns-clause-sites
+returns-clause-sites c named =
+    let p = c.args.program.now in
+    let procedures : c.procedures-procedures.result.now ≡ procedures_of p = c.procedures-procedures.ensures in
+    let globals : c.globals.result.now ≡ globals_of p = c.globals.ensures in
+    let names : c.in_ok-globals.globals.names ≡ globals_of p =
+    subst (λ (gs : List (List ℕ)). AreNew [] gs → c.in_ok-globals.globals.names ≡ gs) globals c.in_ok-globals.ensures.named (global_names p named.0) in
+    let builder = builder_of p c.new.result named c.new.ensures.ready
+    (subst (λ n. IsNumberingOf (procedures_of p) n.now) (sym c.new.ensures.same)
+    (subst (λ (ps : List Procedure). IsNumberingOf ps c.in_ok-numbering.numbering) procedures c.in_ok-numbering.ensures.numbering))
+    (subst (λ d. (name : List ℕ) → procedure_of_name d.now.procedures name ≡ procedure_of (procedures_of p) name) (sym c.new.ensures.directory)
+    (subst (λ (ps : List Procedure). (name : List ℕ) → procedure_of_name c.in_ok-directory.directory.procedures name ≡ procedure_of ps name) procedures c.in_ok-directory.ensures.named))
+    (ap (λ g. g.now.names) c.new.ensures.globals ∙ names)
+    (c.new.ensures.facts ∙ (c.fact_count-facts.ensures ∙ ((returns-clause-numbered c).counts named).0)) in
+    record {
+      count = length-map _ arc_value;
+      site = c.in_ok-sites.ensures.exact p builder;
+    }
