@@ -1,0 +1,17 @@
+-- Moments of a disk, and the counts of its calls and failures.
+use Rattle.std.specs.Prelude.{◌⊎◌, ℕ, ◌+◌, ◌-◌, ◌^◌, ◌≤◌, min, List, Result, Ok, Err}
+
+-- time goes on: a crash since some moment might have left what it might have left before, or what it may leave now
+pub record Elapses (before now : ℕ) (past since : ℕ → List ℕ → Type 0) (may_leave : List ℕ → Type 0) : Type 0 where
+  pub later : before ≤ now
+  pub nothing_else : (t : ℕ) (left : List ℕ) → t ≤ before → since t left → past t left ⊎ may_leave left
+  pub keeps : (t : ℕ) (left : List ℕ) → t ≤ before → past t left → since t left
+
+-- one more, or the largest number of 64 bits, at which a count stays
+abbrev pub next_count : ℕ → ℕ
+next_count count = min (count + 1) (2 ^ 64 - 1)
+
+-- the count of failures after a call: one more where it failed
+abbrev pub failures_after : {T E : Type 0} → Result T E → ℕ → ℕ
+failures_after (Ok value) failures = failures
+failures_after (Err fault) failures = next_count failures

@@ -1,0 +1,12 @@
+//! Disks that may crash at any moment.
+//!
+//! [`Disk`] is what those above it may rely on: what a read gives, and what a crash may leave, now
+//! and since an earlier moment. [`MemDisk`] is a disk in memory that can be told to fail, to stop
+//! and to crash.
+#![tactic(auto)]
+
+mod disk;
+mod fault;
+
+pub use disk::Disk;
+pub use fault::DeviceFault;
