@@ -5,8 +5,11 @@
 //! and to crash.
 #![tactic(auto)]
 
+mod contents;
 mod disk;
 mod fault;
+mod leave;
 
 pub use disk::Disk;
 pub use fault::DeviceFault;
+pub use leave::Leave;
