@@ -4,6 +4,11 @@ use Rattle.std.proofs.Common.{arith, rules, inl, inr, sym, subst, ap, ◌∙◌,
 use Rattle.std.proofs.lemmas.List.{places, length-take, length-drop, length-append, get_or_append_left, get_or-take, get_or-drop, get_or-append_right}
 use Rattle.ide_disk.specs.Disk.{Change, Wrote, Cut, put_at, IsKept, Keeps, LeftOf}
 
+-- bytes that end within the room, put over others that do
+pub put_at-fits : (at : ℕ) (bytes old : List ℕ) (room : ℕ) → at + length bytes ≤ room → length old ≤ room → length (put_at at bytes old) ≤ room
+put_at-fits at bytes old room new_fit old_fit = simp (length-append, length-take, length-drop) (omega arith)
+
+-- a place outside of the range is still there
 pub length-put_at : (at : ℕ) (bytes old : List ℕ) → (i : ℕ) → i < length old → (i < at) ⊎ (at + length bytes ≤ i)
     → i < length (put_at at bytes old)
 length-put_at at bytes old i inside outside =

@@ -2,8 +2,8 @@
 use Rattle.std.specs.Prelude.{ℕ, zero, suc, ◌+◌, ◌-◌, ◌/◌, List, [], ◌∷◌, ◌++◌, length, take, drop, replicate}
 use Rattle.ide_disk.specs.Disk.{put_at}
 use Rattle.ide_disk.specs.Record.{taken}
-use Rattle.ide_disk.specs.declared.contents.Call.{Call}
-use Rattle.ide_disk.specs.declared.contents.Call.TheVariants.{Look, Write, Shorten, Sync}
+use Rattle.ide_disk.specs.declared.call.Call.{Call}
+use Rattle.ide_disk.specs.declared.call.Call.TheVariants.{Look, Write, Shorten, Sync}
 use Rattle.ide_disk.specs.declared.leave.Leave.{Leave}
 use Rattle.ide_disk.specs.declared.leave.Leave.TheVariants.{Old, New, Half, Fill}
 

@@ -6,8 +6,8 @@ use Rattle.ide_disk.specs.Disk.{Change, Wrote, Cut, DiskState, put_at, Keeps, Cr
 use Rattle.ide_disk.specs.Kept.{keeps_more, keeps_left, keeps_put, keeps_pad, keeps_cut}
 use Rattle.ide_disk.specs.Leaving.{left_of_write, left_of_cut, left_of_call, leave_before, left_after, sync_count}
 use Rattle.ide_disk.specs.Record.{taken, after_call, replay}
-use Rattle.ide_disk.specs.declared.contents.Call.{Call}
-use Rattle.ide_disk.specs.declared.contents.Call.TheVariants.{Look, Write, Shorten, Sync}
+use Rattle.ide_disk.specs.declared.call.Call.{Call}
+use Rattle.ide_disk.specs.declared.call.Call.TheVariants.{Look, Write, Shorten, Sync}
 use Rattle.ide_disk.specs.declared.leave.Leave.{Leave}
 use Rattle.ide_disk.specs.declared.leave.Leave.TheVariants.{Old, New, Half, Fill}
 

@@ -6,8 +6,8 @@ use Rattle.std.proofs.lemmas.List.{length-take, length-drop, length-append, leng
 use Rattle.ide_disk.specs.Disk.{DiskState, CrashLeaves}
 use Rattle.ide_disk.specs.Record.{taken, all_taken, after_call, replay, LeftSince}
 use Rattle.ide_disk.specs.Time.{Elapses}
-use Rattle.ide_disk.specs.declared.contents.Call.{Call}
-use Rattle.ide_disk.specs.declared.contents.Call.TheVariants.{Look, Write, Shorten, Sync}
+use Rattle.ide_disk.specs.declared.call.Call.{Call}
+use Rattle.ide_disk.specs.declared.call.Call.TheVariants.{Look, Write, Shorten, Sync}
 
 pub all_taken-push : (calls : List Call) (call : Call) → all_taken (calls ++ call ∷ []) ≡ all_taken calls + taken call
 all_taken-push [] call = omega arith

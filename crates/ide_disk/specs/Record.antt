@@ -1,8 +1,8 @@
 -- A record of calls, and the disk after them.
-use Rattle.std.specs.Prelude.{ℕ, ◌+◌, ◌≤◌, List, [], ◌∷◌, length, take, drop}
+use Rattle.std.specs.Prelude.{ℕ, ◌+◌, ◌≤◌, max, List, [], ◌∷◌, length, take, drop}
 use Rattle.ide_disk.specs.Disk.{DiskState, CrashLeaves, written, cut_to, synced_now}
-use Rattle.ide_disk.specs.declared.contents.Call.{Call}
-use Rattle.ide_disk.specs.declared.contents.Call.TheVariants.{Look, Write, Shorten, Sync}
+use Rattle.ide_disk.specs.declared.call.Call.{Call}
+use Rattle.ide_disk.specs.declared.call.Call.TheVariants.{Look, Write, Shorten, Sync}
 
 -- how many of the recorded bytes are the call's
 abbrev pub taken : Call → ℕ
@@ -15,6 +15,18 @@ taken Sync = 0
 abbrev pub all_taken : List Call → ℕ
 all_taken [] = 0
 all_taken (call ∷ calls) = taken call + all_taken calls
+
+-- where the call's range ends
+abbrev pub end_of : Call → ℕ
+end_of Look = 0
+end_of (Write at count) = at + count
+end_of (Shorten len) = 0
+end_of Sync = 0
+
+-- where the furthest of the ranges ends
+abbrev pub furthest_end : List Call → ℕ
+furthest_end [] = 0
+furthest_end (call ∷ calls) = max (end_of call) (furthest_end calls)
 
 -- the disk after a call, whose bytes stand first
 abbrev pub after_call : Call → List ℕ → DiskState → DiskState

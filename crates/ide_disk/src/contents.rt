@@ -1,17 +1,12 @@
 //! The bytes of a disk in memory, with a record of all that was done to them.
+ghost use Rattle.std.specs.Prelude.{◌≡◌, ℕ, ◌+◌, ◌<◌, ◌≤◌, ◌↔◌, max, [], ◌∷◌, ◌++◌, length, slice_range, IsTrue, IfOk, vec_len, vec_capacity};
+ghost use Rattle.std.specs.Bool.{OnTrue};
+ghost use Rattle.ide_disk.specs.Disk.{Wrote, Cut, CrashLeaves, LeavesAfter, LeavesAfterSync, put_at, settled, written, cut_to, synced_now};
+ghost use Rattle.ide_disk.specs.Record.{all_taken, furthest_end, replay};
+ghost use Rattle.ide_disk.specs.Time.{Elapses};
 
-/// A call as it is recorded.
-#[derive(Clone, Copy)]
-pub(crate) enum Call {
-    /// Nothing was changed.
-    Look,
-    /// So many bytes were written at this place.
-    Write(usize, usize),
-    /// The bytes from this length on were dropped.
-    Shorten(usize),
-    /// All changes were made lasting.
-    Sync,
-}
+use crate::call::Call;
+use std::alloc::{AllocError, Global};
 
 /// The bytes and their past. It takes all its memory when it is made.
 #[derive(Drop)]
@@ -27,4 +22,172 @@ pub(crate) struct Contents {
     room: usize,
     /// How many calls and written bytes may be recorded.
     log: usize,
+    ghost replayed: { bytes.items ≡ (replay calls.items written.items (settled start.items)).now },
+    ghost counted: { all_taken calls.items ≡ length written.items },
+    ghost fit: { furthest_end calls.items ≤ room },
+    ghost start_fits: { length start.items ≤ room },
+    ghost bytes_fit: { length bytes.items ≤ room },
+    ghost record_fits: { length calls.items + length written.items ≤ log },
+    ghost start_room: { room ≤ vec_capacity start },
+    ghost bytes_room: { room ≤ vec_capacity bytes },
+    ghost calls_room: { log ≤ vec_capacity calls },
+    ghost written_room: { log ≤ vec_capacity written },
+}
+
+impl Contents {
+    ghost use Rattle.ide_disk.specs.Contents.{contents_state, contents_moment, contents_since, HasSpace};
+
+    /// No bytes, with room for these many, and for a record of these many calls and written bytes.
+    pub(crate) fn new(alloc: Global, room: usize, log: usize) -> Result<Self, AllocError>
+        ensures { IfOk result (λ contents. contents_state contents ≡ settled []) }
+    {
+        let start = Vec::with_capacity(alloc, room)?;
+        let bytes = Vec::with_capacity(alloc, room)?;
+        let calls = Vec::with_capacity(alloc, log)?;
+        let written = Vec::with_capacity(alloc, log)?;
+        Ok(Contents {
+            start,
+            bytes,
+            calls,
+            written,
+            room,
+            log,
+        })
+    }
+
+    pub(crate) fn len(&self) -> usize
+        ensures { result ≡ length self.now.bytes.items }
+    {
+        self.bytes.len()
+    }
+
+    /// Whether one more call, with these many bytes written, can be recorded.
+    fn has_space(&self, count: usize) -> bool
+        ensures { IsTrue result ↔ HasSpace self.now count }
+    {
+        count < self.log - (self.calls.len() + self.written.len())
+    }
+
+    /// Records a call that changes nothing, and says whether it could be recorded.
+    pub(crate) fn look(&mut self) -> bool
+        ensures answer { IsTrue result ↔ HasSpace self.old 0 }
+        ensures bytes { self.new.bytes.items ≡ self.old.bytes.items }
+        ensures state { contents_state self.new ≡ contents_state self.old }
+        ensures time { Elapses (contents_moment self.old) (contents_moment self.new) (contents_since self.old) (contents_since self.new) (CrashLeaves (contents_state self.new)) }
+    {
+        if !self.has_space(0) {
+            return false;
+        }
+        note(&mut self.calls, &mut self.written, Call::Look, &[]);
+        true
+    }
+
+    /// Fills the buffer with the bytes from a place on, and says whether that could be recorded.
+    pub(crate) fn read(&mut self, at: usize, out: &mut [u8]) -> bool
+        requires { at + length out.old ≤ length self.old.bytes.items }
+        ensures answer { IsTrue result ↔ HasSpace self.old 0 }
+        ensures read { OnTrue result (out.new ≡ slice_range self.old.bytes.items at (at + length out.old)) }
+        ensures bytes { self.new.bytes.items ≡ self.old.bytes.items }
+        ensures state { contents_state self.new ≡ contents_state self.old }
+        ensures time { Elapses (contents_moment self.old) (contents_moment self.new) (contents_since self.old) (contents_since self.new) (CrashLeaves (contents_state self.new)) }
+    {
+        if !self.look() {
+            return false;
+        }
+        out.copy_from_slice(&self.bytes[at..at + out.len()]);
+        true
+    }
+
+    /// Writes the bytes from a place on, if they fit and can be recorded.
+    pub(crate) fn write_over(&mut self, at: usize, bytes: &[u8]) -> bool
+        requires { at ≤ length self.old.bytes.items }
+        ensures answer { IsTrue result ↔ (at + length bytes.now ≤ self.old.room) × HasSpace self.old (length bytes.now) }
+        ensures grows { length self.old.bytes.items ≤ length self.new.bytes.items }
+        ensures size { OnTrue result (length self.new.bytes.items ≡ max (length self.old.bytes.items) (at + length bytes.now)) }
+        ensures state { OnTrue result (contents_state self.new ≡ written at bytes.now (contents_state self.old)) }
+        ensures crash { LeavesAfter (Wrote at (length bytes.now)) (contents_state self.old) (contents_state self.new) }
+        ensures time { Elapses (contents_moment self.old) (contents_moment self.new) (contents_since self.old) (contents_since self.new) (CrashLeaves (contents_state self.new)) }
+    {
+        if at + bytes.len() > self.room {
+            let _ = self.look();
+            return false;
+        }
+        if !self.has_space(bytes.len()) {
+            return false;
+        }
+        note(&mut self.calls, &mut self.written, Call::Write(at, bytes.len()), bytes);
+        overwrite(&mut self.bytes, at, bytes);
+        true
+    }
+
+    /// Drops the bytes from a length on, if that can be recorded.
+    pub(crate) fn cut_off(&mut self, len: usize) -> bool
+        requires { len ≤ length self.old.bytes.items }
+        ensures answer { IsTrue result ↔ HasSpace self.old 0 }
+        ensures shrinks { length self.new.bytes.items ≤ length self.old.bytes.items }
+        ensures leaves { len ≤ length self.new.bytes.items }
+        ensures size { OnTrue result (length self.new.bytes.items ≡ len) }
+        ensures state { OnTrue result (contents_state self.new ≡ cut_to len (contents_state self.old)) }
+        ensures crash { LeavesAfter (Cut len) (contents_state self.old) (contents_state self.new) }
+        ensures time { Elapses (contents_moment self.old) (contents_moment self.new) (contents_since self.old) (contents_since self.new) (CrashLeaves (contents_state self.new)) }
+    {
+        if !self.has_space(0) {
+            return false;
+        }
+        note(&mut self.calls, &mut self.written, Call::Shorten(len), &[]);
+        self.bytes.truncate(len);
+        true
+    }
+
+    /// Makes all changes lasting, if that can be recorded.
+    pub(crate) fn sync_all(&mut self) -> bool
+        ensures answer { IsTrue result ↔ HasSpace self.old 0 }
+        ensures bytes { self.new.bytes.items ≡ self.old.bytes.items }
+        ensures state { OnTrue result (contents_state self.new ≡ synced_now (contents_state self.old)) }
+        ensures crash { LeavesAfterSync (contents_state self.old) (contents_state self.new) }
+        ensures time { Elapses (contents_moment self.old) (contents_moment self.new) (contents_since self.old) (contents_since self.new) (CrashLeaves (contents_state self.new)) }
+    {
+        if !self.has_space(0) {
+            return false;
+        }
+        note(&mut self.calls, &mut self.written, Call::Sync, &[]);
+        true
+    }
+}
+
+// Puts the bytes over others, from a place on.
+fn overwrite(bytes: &mut Vec<u8>, at: usize, new: &[u8])
+    requires { at + length new.now ≤ vec_capacity bytes.old }
+    ensures items { bytes.new.items ≡ put_at at new.now bytes.old.items }
+    ensures capacity { vec_capacity bytes.old ≤ vec_capacity bytes.new }
+{
+    let end = at + new.len();
+    if end <= bytes.len() {
+        bytes[at..end].copy_from_slice(new);
+        return;
+    }
+    bytes.truncate(at);
+    match bytes.extend_from_slice(new) {
+        Ok(()) => {}
+        Err(_) => unreachable!(),
+    }
+}
+
+// Records a call, with the bytes that it wrote.
+fn note(calls: &mut Vec<Call>, written: &mut Vec<u8>, call: Call, bytes: &[u8])
+    requires calls { vec_len calls.old < vec_capacity calls.old }
+    requires bytes { vec_len written.old + length bytes.now ≤ vec_capacity written.old }
+    ensures calls { calls.new.items ≡ calls.old.items ++ call ∷ [] }
+    ensures written { written.new.items ≡ written.old.items ++ bytes.now }
+    ensures calls_capacity { vec_capacity calls.old ≤ vec_capacity calls.new }
+    ensures written_capacity { vec_capacity written.old ≤ vec_capacity written.new }
+{
+    match calls.push(call) {
+        Ok(()) => {}
+        Err(_) => unreachable!(),
+    }
+    match written.extend_from_slice(bytes) {
+        Ok(()) => {}
+        Err(_) => unreachable!(),
+    }
 }

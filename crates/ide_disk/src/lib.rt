@@ -5,6 +5,7 @@
 //! and to crash.
 #![tactic(auto)]
 
+mod call;
 mod contents;
 mod disk;
 mod fault;

@@ -1,0 +1,49 @@
+use Rattle.std.proofs.Common.{List, ℕ, [], length, take, sym, arith, rules, refl, ap, subst, ◌∙◌}
+use Rattle.ide_disk.specs.declared.call.Call.TheVariants.{Shorten}
+use Rattle.ide_disk.specs.Disk.{DiskState, Change, Wrote, Cut, put_at}
+use Rattle.ide_disk.proofs.Next.{IsNext, state_next, counted_next, fit_next, recorded, time_next, possible, leaves_same, leaves_written, leaves_cut, leaves_synced, leaves_unsynced}
+use Rattle.ide_disk.proofs.contents.Contents.cut_off.Goals as goal
+
+pub invariant_of-self : goal.invariant_of-self
+invariant_of-self c =
+    let self = c.args.self.now in
+    let next : IsNext (Shorten c.args.len) [] self.calls.items c.note.new.calls.items self.written.items c.note.new.written.items =
+      record { calls_are = c.note.ensures.calls; bytes_are = c.note.ensures.written; counted = self.counted } in
+    let state = state_next _ _ _ _ _ _ self.start.items next in
+    record {
+      replayed = c.truncate.ensures.items ∙ ap (λ (xs : List ℕ). take c.args.len xs) self.replayed ∙ ap (λ (d : DiskState). d.now) (sym state);
+      counted = counted_next _ _ _ _ _ _ next refl;
+      fit = fit_next _ _ _ _ _ _ next self.room self.fit (omega arith);
+      start_fits = self.start_fits;
+      bytes_fit = omega (arith, self.bytes_fit, c.truncate.ensures.len);
+      record_fits = omega (arith, recorded _ _ _ _ _ _ next);
+      start_room = self.start_room;
+      bytes_room = omega (arith, self.bytes_room, c.truncate.ensures.capacity);
+      calls_room = omega arith;
+      written_room = omega arith }
+
+pub returns-clause-state : goal.returns-clause-state
+returns-clause-state c =
+    let self = c.args.self.now in
+    let next : IsNext (Shorten c.args.len) [] self.calls.items c.note.new.calls.items self.written.items c.note.new.written.items =
+      record { calls_are = c.note.ensures.calls; bytes_are = c.note.ensures.written; counted = self.counted } in
+    state_next _ _ _ _ _ _ self.start.items next
+
+pub returns-clause-crash : goal.returns-clause-crash
+returns-clause-crash c =
+    let self = c.args.self.now in
+    let next : IsNext (Shorten c.args.len) [] self.calls.items c.note.new.calls.items self.written.items c.note.new.written.items =
+      record { calls_are = c.note.ensures.calls; bytes_are = c.note.ensures.written; counted = self.counted } in
+    leaves_cut c.args.len _ _ (possible self.calls.items self.written.items self.start.items) (state_next _ _ _ _ _ _ self.start.items next)
+
+pub returns-clause-time : goal.returns-clause-time
+returns-clause-time c =
+    let self = c.args.self.now in
+    let next : IsNext (Shorten c.args.len) [] self.calls.items c.note.new.calls.items self.written.items c.note.new.written.items =
+      record { calls_are = c.note.ensures.calls; bytes_are = c.note.ensures.written; counted = self.counted } in
+    time_next _ _ _ _ _ _ self.start.items next
+
+pub returns-then-not-has_space-clause-crash : goal.returns-then-not-has_space-clause-crash
+returns-then-not-has_space-clause-crash c =
+    let self = c.args.self.now in
+    leaves_same (Cut c.args.len) _ _ (possible self.calls.items self.written.items self.start.items) refl
