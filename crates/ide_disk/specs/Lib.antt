@@ -1,4 +1,6 @@
+pub mod Bounded
 pub mod Contents
+pub mod Counter
 pub mod Disk
 pub mod Kept
 pub mod Leaving

@@ -7,10 +7,13 @@
 
 mod call;
 mod contents;
+mod counter;
 mod disk;
 mod fault;
 mod leave;
+mod memory;
 
 pub use disk::Disk;
 pub use fault::DeviceFault;
 pub use leave::Leave;
+pub use memory::MemDisk;

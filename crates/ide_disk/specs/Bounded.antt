@@ -1,0 +1,7 @@
+-- How many bytes a disk in memory can have.
+use Rattle.std.specs.Prelude.{ℕ, ◌<◌, ◌^◌, length}
+use Rattle.std.proofs.Common.{arith}
+use Rattle.ide_disk.specs.declared.contents.Contents.{Contents}
+
+pub bounded_length : (contents : Contents) → length contents.bytes.items < 2 ^ 63
+bounded_length contents = omega (arith, contents.bytes.ok, contents.bytes.small)
