@@ -1,5 +1,5 @@
 -- What each kind of crash leaves of the changes since the last sync.
-use Rattle.std.specs.Prelude.{ℕ, zero, suc, ◌+◌, ◌-◌, ◌/◌, List, [], ◌∷◌, ◌++◌, length, take, drop, replicate}
+use Rattle.std.specs.Prelude.{ℕ, zero, suc, Bool, true, false, ◌+◌, ◌-◌, ◌/◌, List, [], ◌∷◌, ◌++◌, length, take, drop, replicate}
 use Rattle.ide_disk.specs.Disk.{put_at}
 use Rattle.ide_disk.specs.Record.{taken}
 use Rattle.ide_disk.specs.declared.call.Call.{Call}
@@ -31,6 +31,13 @@ left_of_call leave Look bytes old = old
 left_of_call leave (Write at count) bytes old = left_of_write leave at (take count bytes) old
 left_of_call leave (Shorten len) bytes old = left_of_cut leave len old
 left_of_call leave Sync bytes old = old
+
+-- whether it is a sync
+abbrev pub is_sync : Call → Bool
+is_sync Look = false
+is_sync (Write at count) = false
+is_sync (Shorten len) = false
+is_sync Sync = true
 
 -- how many of the calls are syncs
 abbrev pub sync_count : List Call → ℕ

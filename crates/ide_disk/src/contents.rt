@@ -5,6 +5,7 @@ ghost use Rattle.ide_disk.specs.Disk.{Wrote, Cut, CrashLeaves, LeavesAfter, Leav
 ghost use Rattle.ide_disk.specs.Record.{all_taken, furthest_end, replay};
 ghost use Rattle.ide_disk.specs.Time.{Elapses};
 
+use crate::bytes::overwrite;
 use crate::call::Call;
 use std::alloc::{AllocError, Global};
 
@@ -152,24 +153,6 @@ impl Contents {
         }
         note(&mut self.calls, &mut self.written, Call::Sync, &[]);
         true
-    }
-}
-
-// Puts the bytes over others, from a place on.
-fn overwrite(bytes: &mut Vec<u8>, at: usize, new: &[u8])
-    requires { at + length new.now ≤ vec_capacity bytes.old }
-    ensures items { bytes.new.items ≡ put_at at new.now bytes.old.items }
-    ensures capacity { vec_capacity bytes.old ≤ vec_capacity bytes.new }
-{
-    let end = at + new.len();
-    if end <= bytes.len() {
-        bytes[at..end].copy_from_slice(new);
-        return;
-    }
-    bytes.truncate(at);
-    match bytes.extend_from_slice(new) {
-        Ok(()) => {}
-        Err(_) => unreachable!(),
     }
 }
 

@@ -5,12 +5,14 @@
 //! and to crash.
 #![tactic(auto)]
 
+mod bytes;
 mod call;
 mod contents;
 mod counter;
 mod disk;
 mod fault;
 mod leave;
+mod leaving;
 mod memory;
 
 pub use disk::Disk;
