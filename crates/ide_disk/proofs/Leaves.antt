@@ -1,8 +1,10 @@
 -- One step through the recorded calls, as a crash goes through them.
-use Rattle.std.specs.Prelude.{◌≡◌, ℕ, zero, suc, ◌+◌, ◌-◌, ◌<◌, ◌≤◌, Bool, true, false, cond, max, List, [], ◌∷◌, length, take, drop, refl}
+use Rattle.std.specs.Prelude.{◌≡◌, ℕ, zero, suc, ◌+◌, ◌-◌, ◌<◌, ◌≤◌, Bool, true, false, cond, max, List, [], ◌∷◌, length, take, drop, replicate, ◌/◌, ◌++◌, refl}
 use Rattle.std.proofs.Common.{arith, sym, subst, ap, ◌∙◌, get_or}
-use Rattle.std.proofs.lemmas.List.{drop-drop, drop_more, drop_all, length-drop}
-use Rattle.ide_disk.specs.Leaving.{is_sync, left_of_call, leave_before, left_after, sync_count}
+use Rattle.std.proofs.lemmas.List.{drop-drop, drop_more, drop_all, length-drop, length-take, length-append, length-replicate}
+use Rattle.ide_disk.specs.Disk.{put_at}
+use Rattle.ide_disk.specs.Kept.{put_at-fits}
+use Rattle.ide_disk.specs.Leaving.{is_sync, left_of_write, left_of_cut, left_of_call, leave_before, left_after, sync_count}
 use Rattle.ide_disk.specs.Record.{taken, all_taken, end_of, furthest_end}
 use Rattle.ide_disk.specs.declared.call.Call.{Call}
 use Rattle.ide_disk.specs.declared.call.Call.TheVariants.{Look, Write, Shorten, Sync}
@@ -40,3 +42,37 @@ leaving_step leave calls written start i from syncs room bytes call first new_sy
     ∙ ap (λ (n : ℕ). left_after leave (drop (i + 1) calls) (drop (taken call) (drop from written)) (left_of_call (leave_before n leave) call (drop from written) bytes)) (sym syncs_are)
     ∙ sym (left_first leave (drop i calls) (drop (i + 1) calls) call (drop from written) bytes first)
     ∙ before.left }
+
+-- what is left of a write that ends within the room
+left_of_write-fits : (leave : Leave) (at : ℕ) (bytes old : List ℕ) (room : ℕ) → at + length bytes ≤ room → length old ≤ room
+    → length (left_of_write leave at bytes old) ≤ room
+left_of_write-fits Old at bytes old room new_fit old_fit = old_fit
+left_of_write-fits New at bytes old room new_fit old_fit = put_at-fits at bytes old room new_fit old_fit
+left_of_write-fits Half at bytes old room new_fit old_fit =
+    let half = put_at at (take (length bytes / 2) bytes) old in
+    let half_fits : length half ≤ room = put_at-fits at (take (length bytes / 2) bytes) old room (omega (arith, length-take (length bytes / 2) bytes)) old_fit in
+    omega (arith, length-append half (replicate (at + length bytes - length half) 0), length-replicate {A = ℕ} (at + length bytes - length half) 0, half_fits)
+left_of_write-fits (Fill byte) at bytes old room new_fit old_fit =
+    put_at-fits at (replicate (length bytes) byte) old room (omega (arith, length-replicate (length bytes) byte)) old_fit
+
+left_of_cut-fits : (leave : Leave) (len : ℕ) (old : List ℕ) (room : ℕ) → length old ≤ room → length (left_of_cut leave len old) ≤ room
+left_of_cut-fits Old len old room fits = fits
+left_of_cut-fits New len old room fits = omega (arith, length-take len old)
+left_of_cut-fits Half len old room fits = omega (arith, length-take len old)
+left_of_cut-fits (Fill byte) len old room fits = omega (arith, length-take len old)
+
+left_of_call-fits : (leave : Leave) (call : Call) (bytes old : List ℕ) (room : ℕ) → end_of call ≤ room → length old ≤ room
+    → length (left_of_call leave call bytes old) ≤ room
+left_of_call-fits leave Look bytes old room new_fits fits = fits
+left_of_call-fits leave (Write at count) bytes old room new_fits fits =
+    left_of_write-fits leave at (take count bytes) old room (omega (arith, length-take count bytes)) fits
+left_of_call-fits leave (Shorten len) bytes old room new_fits fits = left_of_cut-fits leave len old room fits
+left_of_call-fits leave Sync bytes old room new_fits fits = fits
+
+-- what is left of calls that end within the room
+pub left_after-fits : (leave : Leave) (calls : List Call) (bytes old : List ℕ) (room : ℕ) → furthest_end calls ≤ room → length old ≤ room
+    → length (left_after leave calls bytes old) ≤ room
+left_after-fits leave [] bytes old room new_fit fits = fits
+left_after-fits leave (call ∷ calls) bytes old room new_fit fits =
+    left_after-fits leave calls (drop (taken call) bytes) (left_of_call (leave_before (sync_count calls) leave) call bytes old) room (omega (arith, new_fit))
+      (left_of_call-fits (leave_before (sync_count calls) leave) call bytes old room (omega (arith, new_fit)) fits)

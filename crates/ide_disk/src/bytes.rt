@@ -54,3 +54,16 @@ pub(crate) fn fill(bytes: &mut Vec<u8>, at: usize, count: usize, byte: u8)
         Err(_) => unreachable!(),
     }
 }
+
+// Puts other bytes in the place of all.
+pub(crate) fn replace(bytes: &mut Vec<u8>, others: &[u8])
+    requires { length others.now ≤ vec_capacity bytes.old }
+    ensures items { bytes.new.items ≡ others.now }
+    ensures capacity { vec_capacity bytes.old ≤ vec_capacity bytes.new }
+{
+    bytes.clear();
+    match bytes.extend_from_slice(others) {
+        Ok(()) => {}
+        Err(_) => unreachable!(),
+    }
+}

@@ -5,8 +5,10 @@ ghost use Rattle.ide_disk.specs.Disk.{Wrote, Cut, CrashLeaves, LeavesAfter, Leav
 ghost use Rattle.ide_disk.specs.Record.{all_taken, furthest_end, replay};
 ghost use Rattle.ide_disk.specs.Time.{Elapses};
 
-use crate::bytes::overwrite;
+use crate::bytes::{overwrite, replace};
 use crate::call::Call;
+use crate::leaving::leave_all;
+use crate::Leave;
 use std::alloc::{AllocError, Global};
 
 /// The bytes and their past. It takes all its memory when it is made.
@@ -36,7 +38,7 @@ pub(crate) struct Contents {
 }
 
 impl Contents {
-    ghost use Rattle.ide_disk.specs.Contents.{contents_state, contents_moment, contents_since, HasSpace};
+    ghost use Rattle.ide_disk.specs.Contents.{contents_state, contents_moment, contents_since, contents_left, HasSpace};
 
     /// No bytes, with room for these many, and for a record of these many calls and written bytes.
     pub(crate) fn new(alloc: Global, room: usize, log: usize) -> Result<Self, AllocError>
@@ -153,6 +155,16 @@ impl Contents {
         }
         note(&mut self.calls, &mut self.written, Call::Sync, &[]);
         true
+    }
+
+    /// Leaves of the changes since the last sync what the kind says, and begins the record anew.
+    pub(crate) fn crash(&mut self, leave: Leave)
+        ensures { contents_state self.new ≡ settled (contents_left leave self.old) }
+    {
+        leave_all(&mut self.start, &self.calls, &self.written, leave);
+        self.calls.clear();
+        self.written.clear();
+        replace(&mut self.bytes, &self.start);
     }
 }
 
