@@ -5,6 +5,7 @@ pub mod Disk
 pub mod Kept
 pub mod Leaving
 pub mod Left
+pub mod Memory
 pub mod Past
 pub mod Record
 pub mod Time

@@ -1,11 +1,11 @@
 //! A disk in memory that can be told to fail, to stop and to crash.
-ghost use Rattle.std.specs.Prelude.{◌≡◌, [], length, refl, IfOk};
+ghost use Rattle.std.specs.Prelude.{◌≡◌, [], length, refl, None, Some, IfOk};
 ghost use Rattle.ide_disk.specs.Disk.{CrashLeaves, settled};
 ghost use Rattle.ide_disk.specs.Contents.{contents_state, contents_moment, contents_since};
 
 use crate::contents::Contents;
 use crate::counter::Counter;
-use crate::{DeviceFault, Disk};
+use crate::{DeviceFault, Disk, Leave};
 use std::alloc::{AllocError, Global};
 
 /// A disk in memory. It takes all its memory when it is made, keeps a record of its calls, and
@@ -17,13 +17,74 @@ pub struct MemDisk {
 }
 
 impl MemDisk {
+    ghost use Rattle.ide_disk.specs.Memory.{crash_left, failing_call, stopped_call, IsSameDisk};
+
     /// An empty disk with room for so many bytes, and for a record in which each call and each
     /// written byte counts one.
     pub fn new(alloc: Global, room: usize, log: usize) -> Result<Self, AllocError>
+        ensures state { IfOk result (λ disk. ⟦<MemDisk as Disk>⟧.state disk ≡ settled []) }
+        ensures calls { IfOk result (λ disk. ⟦<MemDisk as Disk>⟧.calls disk ≡ 0) }
+        ensures failures { IfOk result (λ disk. ⟦<MemDisk as Disk>⟧.failures disk ≡ 0) }
+        ensures failing { IfOk result (λ disk. failing_call disk ≡ None) }
+        ensures stopped { IfOk result (λ disk. stopped_call disk ≡ None) }
     {
         let contents = Contents::new(alloc, room, log)?;
-        let counter = Counter::new();
-        Ok(MemDisk { contents, counter })
+        Ok(MemDisk {
+            contents,
+            counter: Counter::new(),
+        })
+    }
+
+    /// How many calls were made.
+    pub fn calls(&self) -> u64
+        ensures { result ≡ ⟦<MemDisk as Disk>⟧.calls self.now }
+    {
+        self.counter.calls
+    }
+
+    /// How many of them failed.
+    pub fn failures(&self) -> u64
+        ensures { result ≡ ⟦<MemDisk as Disk>⟧.failures self.now }
+    {
+        self.counter.failures
+    }
+
+    /// Lets the call of that number fail, alone. Calls are counted from 1 since the disk was made. A write or
+    /// a cut that fails so is done all the same, so a crash may leave it; a sync is not.
+    pub fn fail_at(&mut self, call: u64)
+        ensures failing { failing_call self.new ≡ Some call }
+        ensures stopped { stopped_call self.new ≡ stopped_call self.old }
+        ensures same { IsSameDisk self.old self.new }
+    {
+        self.counter.fail_at = Some(call);
+    }
+
+    /// Lets the call of that number and all later ones fail.
+    pub fn stop_at(&mut self, call: u64)
+        ensures failing { failing_call self.new ≡ failing_call self.old }
+        ensures stopped { stopped_call self.new ≡ Some call }
+        ensures same { IsSameDisk self.old self.new }
+    {
+        self.counter.stop_at = Some(call);
+    }
+
+    /// Crashes. What is left of the changes since the last sync counts as synced; the disk works again, and
+    /// no call is told to fail.
+    pub fn crash(&mut self, leave: Leave)
+        // What the kind says is left, and it is one of the outcomes that the model allows.
+        ensures left { ⟦<MemDisk as Disk>⟧.state self.new ≡ settled (crash_left leave self.old) }
+        ensures allowed { CrashLeaves (⟦<MemDisk as Disk>⟧.state self.old) (⟦<MemDisk as Disk>⟧.state self.new).now }
+        ensures old { leave ≡ Leave.Old → (⟦<MemDisk as Disk>⟧.state self.new).now ≡ (⟦<MemDisk as Disk>⟧.state self.old).synced }
+        ensures new { leave ≡ Leave.New → (⟦<MemDisk as Disk>⟧.state self.new).now ≡ (⟦<MemDisk as Disk>⟧.state self.old).now }
+
+        ensures calls { ⟦<MemDisk as Disk>⟧.calls self.new ≡ ⟦<MemDisk as Disk>⟧.calls self.old }
+        ensures failures { ⟦<MemDisk as Disk>⟧.failures self.new ≡ ⟦<MemDisk as Disk>⟧.failures self.old }
+        ensures failing { failing_call self.new ≡ None }
+        ensures stopped { stopped_call self.new ≡ None }
+    {
+        self.contents.crash(leave);
+        self.counter.fail_at = None;
+        self.counter.stop_at = None;
     }
 }
 
