@@ -38,10 +38,11 @@ leaving_step leave calls written start i from syncs room bytes call first new_sy
   syncs_left = sym syncs_are;
   fit = omega (arith, before.fit, ap furthest_end first, more);
   left =
-    ap (λ (xs : List ℕ). left_after leave (drop (i + 1) calls) xs (left_of_call (leave_before new_syncs leave) call (drop from written) bytes)) (sym (drop-drop (taken call) from written))
-    ∙ ap (λ (n : ℕ). left_after leave (drop (i + 1) calls) (drop (taken call) (drop from written)) (left_of_call (leave_before n leave) call (drop from written) bytes)) (sym syncs_are)
-    ∙ sym (left_first leave (drop i calls) (drop (i + 1) calls) call (drop from written) bytes first)
-    ∙ before.left }
+      ap (λ (xs : List ℕ). left_after leave (drop (i + 1) calls) xs (left_of_call (leave_before new_syncs leave) call (drop from written) bytes)) (sym (drop-drop (taken call) from written))
+      ∙ ap (λ (n : ℕ). left_after leave (drop (i + 1) calls) (drop (taken call) (drop from written)) (left_of_call (leave_before n leave) call (drop from written) bytes)) (sym syncs_are)
+      ∙ sym (left_first leave (drop i calls) (drop (i + 1) calls) call (drop from written) bytes first)
+      ∙ before.left;
+}
 
 -- what is left of a write that ends within the room
 left_of_write-fits : (leave : Leave) (at : ℕ) (bytes old : List ℕ) (room : ℕ) → at + length bytes ≤ room → length old ≤ room
@@ -75,4 +76,4 @@ pub left_after-fits : (leave : Leave) (calls : List Call) (bytes old : List ℕ)
 left_after-fits leave [] bytes old room new_fit fits = fits
 left_after-fits leave (call ∷ calls) bytes old room new_fit fits =
     left_after-fits leave calls (drop (taken call) bytes) (left_of_call (leave_before (sync_count calls) leave) call bytes old) room (omega (arith, new_fit))
-      (left_of_call-fits (leave_before (sync_count calls) leave) call bytes old room (omega (arith, new_fit)) fits)
+    (left_of_call-fits (leave_before (sync_count calls) leave) call bytes old room (omega (arith, new_fit)) fits)

@@ -41,7 +41,7 @@ fit_next call more calls new_calls bytes new_bytes next room old own =
 
 pub time_next : (call : Call) (more : List ℕ) (calls new_calls : List Call) (bytes new_bytes start : List ℕ) → IsNext call more calls new_calls bytes new_bytes
     → Elapses (length calls) (length new_calls) (LeftSince calls bytes (settled start)) (LeftSince new_calls new_bytes (settled start))
-        (CrashLeaves (replay new_calls new_bytes (settled start)))
+    (CrashLeaves (replay new_calls new_bytes (settled start)))
 time_next call more calls new_calls bytes new_bytes start next =
     rw (next.calls_are, next.bytes_are) (elapses calls call bytes more (settled start) next.counted)
 
@@ -50,7 +50,8 @@ pub time_stays : (now : ℕ) (past : ℕ → List ℕ → Type 0) (may_leave : L
 time_stays now past may_leave = record {
   later = omega arith;
   nothing_else = λ t left early since. inl since;
-  keeps = λ t left early since. since }
+  keeps = λ t left early since. since;
+}
 
 -- what a read gives is something that a crash may leave
 pub possible : (calls : List Call) (bytes start : List ℕ)
@@ -61,7 +62,8 @@ possible calls bytes start = possible_replay calls bytes (settled start) refl
 pub leaves_same : (change : Change) (old new : DiskState) → CrashLeaves old old.now → new ≡ old → LeavesAfter change old new
 leaves_same change old new may is = subst (λ (d : DiskState). LeavesAfter change old d) (sym is) (record {
   leaves = λ left leaves. keeps_more old.synced change old.changes left (keeps_left old.synced old.changes left leaves);
-  possible = may })
+  possible = may;
+})
 
 -- nor does one that was made
 pub leaves_written : (at : ℕ) (bytes : List ℕ) (old new : DiskState) → CrashLeaves old old.now → new ≡ after_call (Write at (length bytes)) bytes old
@@ -70,22 +72,26 @@ leaves_written at bytes old new may is =
     let all = take_all (length bytes) bytes (omega arith) in
     subst (λ (d : DiskState). LeavesAfter (Wrote at (length bytes)) old d) (sym is) (record {
       leaves = λ left leaves. subst (λ (xs : List ℕ). CrashLeaves (written at xs old) left) all leaves;
-      possible = possible_after (Write at (length bytes)) bytes old may })
+      possible = possible_after (Write at (length bytes)) bytes old may;
+    })
 
 pub leaves_cut : (len : ℕ) (old new : DiskState) → CrashLeaves old old.now → new ≡ cut_to len old → LeavesAfter (Cut len) old new
 leaves_cut len old new may is = subst (λ (d : DiskState). LeavesAfter (Cut len) old d) (sym is) (record {
   leaves = λ left leaves. leaves;
-  possible = possible_after (Shorten len) [] old may })
+  possible = possible_after (Shorten len) [] old may;
+})
 
 pub leaves_synced : (old new : DiskState) → CrashLeaves old old.now → new ≡ synced_now old → LeavesAfterSync old new
 leaves_synced old new may is = subst (λ (d : DiskState). LeavesAfterSync old d) (sym is) (record {
   leaves = λ left leaves. subst (λ (xs : List ℕ). CrashLeaves old xs) (sym leaves) may;
-  possible = refl })
+  possible = refl;
+})
 
 pub leaves_unsynced : (old new : DiskState) → CrashLeaves old old.now → new ≡ old → LeavesAfterSync old new
 leaves_unsynced old new may is = subst (λ (d : DiskState). LeavesAfterSync old d) (sym is) (record {
   leaves = λ left leaves. leaves;
-  possible = may })
+  possible = may;
+})
 
 -- one more call is recorded, and its bytes
 pub recorded : (call : Call) (more : List ℕ) (calls new_calls : List Call) (bytes new_bytes : List ℕ) → IsNext call more calls new_calls bytes new_bytes

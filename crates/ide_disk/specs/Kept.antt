@@ -29,16 +29,19 @@ pub keeps_more : (synced : List ℕ) (change : Change) (changes : List Change) (
     → Keeps synced changes left → Keeps synced (change ∷ changes) left
 keeps_more synced (Wrote at count) changes left keeps = record {
   within = λ i inside kept. keeps.within i inside kept.1;
-  same = λ i inside kept. keeps.same i inside kept.1 }
+  same = λ i inside kept. keeps.same i inside kept.1;
+}
 keeps_more synced (Cut len) changes left keeps = record {
   within = λ i inside kept. keeps.within i inside kept.1;
-  same = λ i inside kept. keeps.same i inside kept.1 }
+  same = λ i inside kept. keeps.same i inside kept.1;
+}
 
 -- what is left with no change, or after some, keeps what is kept
 pub keeps_left : (synced : List ℕ) (changes : List Change) (left : List ℕ) → LeftOf synced changes left → Keeps synced changes left
 keeps_left synced [] left is = record {
   within = λ i inside kept. omega (arith, ap length is);
-  same = λ i inside kept. ap (λ (bytes : List ℕ). slice_index bytes i) is }
+  same = λ i inside kept. ap (λ (bytes : List ℕ). slice_index bytes i) is;
+}
 keeps_left synced (change ∷ changes) left keeps = keeps
 
 -- no more bytes than those of the range are put over
@@ -46,20 +49,23 @@ pub keeps_put : (synced : List ℕ) (changes : List Change) (old : List ℕ) (at
     → Keeps synced changes old → Keeps synced (Wrote at count ∷ changes) (put_at at bytes old)
 keeps_put synced changes old at count bytes few keeps = record {
   within = λ i inside kept. length-put_at at bytes old i (keeps.within i inside kept.1)
-    (elim kept.0 [ inl before ↦ inl before | inr after ↦ inr (omega arith) ]);
+      (elim kept.0 [ inl before ↦ inl before | inr after ↦ inr (omega arith) ]);
   same = λ i inside kept. elim kept.0 [
-      inl before ↦ put_at-before at bytes old i before (keeps.within i inside kept.1) ∙ keeps.same i inside kept.1
-    | inr after ↦ put_at-after at bytes old i (omega arith) (keeps.within i inside kept.1) ∙ keeps.same i inside kept.1 ] }
+    | inl before ↦ put_at-before at bytes old i before (keeps.within i inside kept.1) ∙ keeps.same i inside kept.1
+    | inr after ↦ put_at-after at bytes old i (omega arith) (keeps.within i inside kept.1) ∙ keeps.same i inside kept.1
+  ];
+}
 
 -- bytes behind the end change none of the others
 pub keeps_pad : (synced : List ℕ) (changes : List Change) (old more : List ℕ) → Keeps synced changes old → Keeps synced changes (old ++ more)
 keeps_pad synced changes old more keeps = record {
   within = λ i inside kept. omega (arith, length-append old more, keeps.within i inside kept);
-  same = λ i inside kept. get_or_append_left old more 0 i (keeps.within i inside kept) ∙ keeps.same i inside kept }
+  same = λ i inside kept. get_or_append_left old more 0 i (keeps.within i inside kept) ∙ keeps.same i inside kept;
+}
 
 -- a cut leaves what stands below it
 pub keeps_cut : (synced : List ℕ) (changes : List Change) (old : List ℕ) (len : ℕ) → Keeps synced changes old → Keeps synced (Cut len ∷ changes) (take len old)
 keeps_cut synced changes old len keeps = record {
   within = λ i inside kept. omega (arith, length-take len old, keeps.within i inside kept.1, kept.0);
-  same = λ i inside kept. get_or-take len old i 0 kept.0 ∙ keeps.same i inside kept.1 }
-
+  same = λ i inside kept. get_or-take len old i 0 kept.0 ∙ keeps.same i inside kept.1;
+}

@@ -17,7 +17,7 @@ keeps_write Old at bytes synced changes old keeps = keeps_more synced (Wrote at 
 keeps_write New at bytes synced changes old keeps = keeps_put synced changes old at (length bytes) bytes (omega arith) keeps
 keeps_write Half at bytes synced changes old keeps =
     keeps_pad synced (Wrote at (length bytes) ∷ changes) (put_at at (take (length bytes / 2) bytes) old) _
-      (keeps_put synced changes old at (length bytes) (take (length bytes / 2) bytes) (omega (arith, length-take (length bytes / 2) bytes)) keeps)
+    (keeps_put synced changes old at (length bytes) (take (length bytes / 2) bytes) (omega (arith, length-take (length bytes / 2) bytes)) keeps)
 keeps_write (Fill byte) at bytes synced changes old keeps =
     keeps_put synced changes old at (length bytes) (replicate (length bytes) byte) (omega (arith, length-replicate (length bytes) byte)) keeps
 
@@ -96,8 +96,8 @@ pub allowed : (leave : Leave) (calls : List Call) (bytes : List ℕ) (disk : Dis
 allowed leave [] bytes disk old whole left = left refl
 allowed leave (call ∷ calls) bytes disk old whole left =
     allowed leave calls (drop (taken call) bytes) (after_call call bytes disk) (left_of_call (leave_before (sync_count calls) leave) call bytes old)
-      (whole_step leave call calls bytes disk old whole)
-      (left_step (leave_before (sync_count calls) leave) call calls bytes disk old whole left)
+    (whole_step leave call calls bytes disk old whole)
+    (left_step (leave_before (sync_count calls) leave) call calls bytes disk old whole left)
 
 -- the old bytes are those of the last sync
 old_step : (call : Call) (calls : List Call) (bytes : List ℕ) (disk : DiskState) (old : List ℕ)
@@ -114,13 +114,13 @@ pub left_after-old : (calls : List Call) (bytes : List ℕ) (disk : DiskState) (
 left_after-old [] bytes disk old whole left = left refl
 left_after-old (call ∷ calls) bytes disk old whole left =
     left_after-old calls (drop (taken call) bytes) (after_call call bytes disk) (left_of_call (leave_before (sync_count calls) Old) call bytes old)
-      (whole_step Old call calls bytes disk old whole)
-      (λ none. ap (λ (k : Leave). left_of_call k call bytes old) (behind_syncs (sync_count calls) Old none) ∙ old_step call calls bytes disk old whole left none)
+    (whole_step Old call calls bytes disk old whole)
+    (λ none. ap (λ (k : Leave). left_of_call k call bytes old) (behind_syncs (sync_count calls) Old none) ∙ old_step call calls bytes disk old whole left none)
 
 -- the new bytes are those that a read gives
 pub left_after-new : (calls : List Call) (bytes : List ℕ) (disk : DiskState) → left_after New calls bytes disk.now ≡ (replay calls bytes disk).now
 left_after-new [] bytes disk = refl
 left_after-new (call ∷ calls) bytes disk =
     ap (λ (xs : List ℕ). left_after New calls (drop (taken call) bytes) xs)
-      (ap (λ (k : Leave). left_of_call k call bytes disk.now) (before_new (sync_count calls)) ∙ whole_call call bytes disk)
+    (ap (λ (k : Leave). left_of_call k call bytes disk.now) (before_new (sync_count calls)) ∙ whole_call call bytes disk)
     ∙ left_after-new calls (drop (taken call) bytes) (after_call call bytes disk)

@@ -75,12 +75,14 @@ earlier calls more_calls bytes more disk k within all =
 -- with one more call recorded, time goes on
 pub elapses : (calls : List Call) (call : Call) (bytes more : List ℕ) (disk : DiskState) → all_taken calls ≡ length bytes
     → Elapses (length calls) (length (calls ++ call ∷ [])) (LeftSince calls bytes disk) (LeftSince (calls ++ call ∷ []) (bytes ++ more) disk)
-        (CrashLeaves (replay (calls ++ call ∷ []) (bytes ++ more) disk))
+    (CrashLeaves (replay (calls ++ call ∷ []) (bytes ++ more) disk))
 elapses calls call bytes more disk all = record {
   later = omega (arith, length_push calls call);
   nothing_else = λ t left early (k, late, within, leaves). elim (cases_lt (length calls) k) [
-      inr before ↦ inl (k, late, before, subst (λ (d : DiskState). CrashLeaves d left) (earlier calls (call ∷ []) bytes more disk k before all) leaves)
+    | inr before ↦ inl (k, late, before, subst (λ (d : DiskState). CrashLeaves d left) (earlier calls (call ∷ []) bytes more disk k before all) leaves)
     | inl behind ↦ inr (subst (λ (cs : List Call). CrashLeaves (replay cs (bytes ++ more) disk) left)
-        (take_all k (calls ++ call ∷ []) (omega (arith, length_push calls call, behind))) leaves) ];
+        (take_all k (calls ++ call ∷ []) (omega (arith, length_push calls call, behind))) leaves)
+  ];
   keeps = λ t left early (k, late, within, leaves).
-    (k, late, omega (arith, length_push calls call), subst (λ (d : DiskState). CrashLeaves d left) (sym (earlier calls (call ∷ []) bytes more disk k within all)) leaves) }
+      (k, late, omega (arith, length_push calls call), subst (λ (d : DiskState). CrashLeaves d left) (sym (earlier calls (call ∷ []) bytes more disk k within all)) leaves);
+}

@@ -5,10 +5,10 @@ ghost use Rattle.ide_disk.specs.Disk.{Wrote, Cut, CrashLeaves, LeavesAfter, Leav
 ghost use Rattle.ide_disk.specs.Record.{all_taken, furthest_end, replay};
 ghost use Rattle.ide_disk.specs.Time.{Elapses};
 
+use crate::Leave;
 use crate::bytes::{overwrite, replace};
 use crate::call::Call;
 use crate::leaving::leave_all;
-use crate::Leave;
 use std::alloc::{AllocError, Global};
 
 /// The bytes and their past. It takes all its memory when it is made.
@@ -118,7 +118,12 @@ impl Contents {
         if !self.has_space(bytes.len()) {
             return false;
         }
-        note(&mut self.calls, &mut self.written, Call::Write(at, bytes.len()), bytes);
+        note(
+            &mut self.calls,
+            &mut self.written,
+            Call::Write(at, bytes.len()),
+            bytes,
+        );
         overwrite(&mut self.bytes, at, bytes);
         true
     }

@@ -19,3 +19,6 @@ pub use disk::Disk;
 pub use fault::DeviceFault;
 pub use leave::Leave;
 pub use memory::MemDisk;
+
+#[cfg(test)]
+mod tests;

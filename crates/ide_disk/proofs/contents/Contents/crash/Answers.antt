@@ -20,5 +20,5 @@ invariant_of-self-clause-bytes_fit c =
     let self = c.args.self.now in
     let left : c.leave_all.new.bytes.items ≡ left_after c.args.leave self.calls.items self.written.items self.start.items = cc in
     let copied : length c.replace.new.bytes.items ≡ length c.leave_all.new.bytes.items =
-      ap length c.replace.ensures.items ∙ ap length c.deref-3.ensures.value in
+    ap length c.replace.ensures.items ∙ ap length c.deref-3.ensures.value in
     omega (arith, ap length left, copied, left_after-fits c.args.leave self.calls.items self.written.items self.start.items self.room self.fit self.start_fits)

@@ -8,7 +8,7 @@ pub invariant_of-self : goal.invariant_of-self
 invariant_of-self c =
     let self = c.args.self.now in
     let next : IsNext (Shorten c.args.len) [] self.calls.items c.note.new.calls.items self.written.items c.note.new.written.items =
-      record { calls_are = c.note.ensures.calls; bytes_are = c.note.ensures.written; counted = self.counted } in
+    record { calls_are = c.note.ensures.calls; bytes_are = c.note.ensures.written; counted = self.counted } in
     let state = state_next _ _ _ _ _ _ self.start.items next in
     record {
       replayed = c.truncate.ensures.items ∙ ap (λ (xs : List ℕ). take c.args.len xs) self.replayed ∙ ap (λ (d : DiskState). d.now) (sym state);
@@ -20,27 +20,28 @@ invariant_of-self c =
       start_room = self.start_room;
       bytes_room = omega (arith, self.bytes_room, c.truncate.ensures.capacity);
       calls_room = omega arith;
-      written_room = omega arith }
+      written_room = omega arith;
+    }
 
 pub returns-clause-state : goal.returns-clause-state
 returns-clause-state c =
     let self = c.args.self.now in
     let next : IsNext (Shorten c.args.len) [] self.calls.items c.note.new.calls.items self.written.items c.note.new.written.items =
-      record { calls_are = c.note.ensures.calls; bytes_are = c.note.ensures.written; counted = self.counted } in
+    record { calls_are = c.note.ensures.calls; bytes_are = c.note.ensures.written; counted = self.counted } in
     state_next _ _ _ _ _ _ self.start.items next
 
 pub returns-clause-crash : goal.returns-clause-crash
 returns-clause-crash c =
     let self = c.args.self.now in
     let next : IsNext (Shorten c.args.len) [] self.calls.items c.note.new.calls.items self.written.items c.note.new.written.items =
-      record { calls_are = c.note.ensures.calls; bytes_are = c.note.ensures.written; counted = self.counted } in
+    record { calls_are = c.note.ensures.calls; bytes_are = c.note.ensures.written; counted = self.counted } in
     leaves_cut c.args.len _ _ (possible self.calls.items self.written.items self.start.items) (state_next _ _ _ _ _ _ self.start.items next)
 
 pub returns-clause-time : goal.returns-clause-time
 returns-clause-time c =
     let self = c.args.self.now in
     let next : IsNext (Shorten c.args.len) [] self.calls.items c.note.new.calls.items self.written.items c.note.new.written.items =
-      record { calls_are = c.note.ensures.calls; bytes_are = c.note.ensures.written; counted = self.counted } in
+    record { calls_are = c.note.ensures.calls; bytes_are = c.note.ensures.written; counted = self.counted } in
     time_next _ _ _ _ _ _ self.start.items next
 
 pub returns-then-not-has_space-clause-crash : goal.returns-then-not-has_space-clause-crash

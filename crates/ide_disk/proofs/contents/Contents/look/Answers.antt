@@ -8,7 +8,7 @@ pub invariant_of-self : goal.invariant_of-self
 invariant_of-self c =
     let self = c.args.self.now in
     let next : IsNext Look [] self.calls.items c.note.new.calls.items self.written.items c.note.new.written.items =
-      record { calls_are = c.note.ensures.calls; bytes_are = c.note.ensures.written; counted = self.counted } in
+    record { calls_are = c.note.ensures.calls; bytes_are = c.note.ensures.written; counted = self.counted } in
     let state = state_next _ _ _ _ _ _ self.start.items next in
     record {
       replayed = self.replayed ∙ ap (λ (d : DiskState). d.now) (sym state);
@@ -20,18 +20,19 @@ invariant_of-self c =
       start_room = self.start_room;
       bytes_room = self.bytes_room;
       calls_room = omega arith;
-      written_room = omega arith }
+      written_room = omega arith;
+    }
 
 pub returns-clause-state : goal.returns-clause-state
 returns-clause-state c =
     let self = c.args.self.now in
     let next : IsNext Look [] self.calls.items c.note.new.calls.items self.written.items c.note.new.written.items =
-      record { calls_are = c.note.ensures.calls; bytes_are = c.note.ensures.written; counted = self.counted } in
+    record { calls_are = c.note.ensures.calls; bytes_are = c.note.ensures.written; counted = self.counted } in
     state_next _ _ _ _ _ _ self.start.items next
 
 pub returns-clause-time : goal.returns-clause-time
 returns-clause-time c =
     let self = c.args.self.now in
     let next : IsNext Look [] self.calls.items c.note.new.calls.items self.written.items c.note.new.written.items =
-      record { calls_are = c.note.ensures.calls; bytes_are = c.note.ensures.written; counted = self.counted } in
+    record { calls_are = c.note.ensures.calls; bytes_are = c.note.ensures.written; counted = self.counted } in
     time_next _ _ _ _ _ _ self.start.items next

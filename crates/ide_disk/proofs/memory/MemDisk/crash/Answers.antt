@@ -9,7 +9,7 @@ pub returns-clause-allowed : goal.returns-clause-allowed
 returns-clause-allowed c =
     let contents = c.args.self.now.contents in
     subst (λ (left : List ℕ). CrashLeaves (contents_state contents) left) (sym (ap (λ (d : DiskState). d.now) c.crash.ensures))
-      (allowed c.args.leave contents.calls.items contents.written.items (settled contents.start.items) contents.start.items (λ _. refl) (λ _. refl))
+    (allowed c.args.leave contents.calls.items contents.written.items (settled contents.start.items) contents.start.items (λ _. refl) (λ _. refl))
 
 pub returns-clause-old : goal.returns-clause-old
 returns-clause-old c old =

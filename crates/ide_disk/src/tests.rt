@@ -1,0 +1,292 @@
+//! A disk in memory: its calls, its faults, and what each kind of crash leaves.
+ghost use Rattle.std.specs.Prelude.{◌≡◌, IfOk};
+
+use crate::{Disk, Leave, MemDisk};
+use std::alloc::Global;
+use std::process::Abort;
+use std::test::Fail;
+
+/// What is done to a disk on which the bytes 1, 2, 3, 4 are synced.
+#[derive(Clone, Copy)]
+enum Deed {
+    Overwrite,
+    Append,
+    WriteAcross,
+    Cut,
+    CutAndWrite,
+    WriteAndSync,
+    CutAndSync,
+    FailedWrite,
+    FailedCut,
+    FailedSync,
+}
+
+// A disk on which the bytes 1, 2, 3, 4 are synced, by two calls.
+fn synced_disk(alloc: Global) -> Result<MemDisk, Fail>
+    ensures { IfOk result (λ disk. ⟦<MemDisk as Disk>⟧.size disk ≡ 4) }
+{
+    let mut disk = MemDisk::new(alloc, 8, 40)?;
+    disk.write(0, &[1, 2, 3, 4])?;
+    disk.sync()?;
+    Ok(disk)
+}
+
+// Writes over two of the bytes.
+fn overwrite(disk: &mut MemDisk) -> Result<(), Fail>
+    requires { ⟦<MemDisk as Disk>⟧.size disk.old ≡ 4 }
+{
+    disk.write(1, &[7, 8])?;
+    Ok(())
+}
+
+// Cuts to one byte, and may write two behind it.
+fn cut(disk: &mut MemDisk, and_write: bool) -> Result<(), Fail>
+    requires { ⟦<MemDisk as Disk>⟧.size disk.old ≡ 4 }
+{
+    disk.cut(1)?;
+    if and_write {
+        disk.write(1, &[7, 8])?;
+    }
+    Ok(())
+}
+
+// The same with the last call failed.
+fn failed(rt: &impl Abort, disk: &mut MemDisk, deed: Deed) -> Result<(), Fail>
+    requires { ⟦<MemDisk as Disk>⟧.size disk.old ≡ 4 }
+{
+    match deed {
+        Deed::FailedWrite => {
+            disk.fail_at(3);
+            assert!(rt; disk.write(1, &[7, 8]).is_err());
+        }
+        Deed::FailedCut => {
+            disk.fail_at(3);
+            assert!(rt; disk.cut(1).is_err());
+        }
+        _ => {
+            disk.fail_at(4);
+            overwrite(disk)?;
+            assert!(rt; disk.sync().is_err());
+        }
+    }
+    Ok(())
+}
+
+// A disk to which that was done.
+fn changed(rt: &impl Abort, alloc: Global, deed: Deed) -> Result<MemDisk, Fail> {
+    let mut disk = synced_disk(alloc)?;
+    match deed {
+        Deed::Overwrite => overwrite(&mut disk)?,
+        Deed::Append => disk.write(4, &[7, 8, 9])?,
+        Deed::WriteAcross => disk.write(2, &[7, 8, 9])?,
+        Deed::Cut => cut(&mut disk, false)?,
+        Deed::CutAndWrite => cut(&mut disk, true)?,
+        Deed::WriteAndSync => {
+            overwrite(&mut disk)?;
+            disk.sync()?;
+        }
+        Deed::CutAndSync => {
+            cut(&mut disk, false)?;
+            disk.sync()?;
+        }
+        Deed::FailedWrite | Deed::FailedCut | Deed::FailedSync => failed(rt, &mut disk, deed)?,
+    }
+    Ok(disk)
+}
+
+// The disk has just these bytes.
+fn holds(rt: &impl Abort, disk: &mut MemDisk, expected: &[u8]) -> Result<(), Fail> {
+    let len = disk.len()?;
+    assert_eq!(rt; len, expected.len() as u64, "the length of {expected:?}");
+    assert!(rt; expected.len() <= 8);
+    let mut buffer = [0; 8];
+    let out = &mut buffer[..expected.len()];
+    disk.read(0, out)?;
+    assert_eq!(rt; &*out, expected);
+    Ok(())
+}
+
+// What a crash of that kind leaves after the deed.
+fn row(
+    rt: &impl Abort,
+    alloc: Global,
+    deed: Deed,
+    leave: Leave,
+    expected: &[u8],
+) -> Result<(), Fail> {
+    let mut disk = changed(rt, alloc, deed)?;
+    disk.crash(leave);
+    holds(rt, &mut disk, expected)
+}
+
+// What the four kinds of crash leave after the deed. `Fill` fills with 9.
+fn rows(
+    rt: &impl Abort,
+    alloc: Global,
+    deed: Deed,
+    old: &[u8],
+    new: &[u8],
+    half: &[u8],
+    filled: &[u8],
+) -> Result<(), Fail> {
+    row(rt, alloc, deed, Leave::Old, old)?;
+    row(rt, alloc, deed, Leave::New, new)?;
+    row(rt, alloc, deed, Leave::Half, half)?;
+    row(rt, alloc, deed, Leave::Fill(9), filled)
+}
+
+// What is read after the deed.
+fn reads(rt: &impl Abort, alloc: Global, deed: Deed, expected: &[u8]) -> Result<(), Fail> {
+    let mut disk = changed(rt, alloc, deed)?;
+    holds(rt, &mut disk, expected)
+}
+
+#[test]
+fn reads_what_was_done(rt: HostRuntime) -> Result<(), Fail> {
+    let alloc = rt.alloc();
+    reads(&rt, alloc, Deed::Overwrite, &[1, 7, 8, 4])?;
+    reads(&rt, alloc, Deed::Append, &[1, 2, 3, 4, 7, 8, 9])?;
+    reads(&rt, alloc, Deed::WriteAcross, &[1, 2, 7, 8, 9])?;
+    reads(&rt, alloc, Deed::Cut, &[1])?;
+    reads(&rt, alloc, Deed::CutAndWrite, &[1, 7, 8])?;
+    reads(&rt, alloc, Deed::WriteAndSync, &[1, 7, 8, 4])?;
+    reads(&rt, alloc, Deed::CutAndSync, &[1])
+}
+
+#[test]
+fn leaves_of_a_write_what_the_kind_says(rt: HostRuntime) -> Result<(), Fail> {
+    let alloc = rt.alloc();
+    let old = [1, 2, 3, 4];
+    rows(
+        &rt,
+        alloc,
+        Deed::Overwrite,
+        &old,
+        &[1, 7, 8, 4],
+        &[1, 7, 3, 4],
+        &[1, 9, 9, 4],
+    )?;
+    rows(
+        &rt,
+        alloc,
+        Deed::FailedWrite,
+        &old,
+        &[1, 7, 8, 4],
+        &[1, 7, 3, 4],
+        &[1, 9, 9, 4],
+    )?;
+    rows(
+        &rt,
+        alloc,
+        Deed::FailedSync,
+        &old,
+        &[1, 7, 8, 4],
+        &[1, 7, 3, 4],
+        &[1, 9, 9, 4],
+    )
+}
+
+#[test]
+fn leaves_of_a_write_past_the_end_what_the_kind_says(rt: HostRuntime) -> Result<(), Fail> {
+    let alloc = rt.alloc();
+    let old = [1, 2, 3, 4];
+    let half = [1, 2, 3, 4, 7, 0, 0];
+    rows(
+        &rt,
+        alloc,
+        Deed::Append,
+        &old,
+        &[1, 2, 3, 4, 7, 8, 9],
+        &half,
+        &[1, 2, 3, 4, 9, 9, 9],
+    )?;
+    rows(
+        &rt,
+        alloc,
+        Deed::WriteAcross,
+        &old,
+        &[1, 2, 7, 8, 9],
+        &[1, 2, 7, 4, 0],
+        &[1, 2, 9, 9, 9],
+    )
+}
+
+#[test]
+fn leaves_of_a_cut_what_the_kind_says(rt: HostRuntime) -> Result<(), Fail> {
+    let alloc = rt.alloc();
+    let old = [1, 2, 3, 4];
+    rows(&rt, alloc, Deed::Cut, &old, &[1], &[1], &[1])?;
+    rows(&rt, alloc, Deed::FailedCut, &old, &[1], &[1], &[1])?;
+    rows(
+        &rt,
+        alloc,
+        Deed::CutAndWrite,
+        &old,
+        &[1, 7, 8],
+        &[1, 7, 0],
+        &[1, 9, 9],
+    )
+}
+
+#[test]
+fn leaves_what_was_synced(rt: HostRuntime) -> Result<(), Fail> {
+    let alloc = rt.alloc();
+    let new = [1, 7, 8, 4];
+    rows(&rt, alloc, Deed::WriteAndSync, &new, &new, &new, &new)?;
+    rows(&rt, alloc, Deed::CutAndSync, &[1], &[1], &[1], &[1])
+}
+
+#[test]
+fn fails_at_one_call(rt: HostRuntime) -> Result<(), Fail> {
+    let mut disk = synced_disk(rt.alloc())?;
+    disk.fail_at(4);
+    assert_eq!(rt; disk.len()?, 4);
+    assert!(rt; disk.len().is_err());
+    assert_eq!(rt; disk.len()?, 4);
+    assert_eq!(rt; disk.calls(), 5);
+    assert_eq!(rt; disk.failures(), 1);
+    Ok(())
+}
+
+#[test]
+fn stops_at_a_call(rt: HostRuntime) -> Result<(), Fail> {
+    let mut disk = synced_disk(rt.alloc())?;
+    disk.stop_at(4);
+    assert_eq!(rt; disk.len()?, 4);
+    assert!(rt; disk.len().is_err());
+    assert!(rt; disk.read(0, &mut [0; 4]).is_err());
+    assert!(rt; disk.write(0, &[9]).is_err());
+    assert!(rt; disk.cut(0).is_err());
+    assert!(rt; disk.sync().is_err());
+    assert_eq!(rt; disk.calls(), 8);
+    assert_eq!(rt; disk.failures(), 5);
+    disk.crash(Leave::Old);
+    holds(&rt, &mut disk, &[1, 2, 3, 4])
+}
+
+#[test]
+fn faults_past_its_room(rt: HostRuntime) -> Result<(), Fail> {
+    let mut disk = MemDisk::new(rt.alloc(), 4, 40)?;
+    assert!(rt; disk.write(0, &[1, 2, 3, 4, 5]).is_err());
+    disk.write(0, &[1, 2, 3])?;
+    assert!(rt; disk.write(2, &[8, 9, 10]).is_err());
+    disk.write(2, &[8, 9])?;
+    assert_eq!(rt; disk.failures(), 2);
+    holds(&rt, &mut disk, &[1, 2, 8, 9])
+}
+
+// Three calls and two written bytes are recorded; one more is not.
+#[test]
+fn faults_past_its_record(rt: HostRuntime) -> Result<(), Fail> {
+    let mut disk = MemDisk::new(rt.alloc(), 4, 5)?;
+    disk.write(0, &[1, 2])?;
+    disk.sync()?;
+    assert!(rt; disk.write(0, &[7]).is_err());
+    assert_eq!(rt; disk.len()?, 2);
+    assert!(rt; disk.len().is_err());
+    assert!(rt; disk.sync().is_err());
+    assert_eq!(rt; disk.calls(), 6);
+    assert_eq!(rt; disk.failures(), 3);
+    disk.crash(Leave::New);
+    holds(&rt, &mut disk, &[1, 2])
+}
