@@ -1,9 +1,35 @@
 -- What a disk in memory shows beside what every disk does.
-use Rattle.std.specs.Prelude.{◌≡◌, ℕ, List, Option}
-use Rattle.ide_disk.specs.Contents.{contents_left}
+use Rattle.std.specs.Prelude.{◌≡◌, ℕ, ◌+◌, ◌≤◌, List, length, Option, Result}
+use Rattle.ide_disk.specs.Disk.{DiskState, CrashLeaves}
+use Rattle.ide_disk.specs.Contents.{contents_left, contents_state, contents_moment, contents_since, HasSpace}
+use Rattle.ide_disk.specs.Time.{Elapses, next_count, failures_after}
 use Rattle.ide_disk.specs.Counter.{IsToldToFail}
 use Rattle.ide_disk.specs.declared.leave.Leave.{Leave}
 use Rattle.ide_disk.specs.declared.memory.MemDisk.{MemDisk}
+
+-- how many bytes there are
+abbrev pub memory_size : MemDisk → ℕ
+memory_size disk = length disk.contents.bytes.items
+
+-- the disk after its recorded calls
+abbrev pub memory_state : MemDisk → DiskState
+memory_state disk = contents_state disk.contents
+
+-- how many calls are recorded
+abbrev pub memory_moment : MemDisk → ℕ
+memory_moment disk = contents_moment disk.contents
+
+-- what a crash at some moment since t may have left
+abbrev pub memory_since : MemDisk → ℕ → List ℕ → Type 0
+memory_since disk = contents_since disk.contents
+
+-- how many calls were made
+abbrev pub call_count : MemDisk → ℕ
+call_count disk = disk.counter.calls
+
+-- how many of them failed
+abbrev pub failure_count : MemDisk → ℕ
+failure_count disk = disk.counter.failures
 
 -- what a crash of this kind leaves, by the disk's own record
 abbrev pub crash_left : Leave → MemDisk → List ℕ
@@ -17,8 +43,24 @@ failing_call disk = disk.counter.fail_at
 abbrev pub stopped_call : MemDisk → Option ℕ
 stopped_call disk = disk.counter.stop_at
 
+-- the next call is not told to fail, and can be recorded with so many written bytes
+pub record CanCall (disk : MemDisk) (count : ℕ) : Type 0 where
+  pub untold : IsToldToFail disk.counter (next_count (call_count disk)) → ⊥
+  pub space : HasSpace disk.contents count
+
+-- so can a write, which ends within the room
+pub record CanWrite (disk : MemDisk) (at count : ℕ) : Type 0 where
+  pub call : CanCall disk count
+  pub room : at + count ≤ disk.contents.room
+
 -- the bytes, their past and the counts are the same
 pub record IsSameDisk (old new : MemDisk) : Type 0 where
   pub contents : new.contents ≡ old.contents
   pub calls : new.counter.calls ≡ old.counter.calls
   pub failures : new.counter.failures ≡ old.counter.failures
+
+-- the clock goes on, and the call is counted, as a failure where it failed
+pub record IsCounted {T E : Type 0} (result : Result T E) (old new : MemDisk) : Type 0 where
+  pub time : Elapses (memory_moment old) (memory_moment new) (memory_since old) (memory_since new) (CrashLeaves (memory_state new))
+  pub calls : call_count new ≡ next_count (call_count old)
+  pub failures : failure_count new ≡ failures_after result (failure_count old)

@@ -1,7 +1,6 @@
 //! A disk in memory that can be told to fail, to stop and to crash.
-ghost use Rattle.std.specs.Prelude.{◌≡◌, [], length, refl, None, Some, IfOk};
-ghost use Rattle.ide_disk.specs.Disk.{CrashLeaves, settled};
-ghost use Rattle.ide_disk.specs.Contents.{contents_state, contents_moment, contents_since};
+ghost use Rattle.std.specs.Prelude.{◌≡◌, ◌+◌, ◌≤◌, ◌↔◌, max, [], length, slice_range, refl, None, Some, IsOk, OnOk, IfOk};
+ghost use Rattle.ide_disk.specs.Disk.{Wrote, Cut, CrashLeaves, LeavesAfter, LeavesAfterSync, settled, written, cut_to, synced_now};
 
 use crate::contents::Contents;
 use crate::counter::Counter;
@@ -17,14 +16,14 @@ pub struct MemDisk {
 }
 
 impl MemDisk {
-    ghost use Rattle.ide_disk.specs.Memory.{crash_left, failing_call, stopped_call, IsSameDisk};
+    ghost use Rattle.ide_disk.specs.Memory.{memory_state, call_count, failure_count, crash_left, failing_call, stopped_call, IsSameDisk};
 
     /// An empty disk with room for so many bytes, and for a record in which each call and each
     /// written byte counts one.
     pub fn new(alloc: Global, room: usize, log: usize) -> Result<Self, AllocError>
-        ensures state { IfOk result (λ disk. ⟦<MemDisk as Disk>⟧.state disk ≡ settled []) }
-        ensures calls { IfOk result (λ disk. ⟦<MemDisk as Disk>⟧.calls disk ≡ 0) }
-        ensures failures { IfOk result (λ disk. ⟦<MemDisk as Disk>⟧.failures disk ≡ 0) }
+        ensures state { IfOk result (λ disk. memory_state disk ≡ settled []) }
+        ensures calls { IfOk result (λ disk. call_count disk ≡ 0) }
+        ensures failures { IfOk result (λ disk. failure_count disk ≡ 0) }
         ensures failing { IfOk result (λ disk. failing_call disk ≡ None) }
         ensures stopped { IfOk result (λ disk. stopped_call disk ≡ None) }
     {
@@ -37,14 +36,14 @@ impl MemDisk {
 
     /// How many calls were made.
     pub fn calls(&self) -> u64
-        ensures { result ≡ ⟦<MemDisk as Disk>⟧.calls self.now }
+        ensures { result ≡ call_count self.now }
     {
         self.counter.calls
     }
 
     /// How many of them failed.
     pub fn failures(&self) -> u64
-        ensures { result ≡ ⟦<MemDisk as Disk>⟧.failures self.now }
+        ensures { result ≡ failure_count self.now }
     {
         self.counter.failures
     }
@@ -72,13 +71,13 @@ impl MemDisk {
     /// no call is told to fail.
     pub fn crash(&mut self, leave: Leave)
         // What the kind says is left, and it is one of the outcomes that the model allows.
-        ensures left { ⟦<MemDisk as Disk>⟧.state self.new ≡ settled (crash_left leave self.old) }
-        ensures allowed { CrashLeaves (⟦<MemDisk as Disk>⟧.state self.old) (⟦<MemDisk as Disk>⟧.state self.new).now }
-        ensures old { leave ≡ Leave.Old → (⟦<MemDisk as Disk>⟧.state self.new).now ≡ (⟦<MemDisk as Disk>⟧.state self.old).synced }
-        ensures new { leave ≡ Leave.New → (⟦<MemDisk as Disk>⟧.state self.new).now ≡ (⟦<MemDisk as Disk>⟧.state self.old).now }
+        ensures left { memory_state self.new ≡ settled (crash_left leave self.old) }
+        ensures allowed { CrashLeaves (memory_state self.old) (memory_state self.new).now }
+        ensures old { leave ≡ Leave.Old → (memory_state self.new).now ≡ (memory_state self.old).synced }
+        ensures new { leave ≡ Leave.New → (memory_state self.new).now ≡ (memory_state self.old).now }
 
-        ensures calls { ⟦<MemDisk as Disk>⟧.calls self.new ≡ ⟦<MemDisk as Disk>⟧.calls self.old }
-        ensures failures { ⟦<MemDisk as Disk>⟧.failures self.new ≡ ⟦<MemDisk as Disk>⟧.failures self.old }
+        ensures calls { call_count self.new ≡ call_count self.old }
+        ensures failures { failure_count self.new ≡ failure_count self.old }
         ensures failing { failing_call self.new ≡ None }
         ensures stopped { stopped_call self.new ≡ None }
     {
@@ -90,25 +89,32 @@ impl MemDisk {
 
 impl Disk for MemDisk {
     ghost use Rattle.std.proofs.Common.{sym, ap};
+    ghost use Rattle.ide_disk.specs.Memory.{memory_size, memory_state, memory_moment, memory_since, call_count, failure_count, CanCall, CanWrite, IsCounted};
     ghost use Rattle.ide_disk.specs.Bounded.{bounded_length};
     ghost use Rattle.ide_disk.specs.Past.{counts_now, only_now};
     ghost use Rattle.ide_disk.specs.Left.{possible_replay};
 
     ghost honest = { λ _. Unit {0} };
 
-    ghost size = { λ disk. length disk.contents.bytes.items };
+    ghost size = { memory_size };
 
-    ghost state = { λ disk. contents_state disk.contents };
+    ghost state = { memory_state };
 
-    ghost moment = { λ disk. contents_moment disk.contents };
+    ghost moment = { memory_moment };
 
-    ghost left_since = { λ disk. contents_since disk.contents };
+    ghost left_since = { memory_since };
 
-    ghost calls = { λ disk. disk.counter.calls };
+    ghost calls = { call_count };
 
-    ghost failures = { λ disk. disk.counter.failures };
+    ghost failures = { failure_count };
 
-    fn len(&mut self) -> Result<u64, DeviceFault> {
+    fn len(&mut self) -> Result<u64, DeviceFault>
+        ensures answer { IsOk result ↔ CanCall self.old 0 }
+        ensures length { IfOk result (λ count. count ≡ memory_size self.old) }
+        ensures size { memory_size self.new ≡ memory_size self.old }
+        ensures state { memory_state self.new ≡ memory_state self.old }
+        ensures counted { IsCounted result self.old self.new }
+    {
         let fails = self.counter.counts_call();
         if !self.contents.look() || fails {
             return Err(self.counter.fault());
@@ -116,7 +122,14 @@ impl Disk for MemDisk {
         Ok(self.contents.len() as u64)
     }
 
-    fn read(&mut self, at: u64, out: &mut [u8]) -> Result<(), DeviceFault> {
+    fn read(&mut self, at: u64, out: &mut [u8]) -> Result<(), DeviceFault>
+        requires { at + length out.old ≤ memory_size self.old }
+        ensures answer { IsOk result ↔ CanCall self.old 0 }
+        ensures bytes { OnOk result (out.new ≡ slice_range (memory_state self.old).now at (at + length out.old)) }
+        ensures size { memory_size self.new ≡ memory_size self.old }
+        ensures state { memory_state self.new ≡ memory_state self.old }
+        ensures counted { IsCounted result self.old self.new }
+    {
         let fails = self.counter.counts_call();
         if !self.contents.read(at as usize, out) || fails {
             return Err(self.counter.fault());
@@ -124,7 +137,15 @@ impl Disk for MemDisk {
         Ok(())
     }
 
-    fn write(&mut self, at: u64, bytes: &[u8]) -> Result<(), DeviceFault> {
+    fn write(&mut self, at: u64, bytes: &[u8]) -> Result<(), DeviceFault>
+        requires { at ≤ memory_size self.old }
+        ensures answer { IsOk result ↔ CanWrite self.old at (length bytes.now) }
+        ensures grows { memory_size self.old ≤ memory_size self.new }
+        ensures size { OnOk result (memory_size self.new ≡ max (memory_size self.old) (at + length bytes.now)) }
+        ensures bytes { OnOk result (memory_state self.new ≡ written at bytes.now (memory_state self.old)) }
+        ensures crash { LeavesAfter (Wrote at (length bytes.now)) (memory_state self.old) (memory_state self.new) }
+        ensures counted { IsCounted result self.old self.new }
+    {
         let fails = self.counter.counts_call();
         if !self.contents.write_over(at as usize, bytes) || fails {
             return Err(self.counter.fault());
@@ -132,7 +153,16 @@ impl Disk for MemDisk {
         Ok(())
     }
 
-    fn cut(&mut self, len: u64) -> Result<(), DeviceFault> {
+    fn cut(&mut self, len: u64) -> Result<(), DeviceFault>
+        requires { len ≤ memory_size self.old }
+        ensures answer { IsOk result ↔ CanCall self.old 0 }
+        ensures shrinks { memory_size self.new ≤ memory_size self.old }
+        ensures leaves { len ≤ memory_size self.new }
+        ensures size { OnOk result (memory_size self.new ≡ len) }
+        ensures bytes { OnOk result (memory_state self.new ≡ cut_to len (memory_state self.old)) }
+        ensures crash { LeavesAfter (Cut len) (memory_state self.old) (memory_state self.new) }
+        ensures counted { IsCounted result self.old self.new }
+    {
         let fails = self.counter.counts_call();
         if !self.contents.cut_off(len as usize) || fails {
             return Err(self.counter.fault());
@@ -140,7 +170,13 @@ impl Disk for MemDisk {
         Ok(())
     }
 
-    fn sync(&mut self) -> Result<(), DeviceFault> {
+    fn sync(&mut self) -> Result<(), DeviceFault>
+        ensures answer { IsOk result ↔ CanCall self.old 0 }
+        ensures size { memory_size self.new ≡ memory_size self.old }
+        ensures bytes { OnOk result (memory_state self.new ≡ synced_now (memory_state self.old)) }
+        ensures crash { LeavesAfterSync (memory_state self.old) (memory_state self.new) }
+        ensures counted { IsCounted result self.old self.new }
+    {
         if self.counter.counts_call() {
             let _ = self.contents.look();
             return Err(self.counter.fault());
