@@ -1,7 +1,7 @@
 -- One step through the recorded calls, as a crash goes through them.
-use Rattle.std.specs.Prelude.{◌≡◌, ℕ, zero, suc, ◌+◌, ◌-◌, ◌<◌, ◌≤◌, Bool, true, false, cond, max, List, [], ◌∷◌, length, take, drop, replicate, ◌/◌, ◌++◌, refl}
-use Rattle.std.proofs.Common.{arith, sym, subst, ap, ◌∙◌, get_or}
-use Rattle.std.proofs.lemmas.List.{drop-drop, drop_more, drop_all, length-drop, length-take, length-append, length-replicate}
+use Rattle.std.specs.Prelude.{◌≡◌, ℕ, ◌+◌, ◌-◌, ◌≤◌, cond, List, [], ◌∷◌, length, take, drop, replicate, ◌/◌, refl}
+use Rattle.std.proofs.Common.{arith, sym, ap, ◌∙◌}
+use Rattle.std.proofs.lemmas.List.{drop-drop, length-take, length-append, length-replicate}
 use Rattle.ide_disk.specs.Disk.{put_at}
 use Rattle.ide_disk.specs.Kept.{put_at-fits}
 use Rattle.ide_disk.specs.Leaving.{is_sync, left_of_write, left_of_cut, left_of_call, leave_before, left_after, sync_count}

@@ -1,7 +1,7 @@
 -- The contents after one more recorded call.
-use Rattle.std.specs.Prelude.{◌≡◌, ℕ, ◌+◌, ◌≤◌, max, List, [], ◌∷◌, ◌++◌, length, take, drop, refl}
+use Rattle.std.specs.Prelude.{◌≡◌, ℕ, ◌+◌, ◌≤◌, max, List, [], ◌∷◌, ◌++◌, length, refl}
 use Rattle.std.proofs.Common.{arith, sym, subst, ap, ◌∙◌, inl}
-use Rattle.std.proofs.lemmas.List.{length-append, length_push, take_all, append-nil}
+use Rattle.std.proofs.lemmas.List.{length-append, length_push, take_all}
 use Rattle.ide_disk.specs.Disk.{Change, Wrote, Cut, DiskState, CrashLeaves, LeavesAfter, LeavesAfterSync, settled, written, cut_to, synced_now}
 use Rattle.ide_disk.specs.Kept.{keeps_left, keeps_more}
 use Rattle.ide_disk.specs.Left.{possible_after, possible_replay}
@@ -9,7 +9,7 @@ use Rattle.ide_disk.specs.Past.{all_taken-push, replay_next, elapses}
 use Rattle.ide_disk.specs.Record.{all_taken, taken, end_of, furthest_end, after_call, replay, LeftSince}
 use Rattle.ide_disk.specs.Time.{Elapses}
 use Rattle.ide_disk.specs.declared.call.Call.{Call}
-use Rattle.ide_disk.specs.declared.call.Call.TheVariants.{Look, Write, Shorten, Sync}
+use Rattle.ide_disk.specs.declared.call.Call.TheVariants.{Write, Shorten}
 
 -- new is old with a call, and with its bytes
 pub record IsNext (call : Call) (more : List ℕ) (calls new_calls : List Call) (bytes new_bytes : List ℕ) : Type 0 where

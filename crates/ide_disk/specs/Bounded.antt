@@ -1,5 +1,5 @@
 -- How many bytes a disk in memory can have.
-use Rattle.std.specs.Prelude.{ℕ, ◌<◌, ◌^◌, length}
+use Rattle.std.specs.Prelude.{◌<◌, ◌^◌, length}
 use Rattle.std.proofs.Common.{arith}
 use Rattle.ide_disk.specs.declared.contents.Contents.{Contents}
 

@@ -1,5 +1,5 @@
 -- What a disk in memory says of itself.
-use Rattle.std.specs.Prelude.{ℕ, ◌+◌, ◌<◌, List, length}
+use Rattle.std.specs.Prelude.{◌≡◌, ℕ, ◌+◌, ◌<◌, ◌≤◌, List, length}
 use Rattle.ide_disk.specs.Disk.{DiskState, settled}
 use Rattle.ide_disk.specs.Record.{replay, LeftSince}
 use Rattle.ide_disk.specs.Leaving.{left_after}
@@ -22,6 +22,16 @@ contents_since contents = LeftSince contents.calls.items contents.written.items 
 abbrev pub contents_left : Leave → Contents → List ℕ
 contents_left leave contents = left_after leave contents.calls.items contents.written.items contents.start.items
 
+-- how many calls and written bytes are recorded
+abbrev pub recorded_count : Contents → ℕ
+recorded_count contents = length contents.calls.items + length contents.written.items
+
 -- one more call, with so many bytes written, can be recorded
 abbrev pub HasSpace : Contents → ℕ → Type 0
-HasSpace contents count = length contents.calls.items + length contents.written.items + count < contents.log
+HasSpace contents count = recorded_count contents + count < contents.log
+
+-- the limits stay, and no more than one call and so many bytes are recorded
+pub record Records (count : ℕ) (old new : Contents) : Type 0 where
+  pub room : new.room ≡ old.room
+  pub log : new.log ≡ old.log
+  pub recorded : recorded_count new ≤ recorded_count old + count + 1

@@ -1,17 +1,17 @@
 -- What stays of the synced bytes when others are put over them, cut off or put behind them.
-use Rattle.std.specs.Prelude.{◌≡◌, ◌⊎◌, ℕ, ◌+◌, ◌-◌, ◌<◌, ◌≤◌, List, [], ◌∷◌, ◌++◌, length, take, drop, slice_index, refl}
-use Rattle.std.proofs.Common.{arith, rules, inl, inr, sym, subst, ap, ◌∙◌, get_or}
-use Rattle.std.proofs.lemmas.List.{places, length-take, length-drop, length-append, get_or_append_left, get_or-take, get_or-drop, get_or-append_right}
-use Rattle.ide_disk.specs.Disk.{Change, Wrote, Cut, put_at, IsKept, Keeps, LeftOf}
+use Rattle.std.specs.Prelude.{◌≡◌, ◌⊎◌, ℕ, ◌+◌, ◌<◌, ◌≤◌, List, [], ◌∷◌, ◌++◌, length, take, slice_index}
+use Rattle.std.proofs.Common.{arith, rules, inl, inr, ap, ◌∙◌}
+use Rattle.std.proofs.lemmas.List.{places, length-take, length-drop, length-append, get_or_append_left, get_or-take}
+use Rattle.ide_disk.specs.Disk.{Change, Wrote, Cut, put_at, Keeps, LeftOf}
 
 -- bytes that end within the room, put over others that do
 pub put_at-fits : (at : ℕ) (bytes old : List ℕ) (room : ℕ) → at + length bytes ≤ room → length old ≤ room → length (put_at at bytes old) ≤ room
 put_at-fits at bytes old room new_fit old_fit = simp (length-append, length-take, length-drop) (omega arith)
 
 -- a place outside of the range is still there
-pub length-put_at : (at : ℕ) (bytes old : List ℕ) → (i : ℕ) → i < length old → (i < at) ⊎ (at + length bytes ≤ i)
+pub put_at-within : (at : ℕ) (bytes old : List ℕ) → (i : ℕ) → i < length old → (i < at) ⊎ (at + length bytes ≤ i)
     → i < length (put_at at bytes old)
-length-put_at at bytes old i inside outside =
+put_at-within at bytes old i inside outside =
     elim outside [ inl before ↦ simp (length-append, length-take, length-drop) (omega arith) | inr after ↦ simp (length-append, length-take, length-drop) (omega arith) ]
 
 -- a byte before the place stays
@@ -48,7 +48,7 @@ keeps_left synced (change ∷ changes) left keeps = keeps
 pub keeps_put : (synced : List ℕ) (changes : List Change) (old : List ℕ) (at count : ℕ) (bytes : List ℕ) → length bytes ≤ count
     → Keeps synced changes old → Keeps synced (Wrote at count ∷ changes) (put_at at bytes old)
 keeps_put synced changes old at count bytes few keeps = record {
-  within = λ i inside kept. length-put_at at bytes old i (keeps.within i inside kept.1)
+  within = λ i inside kept. put_at-within at bytes old i (keeps.within i inside kept.1)
       (elim kept.0 [ inl before ↦ inl before | inr after ↦ inr (omega arith) ]);
   same = λ i inside kept. elim kept.0 [
     | inl before ↦ put_at-before at bytes old i before (keeps.within i inside kept.1) ∙ keeps.same i inside kept.1

@@ -1,6 +1,6 @@
 -- What a crash leaves of the recorded calls is something that the model allows.
-use Rattle.std.specs.Prelude.{◌≡◌, ℕ, zero, suc, ◌+◌, ◌/◌, ◌-◌, ◌<◌, ◌≤◌, List, [], ◌∷◌, length, take, drop, replicate, refl}
-use Rattle.std.proofs.Common.{arith, sym, subst, ap, ◌∙◌}
+use Rattle.std.specs.Prelude.{◌≡◌, ℕ, zero, suc, ◌/◌, ◌<◌, ◌≤◌, List, [], ◌∷◌, length, take, drop, replicate, refl}
+use Rattle.std.proofs.Common.{arith, ap, ◌∙◌}
 use Rattle.std.proofs.lemmas.List.{length-take, length-replicate}
 use Rattle.ide_disk.specs.Disk.{Change, Wrote, Cut, DiskState, put_at, Keeps, CrashLeaves}
 use Rattle.ide_disk.specs.Kept.{keeps_more, keeps_left, keeps_put, keeps_pad, keeps_cut}

@@ -1,7 +1,7 @@
 -- What a disk in memory shows beside what every disk does.
-use Rattle.std.specs.Prelude.{◌≡◌, ℕ, ◌+◌, ◌≤◌, List, length, Option, Result}
+use Rattle.std.specs.Prelude.{◌≡◌, ℕ, ◌+◌, ◌<◌, ◌≤◌, List, length, Option, Result}
 use Rattle.ide_disk.specs.Disk.{DiskState, CrashLeaves}
-use Rattle.ide_disk.specs.Contents.{contents_left, contents_state, contents_moment, contents_since, HasSpace}
+use Rattle.ide_disk.specs.Contents.{contents_left, contents_state, contents_moment, contents_since, recorded_count}
 use Rattle.ide_disk.specs.Time.{Elapses, next_count, failures_after}
 use Rattle.ide_disk.specs.Counter.{IsToldToFail}
 use Rattle.ide_disk.specs.declared.leave.Leave.{Leave}
@@ -22,6 +22,18 @@ memory_moment disk = contents_moment disk.contents
 -- what a crash at some moment since t may have left
 abbrev pub memory_since : MemDisk → ℕ → List ℕ → Type 0
 memory_since disk = contents_since disk.contents
+
+-- how many bytes there may be
+abbrev pub room_of : MemDisk → ℕ
+room_of disk = disk.contents.room
+
+-- how many calls and written bytes may be recorded
+abbrev pub log_of : MemDisk → ℕ
+log_of disk = disk.contents.log
+
+-- how many are
+abbrev pub log_count : MemDisk → ℕ
+log_count disk = recorded_count disk.contents
 
 -- how many calls were made
 abbrev pub call_count : MemDisk → ℕ
@@ -46,12 +58,12 @@ stopped_call disk = disk.counter.stop_at
 -- the next call is not told to fail, and can be recorded with so many written bytes
 pub record CanCall (disk : MemDisk) (count : ℕ) : Type 0 where
   pub untold : IsToldToFail disk.counter (next_count (call_count disk)) → ⊥
-  pub space : HasSpace disk.contents count
+  pub space : log_count disk + count < log_of disk
 
 -- so can a write, which ends within the room
 pub record CanWrite (disk : MemDisk) (at count : ℕ) : Type 0 where
   pub call : CanCall disk count
-  pub room : at + count ≤ disk.contents.room
+  pub room : at + count ≤ room_of disk
 
 -- the bytes, their past and the counts are the same
 pub record IsSameDisk (old new : MemDisk) : Type 0 where
@@ -59,8 +71,11 @@ pub record IsSameDisk (old new : MemDisk) : Type 0 where
   pub calls : new.counter.calls ≡ old.counter.calls
   pub failures : new.counter.failures ≡ old.counter.failures
 
--- the clock goes on, and the call is counted, as a failure where it failed
-pub record IsCounted {T E : Type 0} (result : Result T E) (old new : MemDisk) : Type 0 where
+-- the clock goes on; the call is counted, as a failure where it failed; it is recorded with no more than so many bytes
+pub record IsCounted {T E : Type 0} (result : Result T E) (count : ℕ) (old new : MemDisk) : Type 0 where
   pub time : Elapses (memory_moment old) (memory_moment new) (memory_since old) (memory_since new) (CrashLeaves (memory_state new))
   pub calls : call_count new ≡ next_count (call_count old)
   pub failures : failure_count new ≡ failures_after result (failure_count old)
+  pub room : room_of new ≡ room_of old
+  pub log : log_of new ≡ log_of old
+  pub recorded : log_count new ≤ log_count old + count + 1

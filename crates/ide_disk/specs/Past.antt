@@ -1,8 +1,8 @@
 -- The disk after one more recorded call, and what a crash may have left since an earlier one.
-use Rattle.std.specs.Prelude.{◌≡◌, ◌⊎◌, ℕ, ◌+◌, ◌<◌, ◌≤◌, List, [], ◌∷◌, ◌++◌, length, take, drop, refl}
-use Rattle.std.proofs.Common.{zero, suc, arith, inl, inr, sym, subst, ap, ◌∙◌, add-zero}
+use Rattle.std.specs.Prelude.{◌≡◌, ℕ, ◌+◌, ◌≤◌, List, [], ◌∷◌, ◌++◌, length, take, drop, refl}
+use Rattle.std.proofs.Common.{zero, suc, arith, inl, inr, sym, subst, ap, ◌∙◌}
 use Rattle.std.proofs.lemmas.Bool.{cases_lt}
-use Rattle.std.proofs.lemmas.List.{length-take, length-drop, length-append, length_push, drop-drop, drop_at, take_all, take-append-le, drop-append-le, append-nil}
+use Rattle.std.proofs.lemmas.List.{length-drop, length_push, drop-drop, drop_at, take_all, take-append-le, drop-append-le}
 use Rattle.ide_disk.specs.Disk.{DiskState, CrashLeaves}
 use Rattle.ide_disk.specs.Record.{taken, all_taken, after_call, replay, LeftSince}
 use Rattle.ide_disk.specs.Time.{Elapses}

@@ -38,11 +38,14 @@ pub(crate) struct Contents {
 }
 
 impl Contents {
-    ghost use Rattle.ide_disk.specs.Contents.{contents_state, contents_moment, contents_since, contents_left, HasSpace};
+    ghost use Rattle.ide_disk.specs.Contents.{contents_state, contents_moment, contents_since, contents_left, recorded_count, HasSpace, Records};
 
     /// No bytes, with room for these many, and for a record of these many calls and written bytes.
     pub(crate) fn new(alloc: Global, room: usize, log: usize) -> Result<Self, AllocError>
-        ensures { IfOk result (λ contents. contents_state contents ≡ settled []) }
+        ensures state { IfOk result (λ contents. contents_state contents ≡ settled []) }
+        ensures room { IfOk result (λ contents. contents.room ≡ room) }
+        ensures log { IfOk result (λ contents. contents.log ≡ log) }
+        ensures recorded { IfOk result (λ contents. recorded_count contents ≡ 0) }
     {
         let start = Vec::with_capacity(alloc, room)?;
         let bytes = Vec::with_capacity(alloc, room)?;
@@ -74,6 +77,7 @@ impl Contents {
     /// Records a call that changes nothing, and says whether it could be recorded.
     pub(crate) fn look(&mut self) -> bool
         ensures answer { IsTrue result ↔ HasSpace self.old 0 }
+        ensures recorded { Records 0 self.old self.new }
         ensures bytes { self.new.bytes.items ≡ self.old.bytes.items }
         ensures state { contents_state self.new ≡ contents_state self.old }
         ensures time { Elapses (contents_moment self.old) (contents_moment self.new) (contents_since self.old) (contents_since self.new) (CrashLeaves (contents_state self.new)) }
@@ -89,6 +93,7 @@ impl Contents {
     pub(crate) fn read(&mut self, at: usize, out: &mut [u8]) -> bool
         requires { at + length out.old ≤ length self.old.bytes.items }
         ensures answer { IsTrue result ↔ HasSpace self.old 0 }
+        ensures recorded { Records 0 self.old self.new }
         ensures read { OnTrue result (out.new ≡ slice_range self.old.bytes.items at (at + length out.old)) }
         ensures bytes { self.new.bytes.items ≡ self.old.bytes.items }
         ensures state { contents_state self.new ≡ contents_state self.old }
@@ -105,6 +110,7 @@ impl Contents {
     pub(crate) fn write_over(&mut self, at: usize, bytes: &[u8]) -> bool
         requires { at ≤ length self.old.bytes.items }
         ensures answer { IsTrue result ↔ (at + length bytes.now ≤ self.old.room) × HasSpace self.old (length bytes.now) }
+        ensures recorded { Records (length bytes.now) self.old self.new }
         ensures grows { length self.old.bytes.items ≤ length self.new.bytes.items }
         ensures size { OnTrue result (length self.new.bytes.items ≡ max (length self.old.bytes.items) (at + length bytes.now)) }
         ensures state { OnTrue result (contents_state self.new ≡ written at bytes.now (contents_state self.old)) }
@@ -132,6 +138,7 @@ impl Contents {
     pub(crate) fn cut_off(&mut self, len: usize) -> bool
         requires { len ≤ length self.old.bytes.items }
         ensures answer { IsTrue result ↔ HasSpace self.old 0 }
+        ensures recorded { Records 0 self.old self.new }
         ensures shrinks { length self.new.bytes.items ≤ length self.old.bytes.items }
         ensures leaves { len ≤ length self.new.bytes.items }
         ensures size { OnTrue result (length self.new.bytes.items ≡ len) }
@@ -150,6 +157,7 @@ impl Contents {
     /// Makes all changes lasting, if that can be recorded.
     pub(crate) fn sync_all(&mut self) -> bool
         ensures answer { IsTrue result ↔ HasSpace self.old 0 }
+        ensures recorded { Records 0 self.old self.new }
         ensures bytes { self.new.bytes.items ≡ self.old.bytes.items }
         ensures state { OnTrue result (contents_state self.new ≡ synced_now (contents_state self.old)) }
         ensures crash { LeavesAfterSync (contents_state self.old) (contents_state self.new) }
@@ -164,7 +172,10 @@ impl Contents {
 
     /// Leaves of the changes since the last sync what the kind says, and begins the record anew.
     pub(crate) fn crash(&mut self, leave: Leave)
-        ensures { contents_state self.new ≡ settled (contents_left leave self.old) }
+        ensures state { contents_state self.new ≡ settled (contents_left leave self.old) }
+        ensures room { self.new.room ≡ self.old.room }
+        ensures log { self.new.log ≡ self.old.log }
+        ensures recorded { recorded_count self.new ≡ 0 }
     {
         leave_all(&mut self.start, &self.calls, &self.written, leave);
         self.calls.clear();
@@ -179,6 +190,8 @@ fn note(calls: &mut Vec<Call>, written: &mut Vec<u8>, call: Call, bytes: &[u8])
     requires bytes { vec_len written.old + length bytes.now ≤ vec_capacity written.old }
     ensures calls { calls.new.items ≡ calls.old.items ++ call ∷ [] }
     ensures written { written.new.items ≡ written.old.items ++ bytes.now }
+    ensures calls_len { vec_len calls.new ≡ vec_len calls.old + 1 }
+    ensures written_len { vec_len written.new ≡ vec_len written.old + length bytes.now }
     ensures calls_capacity { vec_capacity calls.old ≤ vec_capacity calls.new }
     ensures written_capacity { vec_capacity written.old ≤ vec_capacity written.new }
 {

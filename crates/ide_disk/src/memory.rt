@@ -16,12 +16,16 @@ pub struct MemDisk {
 }
 
 impl MemDisk {
-    ghost use Rattle.ide_disk.specs.Memory.{memory_state, call_count, failure_count, crash_left, failing_call, stopped_call, IsSameDisk};
+    ghost use Rattle.ide_disk.specs.Memory.{memory_state, room_of, log_of, log_count, call_count, failure_count, crash_left, failing_call, stopped_call, IsSameDisk};
 
     /// An empty disk with room for so many bytes, and for a record in which each call and each
     /// written byte counts one.
     pub fn new(alloc: Global, room: usize, log: usize) -> Result<Self, AllocError>
         ensures state { IfOk result (λ disk. memory_state disk ≡ settled []) }
+        ensures room { IfOk result (λ disk. room_of disk ≡ room) }
+        ensures log { IfOk result (λ disk. log_of disk ≡ log) }
+        ensures recorded { IfOk result (λ disk. log_count disk ≡ 0) }
+
         ensures calls { IfOk result (λ disk. call_count disk ≡ 0) }
         ensures failures { IfOk result (λ disk. failure_count disk ≡ 0) }
         ensures failing { IfOk result (λ disk. failing_call disk ≡ None) }
@@ -76,6 +80,10 @@ impl MemDisk {
         ensures old { leave ≡ Leave.Old → (memory_state self.new).now ≡ (memory_state self.old).synced }
         ensures new { leave ≡ Leave.New → (memory_state self.new).now ≡ (memory_state self.old).now }
 
+        ensures room { room_of self.new ≡ room_of self.old }
+        ensures log { log_of self.new ≡ log_of self.old }
+        ensures recorded { log_count self.new ≡ 0 }
+
         ensures calls { call_count self.new ≡ call_count self.old }
         ensures failures { failure_count self.new ≡ failure_count self.old }
         ensures failing { failing_call self.new ≡ None }
@@ -113,7 +121,7 @@ impl Disk for MemDisk {
         ensures length { IfOk result (λ count. count ≡ memory_size self.old) }
         ensures size { memory_size self.new ≡ memory_size self.old }
         ensures state { memory_state self.new ≡ memory_state self.old }
-        ensures counted { IsCounted result self.old self.new }
+        ensures counted { IsCounted result 0 self.old self.new }
     {
         let fails = self.counter.counts_call();
         if !self.contents.look() || fails {
@@ -128,7 +136,7 @@ impl Disk for MemDisk {
         ensures bytes { OnOk result (out.new ≡ slice_range (memory_state self.old).now at (at + length out.old)) }
         ensures size { memory_size self.new ≡ memory_size self.old }
         ensures state { memory_state self.new ≡ memory_state self.old }
-        ensures counted { IsCounted result self.old self.new }
+        ensures counted { IsCounted result 0 self.old self.new }
     {
         let fails = self.counter.counts_call();
         if !self.contents.read(at as usize, out) || fails {
@@ -144,7 +152,7 @@ impl Disk for MemDisk {
         ensures size { OnOk result (memory_size self.new ≡ max (memory_size self.old) (at + length bytes.now)) }
         ensures bytes { OnOk result (memory_state self.new ≡ written at bytes.now (memory_state self.old)) }
         ensures crash { LeavesAfter (Wrote at (length bytes.now)) (memory_state self.old) (memory_state self.new) }
-        ensures counted { IsCounted result self.old self.new }
+        ensures counted { IsCounted result (length bytes.now) self.old self.new }
     {
         let fails = self.counter.counts_call();
         if !self.contents.write_over(at as usize, bytes) || fails {
@@ -161,7 +169,7 @@ impl Disk for MemDisk {
         ensures size { OnOk result (memory_size self.new ≡ len) }
         ensures bytes { OnOk result (memory_state self.new ≡ cut_to len (memory_state self.old)) }
         ensures crash { LeavesAfter (Cut len) (memory_state self.old) (memory_state self.new) }
-        ensures counted { IsCounted result self.old self.new }
+        ensures counted { IsCounted result 0 self.old self.new }
     {
         let fails = self.counter.counts_call();
         if !self.contents.cut_off(len as usize) || fails {
@@ -175,7 +183,7 @@ impl Disk for MemDisk {
         ensures size { memory_size self.new ≡ memory_size self.old }
         ensures bytes { OnOk result (memory_state self.new ≡ synced_now (memory_state self.old)) }
         ensures crash { LeavesAfterSync (memory_state self.old) (memory_state self.new) }
-        ensures counted { IsCounted result self.old self.new }
+        ensures counted { IsCounted result 0 self.old self.new }
     {
         if self.counter.counts_call() {
             let _ = self.contents.look();

@@ -1,4 +1,4 @@
-use Rattle.std.proofs.Common.{◌≡◌, List, ℕ, ◌≤◌, length, ap, arith, rules, ◌∙◌}
+use Rattle.std.proofs.Common.{◌≡◌, length, ap, arith, ◌∙◌}
 use Rattle.ide_disk.specs.Leaving.{left_after}
 use Rattle.ide_disk.proofs.Leaves.{left_after-fits}
 use Rattle.ide_disk.proofs.contents.Contents.crash.Goals as goal

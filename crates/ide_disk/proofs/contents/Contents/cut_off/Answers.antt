@@ -1,7 +1,7 @@
-use Rattle.std.proofs.Common.{List, ℕ, [], length, take, sym, arith, rules, refl, ap, subst, ◌∙◌}
+use Rattle.std.proofs.Common.{List, ℕ, [], take, sym, arith, refl, ap, ◌∙◌}
 use Rattle.ide_disk.specs.declared.call.Call.TheVariants.{Shorten}
-use Rattle.ide_disk.specs.Disk.{DiskState, Change, Wrote, Cut, put_at}
-use Rattle.ide_disk.proofs.Next.{IsNext, state_next, counted_next, fit_next, recorded, time_next, possible, leaves_same, leaves_written, leaves_cut, leaves_synced, leaves_unsynced}
+use Rattle.ide_disk.specs.Disk.{DiskState, Cut}
+use Rattle.ide_disk.proofs.Next.{IsNext, state_next, counted_next, fit_next, recorded, time_next, possible, leaves_same, leaves_cut}
 use Rattle.ide_disk.proofs.contents.Contents.cut_off.Goals as goal
 
 pub invariant_of-self : goal.invariant_of-self

@@ -1,4 +1,4 @@
-use Rattle.std.proofs.Common.{[], length, sym, arith, rules, refl, ap, ◌∙◌}
+use Rattle.std.proofs.Common.{[], sym, arith, refl, ap, ◌∙◌}
 use Rattle.ide_disk.specs.declared.call.Call.TheVariants.{Look}
 use Rattle.ide_disk.specs.Disk.{DiskState}
 use Rattle.ide_disk.proofs.Next.{IsNext, state_next, counted_next, fit_next, recorded, time_next}

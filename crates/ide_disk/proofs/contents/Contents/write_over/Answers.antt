@@ -1,9 +1,9 @@
-use Rattle.std.proofs.Common.{List, ℕ, [], length, take, sym, arith, rules, refl, ap, subst, ◌∙◌}
+use Rattle.std.proofs.Common.{List, ℕ, length, sym, arith, refl, ap, ◌∙◌}
 use Rattle.ide_disk.specs.declared.call.Call.TheVariants.{Write}
-use Rattle.ide_disk.specs.Disk.{DiskState, Change, Wrote, Cut, put_at, written}
+use Rattle.ide_disk.specs.Disk.{DiskState, Wrote, put_at, written}
 use Rattle.ide_disk.specs.Contents.{contents_state}
 use Rattle.ide_disk.specs.Kept.{put_at-fits}
-use Rattle.ide_disk.proofs.Next.{IsNext, state_next, counted_next, fit_next, recorded, time_next, possible, leaves_same, leaves_written, leaves_cut, leaves_synced, leaves_unsynced}
+use Rattle.ide_disk.proofs.Next.{IsNext, state_next, counted_next, fit_next, recorded, time_next, possible, leaves_same, leaves_written}
 use Rattle.std.proofs.lemmas.List.{take_all}
 use Rattle.ide_disk.proofs.contents.Contents.write_over.Goals as goal
 
