@@ -71,7 +71,7 @@ pub record IsSameDisk (old new : MemDisk) : Type 0 where
   pub calls : new.counter.calls ≡ old.counter.calls
   pub failures : new.counter.failures ≡ old.counter.failures
 
--- the clock goes on; the call is counted, as a failure where it failed; it is recorded with no more than so many bytes
+-- the clock goes on; the call is counted, as a failure where it failed, and recorded with no more than so many bytes; what is told to fail and the limits stay
 pub record IsCounted {T E : Type 0} (result : Result T E) (count : ℕ) (old new : MemDisk) : Type 0 where
   pub time : Elapses (memory_moment old) (memory_moment new) (memory_since old) (memory_since new) (CrashLeaves (memory_state new))
   pub calls : call_count new ≡ next_count (call_count old)
@@ -79,3 +79,5 @@ pub record IsCounted {T E : Type 0} (result : Result T E) (count : ℕ) (old new
   pub room : room_of new ≡ room_of old
   pub log : log_of new ≡ log_of old
   pub recorded : log_count new ≤ log_count old + count + 1
+  pub failing : failing_call new ≡ failing_call old
+  pub stopped : stopped_call new ≡ stopped_call old

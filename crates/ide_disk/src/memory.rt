@@ -71,8 +71,8 @@ impl MemDisk {
         self.counter.stop_at = Some(call);
     }
 
-    /// Crashes. What is left of the changes since the last sync counts as synced; the disk works again, and
-    /// no call is told to fail.
+    /// Crashes. What is left of the changes since the last sync counts as synced. The disk works again: no call
+    /// is told to fail, and the record and its clock begin anew.
     pub fn crash(&mut self, leave: Leave)
         // What the kind says is left, and it is one of the outcomes that the model allows.
         ensures left { memory_state self.new ≡ settled (crash_left leave self.old) }
