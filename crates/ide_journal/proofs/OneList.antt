@@ -38,7 +38,7 @@ same_entry number entry other us vs is is_other same =
     let zeros : List ℕ = replicate (padding (length entry.1)) 0 in
     let other_zeros : List ℕ = replicate (padding (length other.1)) 0 in
     let flat = sym (regroup (entry.0 ∷ []) (to_le_bytes w64 number) (to_le_bytes w32 (length entry.1)) entry.1 zeros us) ∙ same
-      ∙ regroup (other.0 ∷ []) (to_le_bytes w64 number) (to_le_bytes w32 (length other.1)) other.1 other_zeros vs in
+    ∙ regroup (other.0 ∷ []) (to_le_bytes w64 number) (to_le_bytes w32 (length other.1)) other.1 other_zeros vs in
     let kinds = same_front (entry.0 ∷ []) (other.0 ∷ []) _ _ refl flat in
     let numbers = append_cancel_left (to_le_bytes w64 number) _ _ kinds.1 in
     let lengths = same_front (to_le_bytes w32 (length entry.1)) (to_le_bytes w32 (length other.1)) _ _ refl numbers in
@@ -53,18 +53,18 @@ one_list : (number : ℕ) (entries others : List Entry) (pages other_pages rest 
 one_list number [] [] pages other_pages rest other_rest whole other_whole same = refl
 one_list number [] (other ∷ others) pages other_pages rest other_rest whole (gate, more, opened, is, split, goes_on) same =
     let gates : 0 ≡ gate =
-      ap (λ (xs : List ℕ). get_or xs 0 0) (ap (λ (p : List ℕ). p ++ 0 ∷ rest) (sym whole) ∙ same ∙ ap (λ (p : List ℕ). p ++ 0 ∷ other_rest) split) in
+    ap (λ (xs : List ℕ). get_or xs 0 0) (ap (λ (p : List ℕ). p ++ 0 ∷ rest) (sym whole) ∙ same ∙ ap (λ (p : List ℕ). p ++ 0 ∷ other_rest) split) in
     absurd (opened (sym gates))
 one_list number (entry ∷ entries) [] pages other_pages rest other_rest (gate, more, opened, is, split, goes_on) whole same =
     let gates : gate ≡ 0 =
-      ap (λ (xs : List ℕ). get_or xs 0 0) (ap (λ (p : List ℕ). p ++ 0 ∷ rest) (sym split) ∙ same ∙ ap (λ (p : List ℕ). p ++ 0 ∷ other_rest) whole) in
+    ap (λ (xs : List ℕ). get_or xs 0 0) (ap (λ (p : List ℕ). p ++ 0 ∷ rest) (sym split) ∙ same ∙ ap (λ (p : List ℕ). p ++ 0 ∷ other_rest) whole) in
     absurd (opened gates)
 one_list number (entry ∷ entries) (other ∷ others) pages other_pages rest other_rest (gate, more, opened, is, split, goes_on) (gate', more', opened', is', split', goes_on') same =
     let both : (gate ∷ after_gate number entry ++ more) ++ 0 ∷ rest ≡ (gate' ∷ after_gate number other ++ more') ++ 0 ∷ other_rest =
-      ap (λ (p : List ℕ). p ++ 0 ∷ rest) (sym split) ∙ same ∙ ap (λ (p : List ℕ). p ++ 0 ∷ other_rest) split' in
+    ap (λ (p : List ℕ). p ++ 0 ∷ rest) (sym split) ∙ same ∙ ap (λ (p : List ℕ). p ++ 0 ∷ other_rest) split' in
     let behind = ap (drop 1) both in
     let firsts = same_entry number entry other (more ++ 0 ∷ rest) (more' ++ 0 ∷ other_rest) is is'
-      (sym (append_assoc (after_gate number entry) more (0 ∷ rest)) ∙ behind ∙ append_assoc (after_gate number other) more' (0 ∷ other_rest)) in
+    (sym (append_assoc (after_gate number entry) more (0 ∷ rest)) ∙ behind ∙ append_assoc (after_gate number other) more' (0 ∷ other_rest)) in
     let others_are = one_list (number + 1) entries others more more' rest other_rest goes_on goes_on' firsts.1 in
     ap (λ (e : Entry). e ∷ entries) firsts.0 ∙ ap (λ (es : List Entry). other ∷ es) others_are
 
@@ -72,8 +72,9 @@ pub holds_one_list : HoldsOneList
 unfolding header
 holds_one_list tag other entries others bytes holds other_holds =
     let flat : header tag ++ (holds.pages ++ 0 ∷ holds.rest) ≡ header other ++ (other_holds.pages ++ 0 ∷ other_holds.rest) =
-      sym (append_assoc (header tag) holds.pages (0 ∷ holds.rest)) ∙ sym holds.split ∙ other_holds.split
-      ∙ append_assoc (header other) other_holds.pages (0 ∷ other_holds.rest) in
-    let fronts = same_front (header tag) (header other) _ _ (length-header tag ∙ sym (length-header other)) flat in
-    (ap (λ (xs : List ℕ). get_or xs 8 0) fronts.0,
-      one_list 0 entries others holds.pages other_holds.pages holds.rest other_holds.rest holds.whole other_holds.whole fronts.1)
+    sym (append_assoc (header tag) holds.pages (0 ∷ holds.rest)) ∙ sym holds.split ∙ other_holds.split
+    ∙ append_assoc (header other) other_holds.pages (0 ∷ other_holds.rest) in
+    let fronts = same_front (header tag) (header other) _ _ (length-header tag ∙ sym (length-header other)) flat in (
+      ap (λ (xs : List ℕ). get_or xs 8 0) fronts.0,
+      one_list 0 entries others holds.pages other_holds.pages holds.rest other_holds.rest holds.whole other_holds.whole fronts.1,
+    )

@@ -1,4 +1,9 @@
 //! A list of records on a disk, which any crash leaves whole, or with the record under way.
 #![tactic(auto)]
 
+mod journal;
 pub mod laws;
+mod stage;
+
+pub use journal::Journal;
+pub use stage::Phase;

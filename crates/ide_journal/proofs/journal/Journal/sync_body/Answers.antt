@@ -1,0 +1,16 @@
+use Rattle.std.proofs.Common.{List, ℕ, length, ◌+◌, arith, sym, ap, subst, ◌∙◌}
+use Rattle.ide_disk.specs.Disk.{DiskState, Wrote, LeavesAfter, written}
+use Rattle.ide_journal.specs.Bytes.{Knows}
+use Rattle.ide_journal.specs.declared.stage.Stage.{Stage}
+use Rattle.ide_journal.proofs.Left.{body_failed, gate_failed, sync_failed, gate_written}
+use Rattle.ide_journal.proofs.journal.Journal.sync_body.Goals as goal
+
+pub returns-in-Err-clause-stands : goal.returns-in-Err-clause-stands
+returns-in-Err-clause-stands g c honest base bytes stands =
+    record {
+      gate = stands.gate;
+      tail = stands.tail;
+      some = stands.some;
+      end = tt;
+      knows = sync_failed c.args.self.now.stage base bytes _ _ stands.some stands.knows (c.in-Err.ensures.crash honest);
+    }
