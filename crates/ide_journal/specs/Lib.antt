@@ -1,5 +1,7 @@
 pub mod Bytes
 pub mod Format
 pub mod Laws
+pub mod Lists
 pub mod Moments
+pub mod Phases
 pub mod Stands

@@ -3,7 +3,9 @@
 
 mod journal;
 pub mod laws;
+mod record;
 mod stage;
 
 pub use journal::Journal;
+pub use record::RawRecord;
 pub use stage::Phase;
