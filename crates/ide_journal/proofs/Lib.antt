@@ -1,3 +1,5 @@
+pub mod Advance
 pub mod Left
 pub mod Lists
+pub mod Moments
 pub mod OneList

@@ -1,8 +1,13 @@
 //! A journal over a disk.
-ghost use Rattle.std.specs.Prelude.{◌≡◌, ◌≢◌, ◌+◌, ◌<◌, ◌≤◌, ℕ, List, OnOk, OnErr};
+ghost use Rattle.std.specs.Prelude.{◌≡◌, ◌⊎◌, ◌↔◌, ◌+◌, ◌<◌, ◌≤◌, ℕ, List, [], ◌∷◌, ◌++◌, IsTrue, OnOk, OnErr, IfOk, IfErr};
+ghost use Rattle.ide_journal.specs.Format.{Entry, IsEntry};
+ghost use Rattle.ide_journal.specs.Phases.{stage_before, stage_after};
 
+use crate::spelling::spell;
 use crate::stage::Stage;
+use crate::{Phase, RawRecord};
 use ide_disk::{DeviceFault, Disk};
+use ide_wire::Refused;
 
 /// A list of records on a disk. One more may be under way; it is stored after four disk calls.
 #[derive(Drop)]
@@ -25,9 +30,114 @@ pub struct Journal<D: Disk> {
 }
 
 impl<D: Disk> Journal<D> {
+    ghost use Rattle.ide_journal.specs.Lists.{IsAtRest, IsUnderWay, HoldsWithOrWithout, entry_of};
+    ghost use Rattle.ide_journal.specs.Moments.{LeavesOnly};
     ghost use Rattle.ide_disk.specs.Disk.{CrashLeaves};
     ghost use Rattle.ide_disk.specs.Time.{Elapses, next_count, failures_after};
-    ghost use Rattle.ide_journal.specs.Stands.{Stands, IsStored};
+    ghost use Rattle.ide_journal.specs.Stands.{IsIdle, HasFailed, stored_count, Stands, IsStored};
+
+    /// Whether no record is under way.
+    pub fn is_idle(&self) -> bool
+        ensures { IsTrue result ↔ IsIdle self.now }
+    {
+        self.stage == Stage::Idle
+    }
+
+    /// How many records are stored.
+    pub fn count(&self) -> u64
+        ensures { result ≡ stored_count self.now }
+    {
+        self.count
+    }
+
+    /// The disk, as the journal leaves it.
+    pub fn into_disk(self) -> D
+        ensures { result ≡ self.disk }
+    {
+        let Journal { disk, .. } = self;
+        disk
+    }
+
+    /// Puts a record under way. It makes all the room that storing it takes, and no disk call.
+    pub fn begin(&mut self, raw: &RawRecord) -> Result<(), Refused>
+        requires idle { IsIdle self.old }
+        requires room { stored_count self.old < 4294967295 }
+        requires proper { IsEntry (entry_of raw.now) }
+        ensures under_way { (tag : ℕ) → (entries : List Entry) → IsAtRest tag entries self.old → OnOk result (IsUnderWay tag entries (entry_of raw.now) self.new) }
+        ensures at_rest { (tag : ℕ) → (entries : List Entry) → IsAtRest tag entries self.old → OnErr result (IsAtRest tag entries self.new) }
+        ensures busy { OnOk result (self.new.stage ≡ Stage.Begun) }
+        ensures idle { OnErr result (IsIdle self.new) }
+        ensures refused { IfErr result (λ refused. refused ≡ Refused.NoMemory) }
+        ensures disk { self.new.disk ≡ self.old.disk }
+        ensures count { stored_count self.new ≡ stored_count self.old }
+    {
+        spell(&mut self.tail, self.count, raw)?;
+        self.next = self.count + 1;
+        self.stage = Stage::Begun;
+        Ok(())
+    }
+
+    /// Makes the next disk call for the record under way. After the fourth it is stored.
+    pub fn advance(&mut self) -> Result<Phase, Refused>
+        requires { IsIdle self.old → ⊥ }
+        ensures phase { IfOk result (λ phase. (self.old.stage ≡ stage_before phase) × (self.new.stage ≡ stage_after phase)) }
+
+        // The record stays under way, or is stored, which is when the journal is idle again.
+        ensures under_way { D.honest self.old.disk → (tag : ℕ) → (entries : List Entry) → (entry : Entry) → IsUnderWay tag entries entry self.old → IsAtRest tag (entries ++ entry ∷ []) self.new ⊎ IsUnderWay tag entries entry self.new }
+
+        // A crash at any moment of the call leaves the stored records, or these and the one under way.
+        ensures any_moment { D.honest self.old.disk → (tag : ℕ) → (entries : List Entry) → (entry : Entry) → IsUnderWay tag entries entry self.old → LeavesOnly D.Disk self.old.disk self.new.disk (HoldsWithOrWithout tag entries entry) }
+        ensures honest { D.honest self.old.disk → D.honest self.new.disk }
+
+        ensures calls { (HasFailed self.old → ⊥) → D.calls self.new.disk ≡ next_count (D.calls self.old.disk) }
+        ensures cause { result ≡ Err Refused.Disk → HasFailed self.new × (D.failures self.new.disk ≡ next_count (D.failures self.old.disk)) }
+        ensures failed { HasFailed self.old ↔ (result ≡ Err Refused.Failed) }
+        ensures same { HasFailed self.old → self.new ≡ self.old }
+        ensures refused { IfErr result (λ refused. (refused ≡ Refused.Disk) ⊎ (refused ≡ Refused.Failed)) }
+    {
+        if self.stage == Stage::Failed {
+            return Err(Refused::Failed);
+        }
+        match self.step() {
+            Ok(phase) => Ok(phase),
+            Err(_) => Err(Refused::Disk),
+        }
+    }
+
+    // Makes the disk call of the stage.
+    fn step(&mut self) -> Result<Phase, DeviceFault>
+        requires busy { IsIdle self.old → ⊥ }
+        requires whole { HasFailed self.old → ⊥ }
+        ensures phase { IfOk result (λ phase. (self.old.stage ≡ stage_before phase) × (self.new.stage ≡ stage_after phase)) }
+        ensures err { OnErr result (HasFailed self.new) }
+        ensures moves { D.honest self.old.disk → (base bytes : List ℕ) → Stands base bytes self.old → (Stands base bytes self.new × (IsIdle self.new → ⊥)) ⊎ IsStored base bytes self.new }
+        ensures count { (IsIdle self.new → ⊥) → self.new.count ≡ self.old.count }
+        ensures next { self.new.next ≡ self.old.next }
+        ensures calls { D.calls self.new.disk ≡ next_count (D.calls self.old.disk) }
+        ensures failures { D.failures self.new.disk ≡ failures_after result (D.failures self.old.disk) }
+        ensures honest { D.honest self.old.disk → D.honest self.new.disk }
+        ensures time { D.honest self.old.disk → Elapses (D.moment self.old.disk) (D.moment self.new.disk) (D.left_since self.old.disk) (D.left_since self.new.disk) (CrashLeaves (D.state self.new.disk)) }
+    {
+        match self.stage {
+            Stage::Begun => {
+                self.write_body()?;
+                Ok(Phase::Written)
+            }
+            Stage::Written => {
+                self.sync_body()?;
+                Ok(Phase::BodySynced)
+            }
+            Stage::BodySynced => {
+                self.write_gate()?;
+                Ok(Phase::GateWritten)
+            }
+            Stage::GateWritten => {
+                self.sync_gate()?;
+                Ok(Phase::Stored)
+            }
+            Stage::Idle | Stage::Failed => unreachable!(),
+        }
+    }
 
     // Writes the record behind its gate, which stays closed.
     fn write_body(&mut self) -> Result<(), DeviceFault>

@@ -4,6 +4,7 @@
 mod journal;
 pub mod laws;
 mod record;
+mod spelling;
 mod stage;
 
 pub use journal::Journal;

@@ -1,0 +1,79 @@
+-- From the bytes of one record to the list of records.
+use Rattle.std.specs.Prelude.{◌≡◌, ◌≢◌, ◌⊎◌, ℕ, ◌+◌, ◌<◌, ◌≤◌, List, [], ◌∷◌, ◌++◌, length, refl}
+use Rattle.std.proofs.Common.{arith, sym, ap, subst, ◌∙◌, inl, inr}
+use Rattle.std.proofs.lemmas.List.{append_assoc, append-nil, length-append}
+use Rattle.ide_disk.specs.Disk.{DiskState, CrashLeaves, settled}
+use Rattle.ide_disk.specs.declared.disk.Disk.{Ghosts}
+use Rattle.ide_journal.specs.Bytes.{IsAfter}
+use Rattle.ide_journal.specs.Format.{Entry, header, after_gate, IsEntry, IsPages, Holds}
+use Rattle.ide_journal.specs.Lists.{HoldsWithOrWithout, IsAtRest, IsUnderWay}
+use Rattle.ide_journal.specs.Stands.{IsIdle, Stands, IsStored}
+use Rattle.ide_journal.specs.declared.journal.Journal.{Journal}
+use Rattle.ide_journal.proofs.Left.{left_in}
+use Rattle.ide_journal.proofs.Lists.{pages_push, holds_either, holds_after}
+
+-- how a journal moves by one call, in bytes
+abbrev pub Moves : {D : Type 0} {G : Ghosts D} → List ℕ → List ℕ → Journal D G → Type 0
+Moves base bytes new = (Stands base bytes new × (IsIdle new → ⊥)) ⊎ IsStored base bytes new
+
+-- what a crash leaves where a record is under way
+pub under_way_left : {D : Type 0} {G : Ghosts D} (tag : ℕ) (entries : List Entry) (entry : Entry) (journal : Journal D G)
+    → IsUnderWay tag entries entry journal → (left : List ℕ) → CrashLeaves (G.state journal.disk) left → HoldsWithOrWithout tag entries entry left
+under_way_left tag entries entry journal under left leaves =
+    holds_either tag entries entry under.pages left under.whole under.proper (omega (arith, under.next, journal.numbered))
+    (left_in journal.stage _ _ _ under.stands.some under.stands.knows left leaves)
+
+-- what a crash leaves after one more call
+pub moved_left : {D : Type 0} {G : Ghosts D} (tag : ℕ) (entries : List Entry) (entry : Entry) (old new : Journal D G)
+    → (under : IsUnderWay tag entries entry old) → Moves (header tag ++ under.pages) (after_gate (length entries) entry ++ 0 ∷ []) new
+    → (left : List ℕ) → CrashLeaves (G.state new.disk) left → HoldsWithOrWithout tag entries entry left
+moved_left tag entries entry old new under moves left leaves =
+    elim moves [
+      | inl stays ↦ holds_either tag entries entry under.pages left under.whole under.proper (omega (arith, under.next, old.numbered))
+          (left_in new.stage _ _ _ stays.0.some stays.0.knows left leaves)
+      | inr stored ↦ inr (holds_after tag entries entry under.pages left under.whole under.proper (omega (arith, under.next, old.numbered))
+          (record {
+            gate = 1;
+            rest = [];
+            opened = λ same. absurd (omega (arith, same));
+            split = subst (λ (d : DiskState). CrashLeaves d left) stored.disk leaves ∙ sym (append-nil _);
+          }))
+    ]
+
+one_page_rest : (header pages behind : List ℕ) → (header ++ pages) ++ 1 ∷ (behind ++ 0 ∷ []) ≡ header ++ (pages ++ 1 ∷ behind) ++ 0 ∷ []
+one_page_rest header pages behind = simp append_assoc
+
+-- the record is stored, or stays under way
+pub moved : {D : Type 0} {G : Ghosts D} (tag : ℕ) (entries : List Entry) (entry : Entry) (old new : Journal D G)
+    → (under : IsUnderWay tag entries entry old) → Moves (header tag ++ under.pages) (after_gate (length entries) entry ++ 0 ∷ []) new
+    → ((IsIdle new → ⊥) → new.count ≡ old.count) → new.next ≡ old.next
+    → IsAtRest tag (entries ++ entry ∷ []) new ⊎ IsUnderWay tag entries entry new
+moved tag entries entry old new under moves count next =
+    elim moves [
+      | inl stays ↦ inr (record {
+        pages = under.pages;
+        whole = under.whole;
+        proper = under.proper;
+        count = count stays.1 ∙ under.count;
+        next = next ∙ under.next;
+        busy = stays.1;
+        stands = stays.0;
+      })
+      | inr stored ↦ inl (record {
+        pages = under.pages ++ 1 ∷ after_gate (length entries) entry;
+        whole = subst (λ (n : ℕ). IsPages 0 (entries ++ entry ∷ []) (under.pages ++ 1 ∷ after_gate n entry)) (omega arith)
+            (pages_push 0 entries entry under.pages 1 under.whole (λ same. absurd (omega (arith, same))) under.proper);
+        gate = omega (
+          arith,
+          stored.gate,
+          length-append (header tag) under.pages,
+          length-append (after_gate (length entries) entry) (0 ∷ []),
+          length-append (header tag) (under.pages ++ 1 ∷ after_gate (length entries) entry),
+          length-append under.pages (1 ∷ after_gate (length entries) entry),
+        );
+        count = omega (arith, stored.count, next, under.next, length-append entries (entry ∷ []));
+        next = omega (arith, next, under.next, length-append entries (entry ∷ []));
+        stage = stored.stage;
+        disk = stored.disk ∙ ap settled (one_page_rest (header tag) under.pages (after_gate (length entries) entry));
+      })
+    ]

@@ -1,0 +1,37 @@
+-- What a crash at some moment of one disk call leaves.
+use Rattle.std.specs.Prelude.{◌⊎◌, ℕ, ◌≤◌, List}
+use Rattle.std.proofs.Common.{arith, inl, inr}
+use Rattle.ide_disk.specs.Disk.{CrashLeaves}
+use Rattle.ide_disk.specs.Time.{Elapses}
+use Rattle.ide_disk.specs.declared.disk.Disk.{Ghosts}
+use Rattle.ide_journal.specs.Moments.{LeavesOnly}
+
+-- over one call, it is what a crash before the call or after it may leave
+pub one_call : {D : Type 0} (G : Ghosts D) (old new : D) (P : List ℕ → Type 0)
+    → ((left : List ℕ) → G.left_since old (G.moment old) left → CrashLeaves (G.state old) left)
+    → Elapses (G.moment old) (G.moment new) (G.left_since old) (G.left_since new) (CrashLeaves (G.state new))
+    → ((left : List ℕ) → CrashLeaves (G.state old) left → P left)
+    → ((left : List ℕ) → CrashLeaves (G.state new) left → P left)
+    → LeavesOnly G old new P
+one_call G old new P only_now time before after = record {
+  later = time.later;
+  each = λ left since. elim (time.nothing_else (G.moment old) left (omega arith) since) [
+    | inl past ↦ before left (only_now left past)
+    | inr now ↦ after left now
+  ];
+  before = λ t left early since. elim (time.nothing_else t left early since) [
+    | inl past ↦ inl past
+    | inr now ↦ inr (after left now)
+  ];
+}
+
+-- over no call, it is what a crash now may leave
+pub no_call : {D : Type 0} (G : Ghosts D) (old : D) (P : List ℕ → Type 0)
+    → ((left : List ℕ) → G.left_since old (G.moment old) left → CrashLeaves (G.state old) left)
+    → ((left : List ℕ) → CrashLeaves (G.state old) left → P left)
+    → LeavesOnly G old old P
+no_call G old P only_now before = record {
+  later = omega arith;
+  each = λ left since. before left (only_now left since);
+  before = λ t left early since. inl since;
+}

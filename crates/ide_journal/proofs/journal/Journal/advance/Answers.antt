@@ -1,0 +1,33 @@
+use Rattle.ide_journal.specs.Lists.{HoldsWithOrWithout}
+use Rattle.ide_journal.proofs.Advance.{under_way_left, moved_left, moved}
+use Rattle.ide_journal.proofs.Moments.{one_call, no_call}
+use Rattle.ide_journal.proofs.journal.Journal.advance.Goals as goal
+
+pub returns-then-eq-clause-any_moment : goal.returns-then-eq-clause-any_moment
+returns-then-eq-clause-any_moment g c honest tag entries entry under =
+    let self = c.args.self.now in
+    no_call g.D.Disk self.disk (HoldsWithOrWithout tag entries entry)
+    (λ left since. g.met.D.Disk.only_now self.disk left honest since)
+    (under_way_left tag entries entry self under)
+
+pub returns-in-Ok-clause-under_way : goal.returns-in-Ok-clause-under_way
+returns-in-Ok-clause-under_way g c honest tag entries entry under =
+    moved tag entries entry c.args.self.now c.step.new.self under (c.step.ensures.moves honest _ _ under.stands) c.step.ensures.count c.step.ensures.next
+
+pub returns-in-Ok-clause-any_moment : goal.returns-in-Ok-clause-any_moment
+returns-in-Ok-clause-any_moment g c honest tag entries entry under =
+    let self = c.args.self.now in
+    one_call g.D.Disk self.disk c.step.new.self.disk (HoldsWithOrWithout tag entries entry)
+    (λ left since. g.met.D.Disk.only_now self.disk left honest since)
+    (c.step.ensures.time honest)
+    (under_way_left tag entries entry self under)
+    (moved_left tag entries entry self c.step.new.self under (c.step.ensures.moves honest _ _ under.stands))
+
+pub returns-in-Err-clause-any_moment : goal.returns-in-Err-clause-any_moment
+returns-in-Err-clause-any_moment g c honest tag entries entry under =
+    let self = c.args.self.now in
+    one_call g.D.Disk self.disk c.step.new.self.disk (HoldsWithOrWithout tag entries entry)
+    (λ left since. g.met.D.Disk.only_now self.disk left honest since)
+    (c.step.ensures.time honest)
+    (under_way_left tag entries entry self under)
+    (moved_left tag entries entry self c.step.new.self under (c.step.ensures.moves honest _ _ under.stands))

@@ -1,0 +1,46 @@
+//! How a record is spelled.
+ghost use Rattle.std.specs.Prelude.{◌≡◌, ◌≤◌, ◌<◌, [], ◌∷◌, ◌++◌, length, replicate, OnOk, IfErr};
+ghost use Rattle.ide_journal.specs.Format.{after_gate, padding};
+ghost use Rattle.ide_journal.specs.Lists.{entry_of};
+
+use crate::RawRecord;
+use ide_wire::Refused;
+use std::alloc::AllocError;
+
+// How many zeros fill the last page of a record.
+#[tactic(auto, unfolding(crate::specs::Format::padding))]
+fn padding(count: usize) -> usize
+    requires { count ≤ 4194304 }
+    ensures value { result ≡ padding count }
+    ensures page { result < 4096 }
+{
+    (4096 - (14 + count) % 4096) % 4096
+}
+
+// Puts so many zeros behind the bytes.
+fn push_zeros(out: &mut Vec<u8>, count: usize) -> Result<(), AllocError>
+    requires { count < 4096 }
+    ensures { OnOk result (out.new.items ≡ out.old.items ++ replicate count 0) }
+{
+    out.resize(out.len() + count, 0)
+}
+
+/// Spells a record behind its gate, and a closed gate behind it.
+#[tactic(auto, unfolding(crate::specs::Format::after_gate))]
+pub(crate) fn spell(out: &mut Vec<u8>, number: u64, raw: &RawRecord) -> Result<(), Refused>
+    requires { length raw.now.body.items ≤ 4194304 }
+    ensures spelled { OnOk result (out.new.items ≡ after_gate number (entry_of raw.now) ++ 0 ∷ []) }
+    ensures refused { IfErr result (λ refused. refused ≡ Refused.NoMemory) }
+{
+    let body = raw.body.as_slice();
+    let zeros = padding(body.len());
+    out.clear();
+    out.reserve(14 + body.len() + zeros)?;
+    out.push(raw.kind)?;
+    out.extend_from_slice(&number.to_le_bytes())?;
+    out.extend_from_slice(&(body.len() as u32).to_le_bytes())?;
+    out.extend_from_slice(body)?;
+    push_zeros(out, zeros)?;
+    out.push(0)?;
+    Ok(())
+}
