@@ -4,12 +4,16 @@ use Rattle.std.specs.Int.{w32, w64, to_le_bytes, from_le_bytes}
 use Rattle.std.proofs.Common.{arith, sym, ap, subst, ◌∙◌, get_or}
 use Rattle.std.proofs.lemmas.List.{append_assoc, append_cancel_left, length-append, length-replicate}
 use Rattle.std.proofs.lemmas.Nat.{from_le_bytes-to_le_bytes_4}
-use Rattle.ide_journal.specs.Format.{Entry, header, padding, after_gate, IsEntry, IsPages, Holds}
+use Rattle.ide_journal.specs.Format.{Entry, zeros, header, padding, after_gate, IsEntry, IsPages, Holds}
 use Rattle.ide_journal.specs.Laws.{HoldsOneList}
+
+pub length-zeros : (count : ℕ) → length (zeros count) ≡ count
+unfolding zeros
+length-zeros count = length-replicate count 0
 
 pub length-header : (tag : ℕ) → length (header tag) ≡ 4096
 unfolding header
-length-header tag = omega (arith, length-append (73 ∷ 68 ∷ 69 ∷ 74 ∷ 82 ∷ 78 ∷ 76 ∷ 49 ∷ tag ∷ []) (replicate 4087 0), length-replicate {A = ℕ} 4087 0)
+length-header tag = omega (arith, length-append (73 ∷ 68 ∷ 69 ∷ 74 ∷ 82 ∷ 78 ∷ 76 ∷ 49 ∷ tag ∷ []) (zeros 4087), length-zeros 4087)
 
 -- fronts of one length of equal lists are equal, and so is the rest
 pub same_front : (xs ys us vs : List ℕ) → length xs ≡ length ys → xs ++ us ≡ ys ++ vs → (xs ≡ ys) × (us ≡ vs)
@@ -35,16 +39,16 @@ same_entry : (number : ℕ) (entry other : Entry) (us vs : List ℕ) → IsEntry
     → after_gate number entry ++ us ≡ after_gate number other ++ vs → (entry ≡ other) × (us ≡ vs)
 unfolding after_gate
 same_entry number entry other us vs is is_other same =
-    let zeros : List ℕ = replicate (padding (length entry.1)) 0 in
-    let other_zeros : List ℕ = replicate (padding (length other.1)) 0 in
-    let flat = sym (regroup (entry.0 ∷ []) (to_le_bytes w64 number) (to_le_bytes w32 (length entry.1)) entry.1 zeros us) ∙ same
-    ∙ regroup (other.0 ∷ []) (to_le_bytes w64 number) (to_le_bytes w32 (length other.1)) other.1 other_zeros vs in
+    let filling : List ℕ = zeros (padding (length entry.1)) in
+    let other_filling : List ℕ = zeros (padding (length other.1)) in
+    let flat = sym (regroup (entry.0 ∷ []) (to_le_bytes w64 number) (to_le_bytes w32 (length entry.1)) entry.1 filling us) ∙ same
+    ∙ regroup (other.0 ∷ []) (to_le_bytes w64 number) (to_le_bytes w32 (length other.1)) other.1 other_filling vs in
     let kinds = same_front (entry.0 ∷ []) (other.0 ∷ []) _ _ refl flat in
     let numbers = append_cancel_left (to_le_bytes w64 number) _ _ kinds.1 in
     let lengths = same_front (to_le_bytes w32 (length entry.1)) (to_le_bytes w32 (length other.1)) _ _ refl numbers in
     let length_is = same_length (length entry.1) (length other.1) is.short is_other.short lengths.0 in
     let bodies = same_front entry.1 other.1 _ _ length_is lengths.1 in
-    let rests = same_front zeros other_zeros us vs (ap (λ (n : ℕ). length {A = ℕ} (replicate (padding n) 0)) length_is) bodies.1 in
+    let rests = same_front filling other_filling us vs (ap (λ (n : ℕ). length (zeros (padding n))) length_is) bodies.1 in
     let kind_is : entry.0 ≡ other.0 = ap (λ (xs : List ℕ). get_or xs 0 0) kinds.0 in
     (ap (λ (k : ℕ). (k, entry.1)) kind_is ∙ ap (λ (b : List ℕ). (other.0, b)) bodies.0, rests.1)
 

@@ -6,9 +6,13 @@ use Rattle.std.specs.Int.{w32, w64, to_le_bytes}
 abbrev pub Entry : Type 0
 Entry = ℕ × List ℕ
 
+-- so many zeros
+unfoldable pub zeros : ℕ → List ℕ
+zeros count = replicate count 0
+
 -- the first page: the letters IDEJRNL1, the tag, zeros
 unfoldable pub header : ℕ → List ℕ
-header tag = (73 ∷ 68 ∷ 69 ∷ 74 ∷ 82 ∷ 78 ∷ 76 ∷ 49 ∷ tag ∷ []) ++ replicate 4087 0
+header tag = (73 ∷ 68 ∷ 69 ∷ 74 ∷ 82 ∷ 78 ∷ 76 ∷ 49 ∷ tag ∷ []) ++ zeros 4087
 
 -- how many zeros fill the last page of a record whose body has so many bytes; 14 bytes stand before the body
 unfoldable pub padding : ℕ → ℕ
@@ -17,7 +21,7 @@ padding count = (4096 - (14 + count) % 4096) % 4096
 -- a record behind its gate: kind, number, length of the body, body, zeros
 unfoldable pub after_gate : ℕ → Entry → List ℕ
 after_gate number entry =
-    entry.0 ∷ [] ++ to_le_bytes w64 number ++ to_le_bytes w32 (length entry.1) ++ entry.1 ++ replicate (padding (length entry.1)) 0
+    entry.0 ∷ [] ++ to_le_bytes w64 number ++ to_le_bytes w32 (length entry.1) ++ entry.1 ++ zeros (padding (length entry.1))
 
 -- a kind that there is, and a body within the limit
 pub record IsEntry (entry : Entry) : Type 0 where

@@ -1,11 +1,11 @@
 //! How a record is spelled.
-ghost use Rattle.std.specs.Prelude.{◌≡◌, ◌≤◌, ◌<◌, [], ◌∷◌, ◌++◌, length, replicate, OnOk, IfErr};
-ghost use Rattle.ide_journal.specs.Format.{after_gate, padding};
+ghost use Rattle.std.specs.Prelude.{◌≡◌, ◌≤◌, ◌<◌, [], ◌∷◌, ◌++◌, length, OnOk, IfOk, IfErr};
+ghost use Rattle.ide_journal.specs.Format.{after_gate, padding, zeros, header};
 ghost use Rattle.ide_journal.specs.Lists.{entry_of};
 
 use crate::RawRecord;
 use ide_wire::Refused;
-use std::alloc::AllocError;
+use std::alloc::{AllocError, Global};
 
 // How many zeros fill the last page of a record.
 #[tactic(auto, unfolding(crate::specs::Format::padding))]
@@ -18,11 +18,25 @@ fn padding(count: usize) -> usize
 }
 
 // Puts so many zeros behind the bytes.
+#[tactic(auto, unfolding(crate::specs::Format::zeros))]
 fn push_zeros(out: &mut Vec<u8>, count: usize) -> Result<(), AllocError>
     requires { count < 4096 }
-    ensures { OnOk result (out.new.items ≡ out.old.items ++ replicate count 0) }
+    ensures { OnOk result (out.new.items ≡ out.old.items ++ zeros count) }
 {
     out.resize(out.len() + count, 0)
+}
+
+/// Spells the first page, and a closed gate behind it.
+#[tactic(auto, unfolding(crate::specs::Format::header))]
+pub(crate) fn spell_header(alloc: Global, tag: u8) -> Result<Vec<u8>, AllocError>
+    ensures { IfOk result (λ page. page.items ≡ header tag ++ 0 ∷ []) }
+{
+    let mut page = Vec::with_capacity(alloc, 4097)?;
+    page.extend_from_slice(b"IDEJRNL1")?;
+    page.push(tag)?;
+    push_zeros(&mut page, 4087)?;
+    page.push(0)?;
+    Ok(page)
 }
 
 /// Spells a record behind its gate, and a closed gate behind it.
