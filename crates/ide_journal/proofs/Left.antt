@@ -2,7 +2,7 @@
 use Rattle.std.specs.Prelude.{◌≡◌, ◌≢◌, ◌⊎◌, ℕ, zero, suc, ◌+◌, ◌-◌, ◌<◌, ◌≤◌, List, [], ◌∷◌, ◌++◌, length, take, drop, slice_index, refl}
 use Rattle.std.proofs.Common.{arith, rules, sym, ap, subst, ◌∙◌, inl, inr, get_or}
 use Rattle.std.proofs.lemmas.Bool.{cases_lt, cases_eq}
-use Rattle.std.proofs.lemmas.List.{places, append_assoc, ext_get_or, take-append-drop, length-append, length-take-le, get_or-take, get_or_at, get_or_append_left, get_or-append-add, take_all, take_at, drop_all, drop_at}
+use Rattle.std.proofs.lemmas.List.{places, append-nil, append_assoc, ext_get_or, take-append-drop, length-append, length-take-le, get_or-take, get_or_at, get_or_append_left, get_or-append-add, take_all, take_at, drop_all, drop_at}
 use Rattle.ide_disk.specs.Disk.{DiskState, Wrote, Cut, Keeps, LeftOf, CrashLeaves, LeavesAfter, LeavesAfterSync, settled, written, put_at}
 use Rattle.ide_journal.specs.Bytes.{IsBefore, IsAfter, IsBeforeOrAfter, Knows}
 use Rattle.ide_journal.specs.declared.stage.Stage.{Stage}
@@ -104,3 +104,7 @@ pub gate_written : (base tail : List ℕ) (old new : DiskState) → Knows BodySy
 gate_written base tail old new knows is =
     is ∙ ap (λ (d : DiskState). written (length base) (1 ∷ []) d) knows
     ∙ ap (λ (xs : List ℕ). record { synced = base ++ 0 ∷ tail; changes = Wrote (length base) 1 ∷ []; now = xs }) (gate_put base tail)
+
+-- bytes over none
+pub put_nothing : (bytes : List ℕ) → put_at 0 bytes [] ≡ bytes
+put_nothing bytes = ap (λ (xs : List ℕ). bytes ++ xs) (drop_all (0 + length bytes) [] (omega arith)) ∙ append-nil bytes

@@ -1,13 +1,16 @@
 //! A journal over a disk.
-ghost use Rattle.std.specs.Prelude.{◌≡◌, ◌⊎◌, ◌↔◌, ◌+◌, ◌<◌, ◌≤◌, ℕ, List, [], ◌∷◌, ◌++◌, IsTrue, OnOk, OnErr, IfOk, IfErr};
+ghost use Rattle.std.specs.Prelude.{◌≡◌, ◌⊎◌, ◌↔◌, ◌+◌, ◌<◌, ◌≤◌, ℕ, List, [], ◌∷◌, ◌++◌, length, IsTrue, OnOk, OnErr, IfOk, IfErr};
+ghost use Rattle.ide_disk.specs.Disk.{settled};
+ghost use Rattle.ide_disk.specs.Time.{next_count, failures_after};
 ghost use Rattle.ide_journal.specs.Format.{Entry, IsEntry};
 ghost use Rattle.ide_journal.specs.Phases.{stage_before, stage_after};
 
-use crate::spelling::spell;
+use crate::spelling::{spell, spell_header};
 use crate::stage::Stage;
 use crate::{Phase, RawRecord};
 use ide_disk::{DeviceFault, Disk};
 use ide_wire::Refused;
+use std::alloc::Global;
 
 /// A list of records on a disk. One more may be under way; it is stored after four disk calls.
 #[derive(Drop)]
@@ -33,8 +36,37 @@ impl<D: Disk> Journal<D> {
     ghost use Rattle.ide_journal.specs.Lists.{IsAtRest, IsUnderWay, HoldsWithOrWithout, entry_of};
     ghost use Rattle.ide_journal.specs.Moments.{LeavesOnly};
     ghost use Rattle.ide_disk.specs.Disk.{CrashLeaves};
-    ghost use Rattle.ide_disk.specs.Time.{Elapses, next_count, failures_after};
+    ghost use Rattle.ide_disk.specs.Time.{Elapses};
     ghost use Rattle.ide_journal.specs.Stands.{IsIdle, HasFailed, stored_count, Stands, IsStored};
+
+    /// Makes a store with no record on the disk, whatever it held.
+    pub fn create(alloc: Global, mut disk: D, tag: u8) -> Result<Self, (Refused, D)>
+        requires { 0 < tag }
+        ensures at_rest { D.honest disk → IfOk result (IsAtRest tag []) }
+        ensures honest { D.honest disk → IfOk result (λ journal. D.honest journal.disk) }
+        ensures idle { IfOk result IsIdle }
+        ensures count { IfOk result (λ journal. stored_count journal ≡ 0) }
+
+        // The disk comes back, as it was where memory was refused, and else with one failure more.
+        ensures refused { IfErr result (λ pair. ((pair.0 ≡ Refused.NoMemory) × (pair.1 ≡ disk)) ⊎ ((pair.0 ≡ Refused.Disk) × (D.failures pair.1 ≡ next_count (D.failures disk)))) }
+    {
+        let page = match spell_header(alloc, tag) {
+            Ok(page) => page,
+            Err(_) => return Err((Refused::NoMemory, disk)),
+        };
+        match rewrite(&mut disk, &page) {
+            Ok(()) => Ok(Journal {
+                disk,
+                gate: 4096,
+                end: 4096,
+                count: 0,
+                next: 0,
+                stage: Stage::Idle,
+                tail: Vec::new(alloc),
+            }),
+            Err(_) => Err((Refused::Disk, disk)),
+        }
+    }
 
     /// Whether no record is under way.
     pub fn is_idle(&self) -> bool
@@ -241,4 +273,16 @@ impl<D: Disk> Journal<D> {
             }
         }
     }
+}
+
+// Puts the bytes in the place of all that the disk has, and brings them onto the disk.
+fn rewrite<D: Disk>(disk: &mut D, bytes: &[u8]) -> Result<(), DeviceFault>
+    ensures size { OnOk result (D.size disk.new ≡ length bytes.now) }
+    ensures bytes { D.honest disk.old → OnOk result (D.state disk.new ≡ settled bytes.now) }
+    ensures honest { D.honest disk.old → D.honest disk.new }
+    ensures failures { D.failures disk.new ≡ failures_after result (D.failures disk.old) }
+{
+    disk.cut(0)?;
+    disk.write(0, bytes)?;
+    disk.sync()
 }

@@ -1,5 +1,5 @@
 //! How a record is spelled.
-ghost use Rattle.std.specs.Prelude.{◌≡◌, ◌≤◌, ◌<◌, [], ◌∷◌, ◌++◌, length, OnOk, IfOk, IfErr};
+ghost use Rattle.std.specs.Prelude.{◌≡◌, ◌+◌, ◌≤◌, ◌<◌, [], ◌∷◌, ◌++◌, length, OnOk, IfOk, IfErr, vec_len};
 ghost use Rattle.ide_journal.specs.Format.{after_gate, padding, zeros, header};
 ghost use Rattle.ide_journal.specs.Lists.{entry_of};
 
@@ -21,7 +21,8 @@ fn padding(count: usize) -> usize
 #[tactic(auto, unfolding(crate::specs::Format::zeros))]
 fn push_zeros(out: &mut Vec<u8>, count: usize) -> Result<(), AllocError>
     requires { count < 4096 }
-    ensures { OnOk result (out.new.items ≡ out.old.items ++ zeros count) }
+    ensures items { OnOk result (out.new.items ≡ out.old.items ++ zeros count) }
+    ensures len { OnOk result (vec_len out.new ≡ vec_len out.old + count) }
 {
     out.resize(out.len() + count, 0)
 }
@@ -29,7 +30,8 @@ fn push_zeros(out: &mut Vec<u8>, count: usize) -> Result<(), AllocError>
 /// Spells the first page, and a closed gate behind it.
 #[tactic(auto, unfolding(crate::specs::Format::header))]
 pub(crate) fn spell_header(alloc: Global, tag: u8) -> Result<Vec<u8>, AllocError>
-    ensures { IfOk result (λ page. page.items ≡ header tag ++ 0 ∷ []) }
+    ensures spelled { IfOk result (λ page. page.items ≡ header tag ++ 0 ∷ []) }
+    ensures length { IfOk result (λ page. length page.items ≡ 4097) }
 {
     let mut page = Vec::with_capacity(alloc, 4097)?;
     page.extend_from_slice(b"IDEJRNL1")?;
