@@ -4,13 +4,15 @@ use Rattle.std.proofs.Common.{arith, sym, ap, subst, ◌∙◌, inl, inr}
 use Rattle.std.proofs.lemmas.List.{append_assoc, append-nil, length-append}
 use Rattle.ide_disk.specs.Disk.{DiskState, CrashLeaves, settled}
 use Rattle.ide_disk.specs.declared.disk.Disk.{Ghosts}
-use Rattle.ide_journal.specs.Bytes.{IsAfter}
+use Rattle.ide_journal.specs.Bytes.{IsAfter, Knows}
 use Rattle.ide_journal.specs.Format.{Entry, header, after_gate, IsEntry, IsPages, Holds}
-use Rattle.ide_journal.specs.Lists.{HoldsWithOrWithout, IsAtRest, IsUnderWay}
+use Rattle.ide_journal.specs.Lists.{HoldsWithOrWithout, HoldsAt, IsAtRest, IsUnderWay}
 use Rattle.ide_journal.specs.Stands.{IsIdle, Stands, IsStored}
 use Rattle.ide_journal.specs.declared.journal.Journal.{Journal}
+use Rattle.ide_journal.specs.declared.stage.Stage.{Stage}
+use Rattle.ide_journal.specs.declared.stage.Stage.TheVariants.{Idle, Begun, Written, BodySynced, GateWritten, Failed}
 use Rattle.ide_journal.proofs.Left.{left_in}
-use Rattle.ide_journal.proofs.Lists.{pages_push, holds_either, holds_after}
+use Rattle.ide_journal.proofs.Lists.{pages_push, holds_before, holds_either, holds_after}
 
 -- how a journal moves by one call, in bytes
 abbrev pub Moves : {D : Type 0} {G : Ghosts D} → List ℕ → List ℕ → Journal D G → Type 0
@@ -76,4 +78,45 @@ moved tag entries entry old new under moves count next =
         stage = stored.stage;
         disk = stored.disk ∙ ap settled (one_page_rest (header tag) under.pages (after_gate (length entries) entry));
       })
+    ]
+
+-- what a read gives where a record is under way
+stage_holds : (stage : Stage) (tag : ℕ) (entries : List Entry) (entry : Entry) (pages : List ℕ) (disk : DiskState) → IsPages 0 entries pages → IsEntry entry
+    → length entries + 1 ≤ 4294967295 → stage ≢ Idle → Knows stage (header tag ++ pages) (after_gate (length entries) entry ++ 0 ∷ []) disk
+    → CrashLeaves disk disk.now → HoldsAt stage tag entries entry disk.now
+stage_holds Idle tag entries entry pages disk whole proper few busy knows possible = absurd (busy refl)
+stage_holds Begun tag entries entry pages disk whole proper few busy knows possible =
+    holds_before tag entries pages disk.now whole (omega arith) (record { rest = []; split = ap (λ (d : DiskState). d.now) knows })
+stage_holds Written tag entries entry pages disk whole proper few busy knows possible =
+    holds_before tag entries pages disk.now whole (omega arith)
+    (record { rest = after_gate (length entries) entry ++ 0 ∷ []; split = ap (λ (d : DiskState). d.now) knows })
+stage_holds BodySynced tag entries entry pages disk whole proper few busy knows possible =
+    holds_before tag entries pages disk.now whole (omega arith)
+    (record { rest = after_gate (length entries) entry ++ 0 ∷ []; split = ap (λ (d : DiskState). d.now) knows })
+stage_holds GateWritten tag entries entry pages disk whole proper few busy knows possible =
+    holds_after tag entries entry pages disk.now whole proper few
+    (record { gate = 1; rest = []; opened = λ same. absurd (omega (arith, same)); split = ap (λ (d : DiskState). d.now) knows ∙ sym (append-nil _) })
+stage_holds Failed tag entries entry pages disk whole proper few busy knows possible =
+    holds_either tag entries entry pages disk.now whole proper few (knows disk.now possible)
+
+pub under_way_holds : {D : Type 0} {G : Ghosts D} (tag : ℕ) (entries : List Entry) (entry : Entry) (journal : Journal D G)
+    → IsUnderWay tag entries entry journal → CrashLeaves (G.state journal.disk) (G.state journal.disk).now
+    → HoldsAt journal.stage tag entries entry (G.state journal.disk).now
+under_way_holds {D} {G} tag entries entry journal under possible =
+    stage_holds journal.stage tag entries entry under.pages _ under.whole under.proper (omega (arith, under.next, journal.numbered)) under.busy under.stands.knows possible
+
+pub at_rest_holds : {D : Type 0} {G : Ghosts D} (tag : ℕ) (entries : List Entry) (journal : Journal D G) → IsAtRest tag entries journal
+    → Holds tag entries (G.state journal.disk).now
+at_rest_holds tag entries journal rest =
+    holds_before tag entries rest.pages _ rest.whole (omega (arith, rest.next, journal.numbered))
+    (record { rest = []; split = ap (λ (d : DiskState). d.now) rest.disk })
+
+-- what a read gives after one more call
+pub moved_holds : {D : Type 0} {G : Ghosts D} (tag : ℕ) (entries : List Entry) (entry : Entry) (new : Journal D G)
+    → IsAtRest tag (entries ++ entry ∷ []) new ⊎ IsUnderWay tag entries entry new
+    → CrashLeaves (G.state new.disk) (G.state new.disk).now → HoldsAt new.stage tag entries entry (G.state new.disk).now
+moved_holds {D} {G} tag entries entry new moves possible =
+    elim moves [
+      | inl rest ↦ subst (λ (s : Stage). HoldsAt s tag entries entry (G.state new.disk).now) (sym rest.stage) (at_rest_holds tag (entries ++ entry ∷ []) new rest)
+      | inr under ↦ under_way_holds tag entries entry new under possible
     ]

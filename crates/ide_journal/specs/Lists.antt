@@ -6,7 +6,8 @@ use Rattle.ide_journal.specs.Format.{Entry, header, after_gate, IsEntry, IsPages
 use Rattle.ide_journal.specs.Stands.{Stands}
 use Rattle.ide_journal.specs.declared.journal.Journal.{Journal}
 use Rattle.ide_journal.specs.declared.record.RawRecord.{RawRecord}
-use Rattle.ide_journal.specs.declared.stage.Stage.TheVariants.{Idle}
+use Rattle.ide_journal.specs.declared.stage.Stage.{Stage}
+use Rattle.ide_journal.specs.declared.stage.Stage.TheVariants.{Idle, Begun, Written, BodySynced, GateWritten, Failed}
 
 -- a record's kind and body
 abbrev pub entry_of : RawRecord → Entry
@@ -15,6 +16,15 @@ entry_of raw = (raw.kind, raw.body.items)
 -- the file holds these records, or these and one more
 abbrev pub HoldsWithOrWithout : ℕ → List Entry → Entry → List ℕ → Type 0
 HoldsWithOrWithout tag entries entry bytes = Holds tag entries bytes ⊎ Holds tag (entries ++ entry ∷ []) bytes
+
+-- what a read gives at a stage: from the write of the gate on the record is there
+abbrev pub HoldsAt : Stage → ℕ → List Entry → Entry → List ℕ → Type 0
+HoldsAt Idle tag entries entry bytes = Holds tag (entries ++ entry ∷ []) bytes
+HoldsAt Begun tag entries entry bytes = Holds tag entries bytes
+HoldsAt Written tag entries entry bytes = Holds tag entries bytes
+HoldsAt BodySynced tag entries entry bytes = Holds tag entries bytes
+HoldsAt GateWritten tag entries entry bytes = Holds tag (entries ++ entry ∷ []) bytes
+HoldsAt Failed tag entries entry bytes = HoldsWithOrWithout tag entries entry bytes
 
 -- these records are stored, and no record is under way
 pub record IsAtRest {D : Type 0} {G : Ghosts D} (tag : ℕ) (entries : List Entry) (journal : Journal D G) : Type 0 where

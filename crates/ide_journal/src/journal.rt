@@ -33,7 +33,7 @@ pub struct Journal<D: Disk> {
 }
 
 impl<D: Disk> Journal<D> {
-    ghost use Rattle.ide_journal.specs.Lists.{IsAtRest, IsUnderWay, HoldsWithOrWithout, entry_of};
+    ghost use Rattle.ide_journal.specs.Lists.{IsAtRest, IsUnderWay, HoldsWithOrWithout, HoldsAt, entry_of};
     ghost use Rattle.ide_journal.specs.Moments.{LeavesOnly};
     ghost use Rattle.ide_disk.specs.Disk.{CrashLeaves};
     ghost use Rattle.ide_disk.specs.Time.{Elapses};
@@ -116,6 +116,9 @@ impl<D: Disk> Journal<D> {
 
         // The record stays under way, or is stored, which is when the journal is idle again.
         ensures under_way { D.honest self.old.disk → (tag : ℕ) → (entries : List Entry) → (entry : Entry) → IsUnderWay tag entries entry self.old → IsAtRest tag (entries ++ entry ∷ []) self.new ⊎ IsUnderWay tag entries entry self.new }
+
+        // A read gives the stored records, and from the write of the gate on the one under way with them.
+        ensures holds { D.honest self.old.disk → (tag : ℕ) → (entries : List Entry) → (entry : Entry) → IsUnderWay tag entries entry self.old → HoldsAt self.new.stage tag entries entry (D.state self.new.disk).now }
 
         // A crash at any moment of the call leaves the stored records, or these and the one under way.
         ensures any_moment { D.honest self.old.disk → (tag : ℕ) → (entries : List Entry) → (entry : Entry) → IsUnderWay tag entries entry self.old → LeavesOnly D.Disk self.old.disk self.new.disk (HoldsWithOrWithout tag entries entry) }

@@ -1,5 +1,5 @@
 use Rattle.ide_journal.specs.Lists.{HoldsWithOrWithout}
-use Rattle.ide_journal.proofs.Advance.{under_way_left, moved_left, moved}
+use Rattle.ide_journal.proofs.Advance.{under_way_left, under_way_holds, moved_left, moved_holds, moved}
 use Rattle.ide_journal.proofs.Moments.{one_call, no_call}
 use Rattle.ide_journal.proofs.journal.Journal.advance.Goals as goal
 
@@ -31,3 +31,20 @@ returns-in-Err-clause-any_moment g c honest tag entries entry under =
     (c.step.ensures.time honest)
     (under_way_left tag entries entry self under)
     (moved_left tag entries entry self c.step.new.self under (c.step.ensures.moves honest _ _ under.stands))
+
+pub returns-then-eq-clause-holds : goal.returns-then-eq-clause-holds
+returns-then-eq-clause-holds g c honest tag entries entry under =
+    let self = c.args.self.now in
+    under_way_holds tag entries entry self under (g.met.D.Disk.possible self.disk honest)
+
+pub returns-in-Ok-clause-holds : goal.returns-in-Ok-clause-holds
+returns-in-Ok-clause-holds g c honest tag entries entry under =
+    moved_holds tag entries entry c.step.new.self
+    (moved tag entries entry c.args.self.now c.step.new.self under (c.step.ensures.moves honest _ _ under.stands) c.step.ensures.count c.step.ensures.next)
+    (g.met.D.Disk.possible c.step.new.self.disk (c.step.ensures.honest honest))
+
+pub returns-in-Err-clause-holds : goal.returns-in-Err-clause-holds
+returns-in-Err-clause-holds g c honest tag entries entry under =
+    moved_holds tag entries entry c.step.new.self
+    (moved tag entries entry c.args.self.now c.step.new.self under (c.step.ensures.moves honest _ _ under.stands) c.step.ensures.count c.step.ensures.next)
+    (g.met.D.Disk.possible c.step.new.self.disk (c.step.ensures.honest honest))
