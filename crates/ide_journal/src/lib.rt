@@ -10,3 +10,6 @@ mod stage;
 pub use journal::Journal;
 pub use record::RawRecord;
 pub use stage::Phase;
+
+#[cfg(test)]
+mod tests;
