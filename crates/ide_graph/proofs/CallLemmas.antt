@@ -12,7 +12,7 @@ use Rattle.ide_text.specs.NameFault.{IsWellNamed, variables_used}
 use Rattle.ide_text.specs.Program.{procedures_of}
 use Rattle.ide_graph.specs.declared.builder.Builder.{Builder}
 use Rattle.ide_graph.specs.declared.layout.Layout.{Layout}
-use Rattle.ide_graph.specs.Building.{AllHaveFacts, IsBuilderOf, IsLayoutOf, procedure_count}
+use Rattle.ide_graph.specs.Building.{AllHaveFacts, IsBuilderOf, DescribeProcedure, procedure_count}
 use Rattle.ide_graph.specs.Numbers.{result_of}
 use Rattle.ide_graph.specs.ProgramEdges.{ArePassed, CallAt, HasFact, IsCallee}
 use Rattle.ide_graph.proofs.DeclaredLemmas.{variables_known, counts_agree}
@@ -73,8 +73,8 @@ module _ (p : Program) (b : Builder) (is : IsBuilderOf p b) where
   pub procedure_at : (i : ℕ) → i < procedure_count b → (q : Procedure) × (slice_get (procedures_of p) i ≡ Some q)
   procedure_at i within = element_of (procedures_of p) i (omega (arith, is.counted))
 
-  pub layout_at : (i : ℕ) (q : Procedure) (layout : Layout) → slice_get (procedures_of p) i ≡ Some q → slice_get b.numbering.now.layouts.items i ≡ Some layout → (labels : List (List ℕ × ℕ)) × IsLayoutOf p i q layout labels
+  pub layout_at : (i : ℕ) (q : Procedure) (layout : Layout) → slice_get (procedures_of p) i ≡ Some q → slice_get b.numbering.now.layouts.items i ≡ Some layout → (labels : List (List ℕ × ℕ)) × DescribeProcedure p i q layout labels
   layout_at i q layout owner at =
       let short : i < length b.numbering.now.layouts.items = slice_get_within b.numbering.now.layouts.items i layout at in
-      let found = element_of b.numbering.now.labels.items i (omega (arith, is.ready.numbered.labelled)) in
+      let found = element_of b.numbering.now.labels.items i (omega (arith, is.ready.numbered.labelled, short)) in
       (found.0, is.layouts i q layout found.0 owner at found.1)

@@ -14,7 +14,7 @@ use Rattle.ide_graph.specs.declared.edge.EdgeData.{EdgeData}
 use Rattle.ide_graph.specs.declared.edge.EdgeKind.TheVariants as kind
 use Rattle.ide_graph.specs.Lists.{Lists}
 use Rattle.ide_graph.specs.Numbers.{statement, start_of, result_of}
-use Rattle.ide_graph.specs.ProgramEdges.{ArePassed, CallAt, IsAssigned, IsBack, IsCall, IsCallee, IsCallFrom, edge_of}
+use Rattle.ide_graph.specs.ProgramEdges.{ArePassed, CallAt, IsAlong, IsAssigned, IsBack, IsCall, IsCallFrom, IsCallee, edge_of}
 use Rattle.ide_graph.proofs.FoundLemmas.{there}
 use Rattle.ide_graph.proofs.NodeLemmas.{spots_two, starts_apart}
 use Rattle.ide_graph.proofs.ProgramLemmas.{same_spot, same_owner}
@@ -72,6 +72,14 @@ module _ (p : Program) where
       subst (λ t. IsAssigned p y.call.procedure t x.target) same.target (subst (λ q. IsAssigned p q x.call.target x.target) same.procedure x.assigned) in
       let target : x.target ≡ y.target = assigned_once y.call.procedure y.call.target x.target y.target assigned y.assigned in
       x.is ∙ (ap (λ t. edge_of p (n + 1) (kind.Return t)) target ∙ sym y.is)
+
+  pub along_once : (n : ℕ) (a b : EdgeData) → IsAlong p n a → IsAlong p n b → a ≡ b
+  along_once n a b x y =
+      let same = same_call n x.call y.call in
+      let assigned : IsAssigned p y.call.procedure y.call.target x.target =
+      subst (λ t. IsAssigned p y.call.procedure t x.target) same.target (subst (λ q. IsAssigned p q x.call.target x.target) same.procedure x.assigned) in
+      let target : x.target ≡ y.target = assigned_once y.call.procedure y.call.target x.target y.target assigned y.assigned in
+      x.is ∙ (ap (λ t. edge_of p (n + 1) (kind.CallToReturn t)) target ∙ sym y.is)
 
   pub callee_found : (names : List (List ℕ)) (callee : ℕ) → IsCallee p names callee → (q : Procedure) × (slice_get (procedures_of p) callee ≡ Some q)
   callee_found names callee called = let r = there (is_named called.0) (procedures_of p) callee called.2 in (r.0, r.1)

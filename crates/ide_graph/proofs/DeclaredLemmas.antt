@@ -1,23 +1,23 @@
 -- What a program without a fault of names declares: all that its statements use.
-use Rattle.std.proofs.Common.{◌≡◌, ℕ, ◌+◌, Bool, true, false, List, ◌∷◌, ◌++◌, Some, ◌||◌, inl, inr, take, refl, ap, ◌∙◌, codes}
+use Rattle.std.proofs.Common.{◌≡◌, ℕ, ◌+◌, Bool, true, false, List, ◌∷◌, ◌++◌, Option, None, Some, ◌||◌, inl, inr, take, refl, ap, ◌∙◌, codes}
 use Rattle.std.specs.Prelude.{slice_get, vec_len}
 use Rattle.std.specs.List.{Contains, list_any}
 use Rattle.std.specs.Option.{option_map}
 use Rattle.std.proofs.lemmas.Bool.{cases_eq}
 use Rattle.std.proofs.lemmas.List.Folds.{list_any-append}
 use Rattle.ide_wire.specs.declared.refused.Fault.{Fault}
-use Rattle.ide_wire.specs.declared.refused.Fault.TheVariants.{NoSuchVariable, NoSuchLabel, WrongArguments}
+use Rattle.ide_wire.specs.declared.refused.Fault.TheVariants.{NoSuchVariable, NoSuchLabel, NoSuchProcedure, WrongArguments}
 use Rattle.ide_text.specs.declared.program.Procedure.{Procedure}
 use Rattle.ide_text.specs.declared.program.Program.{Program}
 use Rattle.ide_text.specs.declared.program.Statement.{Statement}
-use Rattle.ide_text.specs.NameFault.{StatementFault, No_variable, No_label, Wrong_count, In_statement, In_procedure, IsWellNamed, variables_used, labels_used, callees_of, arguments_passed, variables_in, line_of_procedure}
+use Rattle.ide_text.specs.NameFault.{StatementFault, No_variable, No_label, No_procedure, Wrong_count, In_statement, In_procedure, IsWellNamed, variables_used, labels_used, callees_of, arguments_passed, variables_in, line_of_procedure}
 use Rattle.ide_text.specs.Names.{declares, is_among, is_label}
 use Rattle.ide_text.specs.Program.{globals_of, procedures_of}
 use Rattle.ide_graph.specs.Building.{AllHaveFacts}
 use Rattle.ide_graph.specs.Named.{same_name}
 use Rattle.ide_graph.specs.ProgramEdges.{HasFact}
 use Rattle.ide_graph.specs.Numbers.{label_from, procedure_of, names_at}
-use Rattle.ide_graph.proofs.FoundLemmas.{found, find-position}
+use Rattle.ide_graph.proofs.FoundLemmas.{found, find-none, find-position}
 
 -- more names do not hide one
 any_more : (z g r o l : Bool) → ((g || o) || l) ≡ true → (((z || g) || (r || o)) || l) ≡ true
@@ -59,3 +59,11 @@ module _ (p : Program) (named : IsWellNamed p) (index : ℕ) (q : Procedure) (ow
         | inl same ↦ same
         | inr apart ↦ absurd (no_fault WrongArguments (Wrong_count name r used (find-position _ (procedures_of p) callee first ∙ there) apart))
       ]
+
+  -- each procedure that it calls is declared
+  pub procedure_known : (name : List ℕ) → Contains (callees_of s) name → (callee : ℕ) × (procedure_of (procedures_of p) name ≡ Some callee)
+  procedure_known name used = by (procedure_of (procedures_of p) name) refl
+    where
+      by : (o : Option ℕ) → procedure_of (procedures_of p) name ≡ o → (callee : ℕ) × (procedure_of (procedures_of p) name ≡ Some callee)
+      by (Some callee) e = (callee, e)
+      by None e = absurd (no_fault NoSuchProcedure (No_procedure name used (find-none _ (procedures_of p) e)))

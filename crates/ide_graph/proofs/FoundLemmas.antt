@@ -32,6 +32,16 @@ module _ {X : Type 0} (p : X → Bool) where
   find-position [] k e = let none : ⊥ = cc in elim none [ ]
   find-position (x ∷ xs) k e = find_next (p x) x xs k (position p xs) (find p xs) (sym (position-cons x xs (p x) refl) ∙ e) (find-position xs)
 
+  none_next : (b : Bool) (x : X) (o : Option ℕ) (f : Option X) → next b o ≡ None → (o ≡ None → f ≡ None) → cond b (Some x) f ≡ None
+  none_next true x o f e more = let none : ⊥ = cc in elim none [ ]
+  none_next false x None f e more = more refl
+  none_next false x (Some j) f e more = let none : ⊥ = cc in elim none [ ]
+
+  -- no element passes where there is no first position
+  pub find-none : (xs : List X) → position p xs ≡ None → find p xs ≡ None
+  find-none [] e = refl
+  find-none (x ∷ xs) e = none_next (p x) x (position p xs) (find p xs) (sym (position-cons x xs (p x) refl) ∙ e) (find-none xs)
+
   there_next : (b : Bool) (x : X) (xs : List X) (k : ℕ) (o : Option ℕ) → p x ≡ b → next b o ≡ Some k → ((j : ℕ) → o ≡ Some j → (y : X) × (slice_get xs j ≡ Some y) × (p y ≡ true)) → (y : X) × (slice_get (x ∷ xs) k ≡ Some y) × (p y ≡ true)
   there_next true x xs k o is e more = let zero_is : 0 ≡ k = cc in (x, rw (← zero_is) refl, is)
   there_next false x xs k None is e more = let none : ⊥ = cc in elim none [ ]

@@ -1,5 +1,6 @@
 -- The numbers of a graph are those of the program, where both passes went over it.
 use Rattle.std.proofs.Common.{◌≡◌, ℕ, ◌≤◌, codes, List, [], ◌∷◌, ◌++◌, length, map, get_or, slice_get, Some, ◌∙◌, sym, ap, refl, arith, append_assoc}
+use Rattle.std.specs.Arc.{arc_value}
 use Rattle.std.specs.List.{All}
 use Rattle.std.specs.Option.{option_map}
 use Rattle.std.proofs.lemmas.List.{length-map}
@@ -49,6 +50,7 @@ module _ (p : Program) (graph : Inside) (numbering : Numbering) (is : IsNumberin
   graph_of = record {
     procedures = ap length layouts ∙ is.layouts;
     nodes = sites ∙ (sym (length-map numbering.spots.items node_value) ∙ ap length is.spots);
+    sited = length-map graph.sites.items arc_value ∙ (sites ∙ (sym (length-map numbering.spots.items node_value) ∙ ap length is.spots));
     owners = owners ∙ (owners_in numbering.spots.items ∙ ap (map (λ node. node.0)) is.spots);
     starts = λ i within. let at = some_at (procedures_of p) i within in let l = from_layout (λ layout. layout.start) 0 i at.0 at.1 in l.1 ∙ l.2.start;
     exits = λ i within. let at = some_at (procedures_of p) i within in let l = from_layout (λ layout. layout.exit) 0 i at.0 at.1 in l.1 ∙ l.2.exit;

@@ -1,3 +1,4 @@
+pub mod BuilderOfLemmas
 pub mod CallLemmas
 pub mod CallSiteLemmas
 pub mod CalleeLemmas
@@ -10,18 +11,21 @@ pub mod FirstPass
 pub mod FoundLemmas
 pub mod GraphLemmas
 pub mod GraphOfLemmas
+pub mod JoinedLemmas
+pub mod LawfulLemmas
 pub mod LimitLemmas
 pub mod ListsLemmas
 pub mod NameLemmas
 pub mod NamedLemmas
 pub mod NodeLemmas
 pub mod NumberedLemmas
+pub mod OneSite
 pub mod PlaceLemmas
 pub mod ProcedureLemmas
 pub mod ProgramLemmas
-pub mod SecondPass
 pub mod SiteLemmas
 pub mod SliceLemmas
 pub mod SpotLemmas
 pub mod StatementLemmas
+pub mod WithinLemmas
 pub mod ZipLemmas

@@ -1,6 +1,6 @@
 -- Short lists that have exactly what they are to have.
-use Rattle.std.proofs.Common.{◌≡◌, ℕ, ◌<◌, List, [], ◌∷◌, ◌++◌, refl, ◌⊎◌, inl, inr, sym, arith}
-use Rattle.std.specs.List.{AllPairs}
+use Rattle.std.proofs.Common.{◌≡◌, ℕ, ◌<◌, List, [], ◌∷◌, ◌++◌, refl, ◌⊎◌, inl, inr, zero, suc, get_or, length, ap, subst, ◌∙◌, sym, arith}
+use Rattle.std.specs.List.{AllPairs, Contains}
 use Rattle.std.proofs.lemmas.List.Elements.{All-nil, All-cons, All-weaker}
 use Rattle.std.proofs.lemmas.List.Kept.{AllPairs-cons}
 use Rattle.ide_graph.specs.Lists.{Lists}
@@ -35,6 +35,50 @@ module _ {X : Type 0} (key : X → ℕ) where
         whole = λ x h. let two : (x ≡ a) ⊎ (x ≡ b) = only x h in elim two [ inl e ↦ (0, omega arith, sym e) | inr e ↦ (1, omega arith, sym e) ];
         ascending = AllPairs-cons R a (b ∷ []) (All-cons (R a) b [] less (All-nil (R a))) (one_pairs R b);
       }
+
+  -- what follows the first has a greater key
+  lists_tail : (P : X → Type 0) (x : X) (xs : List X) → Lists P key (x ∷ xs) → Lists (λ z. P z × (key x < key z)) key xs
+  lists_tail P x xs l = record {
+    each = λ k d within. (l.each (suc k) d (omega arith), l.ascending 0 (suc k) d (omega arith) (omega arith));
+    whole = λ z h. later z h (l.whole z h.0);
+    ascending = λ i j d less within. l.ascending (suc i) (suc j) d (omega arith) (omega arith);
+  }
+    where
+      later : (z : X) → P z × (key x < key z) → Contains (x ∷ xs) z → Contains xs z
+      later z h c = by c.0 c.1 c.2
+        where
+          by : (k : ℕ) → k < length (x ∷ xs) → get_or (x ∷ xs) k z ≡ z → Contains xs z
+          by zero within is = let same : key x ≡ key z = ap key is in absurd (omega (arith, same, h.1))
+          by (suc k) within is = (k, omega arith, is)
+
+  -- an element is the first, or has a greater key
+  first_or_later : (P : X → Type 0) (x : X) (xs : List X) → Lists P key (x ∷ xs) → (z : X) → P z → (x ≡ z) ⊎ (key x < key z)
+  first_or_later P x xs l z h = let c = l.whole z h in by c.0 c.1 c.2
+    where
+      by : (k : ℕ) → k < length (x ∷ xs) → get_or (x ∷ xs) k z ≡ z → (x ≡ z) ⊎ (key x < key z)
+      by zero within is = inl is
+      by (suc k) within is = let less : key x < key (get_or xs k z) = l.ascending 0 (suc k) z (omega arith) within in inr (subst (λ w. key x < key w) is less)
+
+  -- two lists begin alike
+  both : (P : X → Type 0) (x y : X) (xs ys : List X) → Lists P key (x ∷ xs) → Lists P key (y ∷ ys) → (x ≡ y → xs ≡ ys) → (x ∷ xs) ≡ (y ∷ ys)
+  both P x y xs ys a b rest = by (first_or_later P x xs a y (b.each 0 y (omega arith))) (first_or_later P y ys b x (a.each 0 x (omega arith)))
+    where
+      joined : x ≡ y → (x ∷ xs) ≡ (y ∷ ys)
+      joined same = ap (λ zs. x ∷ zs) (rest same) ∙ ap (λ z. z ∷ ys) same
+
+      by : (x ≡ y) ⊎ (key x < key y) → (y ≡ x) ⊎ (key y < key x) → (x ∷ xs) ≡ (y ∷ ys)
+      by (inl same) other = joined same
+      by (inr less) (inl same) = joined (sym same)
+      by (inr less) (inr more) = absurd (omega (arith, less, more))
+
+  -- one list has just what it is to have
+  pub lists_once : (P : X → Type 0) (xs ys : List X) → Lists P key xs → Lists P key ys → xs ≡ ys
+  lists_once P [] [] a b = refl
+  lists_once P [] (y ∷ ys) a b = let c = a.whole y (b.each 0 y (omega arith)) in absurd (omega (arith, c.1))
+  lists_once P (x ∷ xs) [] a b = let c = b.whole x (a.each 0 x (omega arith)) in absurd (omega (arith, c.1))
+  lists_once P (x ∷ xs) (y ∷ ys) a b =
+      both P x y xs ys a b
+      (λ same. lists_once (λ z. P z × (key x < key z)) xs ys (lists_tail P x xs a) (subst (λ w. Lists (λ z. P z × (key w < key z)) key ys) (sym same) (lists_tail P y ys b)))
 
 pub two_pushed : {X : Type 0} (xs ys zs : List X) (a b c d : X) → xs ≡ [] → ys ≡ xs ++ a ∷ [] → zs ≡ ys ++ b ∷ [] → a ≡ c → b ≡ d → zs ≡ c ∷ d ∷ []
 two_pushed xs ys zs a b c d none one two first second = rw (two, one, none, first, second) refl

@@ -161,3 +161,40 @@ module _ (q : Procedure) where
             ]
         | at_exit at is ↦ at
       ]
+
+  -- the start is the first
+  pub start_in : (k : ℕ) → slice_get (spots_of q) k ≡ Some start → k ≡ 0
+  start_in k e =
+      elim (in_procedure k start e) [
+        | at_start z is ↦ z
+        | at_body m at b ↦
+            elim (in_body q.statements.items m start b) [
+              | statement_at place t there x is ↦ let none : ⊥ = cc in elim none [ ]
+              | return_at place target callees arguments there x is ↦ let none : ⊥ = cc in elim none [ ]
+            ]
+        | at_exit at is ↦ let none : ⊥ = cc in elim none [ ]
+      ]
+
+  -- past a call stands its return site
+  pub call_followed : (k : ℕ) (target : Option (List ℕ)) (callees arguments : Vec (List ℕ)) → slice_get (spots_of q) k ≡ Some (statement (Call target callees arguments)) → slice_get (spots_of q) (suc k) ≡ Some return_site
+  call_followed k target callees arguments e =
+      elim (in_procedure k (statement (Call target callees arguments)) e) [
+        | at_start z is ↦ let none : ⊥ = cc in elim none [ ]
+        | at_body m at b ↦ rw at (body_within (suc m) return_site (after_call q.statements.items m target callees arguments b))
+        | at_exit at is ↦ let none : ⊥ = cc in elim none [ ]
+      ]
+
+  -- before a return site stands its call
+  pub site_follows : (k : ℕ) → slice_get (spots_of q) k ≡ Some return_site → (j : ℕ) × (target : Option (List ℕ)) × (callees : Vec (List ℕ)) × (arguments : Vec (List ℕ)) × (k ≡ suc j) × (slice_get (spots_of q) j ≡ Some (statement (Call target callees arguments)))
+  site_follows k e =
+      elim (in_procedure k return_site e) [
+        | at_start z is ↦ let none : ⊥ = cc in elim none [ ]
+        | at_body m at b ↦
+            elim (in_body q.statements.items m return_site b) [
+              | statement_at place t there x is ↦ let none : ⊥ = cc in elim none [ ]
+              | return_at place target callees arguments there x is ↦
+                  let j : ℕ = length (body (take place q.statements.items)) in
+                  (suc j, target, callees, arguments, omega (arith, at, x), body_within j (statement (Call target callees arguments)) (body_at q.statements.items place (Call target callees arguments) there))
+            ]
+        | at_exit at is ↦ let none : ⊥ = cc in elim none [ ]
+      ]

@@ -17,8 +17,8 @@ use Rattle.ide_graph.specs.declared.site.Site.{Site}
 use Rattle.ide_graph.specs.declared.site.Site.TheVariants as site
 use Rattle.ide_graph.specs.Lists.{Lists}
 use Rattle.ide_graph.specs.Named.{procedure_of_name, fact_of_name}
-use Rattle.ide_graph.specs.Naming.{number_of}
 use Rattle.ide_graph.specs.Numbered.{IsNumbered}
+use Rattle.ide_graph.specs.Naming.{number_of}
 use Rattle.ide_graph.specs.Numbering.{nodes_in}
 use Rattle.ide_graph.specs.Numbers.{nodes_of, start_of, exit_of, label_from, procedure_of, fact_at, facts_of}
 use Rattle.ide_graph.specs.ProgramEdges.{CallAt, HasFact, IsCallee, IsCallerOf, IsAssigned}
@@ -42,7 +42,7 @@ pub record IsReady (builder : Builder) : Type 0 where
   pub last : builder.last ≡ node_count builder - 1
 
 -- the layout and the labels are those of the procedure q of the program, the one of that index
-pub record IsLayoutOf (p : Program) (index : ℕ) (q : Procedure) (layout : Layout) (labels : List (List ℕ × ℕ)) : Type 0 where
+pub record DescribeProcedure (p : Program) (index : ℕ) (q : Procedure) (layout : Layout) (labels : List (List ℕ × ℕ)) : Type 0 where
   pub start : layout.start ≡ start_of (procedures_of p) index
   pub exit : layout.exit ≡ exit_of (procedures_of p) index
   pub own : layout.own ≡ q.parameters.items ++ q.locals.items
@@ -58,7 +58,7 @@ pub record IsBuilderOf (p : Program) (builder : Builder) : Type 0 where
   pub ready : IsReady builder
   pub spots : nodes_in builder.numbering.now.spots.items ≡ nodes_of (procedures_of p)
   pub counted : procedure_count builder ≡ length (procedures_of p)
-  pub layouts : (index : ℕ) (q : Procedure) (layout : Layout) (labels : List (List ℕ × ℕ)) → slice_get (procedures_of p) index ≡ Some q → slice_get builder.numbering.now.layouts.items index ≡ Some layout → slice_get builder.numbering.now.labels.items index ≡ Some labels → IsLayoutOf p index q layout labels
+  pub layouts : (index : ℕ) (q : Procedure) (layout : Layout) (labels : List (List ℕ × ℕ)) → slice_get (procedures_of p) index ≡ Some q → slice_get builder.numbering.now.layouts.items index ≡ Some layout → slice_get builder.numbering.now.labels.items index ≡ Some labels → DescribeProcedure p index q layout labels
   pub directory : (name : List ℕ) → procedure_of_name builder.directory.now.procedures name ≡ procedure_of (procedures_of p) name
   pub globals : builder.globals.now.names ≡ globals_of p
   pub finds : FindsFacts p
@@ -70,7 +70,7 @@ pub record IsBuilderOf (p : Program) (builder : Builder) : Type 0 where
 -- the scope is that of the procedure q of the program, the one of that index
 pub record IsScopeOf (p : Program) (index : ℕ) (q : Procedure) (scope : Scope) : Type 0 where
   pub owner : slice_get (procedures_of p) index ≡ Some q
-  pub layout : IsLayoutOf p index q scope.layout.now scope.labels.now
+  pub layout : DescribeProcedure p index q scope.layout.now scope.labels.now
   pub globals : scope.globals.now.names ≡ globals_of p
   pub finds : FindsFacts p
   pub few : facts_of p < 2 ^ 16

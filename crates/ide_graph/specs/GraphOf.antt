@@ -6,8 +6,6 @@ use Rattle.ide_text.specs.Lines.{IsWithinLimits}
 use Rattle.ide_text.specs.NameFault.{IsWellNamed}
 use Rattle.ide_text.specs.Program.{globals_of, procedures_of}
 use Rattle.ide_graph.specs.Numbers.{nodes_of, start_of, exit_of, procedure_of, names_at, fact_at, result_of, facts_of}
-use Rattle.ide_graph.specs.ProgramEdges.{IsSiteOf}
-use Rattle.ide_graph.specs.declared.site.Site.{Site}
 use Rattle.ide_graph.specs.Supergraph.{Supergraph, procedure_named, fact_named, fact_names}
 
 -- a program as `parse` answers it: its names have no fault, and it is within the limits
@@ -18,6 +16,7 @@ IsNamed p = IsWellNamed p × IsWithinLimits p
 pub record IsGraphOf (p : Program) (graph : Supergraph) : Type 0 where
   pub procedures : graph.procedures ≡ length (procedures_of p)
   pub nodes : graph.nodes ≡ length (nodes_of (procedures_of p))
+  pub sited : length graph.sites ≡ length (nodes_of (procedures_of p))
   pub owners : graph.owners ≡ map (λ node. node.0) (nodes_of (procedures_of p))
   pub starts : (i : ℕ) → i < length (procedures_of p) → slice_index graph.starts i ≡ start_of (procedures_of p) i
   pub exits : (i : ℕ) → i < length (procedures_of p) → slice_index graph.exits i ≡ exit_of (procedures_of p) i
@@ -27,8 +26,3 @@ pub record IsGraphOf (p : Program) (graph : Supergraph) : Type 0 where
   pub parameters : IsNamed p → (i : ℕ) (q : Procedure) → slice_get (procedures_of p) i ≡ Some q → slice_index graph.parameters i ≡ length q.parameters.items
   pub names : IsNamed p → (i : ℕ) (q : Procedure) → slice_get (procedures_of p) i ≡ Some q → fact_names graph i ≡ names_at (globals_of p) q
   pub fact : IsNamed p → (i : ℕ) (q : Procedure) → slice_get (procedures_of p) i ≡ Some q → (name : List ℕ) → fact_named graph i name ≡ fact_at (globals_of p) q name
-
--- the graph's sites have exactly the edges of the program, each site those of its node
-pub record HasSitesOf (p : Program) (graph : Supergraph) : Type 0 where
-  pub count : length graph.sites ≡ graph.nodes
-  pub site : (node : ℕ) (site : Site) → slice_get graph.sites node ≡ Some site → IsSiteOf p node site

@@ -1,6 +1,8 @@
 pub mod Building
+pub mod EdgeLaws
 pub mod Edges
 pub mod GraphOf
+pub mod Joined
 pub mod Lawful
 pub mod Lists
 pub mod Named

@@ -17,6 +17,7 @@ use Rattle.ide_graph.specs.declared.site.Caller.{Caller}
 use Rattle.ide_graph.specs.declared.site.Site.{Site}
 use Rattle.ide_graph.specs.declared.site.Site.TheVariants as site
 use Rattle.ide_graph.specs.Lists.{Lists}
+use Rattle.ide_graph.specs.Supergraph.{Supergraph}
 use Rattle.ide_graph.specs.Numbers.{Spot, start, statement, return_site, exit, nodes_of, start_of, exit_of, label_from, procedure_of, fact_at, result_of, facts_of}
 
 -- an edge of the program: where it ends, and what it is
@@ -155,3 +156,7 @@ abbrev pub IsSiteOf : Program → ℕ → Site → Type 0
 IsSiteOf p n (site.Normal edges) = IsPlainNode p n × Lists (IsNormal p n) (λ edge. edge.end) edges.items
 IsSiteOf p n (site.Call calls along) = Lists (IsCallFrom p n) (λ edge. edge.end) calls.items × IsAlong p n along
 IsSiteOf p n (site.Exit begin callers) = IsExitSite p n begin callers.items
+
+-- the graph has exactly the edges of the program out of each of its nodes
+abbrev pub HasEdgesOf : Program → Supergraph → Type 0
+HasEdgesOf p graph = (node : ℕ) (site : Site) → slice_get graph.sites node ≡ Some site → IsSiteOf p node site

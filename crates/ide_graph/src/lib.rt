@@ -14,6 +14,7 @@ mod edge;
 mod globals;
 mod graph;
 mod labels;
+mod laws;
 mod layout;
 mod names;
 mod numbering;
@@ -23,6 +24,11 @@ mod site;
 
 pub use edge::{EdgeData, EdgeKind, Effect};
 pub use graph::Graph;
+pub use laws::{
+    along_edges_reach_the_return_site, back_edges_return, call_edges_enter, edges_are_lawful,
+    nodes_have_one_site, normal_edges_stay_within, return_sites_follow_calls,
+    sites_of_programs_are_joined,
+};
 pub use passed::Passed;
 pub use site::{Caller, Site};
 

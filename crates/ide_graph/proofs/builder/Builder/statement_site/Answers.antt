@@ -86,7 +86,7 @@ returns-in-Return-Some-clause-exact c = λ p i q is scope stands.
     let effect = c.give_back.ensures p i q source.0 scope source.1 in
     let exit : c.args.scope.layout.now.exit ≡ exit_of (procedures_of p) i = scope.layout.exit in
     let below : exit_of (procedures_of p) i < node_count c.args.self.now = omega (arith, counted p c.args.self.now is, exit_within p i q here.owner) in
-    plain_result p c.args.node i q (statement s) here tt (λ l e. cc) (exit_of (procedures_of p) i) (Copy (result_of p) source.0) (refl, source.0, source.1, refl)
+    plain_result p c.args.node i q (statement s) here tt (λ l e. cc) (exit_of (procedures_of p) i) (Copy (result_of p) source.0) (refl, source.0, source.1, refl {a = Copy (result_of p) source.0})
     c.normal-in-Return-Some.result c.args.scope.layout.now.exit c.give_back.result exit effect
     (c.normal-in-Return-Some.ensures.exact p is (rw exit below))
 

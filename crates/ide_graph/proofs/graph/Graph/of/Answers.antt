@@ -1,4 +1,4 @@
-use Rattle.std.proofs.Common.{◌≡◌, ℕ, ◌≤◌, List, [], length, map, ap, ◌∙◌, sym, subst, refl}
+use Rattle.std.proofs.Common.{◌≡◌, ℕ, ◌+◌, ◌≤◌, min, arith, List, [], length, map, ap, ◌∙◌, sym, subst, refl}
 use Rattle.std.specs.Arc.{arc_value}
 use Rattle.std.specs.List.{All}
 use Rattle.std.proofs.lemmas.List.{length-map}
@@ -11,11 +11,12 @@ use Rattle.ide_text.specs.Program.{globals_of, procedures_of}
 use Rattle.ide_graph.specs.Named.{procedure_of_name}
 use Rattle.ide_graph.specs.Naming.{AreNew}
 use Rattle.ide_graph.specs.Numbering.{IsNumberingOf}
-use Rattle.ide_graph.specs.Numbers.{procedure_of}
+use Rattle.ide_graph.specs.Numbers.{procedure_of, facts_of}
+use Rattle.ide_graph.proofs.BuilderOfLemmas.{builder_of}
+use Rattle.ide_graph.proofs.FirstPass.{facts_are}
 use Rattle.ide_graph.proofs.GraphLemmas.{All-owners}
 use Rattle.ide_graph.proofs.GraphOfLemmas.{graph_of}
-use Rattle.ide_graph.proofs.LimitLemmas.{global_names}
-use Rattle.ide_graph.proofs.SecondPass.{builder_of}
+use Rattle.ide_graph.proofs.LimitLemmas.{few_facts, global_names}
 use Rattle.ide_graph.proofs.graph.Graph.of.Goals as goal
 
 -- the first pass counted what the second made
@@ -65,21 +66,26 @@ returns-clause-numbered c =
     (All-same (λ layout. length layout.own ≤ c.most_own_of-most_own.result) _ _ (sym layouts) c.most_own_of-most_own.ensures.most)
     (λ bound all. c.most_own_of-most_own.ensures.least bound (All-same (λ layout. length layout.own ≤ bound) _ _ layouts all))
 
-pub returns-clause-sites : goal.returns-clause-sites
-returns-clause-sites c named =
+-- the second pass rests on what the first found
+pub returns-clause-edges : goal.returns-clause-edges
+returns-clause-edges c = λ named.
     let p = c.args.program.now in
+    let numbering = c.in_ok-numbering.numbering in
     let procedures : c.procedures-procedures.result.now ≡ procedures_of p = c.procedures-procedures.ensures in
-    let globals : c.globals.result.now ≡ globals_of p = c.globals.ensures in
-    let names : c.in_ok-globals.globals.names ≡ globals_of p =
-    subst (λ (gs : List (List ℕ)). AreNew [] gs → c.in_ok-globals.globals.names ≡ gs) globals c.in_ok-globals.ensures.named (global_names p named.0) in
-    let builder = builder_of p c.new.result named c.new.ensures.ready
-    (subst (λ n. IsNumberingOf (procedures_of p) n.now) (sym c.new.ensures.same)
-    (subst (λ (ps : List Procedure). IsNumberingOf ps c.in_ok-numbering.numbering) procedures c.in_ok-numbering.ensures.numbering))
-    (subst (λ d. (name : List ℕ) → procedure_of_name d.now.procedures name ≡ procedure_of (procedures_of p) name) (sym c.new.ensures.directory)
-    (subst (λ (ps : List Procedure). (name : List ℕ) → procedure_of_name c.in_ok-directory.directory.procedures name ≡ procedure_of ps name) procedures c.in_ok-directory.ensures.named))
-    (ap (λ g. g.now.names) c.new.ensures.globals ∙ names)
-    (c.new.ensures.facts ∙ (c.fact_count-facts.ensures ∙ ((returns-clause-numbered c).counts named).0)) in
-    record {
-      count = length-map _ arc_value;
-      site = c.in_ok-sites.ensures.exact p builder;
-    }
+    let is : IsNumberingOf (procedures_of p) numbering = subst (λ (ps : List Procedure). IsNumberingOf ps numbering) procedures c.in_ok-numbering.ensures.numbering in
+    let globals : AreNew [] (globals_of p) → c.in_ok-globals.globals.names ≡ globals_of p =
+    subst (λ (gs : List (List ℕ)). AreNew [] gs → c.in_ok-globals.globals.names ≡ gs) c.globals.ensures c.in_ok-globals.ensures.named in
+    let directory : (name : List ℕ) → procedure_of_name c.in_ok-directory.directory.procedures name ≡ procedure_of (procedures_of p) name =
+    subst (λ (ps : List Procedure). (name : List ℕ) → procedure_of_name c.in_ok-directory.directory.procedures name ≡ procedure_of ps name) procedures c.in_ok-directory.ensures.named in
+    let layouts = c.deref.ensures.value in
+    let facts : min (length c.in_ok-globals.globals.names + 2 + c.most_own_of-most_own.result) 65536 ≡ facts_of p =
+    facts_are p numbering is named.0 c.most_own_of-most_own.result
+    (All-same (λ layout. length layout.own ≤ c.most_own_of-most_own.result) _ _ (sym layouts) c.most_own_of-most_own.ensures.most)
+    (λ bound all. c.most_own_of-most_own.ensures.least bound (All-same (λ layout. length layout.own ≤ bound) _ _ layouts all))
+    named.1 c.in_ok-globals.globals.names (globals (global_names p named.0)) in
+    let count : c.fact_count-facts.result ≡ facts_of p = c.fact_count-facts.ensures ∙ facts in
+    let builder = builder_of p c.new.result c.new.ensures.ready named (subst (λ n. IsNumberingOf (procedures_of p) n.now) (sym c.new.ensures.same) is)
+    (λ new. ap (λ g. g.now.names) c.new.ensures.globals ∙ globals new)
+    (λ name. ap (λ d. procedure_of_name d.now.procedures name) c.new.ensures.directory ∙ directory name)
+    (omega (arith, c.new.ensures.facts, count, few_facts p named.1)) in
+    c.in_ok-sites.ensures.exact p builder

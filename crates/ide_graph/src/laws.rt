@@ -1,0 +1,45 @@
+//! Laws of the edges of a program. The functions do nothing: their clauses are the laws.
+ghost use Rattle.ide_graph.specs.Joined.{SitesOfProgramsAreJoined};
+ghost use Rattle.ide_graph.specs.EdgeLaws.{AlongEdgesReachTheReturnSite, BackEdgesReturn, CallEdgesEnter, EdgesAreLawful, NodesHaveOneSite, NormalEdgesStayWithin, ReturnSitesFollowCalls};
+
+/// A normal edge stays in its procedure, and does not end at the start.
+pub fn normal_edges_stay_within()
+    ensures { NormalEdgesStayWithin }
+{}
+
+/// A call-to-return edge stays in its procedure, and ends at the return site.
+pub fn along_edges_reach_the_return_site()
+    ensures { AlongEdgesReachTheReturnSite }
+{}
+
+/// A call edge ends at the start of the callee.
+pub fn call_edges_enter()
+    ensures { CallEdgesEnter }
+{}
+
+/// A return edge leaves the exit of the callee, and comes to the call's return site.
+pub fn back_edges_return()
+    ensures { BackEdgesReturn }
+{}
+
+/// The node before a return site is its call node.
+pub fn return_sites_follow_calls()
+    ensures { ReturnSitesFollowCalls }
+{}
+
+/// The edges of a program of the grammar whose names have no fault are as a flow function may
+/// rely on.
+pub fn edges_are_lawful()
+    ensures { EdgesAreLawful }
+{}
+
+/// A node has one site, up to the room that its vectors have.
+pub fn nodes_have_one_site()
+    ensures { NodesHaveOneSite }
+{}
+
+/// The sites of a program's graph fit together: edges stay in their procedures or lead to callees,
+/// and the exits of these know them.
+pub fn sites_of_programs_are_joined()
+    ensures { SitesOfProgramsAreJoined }
+{}
