@@ -9,6 +9,7 @@ pub mod Kept
 pub mod Lower
 pub mod Members
 pub mod Parts
+pub mod Programs
 pub mod Ranged
 pub mod Ready
 pub mod Runs

@@ -8,7 +8,7 @@ use Rattle.ide_graph.specs.declared.site.Site.{Site}
 use Rattle.ide_graph.specs.declared.site.Site.TheVariants.{Normal, Call, Exit}
 use Rattle.ide_graph.specs.Lawful.{IsEdge}
 use Rattle.ide_theory.specs.Given.{Edge, Edges}
-use Rattle.ide_theory.specs.Member.{IsIn, Each}
+use Rattle.ide_theory.specs.Member.{Each}
 use Rattle.ide_theory.specs.Parts.{NodeEdges}
 
 -- an edge of a program with so many facts
@@ -65,55 +65,3 @@ module _ (facts : ℕ) (sites : List Site) (all : HaveEdgesOf facts sites) where
     calls = flat_map (λ n. (node_edges n).callers) (range_with_len 0 (length sites));
     start_of = start_of;
   }
-
--- the site has the edge along its procedure
-abbrev pub HasFlat : Site → EdgeData → Type 0
-HasFlat (Normal edges) edge = IsIn edge edges.items
-HasFlat (Call calls along) edge = edge ≡ along
-HasFlat (Exit start callers) edge = ⊥
-
--- the site has the edge to a callee
-abbrev pub HasCall : Site → EdgeData → Type 0
-HasCall (Normal edges) edge = ⊥
-HasCall (Call calls along) edge = IsIn edge calls.items
-HasCall (Exit start callers) edge = ⊥
-
--- calls at the site return to the node
-abbrev pub ReturnsTo : Site → ℕ → Type 0
-ReturnsTo (Normal edges) m = ⊥
-ReturnsTo (Call calls along) m = m ≡ along.end
-ReturnsTo (Exit start callers) m = ⊥
-
--- the site has the caller
-abbrev pub HasCaller : Site → Caller → Type 0
-HasCaller (Normal edges) caller = ⊥
-HasCaller (Call calls along) caller = ⊥
-HasCaller (Exit start callers) caller = IsIn caller callers.items
-
--- an exit has the call at the node n among its callers
-pub record IsEntered (sites : List Site) (n : ℕ) (edge : EdgeData) : Type 0 where
-  pub exit : ℕ
-  pub site : Site
-  pub caller : Caller
-  pub stands : slice_get sites exit ≡ Some site
-  pub has : HasCaller site caller
-  pub node : caller.call_node ≡ n
-  pub call : caller.call ≡ edge
-
--- the caller at the exit m is a call at its node: it leads to the start of the exit's procedure, and
--- the way back to the return site of that call, in its procedure
-pub record IsLeft (sites : List Site) (start_of : ℕ → ℕ) (m : ℕ) (caller : Caller) : Type 0 where
-  pub site : Site
-  pub stands : slice_get sites caller.call_node ≡ Some site
-  pub has : HasCall site caller.call
-  pub returns : ReturnsTo site caller.back.end
-  pub exit : start_of m ≡ caller.call.end
-  pub back : start_of caller.back.end ≡ start_of caller.call_node
-
--- the sites fit together: edges stay in their procedures or lead to callees, whose exits know them
-pub record AreJoined (sites : List Site) (start_of : ℕ → ℕ) : Type 0 where
-  pub flat : (n : ℕ) (s : Site) (e : EdgeData) → slice_get sites n ≡ Some s → HasFlat s e → start_of e.end ≡ start_of n
-  pub callee : (n : ℕ) (s : Site) (e : EdgeData) → slice_get sites n ≡ Some s → HasCall s e → start_of e.end ≡ e.end
-  pub entered : (n : ℕ) (s : Site) (e : EdgeData) → slice_get sites n ≡ Some s → HasCall s e → IsEntered sites n e
-  pub left : (m : ℕ) (s : Site) (c : Caller) → slice_get sites m ≡ Some s → HasCaller s c → IsLeft sites start_of m c
-  pub some : (n : ℕ) (s : Site) (m : ℕ) → slice_get sites n ≡ Some s → ReturnsTo s m → (e : EdgeData) × HasCall s e

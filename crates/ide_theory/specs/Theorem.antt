@@ -12,7 +12,12 @@ use Rattle.ide_theory.specs.Run.{ArePartsOf, Run, IsQuiet}
 use Rattle.ide_theory.specs.Parts.{NodeEdges, AreEdgesOf, parts_of}
 use Rattle.ide_wire.specs.declared.key.Key.{Key}
 use Rattle.ide_theory.specs.Invariant.{IsInvariant}
-use Rattle.ide_theory.specs.Sites.{HaveEdgesOf, AreJoined, edges_of, node_edges}
+use Rattle.ide_text.specs.declared.program.Program.{Program}
+use Rattle.ide_graph.specs.GraphOf.{IsNamed, IsGraphOf}
+use Rattle.ide_graph.specs.Joined.{AreJoined, start_at}
+use Rattle.ide_graph.specs.ProgramEdges.{HasEdgesOf}
+use Rattle.ide_graph.specs.Supergraph.{Supergraph as Graph}
+use Rattle.ide_theory.specs.Sites.{HaveEdgesOf, edges_of, node_edges}
 use Rattle.ide_graph.specs.declared.site.Site.{Site}
 use Rattle.ide_theory.specs.Given.{Edge, Edges, IsGraph, frame_of, roots_of}
 
@@ -67,3 +72,12 @@ module _ {L F : Type 0} (lattice : LatticeAlgebra L) (functions : EdgeAlgebra F 
       (facts : ℕ) (sites : List Site) (all : HaveEdgesOf facts sites) (start_of : ℕ → ℕ) → AreJoined sites start_of
       → IsGraph (edges_of facts sites all start_of)
       × AreEdgesOf (frame_of lattice functions targets (edges_of facts sites all start_of)) (node_edges facts sites all)
+
+  -- the graph of a program as `parse` answers it has lawful edges, is a supergraph, and has its sites'
+  -- edges at its nodes
+  abbrev pub GraphsAreSupergraphs : Type 0
+  GraphsAreSupergraphs =
+      (p : Program) (graph : Graph) → IsNamed p → IsGraphOf p graph → HasEdgesOf p graph
+      → (all : HaveEdgesOf graph.facts graph.sites)
+      × IsGraph (edges_of graph.facts graph.sites all (start_at graph))
+      × AreEdgesOf (frame_of lattice functions targets (edges_of graph.facts graph.sites all (start_at graph))) (node_edges graph.facts graph.sites all)

@@ -8,8 +8,9 @@
 //! contracts, for every analysis.
 #![tactic(auto)]
 
-ghost use Rattle.ide_theory.specs.Theorem.{ValuesAreBest, RunsAreBest, BestIsUnique, TopIsBest, PartsAreOwed, SitesMakeAGraph};
+ghost use Rattle.ide_theory.specs.Theorem.{ValuesAreBest, RunsAreBest, BestIsUnique, TopIsBest, PartsAreOwed, SitesMakeAGraph, GraphsAreSupergraphs};
 
+use ide_graph::{edges_are_lawful, sites_of_programs_are_joined};
 use ide_problem::Problem;
 
 /// Values that follow from a quiet image, in which the roots have their identities, are best.
@@ -44,3 +45,13 @@ pub fn parts_are_owed<P: Problem>()
 pub fn sites_make_a_graph<P: Problem>()
     ensures { SitesMakeAGraph P.L.algebra P.F.edge P.targets }
 {}
+
+/// The graph of a program whose text has no fault is such a supergraph: its edges are as a flow may
+/// rely on, its sites fit together, and what stands at its nodes is what the sites have.
+pub fn graphs_are_supergraphs<P: Problem>()
+    ensures { GraphsAreSupergraphs P.L.algebra P.F.edge P.targets }
+{
+    edges_are_lawful();
+    sites_of_programs_are_joined();
+    sites_make_a_graph::<P>();
+}

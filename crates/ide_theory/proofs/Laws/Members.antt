@@ -1,6 +1,7 @@
 -- What stands in lists that are joined, mapped and ranged over.
-use Rattle.std.proofs.Common.{◌≡◌, ℕ, zero, suc, ◌+◌, ◌<◌, ◌≤◌, ◌⊎◌, List, [], ◌∷◌, ◌++◌, map, sym, subst, refl, inl, inr, arith}
-use Rattle.std.specs.List.{flat_map, range_with_len}
+use Rattle.std.proofs.Common.{◌≡◌, ℕ, zero, suc, ◌+◌, ◌<◌, ◌≤◌, ◌⊎◌, List, [], ◌∷◌, ◌++◌, length, map, sym, subst, refl, inl, inr, arith}
+use Rattle.std.specs.Prelude.{slice_index_or}
+use Rattle.std.specs.List.{Contains, flat_map, range_with_len}
 use Rattle.ide_theory.specs.Member.{IsIn, first, later}
 
 -- what stands in a list is its first, or stands in the rest
@@ -71,3 +72,16 @@ in-range_from low (suc n) k least most = elim (first-or-past low k least) [
 
 pub in-range_below : (n k : ℕ) → k < n → IsIn k (range_with_len 0 n)
 in-range_below n k h = in-range_from 0 n k (omega arith) (omega (arith, h))
+
+-- both ways to say that an element stands in a list
+pub contains-in : {T : Type 0} {x : T} {xs : List T} → IsIn x xs → Contains xs x
+contains-in first = (0, omega arith, refl)
+contains-in (later is) = let found : Contains _ _ = contains-in is in (suc found.0, omega (arith, found.1), found.2)
+
+in-at : {T : Type 0} (xs : List T) (x : T) (k : ℕ) → k < length xs → slice_index_or xs k x ≡ x → IsIn x xs
+in-at [] x k within same = let none : ⊥ = omega (arith, within) in elim none [ ]
+in-at (y ∷ xs) x zero within same = subst (λ z. IsIn z (y ∷ xs)) same first
+in-at (y ∷ xs) x (suc k) within same = later (in-at xs x k (omega (arith, within)) same)
+
+pub in-contains : {T : Type 0} (xs : List T) (x : T) → Contains xs x → IsIn x xs
+in-contains xs x found = in-at xs x found.0 found.1 found.2
