@@ -3,3 +3,4 @@ pub mod Left
 pub mod Lists
 pub mod Moments
 pub mod OneList
+pub mod Whole

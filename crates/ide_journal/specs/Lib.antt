@@ -4,4 +4,5 @@ pub mod Laws
 pub mod Lists
 pub mod Moments
 pub mod Phases
+pub mod Reading
 pub mod Stands

@@ -9,7 +9,7 @@ use std::alloc::{AllocError, Global};
 
 // How many zeros fill the last page of a record.
 #[tactic(auto, unfolding(crate::specs::Format::padding))]
-fn padding(count: usize) -> usize
+pub(crate) fn padding(count: usize) -> usize
     requires { count ≤ 4194304 }
     ensures value { result ≡ padding count }
     ensures page { result < 4096 }

@@ -1,0 +1,115 @@
+//! How records are read.
+ghost use Rattle.std.specs.Prelude.{◌≡◌, ◌⊎◌, ◌↔◌, ℕ, map, ◌+◌, ◌<◌, ◌≤◌, length, slice_index, slice_range, EachIndex, IsTrue, IfOk, IfErr, IfSome, IfNone};
+ghost use Rattle.std.specs.Int.{w32, w64, to_le_bytes};
+ghost use Rattle.ide_journal.specs.Format.{padding, zeros};
+ghost use Rattle.ide_journal.specs.Reading.{AreRead, IsDamaged, IsDamagedAt, IsRead, IsWhole};
+ghost use Rattle.ide_journal.specs.Lists.{entry_of};
+
+use crate::RawRecord;
+use crate::spelling::padding;
+use ide_wire::Refused;
+use std::alloc::{AllocError, Global};
+
+// Whether the bytes are zeros.
+fn are_zeros(bytes: &[u8]) -> bool
+    ensures { IsTrue result ↔ EachIndex bytes.now (λ k. slice_index bytes.now k ≡ 0) }
+{
+    bytes.iter().all(|byte| *byte == 0)
+}
+
+// Whether the bytes are those of the number.
+fn spells(bytes: &[u8], number: u64) -> bool
+    requires { length bytes.now ≡ 8 }
+    ensures { IsTrue result ↔ (bytes.now ≡ to_le_bytes w64 number) }
+{
+    bytes == number.to_le_bytes().as_slice()
+}
+
+// The number that the bytes are of.
+fn number_of(bytes: &[u8]) -> u32
+    requires { length bytes.now ≡ 4 }
+    ensures { bytes.now ≡ to_le_bytes w32 result }
+{
+    u32::from_le_bytes([bytes[0], bytes[1], bytes[2], bytes[3]])
+}
+
+// How many bytes the body has of the whole record of that number that stands there.
+fn body_length(bytes: &[u8], number: u64) -> Option<usize>
+    ensures whole { IfSome result (λ count. IsWhole number count bytes.now) }
+    ensures damaged { IfNone result (IsDamaged number bytes.now) }
+{
+    if bytes.len() < 14 {
+        return None;
+    }
+    if number > 4294967294 {
+        return None;
+    }
+    let kind = bytes[0];
+    if kind < 1 {
+        return None;
+    }
+    if kind > 3 {
+        return None;
+    }
+    let numbered = spells(&bytes[1..9], number);
+    if !numbered {
+        return None;
+    }
+    let count = number_of(&bytes[9..13]) as usize;
+    if count > 4194304 {
+        return None;
+    }
+    let end = 13 + count;
+    let size = end + padding(count);
+    if size >= bytes.len() {
+        return None;
+    }
+    let filled = are_zeros(&bytes[end..size]);
+    if !filled {
+        return None;
+    }
+    Some(count)
+}
+
+/// The record of that number that stands there, and how many bytes it takes, if it is whole.
+fn read_record(
+    alloc: Global,
+    bytes: &[u8],
+    number: u64,
+) -> Result<Option<(RawRecord, usize)>, AllocError>
+    ensures whole { IfOk result (λ found. IfSome found (λ pair. IsRead number (entry_of pair.0) pair.1 bytes.now)) }
+    ensures damaged { IfOk result (λ found. IfNone found (IsDamaged number bytes.now)) }
+{
+    match body_length(bytes, number) {
+        None => Ok(None),
+        Some(count) => {
+            let body = bytes[13..13 + count].to_vec(alloc)?;
+            let raw = RawRecord {
+                kind: bytes[0],
+                body,
+            };
+            Ok(Some((raw, 13 + count + padding(count))))
+        }
+    }
+}
+
+/// The records of a file behind its first page, and where the first closed gate stands.
+pub(crate) fn read_records(alloc: Global, bytes: &[u8]) -> Result<(Vec<RawRecord>, usize), Refused>
+    requires { 4096 < length bytes.now }
+    ensures read { IfOk result (λ pair. AreRead (map entry_of pair.0.items) pair.1 bytes.now × (slice_index bytes.now pair.1 ≡ 0)) }
+    ensures refused { IfErr result (λ refused. (refused ≡ Refused.NoMemory) ⊎ ((number : ℕ) × (refused ≡ Refused.Damaged number) × IsDamagedAt number bytes.now)) }
+{
+    let mut records = Vec::new(alloc);
+    let mut gate = 4096;
+    while bytes[gate] != 0 {
+        let number = records.len() as u64;
+        match read_record(alloc, &bytes[gate + 1..], number)? {
+            Some((raw, size)) => {
+                records.push(raw)?;
+                gate += 1 + size;
+            }
+            None => return Err(Refused::Damaged(number)),
+        }
+    }
+    Ok((records, gate))
+}
