@@ -4,7 +4,7 @@ use Rattle.std.specs.Int.{w32, w64, to_le_bytes, from_le_bytes}
 use Rattle.std.proofs.Common.{arith, sym, ap, subst, ◌∙◌, get_or}
 use Rattle.std.proofs.lemmas.List.{append_assoc, append_cancel_left, length-append, length-replicate}
 use Rattle.std.proofs.lemmas.Nat.{from_le_bytes-to_le_bytes_4}
-use Rattle.ide_journal.specs.Format.{Entry, zeros, header, padding, after_gate, IsEntry, IsPages, Holds}
+use Rattle.ide_journal.specs.Format.{Entry, letters, zeros, header, padding, after_gate, IsEntry, IsPages, Holds}
 use Rattle.ide_journal.specs.Laws.{HoldsOneList}
 
 pub length-zeros : (count : ℕ) → length (zeros count) ≡ count
@@ -13,7 +13,7 @@ length-zeros count = length-replicate count 0
 
 pub length-header : (tag : ℕ) → length (header tag) ≡ 4096
 unfolding header
-length-header tag = omega (arith, length-append (73 ∷ 68 ∷ 69 ∷ 74 ∷ 82 ∷ 78 ∷ 76 ∷ 49 ∷ tag ∷ []) (zeros 4087), length-zeros 4087)
+length-header tag = omega (arith, length-append letters (tag ∷ zeros 4087), length-zeros 4087)
 
 -- fronts of one length of equal lists are equal, and so is the rest
 pub same_front : (xs ys us vs : List ℕ) → length xs ≡ length ys → xs ++ us ≡ ys ++ vs → (xs ≡ ys) × (us ≡ vs)

@@ -5,8 +5,8 @@ use Rattle.std.proofs.Common.{arith, rules, sym, ap, subst, ◌∙◌, get_or}
 use Rattle.std.proofs.lemmas.List.{append_assoc, length-append, length-take, length-drop, ext_get_or, get_or-replicate, take_at, drop_at, drop_more}
 use Rattle.std.proofs.lemmas.Nat.{from_le_bytes-to_le_bytes_4}
 use Rattle.std.proofs.lemmas.List.Folds.{drop_split}
-use Rattle.ide_journal.specs.Format.{Entry, zeros, padding, after_gate, IsEntry, IsPages}
-use Rattle.ide_journal.specs.Reading.{AreRead, IsDamaged, IsRead, IsWhole}
+use Rattle.ide_journal.specs.Format.{Entry, letters, header, Holds, zeros, padding, after_gate, IsEntry, IsPages}
+use Rattle.ide_journal.specs.Reading.{AreRead, IsDamaged, IsRead, IsStore, IsWhole}
 use Rattle.ide_journal.proofs.Lists.{pages_push}
 use Rattle.ide_journal.proofs.OneList.{length-zeros}
 
@@ -145,3 +145,49 @@ read_more entries entry gate size bytes before opened read =
       behind = omega (arith, before.behind);
       inside = inside;
     }
+
+-- the first page, from its pieces
+pub store_is : (bytes : List ℕ) (tag : ℕ) → 4096 < length bytes → slice_range bytes 0 8 ≡ letters → slice_index bytes 8 ≡ tag → 0 < tag
+    → slice_range bytes 9 4096 ≡ zeros 4087 → IsStore tag bytes
+unfolding header
+store_is bytes tag inside named tagged some filled = record {
+  some = some;
+  inside = inside;
+  split =
+      drop_split bytes 0 8 (omega arith)
+      ∙ ap (λ (xs : List ℕ). xs ++ drop 8 bytes) named
+      ∙ ap (λ (xs : List ℕ). letters ++ xs)
+      (drop_more bytes 8 0 (omega arith)
+      ∙ ap (λ (x : ℕ). x ∷ drop 9 bytes) tagged
+      ∙ ap (λ (xs : List ℕ). tag ∷ xs) (drop_split bytes 9 4096 (omega arith) ∙ ap (λ (xs : List ℕ). xs ++ drop 4096 bytes) filled))
+      ∙ sym (append_assoc letters (tag ∷ zeros 4087) (drop 4096 bytes));
+}
+
+-- the pieces of the first page
+pub is_store : (bytes : List ℕ) (tag : ℕ) → IsStore tag bytes
+    → (slice_range bytes 0 8 ≡ letters) × (slice_index bytes 8 ≡ tag) × (slice_range bytes 9 4096 ≡ zeros 4087)
+unfolding header
+is_store bytes tag store =
+    let flat : bytes ≡ letters ++ (tag ∷ zeros 4087 ++ drop 4096 bytes) =
+    store.split ∙ append_assoc letters (tag ∷ zeros 4087) (drop 4096 bytes) in (
+      ap (λ (xs : List ℕ). slice_range xs 0 8) flat,
+      ap (λ (xs : List ℕ). slice_index xs 8) flat,
+      ap (λ (xs : List ℕ). slice_range xs 9 4096) flat ∙ take_at (zeros 4087) (drop 4096 bytes) 4087 (length-zeros 4087),
+    )
+
+-- a store whose records are whole up to a closed gate holds them
+pub holds_read : (tag : ℕ) (entries : List Entry) (gate : ℕ) (bytes : List ℕ) → IsStore tag bytes → AreRead entries gate bytes
+    → slice_index bytes gate ≡ 0 → length entries ≤ 4294967295 → Holds tag entries bytes
+holds_read tag entries gate bytes store read closed few = record {
+  pages = slice_range bytes 4096 gate;
+  rest = drop (gate + 1) bytes;
+  whole = read.whole;
+  few = few;
+  split =
+      store.split
+      ∙ ap (λ (xs : List ℕ). header tag ++ xs)
+      (drop_split bytes 4096 gate read.behind
+      ∙ ap (λ (xs : List ℕ). slice_range bytes 4096 gate ++ xs)
+      (drop_more bytes gate 0 read.inside ∙ ap (λ (x : ℕ). x ∷ drop (gate + 1) bytes) closed))
+      ∙ sym (append_assoc (header tag) (slice_range bytes 4096 gate) (0 ∷ drop (gate + 1) bytes));
+}

@@ -10,9 +10,13 @@ Entry = ℕ × List ℕ
 unfoldable pub zeros : ℕ → List ℕ
 zeros count = replicate count 0
 
--- the first page: the letters IDEJRNL1, the tag, zeros
+-- the letters IDEJRNL1
+abbrev pub letters : List ℕ
+letters = 73 ∷ 68 ∷ 69 ∷ 74 ∷ 82 ∷ 78 ∷ 76 ∷ 49 ∷ []
+
+-- the first page: the letters, the tag, zeros
 unfoldable pub header : ℕ → List ℕ
-header tag = (73 ∷ 68 ∷ 69 ∷ 74 ∷ 82 ∷ 78 ∷ 76 ∷ 49 ∷ tag ∷ []) ++ zeros 4087
+header tag = letters ++ tag ∷ zeros 4087
 
 -- how many zeros fill the last page of a record whose body has so many bytes; 14 bytes stand before the body
 unfoldable pub padding : ℕ → ℕ

@@ -1,8 +1,8 @@
 //! How records are read.
 ghost use Rattle.std.specs.Prelude.{◌≡◌, ◌⊎◌, ◌↔◌, ℕ, map, ◌+◌, ◌<◌, ◌≤◌, length, slice_index, slice_range, EachIndex, IsTrue, IfOk, IfErr, IfSome, IfNone};
 ghost use Rattle.std.specs.Int.{w32, w64, to_le_bytes};
-ghost use Rattle.ide_journal.specs.Format.{padding, zeros};
-ghost use Rattle.ide_journal.specs.Reading.{AreRead, IsDamaged, IsDamagedAt, IsRead, IsWhole};
+ghost use Rattle.ide_journal.specs.Format.{letters};
+ghost use Rattle.ide_journal.specs.Reading.{AreRead, HasCause, IsDamaged, IsDamagedAt, IsRead, IsStore, IsWhole};
 ghost use Rattle.ide_journal.specs.Lists.{entry_of};
 
 use crate::RawRecord;
@@ -112,4 +112,51 @@ pub(crate) fn read_records(alloc: Global, bytes: &[u8]) -> Result<(Vec<RawRecord
         }
     }
     Ok((records, gate))
+}
+
+// Whether these are the letters that a store begins with.
+fn are_letters(bytes: &[u8]) -> bool
+    requires { length bytes.now ≡ 8 }
+    ensures { IsTrue result ↔ (bytes.now ≡ letters) }
+{
+    bytes == b"IDEJRNL1".as_slice()
+}
+
+/// The tag of a store.
+pub(crate) fn read_tag(bytes: &[u8]) -> Option<u8>
+    ensures store { IfSome result (λ tag. IsStore tag bytes.now) }
+    ensures none { IfNone result ((tag : ℕ) → IsStore tag bytes.now → ⊥) }
+{
+    if bytes.len() <= 4096 {
+        return None;
+    }
+    let named = are_letters(&bytes[..8]);
+    if !named {
+        return None;
+    }
+    let tag = bytes[8];
+    if tag == 0 {
+        return None;
+    }
+    let filled = are_zeros(&bytes[9..4096]);
+    if !filled {
+        return None;
+    }
+    Some(tag)
+}
+
+/// The records of a file that is a store with that tag, and where the first closed gate stands.
+pub(crate) fn read_file(
+    alloc: Global,
+    bytes: &[u8],
+    tag: u8,
+) -> Result<(Vec<RawRecord>, usize), Refused>
+    ensures read { IfOk result (λ pair. IsStore tag bytes.now × AreRead (map entry_of pair.0.items) pair.1 bytes.now × (slice_index bytes.now pair.1 ≡ 0)) }
+    ensures refused { IfErr result (λ refused. HasCause refused tag bytes.now) }
+{
+    let told = read_tag(bytes).ok_or(Refused::NotAStore)?;
+    if told != tag {
+        return Err(Refused::WrongInstance);
+    }
+    read_records(alloc, bytes)
 }
