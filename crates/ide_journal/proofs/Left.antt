@@ -108,3 +108,32 @@ gate_written base tail old new knows is =
 -- bytes over none
 pub put_nothing : (bytes : List ℕ) → put_at 0 bytes [] ≡ bytes
 put_nothing bytes = ap (λ (xs : List ℕ). bytes ++ xs) (drop_all (0 + length bytes) [] (omega arith)) ∙ append-nil bytes
+
+-- a cut behind a closed gate leaves what stands before it
+pub left_by_cut : (base rest left : List ℕ) → Keeps (base ++ 0 ∷ rest) (Cut (length base + 1) ∷ []) left → IsBefore base left
+left_by_cut base rest left keeps =
+    let size : length (base ++ 0 ∷ []) ≡ length base + 1 = omega (arith, length-append base (0 ∷ [])) in
+    let whole_size : length (base ++ 0 ∷ rest) ≡ length base + 1 + length rest = omega (arith, length-append base (0 ∷ rest)) in
+    let split : base ++ 0 ∷ rest ≡ (base ++ 0 ∷ []) ++ rest = sym (append_assoc base (0 ∷ []) rest) in
+    let long : length (base ++ 0 ∷ []) ≤ length left = omega (arith, size, keeps.within (length base) (omega (arith, whole_size)) (omega arith, tt)) in
+    let begins = begins_with (base ++ 0 ∷ []) left long (λ i inside.
+    keeps.same i (omega (arith, size, whole_size, inside)) (omega (arith, size, inside), tt)
+    ∙ ap (λ (xs : List ℕ). slice_index xs i) split ∙ get_or_append_left (base ++ 0 ∷ []) rest 0 i inside) in
+    record { rest = drop (length (base ++ 0 ∷ [])) left; split = begins ∙ append_assoc base (0 ∷ []) (drop (length (base ++ 0 ∷ [])) left) }
+
+-- what is cut off behind a closed gate
+pub cut_behind : (base rest : List ℕ) → take (length base + 1) (base ++ 0 ∷ rest) ≡ base ++ 0 ∷ []
+cut_behind base rest =
+    ap (λ (xs : List ℕ). take (length base + 1) xs) (sym (append_assoc base (0 ∷ []) rest))
+    ∙ take_at (base ++ 0 ∷ []) rest (length base + 1) (omega (arith, length-append base (0 ∷ [])))
+
+-- before such a cut the gate is closed as well
+pub left_before_cut : (base rest : List ℕ) (old : DiskState) → old ≡ settled (base ++ 0 ∷ rest) → (left : List ℕ) → CrashLeaves old left → IsBefore base left
+left_before_cut base rest old is left leaves = record { rest = rest; split = subst (λ (d : DiskState). CrashLeaves d left) is leaves }
+
+pub left_after_cut : (base rest : List ℕ) (gate : ℕ) (old new : DiskState) → gate ≡ length base → old ≡ settled (base ++ 0 ∷ rest)
+    → LeavesAfter (Cut (gate + 1)) old new → (left : List ℕ) → CrashLeaves new left → IsBefore base left
+left_after_cut base rest gate old new gate_is is after left leaves =
+    left_by_cut base rest left
+    (subst (λ (n : ℕ). Keeps (base ++ 0 ∷ rest) (Cut (n + 1) ∷ []) left) gate_is
+    (subst (λ (d : DiskState). LeftOf d.synced (Cut (gate + 1) ∷ d.changes) left) is (after.leaves left leaves)))

@@ -35,3 +35,18 @@ no_call G old P only_now before = record {
   each = λ left since. before left (only_now left since);
   before = λ t left early since. inl since;
 }
+
+-- one run after another
+pub goes_on : {D : Type 0} (G : Ghosts D) (first second third : D) (P : List ℕ → Type 0)
+    → LeavesOnly G first second P → LeavesOnly G second third P → LeavesOnly G first third P
+goes_on G first second third P one two = record {
+  later = omega (arith, one.later, two.later);
+  each = λ left since. elim (two.before (G.moment first) left one.later since) [
+    | inl past ↦ one.each left past
+    | inr holds ↦ holds
+  ];
+  before = λ t left early since. elim (two.before t left (omega (arith, early, one.later)) since) [
+    | inl past ↦ one.before t left early past
+    | inr holds ↦ inr holds
+  ];
+}

@@ -144,6 +144,7 @@ read_more entries entry gate size bytes before opened read =
           (pages_push 0 entries entry pages here before.whole opened read.proper));
       behind = omega (arith, before.behind);
       inside = inside;
+      few = omega (arith, length-append entries (entry ∷ []), read.low);
     }
 
 -- the first page, from its pieces
@@ -177,12 +178,12 @@ is_store bytes tag store =
 
 -- a store whose records are whole up to a closed gate holds them
 pub holds_read : (tag : ℕ) (entries : List Entry) (gate : ℕ) (bytes : List ℕ) → IsStore tag bytes → AreRead entries gate bytes
-    → slice_index bytes gate ≡ 0 → length entries ≤ 4294967295 → Holds tag entries bytes
-holds_read tag entries gate bytes store read closed few = record {
+    → slice_index bytes gate ≡ 0 → Holds tag entries bytes
+holds_read tag entries gate bytes store read closed = record {
   pages = slice_range bytes 4096 gate;
   rest = drop (gate + 1) bytes;
   whole = read.whole;
-  few = few;
+  few = read.few;
   split =
       store.split
       ∙ ap (λ (xs : List ℕ). header tag ++ xs)

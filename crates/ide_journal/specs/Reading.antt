@@ -33,6 +33,7 @@ pub record AreRead (entries : List Entry) (gate : ℕ) (bytes : List ℕ) : Type
   pub whole : IsPages 0 entries (slice_range bytes 4096 gate)
   pub behind : 4096 ≤ gate
   pub inside : gate < length bytes
+  pub few : length entries ≤ 4294967295
 
 -- the record of that number is open and not whole, and those before it are whole
 pub record IsDamagedAt (number : ℕ) (bytes : List ℕ) : Type 0 where

@@ -3,6 +3,7 @@
 
 mod journal;
 pub mod laws;
+mod opening;
 mod reading;
 mod record;
 mod spelling;
