@@ -12,10 +12,12 @@ use std::alloc::Global;
 /// All bytes of the disk.
 pub(crate) fn read_all<D: Disk>(alloc: Global, disk: &mut D) -> Result<Vec<u8>, Refused>
     ensures bytes { D.honest disk.old → IfOk result (λ bytes. bytes.items ≡ (D.state disk.old).now) }
+    ensures length { IfOk result (λ bytes. length bytes.items ≡ D.size disk.old) }
     ensures size { D.size disk.new ≡ D.size disk.old }
     ensures state { D.honest disk.old → D.state disk.new ≡ D.state disk.old }
     ensures honest { D.honest disk.old → D.honest disk.new }
     ensures any_moment { D.honest disk.old → LeavesOnly D.Disk disk.old disk.new (CrashLeaves (D.state disk.old)) }
+    ensures failures { OnOk result (D.failures disk.new ≡ D.failures disk.old) }
     ensures cause { result ≡ Err Refused.Disk → D.failures disk.new ≡ next_count (D.failures disk.old) }
 {
     let len = match disk.len() {
