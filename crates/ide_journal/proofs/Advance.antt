@@ -1,10 +1,10 @@
 -- From the bytes of one record to the list of records.
-use Rattle.std.specs.Prelude.{◌≡◌, ◌≢◌, ◌⊎◌, ℕ, ◌+◌, ◌<◌, ◌≤◌, List, [], ◌∷◌, ◌++◌, length, refl}
+use Rattle.std.specs.Prelude.{◌≡◌, ◌≢◌, ◌⊎◌, ℕ, ◌+◌, ◌≤◌, List, [], ◌∷◌, ◌++◌, length, refl}
 use Rattle.std.proofs.Common.{arith, sym, ap, subst, ◌∙◌, inl, inr}
 use Rattle.std.proofs.lemmas.List.{append_assoc, append-nil, length-append}
 use Rattle.ide_disk.specs.Disk.{DiskState, CrashLeaves, settled}
 use Rattle.ide_disk.specs.declared.disk.Disk.{Ghosts}
-use Rattle.ide_journal.specs.Bytes.{IsAfter, Knows}
+use Rattle.ide_journal.specs.Bytes.{Knows}
 use Rattle.ide_journal.specs.Format.{Entry, header, after_gate, IsEntry, IsPages, Holds}
 use Rattle.ide_journal.specs.Lists.{HoldsWithOrWithout, HoldsAt, IsAtRest, IsUnderWay}
 use Rattle.ide_journal.specs.Stands.{IsIdle, Stands, IsStored}

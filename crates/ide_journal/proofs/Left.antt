@@ -1,10 +1,10 @@
 -- What a crash leaves at each stage of a record.
-use Rattle.std.specs.Prelude.{◌≡◌, ◌≢◌, ◌⊎◌, ℕ, zero, suc, ◌+◌, ◌-◌, ◌<◌, ◌≤◌, List, [], ◌∷◌, ◌++◌, length, take, drop, slice_index, refl}
-use Rattle.std.proofs.Common.{arith, rules, sym, ap, subst, ◌∙◌, inl, inr, get_or}
+use Rattle.std.specs.Prelude.{◌≡◌, ◌≢◌, ℕ, zero, suc, ◌+◌, ◌<◌, ◌≤◌, List, [], ◌∷◌, ◌++◌, length, take, drop, slice_index, refl}
+use Rattle.std.proofs.Common.{arith, sym, ap, subst, ◌∙◌, inl, inr}
 use Rattle.std.proofs.lemmas.Bool.{cases_lt, cases_eq}
-use Rattle.std.proofs.lemmas.List.{places, append-nil, append_assoc, ext_get_or, take-append-drop, length-append, length-take-le, get_or-take, get_or_at, get_or_append_left, get_or-append-add, take_all, take_at, drop_all, drop_at}
+use Rattle.std.proofs.lemmas.List.{append-nil, append_assoc, ext_get_or, take-append-drop, length-append, length-take-le, get_or-take, get_or_at, get_or_append_left, take_at, drop_all}
 use Rattle.ide_disk.specs.Disk.{DiskState, Wrote, Cut, Keeps, LeftOf, CrashLeaves, LeavesAfter, LeavesAfterSync, settled, written, put_at}
-use Rattle.ide_journal.specs.Bytes.{IsBefore, IsAfter, IsBeforeOrAfter, Knows}
+use Rattle.ide_journal.specs.Bytes.{IsBefore, IsBeforeOrAfter, Knows}
 use Rattle.ide_journal.specs.declared.stage.Stage.{Stage}
 use Rattle.ide_journal.specs.declared.stage.Stage.TheVariants.{Idle, Begun, Written, BodySynced, GateWritten, Failed}
 

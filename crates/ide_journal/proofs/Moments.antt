@@ -1,5 +1,5 @@
 -- What a crash at some moment of one disk call leaves.
-use Rattle.std.specs.Prelude.{◌⊎◌, ℕ, ◌≤◌, List}
+use Rattle.std.specs.Prelude.{ℕ, List}
 use Rattle.std.proofs.Common.{arith, inl, inr}
 use Rattle.ide_disk.specs.Disk.{CrashLeaves}
 use Rattle.ide_disk.specs.Time.{Elapses}

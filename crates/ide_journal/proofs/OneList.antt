@@ -1,10 +1,10 @@
 -- A file holds one list of records at most.
-use Rattle.std.specs.Prelude.{◌≡◌, ◌≢◌, ℕ, zero, suc, ◌+◌, ◌<◌, ◌≤◌, ◌^◌, List, [], ◌∷◌, ◌++◌, length, replicate, drop, refl}
+use Rattle.std.specs.Prelude.{◌≡◌, ℕ, ◌+◌, ◌≤◌, List, [], ◌∷◌, ◌++◌, length, drop, refl}
 use Rattle.std.specs.Int.{w32, w64, to_le_bytes, from_le_bytes}
-use Rattle.std.proofs.Common.{arith, sym, ap, subst, ◌∙◌, get_or}
+use Rattle.std.proofs.Common.{arith, sym, ap, ◌∙◌, get_or}
 use Rattle.std.proofs.lemmas.List.{append_assoc, append_cancel_left, length-append, length-replicate}
 use Rattle.std.proofs.lemmas.Nat.{from_le_bytes-to_le_bytes_4}
-use Rattle.ide_journal.specs.Format.{Entry, letters, zeros, header, padding, after_gate, IsEntry, IsPages, Holds}
+use Rattle.ide_journal.specs.Format.{Entry, letters, zeros, header, padding, after_gate, IsEntry, IsPages}
 use Rattle.ide_journal.specs.Laws.{HoldsOneList}
 
 pub length-zeros : (count : ℕ) → length (zeros count) ≡ count

@@ -1,12 +1,12 @@
 -- Records that are read are those that were spelled.
-use Rattle.std.specs.Prelude.{◌≡◌, ◌≢◌, ℕ, zero, suc, ◌+◌, ◌-◌, ◌<◌, ◌≤◌, ◌^◌, List, [], ◌∷◌, ◌++◌, length, take, drop, slice_index, slice_range, replicate, refl}
+use Rattle.std.specs.Prelude.{◌≡◌, ◌≢◌, ℕ, ◌+◌, ◌-◌, ◌<◌, ◌≤◌, ◌^◌, List, [], ◌∷◌, ◌++◌, length, take, drop, slice_index, slice_range, refl}
 use Rattle.std.specs.Int.{w32, w64, to_le_bytes, from_le_bytes}
-use Rattle.std.proofs.Common.{arith, rules, sym, ap, subst, ◌∙◌, get_or}
+use Rattle.std.proofs.Common.{arith, sym, ap, subst, ◌∙◌}
 use Rattle.std.proofs.lemmas.List.{append_assoc, length-append, length-take, length-drop, ext_get_or, get_or-replicate, take_at, drop_at, drop_more}
 use Rattle.std.proofs.lemmas.Nat.{from_le_bytes-to_le_bytes_4}
 use Rattle.std.proofs.lemmas.List.Folds.{drop_split}
 use Rattle.ide_journal.specs.Format.{Entry, letters, header, Holds, zeros, padding, after_gate, IsEntry, IsPages}
-use Rattle.ide_journal.specs.Reading.{AreRead, IsDamaged, IsRead, IsStore, IsWhole}
+use Rattle.ide_journal.specs.Reading.{AreRead, IsRead, IsStore, IsWhole}
 use Rattle.ide_journal.proofs.Lists.{pages_push}
 use Rattle.ide_journal.proofs.OneList.{length-zeros}
 

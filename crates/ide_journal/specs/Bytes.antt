@@ -1,6 +1,6 @@
 -- What the disk holds at each stage of one record, and what a crash leaves then.
 use Rattle.std.specs.Prelude.{◌≡◌, ◌≢◌, ◌⊎◌, ℕ, ◌+◌, List, [], ◌∷◌, ◌++◌, length}
-use Rattle.ide_disk.specs.Disk.{DiskState, Wrote, Cut, CrashLeaves, settled}
+use Rattle.ide_disk.specs.Disk.{DiskState, Wrote, CrashLeaves, settled}
 use Rattle.ide_journal.specs.declared.stage.Stage.{Stage}
 use Rattle.ide_journal.specs.declared.stage.Stage.TheVariants.{Idle, Begun, Written, BodySynced, GateWritten, Failed}
 

@@ -2,8 +2,7 @@
 use Rattle.ide_journal.specs.declared.stage.Phase.{Phase}
 use Rattle.ide_journal.specs.declared.stage.Phase.TheVariants as phase
 use Rattle.ide_journal.specs.declared.stage.Stage.{Stage}
-use Rattle.ide_journal.specs.declared.stage.Stage.TheVariants.{Idle, Begun, Written, BodySynced, GateWritten, Failed}
-use Rattle.std.specs.Prelude.{◌≡◌}
+use Rattle.ide_journal.specs.declared.stage.Stage.TheVariants.{Idle, Begun, Written, BodySynced, GateWritten}
 
 -- the stage after a phase
 abbrev pub stage_after : Phase → Stage

@@ -1,4 +1,4 @@
-use Rattle.std.proofs.Common.{◌≡◌, List, ℕ, [], OnOk, ap, subst, ◌∙◌}
+use Rattle.std.proofs.Common.{◌≡◌, List, ℕ, OnOk, ap, subst, ◌∙◌}
 use Rattle.ide_disk.specs.Disk.{DiskState, settled, put_at}
 use Rattle.ide_journal.proofs.Left.{put_nothing}
 use Rattle.ide_journal.proofs.journal.rewrite.Goals as goal

@@ -1,4 +1,4 @@
-use Rattle.std.proofs.Common.{◌≡◌, ℕ, List, [], ◌∷◌, ◌++◌, ◌+◌, OnOk, take, ap, subst, ◌∙◌}
+use Rattle.std.proofs.Common.{◌≡◌, ℕ, List, ◌∷◌, ◌++◌, ◌+◌, OnOk, take, ap, subst, ◌∙◌}
 use Rattle.ide_disk.specs.Disk.{DiskState, settled}
 use Rattle.ide_journal.specs.Bytes.{IsBefore}
 use Rattle.ide_journal.proofs.Left.{left_before_cut, left_after_cut, cut_behind}

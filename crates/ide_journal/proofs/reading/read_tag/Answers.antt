@@ -1,4 +1,4 @@
-use Rattle.std.proofs.Common.{◌≡◌, ℕ, ◌<◌, length, slice_index, slice_range, arith, refl, sym, ◌∙◌}
+use Rattle.std.proofs.Common.{◌≡◌, length, slice_index, slice_range, arith, refl}
 use Rattle.std.proofs.lemmas.List.{length-take, length-drop}
 use Rattle.ide_journal.proofs.Whole.{is_store, store_is, are_zeros, zeros_are}
 use Rattle.ide_journal.proofs.reading.read_tag.Goals as goal

@@ -1,8 +1,4 @@
-use Rattle.std.proofs.Common.{List, ℕ, length, ◌+◌, arith, sym, ap, subst, ◌∙◌}
-use Rattle.ide_disk.specs.Disk.{DiskState, Wrote, LeavesAfter, written}
-use Rattle.ide_journal.specs.Bytes.{Knows}
-use Rattle.ide_journal.specs.declared.stage.Stage.{Stage}
-use Rattle.ide_journal.proofs.Left.{body_failed, gate_failed, sync_failed, gate_written}
+use Rattle.ide_journal.proofs.Left.{sync_failed}
 use Rattle.ide_journal.proofs.journal.Journal.sync_body.Goals as goal
 
 pub returns-in-Err-clause-stands : goal.returns-in-Err-clause-stands

@@ -1,8 +1,8 @@
-use Rattle.std.proofs.Common.{List, ℕ, length, ◌+◌, arith, sym, ap, subst, ◌∙◌}
-use Rattle.ide_disk.specs.Disk.{DiskState, Wrote, LeavesAfter, written}
+use Rattle.std.proofs.Common.{List, ℕ, length, ◌+◌, subst, ◌∙◌}
+use Rattle.ide_disk.specs.Disk.{Wrote, LeavesAfter}
 use Rattle.ide_journal.specs.Bytes.{Knows}
 use Rattle.ide_journal.specs.declared.stage.Stage.{Stage}
-use Rattle.ide_journal.proofs.Left.{body_failed, gate_failed, sync_failed, gate_written}
+use Rattle.ide_journal.proofs.Left.{body_failed}
 use Rattle.ide_journal.proofs.journal.Journal.write_body.Goals as goal
 
 pub returns-in-Err-clause-stands : goal.returns-in-Err-clause-stands
