@@ -1,5 +1,5 @@
 -- What contracts see of a graph.
-use Rattle.std.specs.Prelude.{ℕ, ◌+◌, ◌<◌, ◌≤◌, ◌≡◌, List, Option, slice_get, slice_index, slice_index_or, []}
+use Rattle.std.specs.Prelude.{ℕ, ◌+◌, ◌<◌, ◌≤◌, ◌≡◌, List, Option, Some, slice_get, slice_index, slice_index_or, []}
 use Rattle.std.specs.Option.{option_and_then}
 use Rattle.ide_graph.specs.Named.{procedure_of_name, fact_of_name, names_of_facts}
 use Rattle.ide_graph.specs.declared.site.Site.{Site}
@@ -22,11 +22,6 @@ pub record Supergraph : Type 0 where
   pub globals : List (List ℕ)
   pub own : List (List (List ℕ))
 
--- the node stands at that position of one of the procedures
-abbrev pub StandsAt : Supergraph → ℕ → ℕ → Type 0
-StandsAt graph node position =
-    (procedure : ℕ) × (procedure < graph.procedures) × (node ≡ slice_index graph.starts procedure + position) × (node ≤ slice_index graph.exits procedure)
-
 -- the index of the procedure of the name
 abbrev pub procedure_named : Supergraph → List ℕ → Option ℕ
 procedure_named graph name = procedure_of_name graph.named name
@@ -42,3 +37,11 @@ fact_names graph procedure = names_of_facts graph.globals (slice_index_or graph.
 -- the name of a fact at a node: none past the nodes
 abbrev pub name_at : Supergraph → ℕ → ℕ → Option (List ℕ)
 name_at graph node fact = option_and_then (λ owner. slice_get (fact_names graph owner) fact) (slice_get graph.owners node)
+
+-- the node is that at the position of the procedure of the name, and the fact that of its name there
+pub record IsFoundAt (graph : Supergraph) (procedure : List ℕ) (position : ℕ) (name : List ℕ) (node fact : ℕ) : Type 0 where
+  pub index : ℕ
+  pub named : procedure_named graph procedure ≡ Some index
+  pub stands : node ≡ slice_index graph.starts index + position
+  pub within : node ≤ slice_index graph.exits index
+  pub fact_is : fact_named graph index name ≡ Some fact

@@ -55,7 +55,7 @@ impl Model for Graph {
 }
 
 impl Graph {
-    ghost use Rattle.ide_graph.specs.Supergraph.{StandsAt, procedure_named, fact_named, name_at};
+    ghost use Rattle.ide_graph.specs.Supergraph.{IsFoundAt, procedure_named, fact_named, name_at};
 
     /// The graph of a program. Time grows with the number of edges and the program's size.
     pub fn of(alloc: Global, program: &Program) -> Result<Graph, Refused>
@@ -198,10 +198,9 @@ impl Graph {
         position: u32,
         fact: &[u8],
     ) -> Result<(Node, Fact), Refused>
-        ensures position { IfOk result (λ found. StandsAt self.now found.0 position) }
+        ensures found { IfOk result (λ found. IsFoundAt self.now procedure.now position fact.now found.0 found.1) }
         ensures node { IfOk result (λ found. found.0 < self.now.nodes) }
         ensures fact { IfOk result (λ found. found.1 < self.now.facts) }
-        ensures fact_named { IfOk result (λ found. (index : ℕ) × (procedure_named self.now procedure.now ≡ Some index) × (fact_named self.now index fact.now ≡ Some found.1)) }
         ensures no_procedure { (result ≡ Err NoProcedure) ↔ (procedure_named self.now procedure.now ≡ None) }
         ensures out_of_range { result ≡ Err OutOfRange → (index : ℕ) × (procedure_named self.now procedure.now ≡ Some index) × ((slice_index self.now.exits index < slice_index self.now.starts index + position) ⊎ (fact_named self.now index fact.now ≡ None)) }
         ensures refused { IfErr result (λ refused. (refused ≡ NoProcedure) ⊎ (refused ≡ OutOfRange)) }

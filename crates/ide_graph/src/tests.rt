@@ -18,6 +18,29 @@ const STATEMENTS: &str =
 const RECURSION: &str =
     "global g/proc rec n/branch done/call rec n/at done/return g/end/proc main/call rec g/end/";
 
+const EMPTY: &str = "proc main/end/";
+
+const NUMBER: &str = "proc main/var x/x = 5/end/";
+
+const COPIES: &str = "proc main/var x/var y/x = 5/y = x/end/";
+
+const BRANCH: &str = "proc main/var x/branch other/x = 5/goto done/at other/x = 5/at done/end/";
+
+const UNREACHABLE: &str = "proc main/var x/x = 1/goto done/x = 2/at done/end/";
+
+const UNINITIALISED: &str = "proc main/var x/var y/y = x/x = 1/end/";
+
+const WRAPPING_SUM: &str = "proc main/var x/var y/x = 18446744073709551615/y = x + 1/end/";
+
+const COUNTING: &str =
+    "global g/proc rec/branch done/g = g + 1/call rec/at done/end/proc main/g = 0/call rec/end/";
+
+const ADDS_IN_CALLEE: &str =
+    "proc f p/var q/q = p + 1/branch done/call f q/at done/end/proc main/var a/a = 1/call f a/end/";
+
+const SUM_OR_NUMBER: &str =
+    "proc f y/var x/branch other/x = y + 1/goto done/at other/x = 7/at done/return x/end/proc main/var a/var b/var u/var v/a = 6/b = 5/u = call f a/v = call f b/end/";
+
 /// The graph of the program that a text spells, which has an LF for each slash.
 fn graph_of(alloc: Global, text: &str) -> Result<Graph, Fail> {
     let mut bytes = Vec::new(alloc);
@@ -83,6 +106,80 @@ fn expect_sites(rt: &impl Abort, alloc: Global, graph: &Graph, sites: &[&str]) -
         assert_eq!(rt; site.as_str(), *expected, "at node {node}");
     }
     Ok(())
+}
+
+/// That the graph of a text has these counts.
+fn expect_counts_of(
+    rt: &(impl Abort + AllocGlobal),
+    text: &str,
+    counts: (usize, usize, usize, usize),
+) -> Result<(), Fail> {
+    expect_counts(rt, &graph_of(rt.alloc(), text)?, counts);
+    Ok(())
+}
+
+#[test]
+fn examples_have_their_counts(rt: HostRuntime) -> Result<(), Fail> {
+    expect_counts_of(&rt, EMPTY, (1, 2, 2, 1))?;
+    expect_counts_of(&rt, NUMBER, (1, 3, 3, 1))?;
+    expect_counts_of(&rt, COPIES, (1, 4, 4, 1))?;
+    expect_counts_of(&rt, BRANCH, (1, 8, 3, 1))?;
+    expect_counts_of(&rt, UNREACHABLE, (1, 6, 3, 1))?;
+    expect_counts_of(&rt, UNINITIALISED, (1, 4, 4, 1))?;
+    expect_counts_of(&rt, WRAPPING_SUM, (1, 4, 4, 1))?;
+    expect_counts_of(&rt, COUNTING, (2, 12, 3, 2))?;
+    expect_counts_of(&rt, ADDS_IN_CALLEE, (2, 12, 4, 1))?;
+    expect_counts_of(&rt, SUM_OR_NUMBER, (2, 17, 6, 1))
+}
+
+#[test]
+fn branches_have_both_ways(rt: HostRuntime) -> Result<(), Fail> {
+    let graph = graph_of(rt.alloc(), BRANCH)?;
+    let sites = [
+        " normal 1 Enter { first: 2, end: 3 }",
+        " normal 2 Nothing normal 4 Nothing",
+        " normal 3 Number { target: 2, number: 5 }",
+        " normal 6 Nothing",
+        " normal 5 Nothing",
+        " normal 6 Number { target: 2, number: 5 }",
+        " normal 7 Nothing",
+        " exit of 0",
+    ];
+    expect_sites(&rt, rt.alloc(), &graph, &sites)
+}
+
+#[test]
+fn a_node_may_be_unreachable(rt: HostRuntime) -> Result<(), Fail> {
+    let graph = graph_of(rt.alloc(), UNREACHABLE)?;
+    let sites = [
+        " normal 1 Enter { first: 2, end: 3 }",
+        " normal 2 Number { target: 2, number: 1 }",
+        " normal 4 Nothing",
+        " normal 4 Number { target: 2, number: 2 }",
+        " normal 5 Nothing",
+        " exit of 0",
+    ];
+    expect_sites(&rt, rt.alloc(), &graph, &sites)
+}
+
+#[test]
+fn a_global_is_counted_in_recursion(rt: HostRuntime) -> Result<(), Fail> {
+    let graph = graph_of(rt.alloc(), COUNTING)?;
+    let sites = [
+        " normal 1 Enter { first: 3, end: 3 }",
+        " normal 2 Nothing normal 5 Nothing",
+        " normal 3 Sum { target: 1, source: 1, number: 1 }",
+        " call 0 [] along 4 None",
+        " normal 5 Nothing",
+        " normal 6 Nothing",
+        " exit of 0 from 3 call 0 [] return 4 None from 9 call 0 [] return 10 None",
+        " normal 8 Enter { first: 3, end: 3 }",
+        " normal 9 Number { target: 1, number: 0 }",
+        " call 0 [] along 10 None",
+        " normal 11 Nothing",
+        " exit of 7",
+    ];
+    expect_sites(&rt, rt.alloc(), &graph, &sites)
 }
 
 #[test]
