@@ -10,7 +10,6 @@ pub mod Naming
 pub mod Numbered
 pub mod Numbering
 pub mod Numbers
-pub mod Passed
 pub mod ProgramEdges
 pub mod Supergraph
 pub mod Whole

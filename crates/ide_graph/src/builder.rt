@@ -20,11 +20,10 @@ use crate::directory::Directory;
 use crate::edge::{EdgeData, EdgeKind, Effect};
 use crate::globals::Globals;
 use crate::numbering::{Numbering, Place, Spot};
-use crate::passed::Passed;
 use crate::scope::Scope;
 use crate::site::{Caller, Site};
 use ide_text::{Name, Statement};
-use ide_wire::{Node, Refused};
+use ide_wire::{Listing, Node, Refused};
 use std::alloc::Global;
 use std::mem;
 use std::sync::Arc;
@@ -352,7 +351,7 @@ impl<'a, 'p> Builder<'a, 'p> {
                 passed.push((call.scope.fact(argument), self.globals.own_fact(index)))?;
             }
         }
-        Ok(self.edge(layout.start, EdgeKind::Call(Passed::of(passed))))
+        Ok(self.edge(layout.start, EdgeKind::Call(Listing::of(passed))))
     }
 
     /// An edge. A parsed program has a node wherever an edge ends; one past them all would end at

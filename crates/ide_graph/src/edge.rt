@@ -1,6 +1,6 @@
 //! Edges of the supergraph, as plain data that carry all that a flow function needs.
-use crate::passed::Passed;
-use ide_wire::{Fact, Node};
+
+use ide_wire::{Fact, Listing, Node};
 
 /// An edge: where it ends, how the program's facts are numbered, and what it is.
 ///
@@ -22,7 +22,7 @@ pub enum EdgeKind {
     /// Within a procedure, by one statement.
     Normal(Effect),
     /// From a call node to the callee's start: each argument with the parameter that it goes to.
-    Call(Passed),
+    Call(Listing<(Fact, Fact)>),
     /// From a callee's exit to the return site, with the fact that the call assigns, if any.
     Return(Option<Fact>),
     /// From a call node to its return site, with the fact that the call assigns, if any.

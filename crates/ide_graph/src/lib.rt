@@ -18,7 +18,6 @@ mod laws;
 mod layout;
 mod names;
 mod numbering;
-mod passed;
 mod scope;
 mod site;
 
@@ -29,7 +28,6 @@ pub use laws::{
     nodes_have_one_site, normal_edges_stay_within, return_sites_follow_calls,
     sites_of_programs_are_joined,
 };
-pub use passed::Passed;
 pub use site::{Caller, Site};
 
 #[cfg(test)]
