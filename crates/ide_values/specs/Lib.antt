@@ -1,2 +1,3 @@
+pub mod BestDump
 pub mod Dump
 pub mod Extends
