@@ -10,7 +10,7 @@ use ide_graph::Site;
 use ide_problem::Problem;
 use ide_tables::Tables;
 use ide_tasks::{Partners, Task};
-use ide_wire::{Key, Refused};
+use ide_wire::{Key, Listing, Refused};
 use std::alloc::Global;
 
 /// What a claim gives.
@@ -98,15 +98,19 @@ fn partners_of<P: Problem>(
 {
     match (key, site) {
         (Key::Jump(call, _, to), Site::Call { .. }) => {
-            Ok(Partners::Entries(tables.summaries_at(alloc, call, to)?))
+            let summaries = tables.summaries_at(alloc, call, to)?;
+            Ok(Partners::Entries(Listing::of(summaries)))
         }
         (Key::Jump(_, from, _), Site::Exit { .. }) => {
             let reaching = loaded.sources.reaching(alloc, procedure, from)?;
-            Ok(Partners::Callers(reaching))
+            Ok(Partners::Callers(Listing::of(reaching)))
         }
-        (Key::Jump(_, _, _), Site::Normal(_)) => Ok(Partners::Entries(Vec::new(alloc))),
+        (Key::Jump(_, _, _), Site::Normal(_)) => {
+            Ok(Partners::Entries(Listing::of(Vec::new(alloc))))
+        }
         (Key::Summary(call, from, _), _) => {
-            Ok(Partners::Entries(tables.jumps_at(alloc, call, from)?))
+            let jumps = tables.jumps_at(alloc, call, from)?;
+            Ok(Partners::Entries(Listing::of(jumps)))
         }
     }
 }

@@ -1,5 +1,7 @@
 //! The parts that a task owes: by edge in the site's order, then by partner, then by target.
-ghost use Rattle.std.specs.Prelude.{◌≡◌, IfErr, OnErr};
+ghost use Rattle.std.specs.Prelude.{◌≡◌, ◌++◌, IfOk, OnOk, map, slice_get};
+ghost use Rattle.std.specs.List.{flat_map};
+ghost use Rattle.ide_tasks.specs.Parts.{owed, parts_at, flat_parts, seed_parts, after_parts, resumed_parts, summary_parts, exit_parts};
 
 use crate::partners::{Partners, Reaching};
 use crate::task::Task;
@@ -10,28 +12,14 @@ use ide_wire::{Fact, Key, Node};
 use std::alloc::{AllocError, Global};
 
 /// The parts of the task, in their order.
-pub fn parts_of<P: Problem>(alloc: Global, task: &Task<P>) -> Result<Vec<(Key, P::F)>, AllocError> {
+pub fn parts_of<P: Problem>(alloc: Global, task: &Task<P>) -> Result<Vec<(Key, P::F)>, AllocError>
+    ensures { IfOk result (λ parts. parts.items ≡ owed P.targets P.F.edge task.now) }
+{
     let mut parts: Parts<P> = Parts {
         list: Vec::new(alloc),
         targets: TargetList::new(alloc),
     };
-    match (task.key, &*task.site, &task.partners) {
-        (Key::Jump(_, from, to), Site::Normal(edges), _) => {
-            parts.add_edges(edges.as_slice(), task.function, from, to)?;
-        }
-        (Key::Jump(_, from, to), Site::Call { calls, along }, Partners::Entries(summaries)) => {
-            parts.add_starts(calls.as_slice(), to)?;
-            parts.add_edge(along, task.function, from, to)?;
-            parts.add_over_call(along.end, summaries.as_slice(), task.function, from)?;
-        }
-        (Key::Jump(_, _, to), Site::Exit { callers, .. }, Partners::Callers(reaching)) => {
-            parts.add_exit(callers.as_slice(), reaching.as_slice(), task.function, to)?;
-        }
-        (Key::Summary(_, _, to), Site::Call { along, .. }, Partners::Entries(jumps)) => {
-            parts.add_summary(along.end, jumps.as_slice(), task.function, to)?;
-        }
-        _ => {}
-    }
+    parts.add_all(task.key, task.function, &task.site, &task.partners)?;
     let Parts { list, targets: _ } = parts;
     Ok(list)
 }
@@ -44,6 +32,35 @@ struct Parts<P: Problem> {
 }
 
 impl<P: Problem> Parts<P> {
+    /// The parts of a key with that function, at its site and with its partners.
+    fn add_all(
+        &mut self,
+        key: Key,
+        function: P::F,
+        site: &Site,
+        partners: &Partners<P::F>,
+    ) -> Result<(), AllocError>
+        ensures { OnOk result (self.new.list.items ≡ self.old.list.items ++ parts_at P.targets P.F.edge key function site.now partners.now) }
+    {
+        match (key, site, partners) {
+            (Key::Jump(_, from, to), Site::Normal(edges), _) => {
+                self.add_edges(edges.as_slice(), function, from, to)
+            }
+            (Key::Jump(_, from, to), Site::Call { calls, along }, Partners::Entries(summaries)) => {
+                self.add_starts(calls.as_slice(), to)?;
+                self.add_edge(along, function, from, to)?;
+                self.add_over_call(along.end, summaries.as_slice(), function, from)
+            }
+            (Key::Jump(_, _, to), Site::Exit { callers, .. }, Partners::Callers(reaching)) => {
+                self.add_exit(callers.as_slice(), reaching.as_slice(), function, to)
+            }
+            (Key::Summary(_, _, to), Site::Call { along, .. }, Partners::Entries(jumps)) => {
+                self.add_summary(along.end, jumps.as_slice(), function, to)
+            }
+            _ => Ok(()),
+        }
+    }
+
     /// At a node that is neither call nor exit: `function`, then each target of each edge.
     fn add_edges(
         &mut self,
@@ -51,7 +68,9 @@ impl<P: Problem> Parts<P> {
         function: P::F,
         from: Fact,
         to: Fact,
-    ) -> Result<(), AllocError> {
+    ) -> Result<(), AllocError>
+        ensures { OnOk result (self.new.list.items ≡ self.old.list.items ++ flat_map (flat_parts P.targets P.F.edge from to function) edges.now) }
+    {
         for edge in edges {
             self.add_edge(edge, function, from, to)?;
         }
@@ -65,17 +84,22 @@ impl<P: Problem> Parts<P> {
         function: P::F,
         from: Fact,
         to: Fact,
-    ) -> Result<(), AllocError> {
+    ) -> Result<(), AllocError>
+        ensures { OnOk result (self.new.list.items ≡ self.old.list.items ++ flat_parts P.targets P.F.edge from to function edge.now) }
+    {
         self.flow(edge, to)?;
-        for (target, over) in self.targets.list.as_slice() {
+        let Parts { list, targets } = self;
+        for (target, over) in targets.list.as_slice() {
             let key = Key::Jump(edge.end, from, *target);
-            self.list.push((key, function.compose(*over)))?;
+            list.push((key, function.compose(*over)))?;
         }
         Ok(())
     }
 
     /// At a call node: the facts at each callee's start that `to` reaches.
-    fn add_starts(&mut self, calls: &[EdgeData], to: Fact) -> Result<(), AllocError> {
+    fn add_starts(&mut self, calls: &[EdgeData], to: Fact) -> Result<(), AllocError>
+        ensures { OnOk result (self.new.list.items ≡ self.old.list.items ++ flat_map (seed_parts P.targets P.F.edge to) calls.now) }
+    {
         for edge in calls {
             self.add_start(edge, to)?;
         }
@@ -89,7 +113,9 @@ impl<P: Problem> Parts<P> {
         summaries: &[(Fact, P::F)],
         function: P::F,
         from: Fact,
-    ) -> Result<(), AllocError> {
+    ) -> Result<(), AllocError>
+        ensures { OnOk result (self.new.list.items ≡ self.old.list.items ++ after_parts P.targets P.F.edge return_site from function summaries.now) }
+    {
         for (fact, summary) in summaries {
             let key = Key::Jump(return_site, from, *fact);
             self.list.push((key, function.compose(*summary)))?;
@@ -98,11 +124,13 @@ impl<P: Problem> Parts<P> {
     }
 
     /// The facts at a callee's start that `to` reaches: each begins a jump by the identity.
-    fn add_start(&mut self, edge: &EdgeData, to: Fact) -> Result<(), AllocError> {
+    fn add_start(&mut self, edge: &EdgeData, to: Fact) -> Result<(), AllocError>
+        ensures { OnOk result (self.new.list.items ≡ self.old.list.items ++ seed_parts P.targets P.F.edge to edge.now) }
+    {
         self.flow(edge, to)?;
-        for (target, _) in self.targets.list.as_slice() {
-            self.list
-                .push((Key::Jump(edge.end, *target, *target), P::F::id()))?;
+        let Parts { list, targets } = self;
+        for (target, _) in targets.list.as_slice() {
+            list.push((Key::Jump(edge.end, *target, *target), P::F::id()))?;
         }
         Ok(())
     }
@@ -115,7 +143,9 @@ impl<P: Problem> Parts<P> {
         reaching: &[Reaching<P::F>],
         function: P::F,
         to: Fact,
-    ) -> Result<(), AllocError> {
+    ) -> Result<(), AllocError>
+        ensures { OnOk result (self.new.list.items ≡ self.old.list.items ++ flat_map (λ source. exit_parts P.targets P.F.edge to function source (slice_get callers.now source.caller)) reaching.now) }
+    {
         let mut current = None;
         for source in reaching {
             let Some(caller) = callers.get(source.caller as usize) else {
@@ -126,16 +156,14 @@ impl<P: Problem> Parts<P> {
                 current = Some(source.caller);
             }
             let through = source.function.compose(function);
-            self.add_summaries(caller.call_node, source.fact, through)?;
-        }
-        Ok(())
-    }
-
-    /// The summaries from one fact at a call node to the targets at its return site.
-    fn add_summaries(&mut self, call: Node, fact: Fact, through: P::F) -> Result<(), AllocError> {
-        for (target, back) in self.targets.list.as_slice() {
-            let key = Key::Summary(call, fact, *target);
-            self.list.push((key, through.compose(*back)))?;
+            let targets = self.targets.list.as_slice();
+            add_summaries(
+                &mut self.list,
+                targets,
+                caller.call_node,
+                source.fact,
+                through,
+            )?;
         }
         Ok(())
     }
@@ -147,7 +175,9 @@ impl<P: Problem> Parts<P> {
         jumps: &[(Fact, P::F)],
         summary: P::F,
         to: Fact,
-    ) -> Result<(), AllocError> {
+    ) -> Result<(), AllocError>
+        ensures { OnOk result (self.new.list.items ≡ self.old.list.items ++ resumed_parts P.targets P.F.edge return_site to summary jumps.now) }
+    {
         for (from, jump) in jumps {
             let key = Key::Jump(return_site, *from, to);
             self.list.push((key, jump.compose(summary)))?;
@@ -156,9 +186,29 @@ impl<P: Problem> Parts<P> {
     }
 
     /// Fills the targets with those of `fact` over the edge.
-    fn flow(&mut self, edge: &EdgeData, fact: Fact) -> Result<(), AllocError> {
+    fn flow(&mut self, edge: &EdgeData, fact: Fact) -> Result<(), AllocError>
+        ensures targets { OnOk result (self.new.targets.list.items ≡ P.targets edge.now fact) }
+        ensures parts { self.new.list ≡ self.old.list }
+    {
         self.targets.clear();
         P::flow(edge, fact, &mut self.targets)?;
         Ok(())
     }
+}
+
+/// The summaries from one fact at a call node to the targets at its return site.
+fn add_summaries<F: EdgeFn>(
+    list: &mut Vec<(Key, F)>,
+    targets: &[(Fact, F)],
+    call: Node,
+    fact: Fact,
+    through: F,
+) -> Result<(), AllocError>
+    ensures { OnOk result (list.new.items ≡ list.old.items ++ map (λ t. (Key.Summary call fact t.0, F.edge.compose through t.1)) targets.now) }
+{
+    for (target, back) in targets {
+        let key = Key::Summary(call, fact, *target);
+        list.push((key, through.compose(*back)))?;
+    }
+    Ok(())
 }

@@ -1,5 +1,5 @@
 //! A claimed key with all that its parts depend on.
-ghost use Rattle.std.specs.Prelude.{◌≡◌, IfOk};
+ghost use Rattle.std.specs.Prelude.{◌≡◌, IfOk, IsTrue};
 ghost use Rattle.ide_tasks.specs.Task.{same_site, same_task};
 
 use crate::partners::Partners;
@@ -31,9 +31,7 @@ impl<P: Problem> Model for Task<P> {
 impl<P: Problem> Task<P> {
     /// The same task again. It copies the partners and shares the site.
     pub fn copy(&self, alloc: Global) -> Result<Task<P>, AllocError>
-        ensures key { IfOk result (λ t. t.key ≡ self.now.key) }
-        ensures function { IfOk result (λ t. t.function ≡ self.now.function) }
-        ensures site { IfOk result (λ t. t.site ≡ self.now.site) }
+        ensures { IfOk result (λ t. t ≡ self.now) }
     {
         let partners = self.partners.copy(alloc)?;
         let site = Arc::try_clone(&self.site)?;
@@ -48,7 +46,9 @@ impl<P: Problem> Task<P> {
     /// Whether the tasks are the same: key, function, site and partners. It takes time in
     /// proportion to site and partners.
     pub fn is_same(&self, other: &Task<P>) -> bool
-        ensures { result ≡ same_task P.F.eq ⟦<Partners<P::F> as PartialEq>⟧.eq self.now other.now }
+        ensures same { result ≡ same_task P.F.eq ⟦<Partners<P::F> as PartialEq>⟧.eq self.now other.now }
+        ensures key { IsTrue result → self.now.key ≡ other.now.key }
+        ensures function { IsTrue result → self.now.function ≡ other.now.function }
     {
         self.key == other.key
             && self.function == other.function

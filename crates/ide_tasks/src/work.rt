@@ -1,5 +1,6 @@
 //! A task with its parts.
 ghost use Rattle.std.specs.Prelude.{◌≡◌, ◌+◌, IfErr, IfNone, IfOk, length, min, slice_get};
+ghost use Rattle.ide_tasks.specs.Parts.{owed};
 
 use crate::parts::parts_of;
 use crate::task::Task;
@@ -17,20 +18,22 @@ pub struct Work<P: Problem> {
 }
 
 impl<P: Problem> Model for Work<P> {
-    ghost use Rattle.std.specs.Prelude.{◌≤◌, length};
+    ghost use Rattle.std.specs.Prelude.{◌≡◌, ◌≤◌, length};
+    ghost use Rattle.ide_tasks.specs.Parts.{owed};
     ghost use Rattle.ide_tasks.specs.Work.{WorkData};
 
     ghost Value = { WorkData P.F };
 
     ghost view = { λ w. record { task = w.task; parts = w.parts.items; done = w.done } };
 
-    ghost invariant = { λ w. w.done ≤ length w.parts.items };
+    ghost invariant = { λ w. (w.done ≤ length w.parts.items) × (w.parts.items ≡ owed P.targets P.F.edge w.task) };
 }
 
 impl<P: Problem> Work<P> {
     /// The work of a task, with no part done. Where memory is wanting, the task comes back.
     pub fn of(alloc: Global, task: Task<P>) -> Result<Work<P>, (Refused, Task<P>)>
         ensures task { IfOk result (λ work. work.task ≡ task) }
+        ensures parts { IfOk result (λ work. work.parts ≡ owed P.targets P.F.edge task) }
         ensures none_done { IfOk result (λ work. work.done ≡ 0) }
         ensures refused { IfErr result (λ e. (e.0 ≡ Refused.NoMemory) × (e.1 ≡ task)) }
     {
@@ -61,6 +64,7 @@ impl<P: Problem> Work<P> {
     /// The first part that is not done.
     pub fn next(&self) -> Option<(Key, P::F)>
         ensures next { result ≡ slice_get self.now.parts self.now.done }
+        ensures owed { self.now.parts ≡ owed P.targets P.F.edge self.now.task }
         ensures all_done { IfNone result (self.now.done ≡ length self.now.parts) }
     {
         self.parts.get(self.done).copied()

@@ -1,3 +1,4 @@
 pub mod Form
 pub mod Key
+pub mod Listing
 pub mod Numbers
