@@ -4,6 +4,7 @@ ghost use Rattle.ide_tasks.specs.Task.{same_site, same_task};
 
 use crate::partners::Partners;
 use ide_graph::Site;
+use ide_lattice::EdgeFn;
 use ide_problem::Problem;
 use ide_wire::Key;
 use std::alloc::{AllocError, Global};
@@ -49,12 +50,21 @@ impl<P: Problem> Task<P> {
         ensures same { result ≡ same_task P.F.eq ⟦<Partners<P::F> as PartialEq>⟧.eq self.now other.now }
         ensures key { IsTrue result → self.now.key ≡ other.now.key }
         ensures function { IsTrue result → self.now.function ≡ other.now.function }
+        ensures partners { IsTrue result → self.now.partners ≡ other.now.partners }
     {
         self.key == other.key
             && self.function == other.function
-            && self.partners == other.partners
+            && is_same_partners(&self.partners, &other.partners)
             && is_same_site(&self.site, &other.site)
     }
+}
+
+/// Whether two partners are the same.
+fn is_same_partners<F: EdgeFn>(one: &Partners<F>, other: &Partners<F>) -> bool
+    ensures same { result ≡ ⟦<Partners<F> as PartialEq>⟧.eq one.now other.now }
+    ensures exact { IsTrue result → one.now ≡ other.now }
+{
+    *one == *other
 }
 
 /// Whether two sites are the same.
