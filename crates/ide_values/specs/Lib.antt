@@ -1,3 +1,5 @@
 pub mod BestDump
 pub mod Dump
 pub mod Extends
+pub mod Fill
+pub mod Start

@@ -1,38 +1,43 @@
 //! The fill: each jump function lowers the value where it ends.
-use crate::starts::procedure_at;
-use ide_lattice::{EdgeFn, Lattice};
-use ide_problem::Problem;
-use ide_steps::Closed;
+ghost use Rattle.std.specs.Prelude.{◌≡◌, ◌≢◌, ℕ, ◌+◌, ◌-◌, ◌*◌, ◌^◌, ◌<◌, min, IfOk, IsTrue, length, slice_index, slice_index_or};
+ghost use Rattle.std.specs.List.{All};
+ghost use Rattle.ide_tables.specs.Tables.{found};
+ghost use Rattle.ide_values.specs.Start.{value_before};
+ghost use Rattle.ide_values.specs.Fill.{AreFilled, HasFacts, IsImage, lowered};
+
+use crate::rows::{lower, place_of, tops, value_before};
+use ide_graph::Graph;
+use ide_lattice::EdgeFn;
+use ide_tables::Tables;
 use ide_wire::Key;
 use std::alloc::{AllocError, Global};
 
 /// The values of an image whose start values these are: rows by node, one value for each fact.
-pub fn fill<P: Problem>(
+pub fn fill<F: EdgeFn>(
     alloc: Global,
-    closed: &Closed<P>,
-    starts: &[P::L],
-) -> Result<Vec<P::L>, AllocError> {
-    let graph = &closed.loaded.graph;
-    let facts = graph.fact_count();
-    let places = graph.node_count().saturating_mul(facts);
-    let mut values = vec![in alloc; P::L::top(); places]?;
-    for index in 0..closed.tables.key_count() {
-        if let Some((Key::Jump(node, from, to), function)) = closed.tables.entry_at(index) {
-            let row = procedure_at(graph, node).saturating_mul(facts);
-            let place = (node as usize)
-                .saturating_mul(facts)
-                .saturating_add(to as usize);
-            if let Some(start) = starts.get(row.saturating_add(from as usize)) {
-                lower(&mut values, place, function.apply(*start));
-            }
+    graph: &Graph,
+    tables: &Tables<F>,
+    starts: &[F::L],
+) -> Result<Vec<F::L>, AllocError>
+    ensures filled { IfOk result (λ values. IsImage F.edge graph.now (found tables.now) → All (λ v. IsTrue (F.L.algebra.proper v)) starts.now → AreFilled F.L.algebra F.edge graph.now (found tables.now) starts.now values.items) }
+    ensures count { IfOk result (λ values. length values.items ≡ graph.now.nodes * graph.now.facts) }
+{
+    let mut values = tops(alloc, graph.node_count() * graph.fact_count())?;
+    for index in 0..tables.key_count() {
+        if let Some(entry) = tables.entry_at(index) {
+            lower_by(&mut values, graph, starts, entry.0, entry.1);
         }
     }
     Ok(values)
 }
 
-/// Meets the value at a place with another.
-fn lower<L: Lattice>(values: &mut Vec<L>, place: usize, value: L) {
-    if let Some(old) = values.get_mut(place) {
-        *old = old.meet(value);
+/// Lowers the value where the key ends by what its function makes of the value where it begins.
+fn lower_by<F: EdgeFn>(values: &mut [F::L], graph: &Graph, starts: &[F::L], key: Key, function: F)
+    ensures count { length values.new ≡ length values.old }
+    ensures lowered { HasFacts graph.now.facts key → length values.old ≡ graph.now.nodes * graph.now.facts → (n d : ℕ) → n < graph.now.nodes → d < graph.now.facts → slice_index_or values.new (n * graph.now.facts + d) F.L.algebra.top ≡ lowered F.L.algebra F.edge (value_before F.L.algebra graph.now starts.now) n d (slice_index_or values.old (n * graph.now.facts + d) F.L.algebra.top) key function }
+{
+    if let Key::Jump(node, from, to) = key {
+        let start = value_before(graph, starts, node, from);
+        lower(values, place_of(graph, node, to), function.apply(start));
     }
 }

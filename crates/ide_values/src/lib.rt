@@ -8,6 +8,7 @@
 
 mod dump;
 mod fill;
+mod rows;
 mod starts;
 mod values;
 

@@ -1,4 +1,5 @@
 //! Start values: the value of each fact at each procedure's start.
+use crate::rows::procedure_at;
 use ide_graph::{EdgeData, Graph, Site};
 use ide_lattice::{EdgeFn, Lattice};
 use ide_problem::{Problem, TargetList};
@@ -211,13 +212,4 @@ fn jumps_at_calls<P: Problem>(
     }
     jumps.sort_by_key(|jump| jump.from)?;
     Ok(jumps)
-}
-
-/// The procedure of a node, or 0 where there is no such node.
-pub(crate) fn procedure_at(graph: &Graph, node: Node) -> usize {
-    if (node as usize) < graph.node_count() {
-        graph.procedure_of(node)
-    } else {
-        0
-    }
 }

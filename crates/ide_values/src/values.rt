@@ -39,7 +39,7 @@ impl<P: Problem> ValuePhase<P> for Closed<P> {
         Ok(Values {
             loaded: Arc::try_clone(&self.loaded)?,
             roots: Vec::from_slice(alloc, self.roots.as_slice())?,
-            values: fill(alloc, self, starts.as_slice())?,
+            values: fill(alloc, &self.loaded.graph, &self.tables, starts.as_slice())?,
         })
     }
 }

@@ -1,0 +1,192 @@
+-- Lowering by each entry of a table comes to the meet over all facts, in whatever order the entries stand.
+use Rattle.std.proofs.Common.{◌≡◌, ℕ, zero, suc, ◌+◌, ◌*◌, ◌<◌, ◌≤◌, ◌⊎◌, inl, inr, ◌++◌, take, ◌&&◌, true, false, cond, List, [], ◌∷◌, Option, Some, None, length, get_or, ap, sym, subst, refl, ◌∙◌, arith}
+use Rattle.std.specs.Prelude.{IsTrue, fold, nat_eq, slice_index, slice_get, unwrap_or}
+use Rattle.std.specs.List.{All, IsDistinct}
+use Rattle.std.proofs.lemmas.List.{get_or_past, take_all, take_more}
+use Rattle.std.proofs.lemmas.List.Elements.{All-get_or}
+use Rattle.std.proofs.lemmas.List.Sums.{fold-append}
+use Rattle.std.proofs.lemmas.Option.{get_or_from_slice_get, slice_get_cases, slice_get_within}
+use Rattle.std.specs.Map.{lookup, keys_of}
+use Rattle.std.proofs.lemmas.Bool.Decides.{nat_tests}
+use Rattle.std.proofs.lemmas.Map.Entries.{lookup_from_place, place_from_lookup}
+use Rattle.ide_lattice.specs.Algebra.{LatticeAlgebra, EdgeAlgebra}
+use Rattle.ide_lattice.specs.Laws.{IsLattice, IsEdgeAlgebra}
+use Rattle.ide_lattice.specs.Meets.{meet_of, meet_of-below, below-meet_of, proper-meet_of}
+use Rattle.ide_lattice.specs.Order.{IsBelow, below-refl, below-trans, below-top, below-meet, below-antisym, meet-below-left, meet-below-right}
+use Rattle.ide_wire.specs.declared.key.Key.{Key}
+use Rattle.ide_wire.specs.declared.key.Key.TheVariants.{Jump, Summary}
+use Rattle.ide_wire.specs.Key.{same_key, same_key_laws, same_key_exact}
+use Rattle.ide_graph.specs.Supergraph.{Supergraph}
+use Rattle.ide_tables.specs.Tables.{Table, found}
+use Rattle.ide_values.specs.Fill.{AreFilled, HasFacts, IsImage, lowered, value_from}
+use Rattle.ide_values.specs.Start.{value_before}
+
+module _ {F L : Type 0} (A : LatticeAlgebra L) (laws : IsLattice A) (B : EdgeAlgebra F L) (functions : IsEdgeAlgebra A B)
+    (start : ℕ → ℕ → L) (started : (n a : ℕ) → IsTrue (A.proper (start n a))) (n d : ℕ) where
+  abbrev pub after : L → List (Key × F) → L
+  after v es = fold (λ u e. lowered A B start n d u e.0 e.1) v es
+
+  -- each entry's function is proper
+  abbrev pub AreProper : List (Key × F) → Type 0
+  AreProper es = (i : ℕ) (e : Key × F) → slice_get es i ≡ Some e → IsTrue (B.proper e.1)
+
+  pub proper_term : (m a : ℕ) (f : F) → IsTrue (B.proper f) → IsTrue (A.proper (B.apply f (start m a)))
+  proper_term m a f p = functions.proper_apply f (start m a) p (started m a)
+
+  pub lowered-below : (v : L) (key : Key) (f : F) → IsTrue (A.proper v) → IsTrue (B.proper f) → IsBelow A (lowered A B start n d v key f) v
+  lowered-below v (Jump m a b) f p q =
+      elim (nat_eq m n && nat_eq b d) as (λ t. IsBelow A (cond t (A.meet v (B.apply f (start m a))) v) v) [
+        | true ↦ meet-below-left A laws v (B.apply f (start m a)) p (proper_term m a f q)
+        | false ↦ below-refl A laws v p
+      ]
+  lowered-below v (Summary c a b) f p q = below-refl A laws v p
+
+  pub after-below : (es : List (Key × F)) (v : L) → IsTrue (A.proper v) → AreProper es → IsBelow A (after v es) v
+  after-below [] v p each = below-refl A laws v p
+  after-below (e ∷ es) v p each =
+      let once : IsBelow A (lowered A B start n d v e.0 e.1) v = lowered-below v e.0 e.1 p (each zero e refl) in
+      below-trans A laws (after v (e ∷ es)) (lowered A B start n d v e.0 e.1) v
+      (after-below es (lowered A B start n d v e.0 e.1) once.left (λ i x is. each (suc i) x is)) once
+
+  -- the value that an entry for the place gives is above what is left
+  pub once-below : (a : ℕ) (f : F) (v : L) → IsTrue (A.proper v) → IsTrue (B.proper f) → IsBelow A (lowered A B start n d v (Jump n a d) f) (B.apply f (start n a))
+  once-below a f v p q =
+      let here : (nat_eq n n && nat_eq d d) ≡ true = grind (arith, nat_tests) in
+      subst (λ t. IsBelow A (cond t (A.meet v (B.apply f (start n a))) v) (B.apply f (start n a))) (sym here)
+      (meet-below-right A laws v (B.apply f (start n a)) p (proper_term n a f q))
+
+  pub after-below_term : (es : List (Key × F)) (v : L) → IsTrue (A.proper v) → AreProper es
+      → (i a : ℕ) (f : F) → slice_get es i ≡ Some (Jump n a d, f) → IsBelow A (after v es) (B.apply f (start n a))
+  after-below_term [] v p each i a f is = cc
+  after-below_term (e ∷ es) v p each zero a f is =
+      let head : e ≡ (Jump n a d, f) = cc in
+      let q : IsTrue (B.proper f) = subst (λ x. IsTrue (B.proper x.1)) head (each zero e refl) in
+      let once : IsBelow A (lowered A B start n d v e.0 e.1) (B.apply f (start n a)) =
+      subst (λ x. IsBelow A (lowered A B start n d v x.0 x.1) (B.apply f (start n a))) (sym head) (once-below a f v p q) in
+      below-trans A laws (after v (e ∷ es)) (lowered A B start n d v e.0 e.1) (B.apply f (start n a))
+      (after-below es (lowered A B start n d v e.0 e.1) once.left (λ j x at. each (suc j) x at)) once
+  after-below_term (e ∷ es) v p each (suc i) a f is =
+      let once : IsBelow A (lowered A B start n d v e.0 e.1) v = lowered-below v e.0 e.1 p (each zero e refl) in
+      after-below_term es (lowered A B start n d v e.0 e.1) once.left (λ j x at. each (suc j) x at) i a f is
+
+  -- what is below a value and below what an entry gives the place is below the lowered value
+  pub below-lowered : (w v : L) (key : Key) (f : F) → IsBelow A w v
+      → ((a : ℕ) → key ≡ Jump n a d → IsBelow A w (B.apply f (start n a))) → IsBelow A w (lowered A B start n d v key f)
+  below-lowered w v (Jump m a b) f under each =
+      elim (nat_eq m n && nat_eq b d) as (λ t. (nat_eq m n && nat_eq b d) ≡ t → IsBelow A w (cond t (A.meet v (B.apply f (start m a))) v)) [
+        | true ↦ λ e.
+            let row : m ≡ n = grind (arith, nat_tests) in
+            let fact : b ≡ d = grind (arith, nat_tests) in
+            let key : Jump m a b ≡ Jump n a d = cc in
+            below-meet A laws w v (B.apply f (start m a)) under
+            (subst (λ r. IsBelow A w (B.apply f (start r a))) (sym row) (each a key))
+        | false ↦ λ e. under
+      ] refl
+  below-lowered w v (Summary c a b) f under each = under
+
+  pub below-after : (es : List (Key × F)) (w v : L) → IsBelow A w v
+      → ((i a : ℕ) (f : F) → slice_get es i ≡ Some (Jump n a d, f) → IsBelow A w (B.apply f (start n a))) → IsBelow A w (after v es)
+  below-after [] w v under each = under
+  below-after (e ∷ es) w v under each =
+      below-after es w (lowered A B start n d v e.0 e.1)
+      (below-lowered w v e.0 e.1 under (λ a key. each zero a e.1 (ap (λ q. Some (q, e.1)) key)))
+      (λ i a f at. each (suc i) a f at)
+
+  module _ (es : List (Key × F)) (distinct : IsDistinct same_key (keys_of es)) (facts : ℕ)
+      (within : (a : ℕ) (f : F) → lookup (same_key (Jump n a d)) es ≡ Some f → a < facts)
+      (proper : (key : Key) (f : F) → lookup (same_key key) es ≡ Some f → IsTrue (B.proper f)) where
+    abbrev pub get : Key → Option F
+    get key = lookup (same_key key) es
+
+    pub are_proper : AreProper es
+    are_proper i e is = proper e.0 e.1 (lookup_from_place same_key_laws es i e.0 e.1 distinct is)
+
+    -- what fact a at the start gives the place
+    abbrev pub term : ℕ → L
+    term a = B.apply (unwrap_or (get (Jump n a d)) B.all_top) (start n a)
+
+    pub proper_function : (key : Key) (found : Option F) → get key ≡ found → IsTrue (B.proper (unwrap_or found B.all_top))
+    proper_function key None is = functions.proper_all_top
+    proper_function key (Some f) is = proper key f is
+
+    pub proper_of : (a : ℕ) → IsTrue (A.proper (term a))
+    proper_of a = proper_term n a (unwrap_or (get (Jump n a d)) B.all_top) (proper_function (Jump n a d) (get (Jump n a d)) refl)
+
+    pub filled-below : (a : ℕ) (found : Option F) → get (Jump n a d) ≡ found → IsBelow A (after A.top es) (B.apply (unwrap_or found B.all_top) (start n a))
+    filled-below a None is =
+        subst (IsBelow A (after A.top es)) (sym (functions.apply_all_top (start n a) (started n a)))
+        (after-below es A.top laws.proper_top are_proper)
+    filled-below a (Some f) is =
+        let (i, key, stands, same) = place_from_lookup (same_key (Jump n a d)) es f is in
+        let stands_here : slice_get es i ≡ Some (Jump n a d, f) = stands ∙ ap (λ q. Some (q, f)) (sym (same_key_exact (Jump n a d) key same)) in
+        after-below_term es A.top laws.proper_top are_proper i a f stands_here
+
+    pub filled-is : after A.top es ≡ value_from A B get (start n) facts n d
+    filled-is =
+        let all : IsTrue (A.proper (meet_of A term facts)) = proper-meet_of A laws term facts (λ k h. proper_of k) in
+        below-antisym A laws (after A.top es) (meet_of A term facts)
+        (below-meet_of A laws (after A.top es) term facts (after-below es A.top laws.proper_top are_proper).left
+        (λ k h. filled-below k (get (Jump n k d)) refl))
+        (below-after es (meet_of A term facts) A.top (below-top A laws (meet_of A term facts) all)
+        (λ i a f at.
+        let found : get (Jump n a d) ≡ Some f = lookup_from_place same_key_laws es i (Jump n a d) f distinct at in
+        subst (λ o. IsBelow A (meet_of A term facts) (B.apply (unwrap_or o B.all_top) (start n a))) found
+        (meet_of-below A laws term facts (λ k h. proper_of k) a (within a f found))))
+
+-- one element more is folded in
+pub fold_more : {E V : Type 0} (h : V → E → V) (v : V) (es : List E) (i : ℕ) (e : E) → slice_get es i ≡ Some e
+    → fold h v (take (i + 1) es) ≡ h (fold h v (take i es)) e
+fold_more h v es i e is =
+    ap (fold h v) (take_more es i e (slice_get_within es i e is) ∙ ap (λ x. take i es ++ x ∷ []) (get_or_from_slice_get es i e e is))
+    ∙ fold-append h v (take i es) (e ∷ [])
+
+-- a value of a list of proper ones, or top, is proper
+pub proper_at : {L : Type 0} (A : LatticeAlgebra L) → IsLattice A → (xs : List L) → All (λ v. IsTrue (A.proper v)) xs
+    → (i : ℕ) → IsTrue (A.proper (get_or xs i A.top))
+proper_at A laws xs all i = elim (inside xs i) [
+  | inl h ↦ All-get_or (λ v. IsTrue (A.proper v)) xs i A.top h all
+  | inr h ↦ subst (λ v. IsTrue (A.proper v)) (sym (get_or_past xs i A.top h)) laws.proper_top
+]
+  where
+    inside : {X : Type 0} (xs : List X) (i : ℕ) → (i < length xs) ⊎ (length xs ≤ i)
+    inside xs i = grind (arith)
+
+module _ {F L : Type 0} (A : LatticeAlgebra L) (B : EdgeAlgebra F L) (graph : Supergraph) (table : Table F) (starts : List L) where
+  -- the values after the first entries of the table
+  pub record IsFilledBy (i : ℕ) (values : List L) : Type 0 where
+    pub count : length values ≡ graph.nodes * graph.facts
+    pub filled : IsImage B graph (found table) → (n d : ℕ) → n < graph.nodes → d < graph.facts
+        → get_or values (n * graph.facts + d) A.top
+        ≡ fold (λ v e. lowered A B (value_before A graph starts) n d v e.0 e.1) A.top (take i table.entries)
+
+  pub filled_more : (i : ℕ) (old new : List L) (e : Key × F) → slice_get table.entries i ≡ Some e → found table e.0 ≡ Some e.1
+      → length new ≡ length old
+      → (HasFacts graph.facts e.0 → length old ≡ graph.nodes * graph.facts → (n d : ℕ) → n < graph.nodes → d < graph.facts
+      → get_or new (n * graph.facts + d) A.top
+      ≡ lowered A B (value_before A graph starts) n d (get_or old (n * graph.facts + d) A.top) e.0 e.1)
+      → IsFilledBy i old → IsFilledBy (i + 1) new
+  filled_more i old new e stands present same step so_far = record {
+    count = same ∙ so_far.count;
+    filled = λ image n d h k.
+        step (image.facts e.0 e.1 present) so_far.count n d h k
+        ∙ ap (λ v. lowered A B (value_before A graph starts) n d v e.0 e.1) (so_far.filled image n d h k)
+        ∙ sym (fold_more (λ v e. lowered A B (value_before A graph starts) n d v e.0 e.1) A.top table.entries i e stands);
+  }
+
+  -- past the last entry the values are those that follow
+  pub all_filled : IsLattice A → IsEdgeAlgebra A B → IsDistinct same_key (keys_of table.entries)
+      → (i : ℕ) (values : List L) → length table.entries ≤ i → IsFilledBy i values
+      → IsImage B graph (found table) → All (λ v. IsTrue (A.proper v)) starts → AreFilled A B graph (found table) starts values
+  all_filled laws functions distinct i values past so_far image proper n d h k =
+      so_far.filled image n d h k
+      ∙ ap (fold (λ v e. lowered A B (value_before A graph starts) n d v e.0 e.1) A.top) (take_all i table.entries past)
+      ∙ filled-is A laws B functions (value_before A graph starts)
+      (λ m a. proper_at A laws starts proper (slice_index graph.owners m * graph.facts + a)) n d
+      table.entries distinct graph.facts (λ a f is. (image.facts (Jump n a d) f is).0) image.proper
+
+-- where nothing stands, the list has ended
+pub none_past : {X : Type 0} (xs : List X) (i : ℕ) → slice_get xs i ≡ None → length xs ≤ i
+none_past xs i none = elim (slice_get_cases xs i).1 [
+  | inl (x, within, is, same) ↦ let no : ⊥ = cc (none, is) in elim no [ ]
+  | inr past ↦ past.0
+]

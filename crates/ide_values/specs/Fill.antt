@@ -1,0 +1,34 @@
+-- The values of an image: at each node and fact the meet of what the facts at the start give it.
+use Rattle.std.specs.Prelude.{◌≡◌, ℕ, ◌+◌, ◌*◌, ◌<◌, ◌&&◌, List, Option, Some, IsTrue, cond, nat_eq, slice_index_or, unwrap_or}
+use Rattle.ide_graph.specs.Supergraph.{Supergraph}
+use Rattle.ide_lattice.specs.Algebra.{LatticeAlgebra, EdgeAlgebra}
+use Rattle.ide_lattice.specs.Meets.{meet_of}
+use Rattle.ide_wire.specs.declared.key.Key.{Key}
+use Rattle.ide_wire.specs.declared.key.Key.TheVariants.{Jump, Summary}
+use Rattle.ide_values.specs.Start.{value_before}
+
+module _ {F L : Type 0} (A : LatticeAlgebra L) (B : EdgeAlgebra F L) where
+  -- the value of fact d at the node n: what the jump functions make of the facts at the start
+  abbrev pub value_from : (Key → Option F) → (ℕ → L) → ℕ → ℕ → ℕ → L
+  value_from get start facts n d = meet_of A (λ a. B.apply (unwrap_or (get (Jump n a d)) B.all_top) (start a)) facts
+
+  -- a value of fact d at the node n, lowered by what the key's function gives it
+  abbrev pub lowered : (ℕ → ℕ → L) → ℕ → ℕ → L → Key → F → L
+  lowered start n d value (Jump m a b) f = cond (nat_eq m n && nat_eq b d) (A.meet value (B.apply f (start m a))) value
+  lowered start n d value (Summary c a b) f = value
+
+-- the key's facts are the graph's
+abbrev pub HasFacts : ℕ → Key → Type 0
+HasFacts facts (Jump n a b) = (a < facts) × (b < facts)
+HasFacts facts (Summary c a b) = (a < facts) × (b < facts)
+
+-- each present key's facts are the graph's, and its function is proper
+pub record IsImage {F L : Type 0} (B : EdgeAlgebra F L) (graph : Supergraph) (get : Key → Option F) : Type 0 where
+  pub facts : (key : Key) (f : F) → get key ≡ Some f → HasFacts graph.facts key
+  pub proper : (key : Key) (f : F) → get key ≡ Some f → IsTrue (B.proper f)
+
+-- the rows of values by node have at each fact what follows from the starts
+abbrev pub AreFilled : {F L : Type 0} → LatticeAlgebra L → EdgeAlgebra F L → Supergraph → (Key → Option F) → List L → List L → Type 0
+AreFilled A B graph get starts values =
+    (n d : ℕ) → n < graph.nodes → d < graph.facts
+    → slice_index_or values (n * graph.facts + d) A.top ≡ value_from A B get (value_before A graph starts n) graph.facts n d

@@ -1,0 +1,21 @@
+-- Start values: rows of values by procedure, one value for each fact.
+use Rattle.std.specs.Prelude.{ℕ, ◌+◌, ◌*◌, List, cond, nat_eq, slice_index, slice_index_or}
+use Rattle.ide_graph.specs.Supergraph.{Supergraph}
+use Rattle.ide_lattice.specs.Algebra.{LatticeAlgebra}
+
+-- the start of a node's procedure
+abbrev pub start_of : Supergraph → ℕ → ℕ
+start_of graph n = slice_index graph.starts (slice_index graph.owners n)
+
+module _ {L : Type 0} (A : LatticeAlgebra L) (graph : Supergraph) (starts : List L) where
+  -- the value of a fact at the start of the procedure with that index
+  abbrev pub row_value : ℕ → ℕ → L
+  row_value procedure fact = slice_index_or starts (procedure * graph.facts + fact) A.top
+
+  -- the value of a fact at the start of a node's procedure
+  abbrev pub value_before : ℕ → ℕ → L
+  value_before n fact = row_value (slice_index graph.owners n) fact
+
+  -- the value of a fact at a start: top at each other node
+  abbrev pub start_value : ℕ → ℕ → L
+  start_value s fact = cond (nat_eq (start_of graph s) s) (value_before s fact) A.top

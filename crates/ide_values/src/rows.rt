@@ -1,0 +1,75 @@
+//! Rows of values: by node or by procedure, one value for each fact.
+ghost use Rattle.std.specs.Prelude.{◌≡◌, ◌≢◌, ℕ, ◌+◌, ◌-◌, ◌*◌, ◌^◌, ◌<◌, min, IfOk, length, slice_index, slice_index_or};
+ghost use Rattle.ide_values.specs.Start.{value_before};
+
+use ide_graph::Graph;
+use ide_lattice::Lattice;
+use ide_wire::{Fact, Node};
+use std::alloc::{AllocError, Global};
+
+/// So many tops.
+pub(crate) fn tops<L: Lattice>(alloc: Global, count: usize) -> Result<Vec<L>, AllocError>
+    ensures count { IfOk result (λ values. length values.items ≡ count) }
+    ensures tops { IfOk result (λ values. (place : ℕ) → slice_index_or values.items place L.algebra.top ≡ L.algebra.top) }
+{
+    let mut values = Vec::with_capacity(alloc, count)?;
+    for _place in 0..count {
+        values.push(L::top())?;
+    }
+    Ok(values)
+}
+
+/// The value of a fact at the start of a node's procedure.
+pub(crate) fn value_before<L: Lattice>(graph: &Graph, starts: &[L], node: Node, fact: Fact) -> L
+    ensures { node < graph.now.nodes → result ≡ value_before L.algebra graph.now starts.now node fact }
+{
+    value_at_place(starts, start_place(graph, procedure_at(graph, node), fact))
+}
+
+/// The value at a place: top past the places.
+pub(crate) fn value_at_place<L: Lattice>(values: &[L], place: usize) -> L
+    ensures { result ≡ slice_index_or values.now place L.algebra.top }
+{
+    match values.get(place) {
+        Some(value) => *value,
+        None => L::top(),
+    }
+}
+
+/// The place of a fact in the row of a procedure.
+pub(crate) fn start_place(graph: &Graph, procedure: usize, fact: Fact) -> usize
+    ensures { result ≡ min (procedure * graph.now.facts + fact) (2 ^ 64 - 1) }
+{
+    procedure
+        .saturating_mul(graph.fact_count())
+        .saturating_add(fact as usize)
+}
+
+/// The place of a fact in the row of a node.
+pub(crate) fn place_of(graph: &Graph, node: Node, fact: Fact) -> usize
+    ensures { result ≡ node * graph.now.facts + fact }
+{
+    node as usize * graph.fact_count() + fact as usize
+}
+
+/// Meets the value at a place with another.
+pub(crate) fn lower<L: Lattice>(values: &mut [L], place: usize, value: L)
+    ensures count { length values.new ≡ length values.old }
+    ensures other { (q : ℕ) → q ≢ place → slice_index_or values.new q L.algebra.top ≡ slice_index_or values.old q L.algebra.top }
+    ensures met { place < length values.old → slice_index_or values.new place L.algebra.top ≡ L.algebra.meet (slice_index_or values.old place L.algebra.top) value }
+{
+    if place < values.len() {
+        values[place] = values[place].meet(value);
+    }
+}
+
+/// The procedure of a node, or 0 where there is no such node.
+pub(crate) fn procedure_at(graph: &Graph, node: Node) -> usize
+    ensures { node < graph.now.nodes → result ≡ slice_index graph.now.owners node }
+{
+    if (node as usize) < graph.node_count() {
+        graph.procedure_of(node)
+    } else {
+        0
+    }
+}
