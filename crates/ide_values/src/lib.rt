@@ -7,7 +7,9 @@
 #![tactic(auto)]
 
 mod dump;
+mod enter;
 mod fill;
+mod passes;
 mod rows;
 mod starts;
 mod values;

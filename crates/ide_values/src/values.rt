@@ -35,11 +35,12 @@ impl<P: Problem> ValuePhase<P> for Closed<P> {
         if workers == 0 || workers > HANDS {
             return Err(Refused::Limit);
         }
-        let starts = start_values(alloc, self)?;
+        let graph = &self.loaded.graph;
+        let starts = start_values::<P>(alloc, graph, &self.tables, self.roots.as_slice())?;
         Ok(Values {
             loaded: Arc::try_clone(&self.loaded)?,
             roots: Vec::from_slice(alloc, self.roots.as_slice())?,
-            values: fill(alloc, &self.loaded.graph, &self.tables, starts.as_slice())?,
+            values: fill(alloc, graph, &self.tables, starts.as_slice())?,
         })
     }
 }

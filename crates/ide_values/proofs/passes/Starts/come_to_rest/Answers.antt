@@ -1,0 +1,26 @@
+use Rattle.std.proofs.Common.{◌≡◌, false, subst, sym}
+use Rattle.ide_values.specs.Pass.{by_entry, stays}
+use Rattle.ide_values.specs.Settled.{IsSteady}
+use Rattle.ide_values.proofs.Coming.{goes_trans}
+use Rattle.ide_values.proofs.passes.Starts.come_to_rest.Goals as goal
+
+pub loop-round-init : goal.loop-round-init
+loop-round-init g c = λ sited. stays
+
+pub loop-round-preserved : goal.loop-round-preserved
+loop-round-preserved g c = λ sited.
+    goes_trans (λ values e. by_entry g.P.L.Lattice.algebra g.P.F.EdgeFn.edge c.args.graph.now g.P.Problem.targets values e.0 e.1) c.args.tables.now.entries
+    (goes_trans (λ values e. by_entry g.P.L.Lattice.algebra g.P.F.EdgeFn.edge c.args.graph.now g.P.Problem.targets values e.0 e.1) c.args.tables.now.entries (c.loop-round.invariant sited) (c.in_ok-settle.ensures sited))
+    (c.in_ok-pass_each.ensures.comes sited)
+
+pub returns-then-not-self-clause-comes : goal.returns-then-not-self-clause-comes
+returns-then-not-self-clause-comes g c = λ sited.
+    goes_trans (λ values e. by_entry g.P.L.Lattice.algebra g.P.F.EdgeFn.edge c.args.graph.now g.P.Problem.targets values e.0 e.1) c.args.tables.now.entries
+    (goes_trans (λ values e. by_entry g.P.L.Lattice.algebra g.P.F.EdgeFn.edge c.args.graph.now g.P.Problem.targets values e.0 e.1) c.args.tables.now.entries (c.loop-round.invariant sited) (c.in_ok-settle.ensures sited))
+    (c.in_ok-pass_each.ensures.comes sited)
+
+pub returns-then-not-self-clause-steady : goal.returns-then-not-self-clause-steady
+returns-then-not-self-clause-steady g c = λ sited.
+    let calm : c.pass_each.new.self.has_fallen ≡ false = c.if-not-self.true in
+    subst (IsSteady g.P.L.Lattice.algebra g.P.F.EdgeFn.edge g.P.Problem.targets c.args.graph.now c.args.tables.now)
+    (sym ((c.in_ok-pass_each.ensures.passes sited).same calm)) ((c.in_ok-pass_each.ensures.passes sited).steady calm)

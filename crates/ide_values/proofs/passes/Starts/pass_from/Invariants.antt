@@ -1,0 +1,8 @@
+use Rattle.std.proofs.Common.{◌≡◌, length}
+use Rattle.ide_values.specs.Settled.{ComesTo}
+use Rattle.ide_values.proofs.passes.Starts.pass_from.Given as goal
+
+abbrev pub invariant-loop-jump : goal.invariant-loop-jump
+invariant-loop-jump g l =
+    length l.graph.sites ≡ l.graph.nodes
+    → ComesTo g.P.L.Lattice.algebra g.P.F.EdgeFn.edge g.P.Problem.targets l.graph l.tables l.initial.self.values.items l.self.values.items

@@ -1,0 +1,188 @@
+//! Handing values on from call nodes to callees' starts.
+ghost use Rattle.std.specs.Prelude.{◌≡◌, ◌<◌, ℕ, Some, OnOk, IfOk, IfSome, false, length, slice_get, map};
+ghost use Rattle.std.specs.List.{All, range_with_len};
+ghost use Rattle.ide_graph.specs.Edges.{EndsWithin};
+ghost use Rattle.ide_values.specs.Pass.{Goes, Passes, IsSteadyBy, IsSteadyOver, by_entry, calls_of, lowered_at, over_edge, to_target};
+
+use crate::rows::{procedure_at, start_place, value_at_place, value_before};
+use ide_graph::{EdgeData, Graph, Site};
+use ide_lattice::{EdgeFn, Lattice};
+use ide_problem::{Problem, TargetList};
+use ide_tables::Tables;
+use ide_wire::{Fact, Key, Node};
+use std::alloc::{AllocError, Global};
+
+/// A jump function of the tables.
+#[derive(Drop)]
+pub(crate) struct JumpAt<F: EdgeFn> {
+    pub(crate) node: Node,
+    pub(crate) from: Fact,
+    pub(crate) to: Fact,
+    pub(crate) function: F,
+}
+
+/// The start values as they fall, and the places that wait to be gone through.
+#[derive(Drop)]
+pub(crate) struct Starts<P: Problem> {
+    pub(crate) values: Vec<P::L>,
+    /// Whether a value fell since this was last put out.
+    pub(crate) has_fallen: bool,
+    waiting: Vec<usize>,
+    is_waiting: Vec<bool>,
+}
+
+impl<P: Problem> Starts<P> {
+    /// The values, with no place waiting.
+    pub(crate) fn of(alloc: Global, values: Vec<P::L>) -> Result<Starts<P>, AllocError>
+        ensures { IfOk result (λ starts. starts.values.items ≡ values.items) }
+    {
+        let is_waiting = vec![in alloc; false; values.len()]?;
+        Ok(Starts {
+            values,
+            has_fallen: false,
+            waiting: Vec::new(alloc),
+            is_waiting,
+        })
+    }
+
+    /// The values.
+    pub(crate) fn into_values(self) -> Vec<P::L>
+        ensures { result.items ≡ self.values.items }
+    {
+        let Starts {
+            values,
+            has_fallen: _,
+            waiting: _,
+            is_waiting: _,
+        } = self;
+        values
+    }
+
+    /// Each place whose value is not top waits.
+    pub(crate) fn wait_where_entered(&mut self) -> Result<(), AllocError>
+        ensures { self.new.values ≡ self.old.values }
+    {
+        for place in 0..self.values.len() {
+            if self.values[place] != P::L::top() {
+                self.wait(place)?;
+            }
+        }
+        Ok(())
+    }
+
+    /// A place that waits, which then waits no longer.
+    pub(crate) fn leave(&mut self) -> Option<usize>
+        ensures { self.new.values ≡ self.old.values }
+    {
+        let place = self.waiting.pop()?;
+        if let Some(is_waiting) = self.is_waiting.get_mut(place) {
+            *is_waiting = false;
+        }
+        Some(place)
+    }
+
+    /// Puts a place among those that wait, unless it waits.
+    fn wait(&mut self, place: usize) -> Result<(), AllocError>
+        ensures values { self.new.values ≡ self.old.values }
+    {
+        if let Some(is_waiting) = self.is_waiting.get_mut(place)
+            && !*is_waiting
+        {
+            *is_waiting = true;
+            self.waiting.push(place)?;
+        }
+        Ok(())
+    }
+
+    /// Meets the value at a place with another. A place whose value fell waits.
+    fn lower(&mut self, place: usize, value: P::L) -> Result<(), AllocError>
+        ensures lowered { OnOk result (self.new.values.items ≡ lowered_at P.L.algebra self.old.values.items place value) }
+        ensures same { OnOk result (self.new.has_fallen ≡ false → self.new.values.items ≡ self.old.values.items) }
+        ensures before { OnOk result (self.new.has_fallen ≡ false → self.old.has_fallen ≡ false) }
+    {
+        if place >= self.values.len() {
+            return Ok(());
+        }
+        let old = value_at_place(self.values.as_slice(), place);
+        let new = old.meet(value);
+        if new == old {
+            return Ok(());
+        }
+        self.wait(place)?;
+        self.has_fallen = true;
+        self.values[place] = new;
+        Ok(())
+    }
+
+    /// Hands the value of a jump function on to a target at a callee's start.
+    fn pass_to(
+        &mut self,
+        graph: &Graph,
+        jump: &JumpAt<P::F>,
+        start: Node,
+        target: Fact,
+        function: P::F,
+    ) -> Result<(), AllocError>
+        requires node { jump.now.node < graph.now.nodes }
+        requires start { start < graph.now.nodes }
+        ensures passed { OnOk result (self.new.values.items ≡ to_target P.L.algebra P.F.edge graph.now jump.now.node jump.now.from jump.now.function start self.old.values.items (target, function)) }
+        ensures same { OnOk result (self.new.has_fallen ≡ false → self.new.values.items ≡ self.old.values.items) }
+        ensures before { OnOk result (self.new.has_fallen ≡ false → self.old.has_fallen ≡ false) }
+    {
+        let value = value_before(graph, self.values.as_slice(), jump.node, jump.from);
+        let place = start_place(graph, procedure_at(graph, start), target);
+        self.lower(place, function.apply(jump.function.apply(value)))
+    }
+
+    /// Hands the value of a jump function on over a call edge.
+    fn pass_over(
+        &mut self,
+        graph: &Graph,
+        jump: &JumpAt<P::F>,
+        edge: &EdgeData,
+        targets: &mut TargetList<P::F>,
+    ) -> Result<(), AllocError>
+        requires node { jump.now.node < graph.now.nodes }
+        requires end { edge.now.end < graph.now.nodes }
+        ensures { OnOk result (Passes (to_target P.L.algebra P.F.edge graph.now jump.now.node jump.now.from jump.now.function edge.now.end) (λ values target. to_target P.L.algebra P.F.edge graph.now jump.now.node jump.now.from jump.now.function edge.now.end values target ≡ values) (P.targets edge.now jump.now.to) self.old.values.items self.new.values.items self.old.has_fallen self.new.has_fallen) }
+    {
+        targets.clear();
+        P::flow(edge, jump.to, targets)?;
+        for target in targets.list.as_slice() {
+            self.pass_to(graph, jump, edge.end, target.0, target.1)?;
+        }
+        Ok(())
+    }
+
+    /// Hands the value of a jump function on over call edges.
+    pub(crate) fn pass_all(
+        &mut self,
+        graph: &Graph,
+        jump: &JumpAt<P::F>,
+        edges: &[EdgeData],
+        targets: &mut TargetList<P::F>,
+    ) -> Result<(), AllocError>
+        requires node { jump.now.node < graph.now.nodes }
+        requires ends { All (EndsWithin graph.now.nodes) edges.now }
+        ensures { OnOk result (Passes (over_edge P.L.algebra P.F.edge graph.now P.targets jump.now.node jump.now.from jump.now.to jump.now.function) (IsSteadyOver P.L.algebra P.F.edge graph.now P.targets jump.now.node jump.now.from jump.now.to jump.now.function) edges.now self.old.values.items self.new.values.items self.old.has_fallen self.new.has_fallen) }
+    {
+        for edge in edges {
+            self.pass_over(graph, jump, edge, targets)?;
+        }
+        Ok(())
+    }
+}
+
+/// The call edges at a node: none where it is no call node.
+pub(crate) fn calls_at(graph: &Graph, node: Node) -> &[EdgeData]
+    ensures calls { length graph.now.sites ≡ graph.now.nodes → result.now ≡ calls_of graph.now node }
+    ensures ends { All (EndsWithin graph.now.nodes) result.now }
+{
+    if node as usize >= graph.node_count() {
+        return &[];
+    }
+    match graph.site(node) {
+        Site::Call { calls, .. } => calls.as_slice(),
+        _ => &[],
+    }
+}
