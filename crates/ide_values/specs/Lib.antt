@@ -6,3 +6,4 @@ pub mod Fill
 pub mod Pass
 pub mod Settled
 pub mod Start
+pub mod Values

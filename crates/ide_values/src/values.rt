@@ -1,14 +1,20 @@
 //! The values of a program.
-ghost use Rattle.std.specs.Prelude.{◌≡◌, IfErr};
+ghost use Rattle.std.specs.Prelude.{◌≡◌, ◌<◌, ◌≤◌, ◌⊎◌, ◌↔◌, Err, IfErr, IfOk};
+ghost use Rattle.std.specs.Arc.{arc_value};
+ghost use Rattle.ide_steps.specs.declared.loaded.Loaded.{Loaded};
+ghost use Rattle.ide_values.specs.Values.{AreValues, value_of};
 
 use crate::fill::fill;
+use crate::rows::{place_of, value_at_place};
 use crate::starts::start_values;
-use ide_lattice::Lattice;
+use ide_graph::Graph;
 use ide_problem::Problem;
 use ide_steps::{Closed, HANDS, Loaded};
+use ide_tables::Tables;
 use ide_text::Program;
 use ide_wire::{Fact, Node, Refused};
-use std::alloc::Global;
+use std::alloc::{AllocError, Global};
+use std::marker::Model;
 use std::sync::Arc;
 
 /// The value of each fact at each node of a program, for its roots.
@@ -18,6 +24,16 @@ pub struct Values<P: Problem> {
     roots: Vec<usize>,
     /// Rows by node, one value for each fact.
     values: Vec<P::L>,
+}
+
+impl<P: Problem> Model for Values<P> {
+    ghost use Rattle.std.specs.Arc.{arc_value};
+    ghost use Rattle.ide_steps.specs.declared.loaded.Loaded.{Loaded};
+    ghost use Rattle.ide_values.specs.Values.{ValuesData};
+
+    ghost Value = { ValuesData P.L };
+
+    ghost view = { λ v. record { graph = (arc_value {X = Loaded P P.L P.F} v.loaded).graph; roots = v.roots.items; values = v.values.items } };
 }
 
 /// The phase that turns a quiet image into values.
@@ -31,18 +47,51 @@ pub trait ValuePhase<P: Problem> {
 }
 
 impl<P: Problem> ValuePhase<P> for Closed<P> {
-    fn values(&self, alloc: Global, workers: usize) -> Result<Values<P>, Refused> {
+    fn values(&self, alloc: Global, workers: usize) -> Result<Values<P>, Refused>
+        ensures limit { (result ≡ Err Refused.Limit) ↔ ((workers ≡ 0) ⊎ (64 < workers)) }
+        ensures refused { IfErr result (λ e. (e ≡ Refused.Limit) ⊎ (e ≡ Refused.NoMemory)) }
+        ensures graph { IfOk result (λ values. values.graph ≡ (arc_value {X = Loaded P P.L P.F} self.now.loaded).graph) }
+        ensures roots { IfOk result (λ values. values.roots ≡ self.now.roots.items) }
+        ensures values { IfOk result (λ values. AreValues P.L.algebra P.F.edge P.targets (arc_value {X = Loaded P P.L P.F} self.now.loaded).graph self.now.tables self.now.roots.items values.values) }
+    {
         if workers == 0 || workers > HANDS {
             return Err(Refused::Limit);
         }
-        let graph = &self.loaded.graph;
-        let starts = start_values::<P>(alloc, graph, &self.tables, self.roots.as_slice())?;
-        Ok(Values {
-            loaded: Arc::try_clone(&self.loaded)?,
-            roots: Vec::from_slice(alloc, self.roots.as_slice())?,
-            values: fill(alloc, graph, &self.tables, starts.as_slice())?,
-        })
+        Ok(values_of(alloc, self)?)
     }
+}
+
+/// The values of an image.
+fn values_of<P: Problem>(alloc: Global, closed: &Closed<P>) -> Result<Values<P>, AllocError>
+    ensures graph { IfOk result (λ values. values.graph ≡ (arc_value {X = Loaded P P.L P.F} closed.now.loaded).graph) }
+    ensures roots { IfOk result (λ values. values.roots ≡ closed.now.roots.items) }
+    ensures values { IfOk result (λ values. AreValues P.L.algebra P.F.edge P.targets (arc_value {X = Loaded P P.L P.F} closed.now.loaded).graph closed.now.tables closed.now.roots.items values.values) }
+{
+    let rows = rows_of::<P>(
+        alloc,
+        &closed.loaded.graph,
+        &closed.tables,
+        closed.roots.as_slice(),
+    )?;
+    Ok(Values {
+        loaded: Arc::try_clone(&closed.loaded)?,
+        roots: closed.roots.to_vec(alloc)?,
+        values: rows,
+    })
+}
+
+/// The rows of values of a graph.
+fn rows_of<P: Problem>(
+    alloc: Global,
+    graph: &Graph,
+    tables: &Tables<P::F>,
+    roots: &[usize],
+) -> Result<Vec<P::L>, AllocError>
+    ensures { IfOk result (λ values. AreValues P.L.algebra P.F.edge P.targets graph.now tables.now roots.now values.items) }
+{
+    let starts = start_values::<P>(alloc, graph, tables, roots)?;
+    let values = fill(alloc, graph, tables, starts.as_slice())?;
+    Ok(values)
 }
 
 impl<P: Problem> Values<P> {
@@ -50,17 +99,15 @@ impl<P: Problem> Values<P> {
     ///
     /// Refusal: `OutOfRange` where the node or the fact is not there.
     pub fn at(&self, node: Node, fact: Fact) -> Result<P::L, Refused>
-        ensures { IfErr result (λ e. e ≡ Refused.OutOfRange) }
+        ensures out_of_range { (result ≡ Err Refused.OutOfRange) ↔ ((self.now.graph.nodes ≤ node) ⊎ (self.now.graph.facts ≤ fact)) }
+        ensures refused { IfErr result (λ e. e ≡ Refused.OutOfRange) }
+        ensures value { IfOk result (λ value. value ≡ value_of P.L.algebra self.now node fact) }
     {
         let graph = &self.loaded.graph;
-        let facts = graph.fact_count();
-        if node as usize >= graph.node_count() || fact as usize >= facts {
+        if node as usize >= graph.node_count() || fact as usize >= graph.fact_count() {
             return Err(Refused::OutOfRange);
         }
-        match self.values.get(node as usize * facts + fact as usize) {
-            Some(value) => Ok(*value),
-            None => Err(Refused::OutOfRange),
-        }
+        Ok(value_at_place(self.values.as_slice(), place_of(graph, node, fact)))
     }
 
     /// The program whose values they are.
@@ -69,12 +116,16 @@ impl<P: Problem> Values<P> {
     }
 
     /// The program and its graph, by which nodes and facts are found.
-    pub fn loaded(&self) -> &Loaded<P> {
+    pub fn loaded(&self) -> &Loaded<P>
+        ensures { result.now.graph ≡ self.now.graph }
+    {
         &*self.loaded
     }
 
     /// The roots, as indices of procedures.
-    pub fn roots(&self) -> &[usize] {
+    pub fn roots(&self) -> &[usize]
+        ensures { result.now ≡ self.now.roots }
+    {
         self.roots.as_slice()
     }
 }
