@@ -1,4 +1,5 @@
 pub mod Advance
+pub mod Found
 pub mod Left
 pub mod Lists
 pub mod Moments

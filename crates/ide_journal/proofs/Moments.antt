@@ -50,3 +50,15 @@ goes_on G first second third P one two = record {
     | inr holds ↦ inr holds
   ];
 }
+
+-- what holds of fewer outcomes holds of more
+pub weaker : {D : Type 0} (G : Ghosts D) (old new : D) (P Q : List ℕ → Type 0)
+    → ((left : List ℕ) → P left → Q left) → LeavesOnly G old new P → LeavesOnly G old new Q
+weaker G old new P Q implies only = record {
+  later = only.later;
+  each = λ left since. implies left (only.each left since);
+  before = λ t left early since. elim (only.before t left early since) [
+    | inl past ↦ inl past
+    | inr holds ↦ inr (implies left holds)
+  ];
+}

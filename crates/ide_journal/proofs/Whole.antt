@@ -176,7 +176,18 @@ is_store bytes tag store =
       ap (λ (xs : List ℕ). slice_range xs 9 4096) flat ∙ take_at (zeros 4087) (drop 4096 bytes) 4087 (length-zeros 4087),
     )
 
--- a store whose records are whole up to a closed gate holds them
+-- a store whose records are whole up to a closed gate: the first page, the records, the gate, and what stands behind it
+pub split_read : (tag : ℕ) (entries : List Entry) (gate : ℕ) (bytes : List ℕ) → IsStore tag bytes → AreRead entries gate bytes
+    → slice_index bytes gate ≡ 0 → bytes ≡ header tag ++ slice_range bytes 4096 gate ++ 0 ∷ drop (gate + 1) bytes
+split_read tag entries gate bytes store read closed =
+    store.split
+    ∙ ap (λ (xs : List ℕ). header tag ++ xs)
+    (drop_split bytes 4096 gate read.behind
+    ∙ ap (λ (xs : List ℕ). slice_range bytes 4096 gate ++ xs)
+    (drop_more bytes gate 0 read.inside ∙ ap (λ (x : ℕ). x ∷ drop (gate + 1) bytes) closed))
+    ∙ sym (append_assoc (header tag) (slice_range bytes 4096 gate) (0 ∷ drop (gate + 1) bytes))
+
+-- it holds them
 pub holds_read : (tag : ℕ) (entries : List Entry) (gate : ℕ) (bytes : List ℕ) → IsStore tag bytes → AreRead entries gate bytes
     → slice_index bytes gate ≡ 0 → Holds tag entries bytes
 holds_read tag entries gate bytes store read closed = record {
@@ -184,11 +195,5 @@ holds_read tag entries gate bytes store read closed = record {
   rest = drop (gate + 1) bytes;
   whole = read.whole;
   few = read.few;
-  split =
-      store.split
-      ∙ ap (λ (xs : List ℕ). header tag ++ xs)
-      (drop_split bytes 4096 gate read.behind
-      ∙ ap (λ (xs : List ℕ). slice_range bytes 4096 gate ++ xs)
-      (drop_more bytes gate 0 read.inside ∙ ap (λ (x : ℕ). x ∷ drop (gate + 1) bytes) closed))
-      ∙ sym (append_assoc (header tag) (slice_range bytes 4096 gate) (0 ∷ drop (gate + 1) bytes));
+  split = split_read tag entries gate bytes store read closed;
 }

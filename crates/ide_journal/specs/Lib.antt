@@ -3,6 +3,7 @@ pub mod Format
 pub mod Laws
 pub mod Lists
 pub mod Moments
+pub mod Opening
 pub mod Phases
 pub mod Reading
 pub mod Stands

@@ -1,10 +1,16 @@
 //! What an opening does to the disk.
-ghost use Rattle.std.specs.Prelude.{◌≡◌, ◌+◌, ◌<◌, ℕ, List, [], ◌∷◌, ◌++◌, length, OnOk, IfOk};
-ghost use Rattle.ide_disk.specs.Disk.{CrashLeaves, settled};
+ghost use Rattle.std.specs.Prelude.{◌≡◌, ◌⊎◌, ◌+◌, ◌<◌, ◌≤◌, ℕ, map, List, [], ◌∷◌, ◌++◌, length, OnOk, IfOk, IfErr};
+ghost use Rattle.ide_disk.specs.Disk.{CrashLeaves, LeavesAfterSync, settled};
 ghost use Rattle.ide_disk.specs.Time.{next_count, failures_after};
 ghost use Rattle.ide_journal.specs.Bytes.{IsBefore};
+ghost use Rattle.ide_journal.specs.Format.{Entry, Holds};
+ghost use Rattle.ide_journal.specs.Lists.{entry_of};
 ghost use Rattle.ide_journal.specs.Moments.{LeavesOnly};
+ghost use Rattle.ide_journal.specs.Opening.{IsFound, IsLoaded, LeftOrHolds};
+ghost use Rattle.ide_journal.specs.Reading.{HasCause};
 
+use crate::RawRecord;
+use crate::reading::read_file;
 use ide_disk::{DeviceFault, Disk};
 use ide_wire::Refused;
 use std::alloc::Global;
@@ -19,6 +25,7 @@ pub(crate) fn read_all<D: Disk>(alloc: Global, disk: &mut D) -> Result<Vec<u8>, 
     ensures any_moment { D.honest disk.old → LeavesOnly D.Disk disk.old disk.new (CrashLeaves (D.state disk.old)) }
     ensures failures { OnOk result (D.failures disk.new ≡ D.failures disk.old) }
     ensures cause { result ≡ Err Refused.Disk → D.failures disk.new ≡ next_count (D.failures disk.old) }
+    ensures refused { IfErr result (λ refused. (refused ≡ Refused.NoMemory) ⊎ (refused ≡ Refused.Disk)) }
 {
     let len = match disk.len() {
         Ok(len) => len as usize,
@@ -28,6 +35,63 @@ pub(crate) fn read_all<D: Disk>(alloc: Global, disk: &mut D) -> Result<Vec<u8>, 
     bytes.resize(len, 0)?;
     match disk.read(0, &mut bytes) {
         Ok(()) => Ok(bytes),
+        Err(_) => Err(Refused::Disk),
+    }
+}
+
+// Brings what a read gives onto the disk.
+fn settle<D: Disk>(disk: &mut D) -> Result<(), Refused>
+    ensures size { D.size disk.new ≡ D.size disk.old }
+    ensures state { D.honest disk.old → OnOk result (D.state disk.new ≡ settled (D.state disk.old).now) }
+    ensures crash { D.honest disk.old → LeavesAfterSync (D.state disk.old) (D.state disk.new) }
+    ensures honest { D.honest disk.old → D.honest disk.new }
+    ensures any_moment { D.honest disk.old → LeavesOnly D.Disk disk.old disk.new (CrashLeaves (D.state disk.old)) }
+    ensures failures { OnOk result (D.failures disk.new ≡ D.failures disk.old) }
+    ensures cause { IfErr result (λ refused. (refused ≡ Refused.Disk) × (D.failures disk.new ≡ next_count (D.failures disk.old))) }
+{
+    match disk.sync() {
+        Ok(()) => Ok(()),
+        Err(_) => Err(Refused::Disk),
+    }
+}
+
+/// The records of a store with that tag, and where the closed gate behind them stands.
+fn load<D: Disk>(alloc: Global, disk: &mut D, tag: u8) -> Result<(Vec<RawRecord>, u64), Refused>
+    ensures inside { IfOk result (λ pair. pair.1 < D.size disk.new) }
+    ensures few { IfOk result (λ pair. length pair.0.items ≤ 4294967295) }
+    ensures loaded { D.honest disk.old → IfOk result (λ pair. IsLoaded tag (map entry_of pair.0.items) pair.1 (D.state disk.old).now) }
+    ensures state { D.honest disk.old → OnOk result (D.state disk.new ≡ settled (D.state disk.old).now) }
+    ensures honest { D.honest disk.old → D.honest disk.new }
+    ensures any_moment { D.honest disk.old → LeavesOnly D.Disk disk.old disk.new (CrashLeaves (D.state disk.old)) }
+    ensures failures { OnOk result (D.failures disk.new ≡ D.failures disk.old) }
+    ensures counted { result ≡ Err Refused.Disk → D.failures disk.new ≡ next_count (D.failures disk.old) }
+    ensures cause { D.honest disk.old → IfErr result (λ refused. (refused ≡ Refused.Disk) ⊎ HasCause refused tag (D.state disk.old).now) }
+{
+    settle(disk)?;
+    let bytes = read_all(alloc, disk)?;
+    let (records, gate) = read_file(alloc, &bytes, tag)?;
+    Ok((records, gate as u64))
+}
+
+/// The records of a store with that tag, and where the closed gate behind them stands. Nothing stays behind it.
+pub(crate) fn recover<D: Disk>(
+    alloc: Global,
+    disk: &mut D,
+    tag: u8,
+) -> Result<(Vec<RawRecord>, u64), Refused>
+    ensures inside { IfOk result (λ pair. pair.1 < D.size disk.new) }
+    ensures few { IfOk result (λ pair. length pair.0.items ≤ 4294967295) }
+    ensures held { D.honest disk.old → IfOk result (λ pair. Holds tag (map entry_of pair.0.items) (D.state disk.old).now) }
+    ensures found { D.honest disk.old → IfOk result (λ pair. IsFound tag (map entry_of pair.0.items) pair.1 (D.state disk.new)) }
+    ensures honest { D.honest disk.old → D.honest disk.new }
+    ensures any_moment { D.honest disk.old → (told : ℕ) → (entries : List Entry) → Holds told entries (D.state disk.old).now → LeavesOnly D.Disk disk.old disk.new (LeftOrHolds (D.state disk.old) told entries) }
+    ensures failures { OnOk result (D.failures disk.new ≡ D.failures disk.old) }
+    ensures counted { result ≡ Err Refused.Disk → D.failures disk.new ≡ next_count (D.failures disk.old) }
+    ensures cause { D.honest disk.old → IfErr result (λ refused. (refused ≡ Refused.Disk) ⊎ HasCause refused tag (D.state disk.old).now) }
+{
+    let (records, gate) = load(alloc, disk, tag)?;
+    match repair(disk, gate) {
+        Ok(()) => Ok((records, gate)),
         Err(_) => Err(Refused::Disk),
     }
 }
