@@ -1,4 +1,4 @@
--- What an opening finds and leaves, and why it is refused.
+-- What an opening finds and leaves.
 use Rattle.std.specs.Prelude.{◌≡◌, ◌⊎◌, ℕ, List, [], ◌∷◌, ◌++◌, length, slice_index}
 use Rattle.ide_disk.specs.Disk.{DiskState, CrashLeaves, settled}
 use Rattle.ide_journal.specs.Format.{Entry, header, IsPages, Holds}

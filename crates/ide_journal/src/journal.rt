@@ -1,10 +1,11 @@
 //! A journal over a disk.
-ghost use Rattle.std.specs.Prelude.{◌≡◌, ◌⊎◌, ◌↔◌, ◌+◌, ◌<◌, ◌≤◌, ℕ, List, [], ◌∷◌, ◌++◌, length, IsTrue, OnOk, OnErr, IfOk, IfErr};
+ghost use Rattle.std.specs.Prelude.{◌≡◌, ◌⊎◌, ◌↔◌, ◌+◌, ◌<◌, ◌≤◌, ℕ, map, List, [], ◌∷◌, ◌++◌, length, IsTrue, OnOk, OnErr, IfOk, IfErr};
 ghost use Rattle.ide_disk.specs.Disk.{settled};
 ghost use Rattle.ide_disk.specs.Time.{next_count, failures_after};
-ghost use Rattle.ide_journal.specs.Format.{Entry, IsEntry};
+ghost use Rattle.ide_journal.specs.Format.{Entry, Holds, IsEntry};
 ghost use Rattle.ide_journal.specs.Phases.{stage_before, stage_after};
 
+use crate::opening::recover;
 use crate::spelling::{spell, spell_header};
 use crate::stage::Stage;
 use crate::{Phase, RawRecord};
@@ -35,6 +36,8 @@ pub struct Journal<D: Disk> {
 impl<D: Disk> Journal<D> {
     ghost use Rattle.ide_journal.specs.Lists.{IsAtRest, IsUnderWay, HoldsWithOrWithout, HoldsAt, entry_of};
     ghost use Rattle.ide_journal.specs.Moments.{LeavesOnly};
+    ghost use Rattle.ide_journal.specs.Opening.{LeftOrHolds};
+    ghost use Rattle.ide_journal.specs.Reading.{HasCause};
     ghost use Rattle.ide_disk.specs.Disk.{CrashLeaves};
     ghost use Rattle.ide_disk.specs.Time.{Elapses};
     ghost use Rattle.ide_journal.specs.Stands.{IsIdle, HasFailed, stored_count, Stands, IsStored};
@@ -65,6 +68,43 @@ impl<D: Disk> Journal<D> {
                 tail: Vec::new(alloc),
             }),
             Err(_) => Err((Refused::Disk, disk)),
+        }
+    }
+
+    /// Opens the store with that tag that the disk holds, and gives its records.
+    pub fn open(alloc: Global, mut disk: D, tag: u8) -> Result<(Self, Vec<RawRecord>), (Refused, D)>
+        // The records are those that the disk held, and a file holds one list at most (`laws::holds_one_list`).
+        ensures held { D.honest disk → IfOk result (λ pair. Holds tag (map entry_of pair.1.items) (D.state disk).now) }
+        ensures at_rest { D.honest disk → IfOk result (λ pair. IsAtRest tag (map entry_of pair.1.items) pair.0) }
+        ensures idle { IfOk result (λ pair. IsIdle pair.0) }
+        ensures count { IfOk result (λ pair. stored_count pair.0 ≡ length pair.1.items) }
+        ensures honest { D.honest disk → IfOk result (λ pair. D.honest pair.0.disk) }
+        ensures honest_refused { D.honest disk → IfErr result (λ pair. D.honest pair.1) }
+
+        // A crash at any moment of the call leaves what one before it could leave, or the list that the disk held.
+        ensures any_moment { D.honest disk → (told : ℕ) → (entries : List Entry) → Holds told entries (D.state disk).now → IfOk result (λ pair. LeavesOnly D.Disk disk pair.0.disk (LeftOrHolds (D.state disk) told entries)) }
+        ensures any_moment_refused { D.honest disk → (told : ℕ) → (entries : List Entry) → Holds told entries (D.state disk).now → IfErr result (λ pair. LeavesOnly D.Disk disk pair.1 (LeftOrHolds (D.state disk) told entries)) }
+
+        // The disk comes back. Each refusal has its cause, that of the disk in the count of failures.
+        ensures cause { D.honest disk → IfErr result (λ pair. (pair.0 ≡ Refused.Disk) ⊎ HasCause pair.0 tag (D.state disk).now) }
+        ensures counted { IfErr result (λ pair. pair.0 ≡ Refused.Disk → D.failures pair.1 ≡ next_count (D.failures disk)) }
+        ensures failures { IfOk result (λ pair. D.failures pair.0.disk ≡ D.failures disk) }
+    {
+        match recover(alloc, &mut disk, tag) {
+            Ok((records, gate)) => {
+                let count = records.len() as u64;
+                let journal = Journal {
+                    disk,
+                    gate,
+                    end: gate,
+                    count,
+                    next: count,
+                    stage: Stage::Idle,
+                    tail: Vec::new(alloc),
+                };
+                Ok((journal, records))
+            }
+            Err(refused) => Err((refused, disk)),
         }
     }
 
