@@ -1,4 +1,5 @@
 pub mod Advance
+pub mod FirstPage
 pub mod Found
 pub mod Left
 pub mod Lists

@@ -10,6 +10,7 @@ mod spelling;
 mod stage;
 
 pub use journal::Journal;
+pub use opening::tag;
 pub use record::RawRecord;
 pub use stage::Phase;
 

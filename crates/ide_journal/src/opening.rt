@@ -7,10 +7,10 @@ ghost use Rattle.ide_journal.specs.Format.{Entry, Holds};
 ghost use Rattle.ide_journal.specs.Lists.{entry_of};
 ghost use Rattle.ide_journal.specs.Moments.{LeavesOnly};
 ghost use Rattle.ide_journal.specs.Opening.{IsFound, IsLoaded, LeftOrHolds};
-ghost use Rattle.ide_journal.specs.Reading.{HasCause};
+ghost use Rattle.ide_journal.specs.Reading.{HasCause, IsStore};
 
 use crate::RawRecord;
-use crate::reading::read_file;
+use crate::reading::{read_file, read_tag};
 use ide_disk::{DeviceFault, Disk};
 use ide_wire::Refused;
 use std::alloc::Global;
@@ -37,6 +37,37 @@ pub(crate) fn read_all<D: Disk>(alloc: Global, disk: &mut D) -> Result<Vec<u8>, 
         Ok(()) => Ok(bytes),
         Err(_) => Err(Refused::Disk),
     }
+}
+
+/// The tag of the store that a disk holds.
+pub fn tag<D: Disk>(disk: &mut D) -> Result<u8, Refused>
+    ensures told { D.honest disk.old → IfOk result (λ tag. IsStore tag (D.state disk.old).now) }
+    ensures size { D.size disk.new ≡ D.size disk.old }
+    ensures state { D.honest disk.old → D.state disk.new ≡ D.state disk.old }
+    ensures honest { D.honest disk.old → D.honest disk.new }
+    ensures any_moment { D.honest disk.old → LeavesOnly D.Disk disk.old disk.new (CrashLeaves (D.state disk.old)) }
+
+    // Each refusal has its cause, that of the disk in the count of failures.
+    ensures cause { D.honest disk.old → IfErr result (λ refused. (refused ≡ Refused.Disk) ⊎ ((refused ≡ Refused.NotAStore) × ((told : ℕ) → IsStore told (D.state disk.old).now → ⊥))) }
+    ensures counted { result ≡ Err Refused.Disk → D.failures disk.new ≡ next_count (D.failures disk.old) }
+    ensures failures { OnOk result (D.failures disk.new ≡ D.failures disk.old) }
+{
+    let len = match disk.len() {
+        Ok(len) => len,
+        Err(_) => return Err(Refused::Disk),
+    };
+    if len <= 4096 {
+        return Err(Refused::NotAStore);
+    }
+    let mut page = [0; 4097];
+    match disk.read(0, &mut page) {
+        Ok(()) => {}
+        Err(_) => return Err(Refused::Disk),
+    }
+    let Some(tag) = read_tag(&page) else {
+        return Err(Refused::NotAStore);
+    };
+    Ok(tag)
 }
 
 // Brings what a read gives onto the disk.
