@@ -1,6 +1,7 @@
 //! The bytes of a store over a disk in memory.
-use crate::{Journal, Phase, RawRecord};
+use crate::{Journal, Phase, RawRecord, tag};
 use ide_disk::{Disk, Leave, MemDisk};
+use ide_wire::Refused;
 use std::alloc::Global;
 use std::process::Abort;
 use std::test::Fail;
@@ -96,4 +97,163 @@ fn stores_two_records(rt: HostRuntime) -> Result<(), Fail> {
     ];
     has(&rt, &mut disk, 12289, 8192, &second)?;
     has(&rt, &mut disk, 12289, 12287, &[0, 0])
+}
+
+// The store with tag 1 on the disk is opened, and has so many records.
+fn opens(rt: &impl Abort, alloc: Global, disk: MemDisk, expected: usize) -> Result<MemDisk, Fail> {
+    match Journal::open(alloc, disk, 1) {
+        Ok((journal, records)) => {
+            assert_eq!(rt; records.len(), expected);
+            assert_eq!(rt; journal.count(), expected as u64);
+            Ok(journal.into_disk())
+        }
+        Err((refused, _)) => Err(refused.into()),
+    }
+}
+
+// The opening is refused.
+fn refuses(
+    rt: &impl Abort,
+    alloc: Global,
+    disk: MemDisk,
+    tag: u8,
+    expected: Refused,
+) -> Result<MemDisk, Fail> {
+    match Journal::open(alloc, disk, tag) {
+        Ok(_) => Err(Refused::Limit.into()),
+        Err((refused, disk)) => {
+            assert_eq!(rt; refused, expected);
+            Ok(disk)
+        }
+    }
+}
+
+// A disk on which the first record was begun, after so many disk calls for it, the last of which may fail.
+fn begun_disk(rt: &impl Abort, alloc: Global, calls: u64, fails: bool) -> Result<MemDisk, Fail> {
+    let mut disk = MemDisk::new(alloc, 20000, 40000)?;
+    if fails {
+        disk.stop_at(calls.saturating_add(3));
+    }
+    let mut journal = match Journal::create(alloc, disk, 1) {
+        Ok(journal) => journal,
+        Err((refused, _)) => return Err(refused.into()),
+    };
+    let raw = RawRecord {
+        kind: 1,
+        body: b"proc main\nend\n".to_vec(alloc)?,
+    };
+    assert!(rt; raw.body.len() <= 4194304);
+    journal.begin(&raw)?;
+    for call in 1..=calls {
+        assert!(rt; !journal.is_idle());
+        let failed = journal.advance().is_err();
+        assert_eq!(rt; failed, fails && call == calls);
+    }
+    Ok(journal.into_disk())
+}
+
+// A crash after so many calls leaves so many records, also where the opening behind it stops at one of its
+// calls, and crashes as well.
+fn leaves(
+    rt: &impl Abort,
+    alloc: Global,
+    calls: u64,
+    fails: bool,
+    leave: Leave,
+    expected: usize,
+) -> Result<(), Fail> {
+    for stop in 0..6 {
+        let mut disk = begun_disk(rt, alloc, calls, fails)?;
+        disk.crash(leave);
+        if stop > 0 {
+            disk.stop_at(disk.calls().saturating_add(stop));
+            disk = refuses(rt, alloc, disk, 1, Refused::Disk)?;
+            disk.crash(leave);
+        }
+        disk = opens(rt, alloc, disk, expected)?;
+        disk.crash(Leave::Old);
+        let len = if expected == 0 { 4097 } else { 8193 };
+        assert_eq!(rt; disk.len()?, len);
+        opens(rt, alloc, disk, expected)?;
+    }
+    Ok(())
+}
+
+// Every call of the first record, with the records that a crash leaves once the gate is written.
+fn leaves_at_each_call(
+    rt: &impl Abort,
+    alloc: Global,
+    leave: Leave,
+    gated: usize,
+) -> Result<(), Fail> {
+    leaves(rt, alloc, 0, false, leave, 0)?;
+    leaves(rt, alloc, 1, true, leave, 0)?;
+    leaves(rt, alloc, 1, false, leave, 0)?;
+    leaves(rt, alloc, 2, true, leave, 0)?;
+    leaves(rt, alloc, 2, false, leave, 0)?;
+    leaves(rt, alloc, 3, true, leave, gated)?;
+    leaves(rt, alloc, 3, false, leave, gated)?;
+    leaves(rt, alloc, 4, true, leave, gated)?;
+    leaves(rt, alloc, 4, false, leave, 1)
+}
+
+#[test]
+fn opens_what_a_crash_leaves(rt: HostRuntime) -> Result<(), Fail> {
+    let alloc = rt.alloc();
+    leaves_at_each_call(&rt, alloc, Leave::Old, 0)?;
+    leaves_at_each_call(&rt, alloc, Leave::New, 1)?;
+    leaves_at_each_call(&rt, alloc, Leave::Half, 0)?;
+    leaves_at_each_call(&rt, alloc, Leave::Fill(0), 0)?;
+    leaves_at_each_call(&rt, alloc, Leave::Fill(7), 1)
+}
+
+// A disk with one record, on which these bytes stand at a place.
+fn damaged_disk(rt: &impl Abort, alloc: Global, at: u64, bytes: &[u8]) -> Result<MemDisk, Fail> {
+    let mut disk = begun_disk(rt, alloc, 4, false)?;
+    assert!(rt; at <= disk.len()?);
+    disk.write(at, bytes)?;
+    Ok(disk)
+}
+
+// The first record is refused where these bytes stand at a place.
+fn is_damaged(rt: &impl Abort, alloc: Global, at: u64, bytes: &[u8]) -> Result<(), Fail> {
+    let disk = damaged_disk(rt, alloc, at, bytes)?;
+    refuses(rt, alloc, disk, 1, Refused::Damaged(0))?;
+    Ok(())
+}
+
+// The disk is refused once it is cut to a length.
+fn is_cut(rt: &impl Abort, alloc: Global, len: u64, expected: Refused) -> Result<(), Fail> {
+    let mut disk = begun_disk(rt, alloc, 4, false)?;
+    assert!(rt; len <= disk.len()?);
+    disk.cut(len)?;
+    refuses(rt, alloc, disk, 1, expected)?;
+    Ok(())
+}
+
+#[test]
+fn refuses_damaged_records(rt: HostRuntime) -> Result<(), Fail> {
+    let alloc = rt.alloc();
+    is_damaged(&rt, alloc, 4097, &[0])?;
+    is_damaged(&rt, alloc, 4097, &[4])?;
+    is_damaged(&rt, alloc, 4098, &[1])?;
+    is_damaged(&rt, alloc, 4106, &[0xff, 0xff, 0xff, 0xff])?;
+    is_damaged(&rt, alloc, 4124, &[1])?;
+    is_damaged(&rt, alloc, 8191, &[1])?;
+    is_cut(&rt, alloc, 8192, Refused::Damaged(0))?;
+    is_cut(&rt, alloc, 4097, Refused::Damaged(0))
+}
+
+#[test]
+fn refuses_other_files(rt: HostRuntime) -> Result<(), Fail> {
+    let alloc = rt.alloc();
+    is_cut(&rt, alloc, 4096, Refused::NotAStore)?;
+    is_cut(&rt, alloc, 0, Refused::NotAStore)?;
+    let disk = begun_disk(&rt, alloc, 4, false)?;
+    let mut disk = refuses(&rt, alloc, disk, 2, Refused::WrongInstance)?;
+    assert_eq!(rt; tag(&mut disk)?, 1);
+    let mut disk = damaged_disk(&rt, alloc, 7, &[0x32])?;
+    assert_eq!(rt; tag(&mut disk).err(), Some(Refused::NotAStore));
+    refuses(&rt, alloc, disk, 1, Refused::NotAStore)?;
+    Ok(())
 }
