@@ -1,16 +1,16 @@
 -- An opening finds what the disk holds, and leaves it held.
 use Rattle.std.specs.Prelude.{◌≡◌, ℕ, ◌+◌, ◌-◌, List, [], ◌∷◌, ◌++◌, length, drop, slice_range}
-use Rattle.std.proofs.Common.{arith, subst, inl, inr}
+use Rattle.std.proofs.Common.{arith, inl, inr}
 use Rattle.std.proofs.lemmas.List.{length-append, length-take, length-drop}
 use Rattle.ide_disk.specs.Disk.{DiskState, CrashLeaves, settled}
 use Rattle.ide_disk.specs.declared.disk.Disk.{Ghosts}
 use Rattle.ide_journal.specs.Bytes.{IsBefore}
 use Rattle.ide_journal.specs.Format.{Entry, header, Holds}
 use Rattle.ide_journal.specs.Moments.{LeavesOnly}
-use Rattle.ide_journal.specs.Opening.{IsFound, IsLoaded, LeftOrHolds}
+use Rattle.ide_journal.specs.Opening.{IsFound, IsLoaded, HoldSame, LeftOrSame}
 use Rattle.ide_journal.proofs.Lists.{holds_before}
 use Rattle.ide_journal.proofs.Moments.{goes_on, weaker}
-use Rattle.ide_journal.proofs.OneList.{holds_one_list, length-header}
+use Rattle.ide_journal.proofs.OneList.{length-header}
 use Rattle.ide_journal.proofs.Whole.{holds_read, split_read}
 
 -- all that stands before the closed gate
@@ -38,21 +38,22 @@ is_found tag entries gate bytes disk loaded is = record {
   settled_disk = is;
 }
 
--- what stands before the closed gate is what the disk held
+-- the records before the closed gate are those of the file
 same_list : (tag : ℕ) (entries : List Entry) (gate : ℕ) (bytes : List ℕ) → IsLoaded tag entries gate bytes
-    → (told : ℕ) (others : List Entry) → Holds told others bytes → (left : List ℕ) → IsBefore (front tag gate bytes) left → Holds told others left
-same_list tag entries gate bytes loaded told others holds left before =
-    let one = holds_one_list tag told entries others bytes (loaded_holds tag entries gate bytes loaded) holds in
-    subst (λ (t : ℕ). Holds t others left) one.0
-    (subst (λ (es : List Entry). Holds tag es left) one.1
-    (holds_before tag entries (slice_range bytes 4096 gate) left loaded.read.whole loaded.read.few before))
+    → (left : List ℕ) → IsBefore (front tag gate bytes) left → HoldSame bytes left
+same_list tag entries gate bytes loaded left before = record {
+  tag = tag;
+  entries = entries;
+  first = loaded_holds tag entries gate bytes loaded;
+  second = holds_before tag entries (slice_range bytes 4096 gate) left loaded.read.whole loaded.read.few before;
+}
 
 -- reading, and then the repair
-pub recovered : {D : Type 0} (G : Ghosts D) (first second third : D) (tag : ℕ) (entries : List Entry) (gate : ℕ) (bytes : List ℕ)
-    → IsLoaded tag entries gate bytes → LeavesOnly G first second (CrashLeaves (G.state first)) → LeavesOnly G second third (IsBefore (front tag gate bytes))
-    → (told : ℕ) (others : List Entry) → Holds told others bytes → LeavesOnly G first third (LeftOrHolds (G.state first) told others)
-recovered G first second third tag entries gate bytes loaded reading repairing told others holds =
-    goes_on G first second third (LeftOrHolds (G.state first) told others)
-    (weaker G first second (CrashLeaves (G.state first)) (LeftOrHolds (G.state first) told others) (λ left leaves. inl leaves) reading)
-    (weaker G second third (IsBefore (front tag gate bytes)) (LeftOrHolds (G.state first) told others)
-    (λ left before. inr (same_list tag entries gate bytes loaded told others holds left before)) repairing)
+pub recovered : {D : Type 0} (G : Ghosts D) (first second third : D) (tag : ℕ) (entries : List Entry) (gate : ℕ)
+    → IsLoaded tag entries gate (G.state first).now → LeavesOnly G first second (CrashLeaves (G.state first))
+    → LeavesOnly G second third (IsBefore (front tag gate (G.state first).now)) → LeavesOnly G first third (LeftOrSame (G.state first))
+recovered G first second third tag entries gate loaded reading repairing =
+    goes_on G first second third (LeftOrSame (G.state first))
+    (weaker G first second (CrashLeaves (G.state first)) (LeftOrSame (G.state first)) (λ left leaves. inl leaves) reading)
+    (weaker G second third (IsBefore (front tag gate (G.state first).now)) (LeftOrSame (G.state first))
+    (λ left before. inr (same_list tag entries gate (G.state first).now loaded left before)) repairing)

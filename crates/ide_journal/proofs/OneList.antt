@@ -1,11 +1,11 @@
 -- A file holds one list of records at most.
 use Rattle.std.specs.Prelude.{◌≡◌, ℕ, ◌+◌, ◌≤◌, List, [], ◌∷◌, ◌++◌, length, drop, refl}
 use Rattle.std.specs.Int.{w32, w64, to_le_bytes, from_le_bytes}
-use Rattle.std.proofs.Common.{arith, sym, ap, ◌∙◌, get_or}
+use Rattle.std.proofs.Common.{arith, sym, ap, subst, ◌∙◌, get_or}
 use Rattle.std.proofs.lemmas.List.{append_assoc, append_cancel_left, length-append, length-replicate}
 use Rattle.std.proofs.lemmas.Nat.{from_le_bytes-to_le_bytes_4}
-use Rattle.ide_journal.specs.Format.{Entry, letters, zeros, header, padding, after_gate, IsEntry, IsPages}
-use Rattle.ide_journal.specs.Laws.{HoldsOneList}
+use Rattle.ide_journal.specs.Format.{Entry, letters, zeros, header, padding, after_gate, IsEntry, IsPages, Holds}
+use Rattle.ide_journal.specs.Laws.{HoldsOneList, HoldsTheSame}
 
 pub length-zeros : (count : ℕ) → length (zeros count) ≡ count
 unfolding zeros
@@ -82,3 +82,8 @@ holds_one_list tag other entries others bytes holds other_holds =
       ap (λ (xs : List ℕ). get_or xs 8 0) fronts.0,
       one_list 0 entries others holds.pages other_holds.pages holds.rest other_holds.rest holds.whole other_holds.whole fronts.1,
     )
+
+pub holds_the_same : HoldsTheSame
+holds_the_same tag entries bytes left same holds =
+    let one = holds_one_list same.tag tag same.entries entries bytes same.first holds in
+    subst (λ (t : ℕ). Holds t entries left) one.0 (subst (λ (es : List Entry). Holds same.tag es left) one.1 same.second)

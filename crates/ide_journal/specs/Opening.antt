@@ -17,6 +17,13 @@ pub record IsFound (tag : ℕ) (entries : List Entry) (gate : ℕ) (disk : DiskS
   pub place : gate ≡ length (header tag ++ pages)
   pub settled_disk : disk ≡ settled (header tag ++ pages ++ 0 ∷ [])
 
--- what a crash of the disk may have left, or a file that holds the records
-abbrev pub LeftOrHolds : DiskState → ℕ → List Entry → List ℕ → Type 0
-LeftOrHolds disk tag entries left = CrashLeaves disk left ⊎ Holds tag entries left
+-- two files hold the same records, under the same tag
+pub record HoldSame (bytes left : List ℕ) : Type 0 where
+  pub tag : ℕ
+  pub entries : List Entry
+  pub first : Holds tag entries bytes
+  pub second : Holds tag entries left
+
+-- what a crash of the disk may have left, or a file that holds the records that a read gives
+abbrev pub LeftOrSame : DiskState → List ℕ → Type 0
+LeftOrSame disk left = CrashLeaves disk left ⊎ HoldSame disk.now left

@@ -36,7 +36,7 @@ pub struct Journal<D: Disk> {
 impl<D: Disk> Journal<D> {
     ghost use Rattle.ide_journal.specs.Lists.{IsAtRest, IsUnderWay, HoldsWithOrWithout, HoldsAt, entry_of};
     ghost use Rattle.ide_journal.specs.Moments.{LeavesOnly};
-    ghost use Rattle.ide_journal.specs.Opening.{LeftOrHolds};
+    ghost use Rattle.ide_journal.specs.Opening.{LeftOrSame};
     ghost use Rattle.ide_journal.specs.Reading.{HasCause};
     ghost use Rattle.ide_disk.specs.Disk.{CrashLeaves};
     ghost use Rattle.ide_disk.specs.Time.{Elapses};
@@ -82,10 +82,12 @@ impl<D: Disk> Journal<D> {
         ensures honest_refused { D.honest disk → IfErr result (λ pair. D.honest pair.1) }
 
         // A crash at any moment of the call leaves what one before it could leave, or the list that the disk held.
-        ensures any_moment { D.honest disk → (told : ℕ) → (entries : List Entry) → Holds told entries (D.state disk).now → IfOk result (λ pair. LeavesOnly D.Disk disk pair.0.disk (LeftOrHolds (D.state disk) told entries)) }
-        ensures any_moment_refused { D.honest disk → (told : ℕ) → (entries : List Entry) → Holds told entries (D.state disk).now → IfErr result (λ pair. LeavesOnly D.Disk disk pair.1 (LeftOrHolds (D.state disk) told entries)) }
+        ensures any_moment { D.honest disk → IfOk result (λ pair. LeavesOnly D.Disk disk pair.0.disk (LeftOrSame (D.state disk))) }
+        ensures any_moment_refused { D.honest disk → IfErr result (λ pair. LeavesOnly D.Disk disk pair.1 (LeftOrSame (D.state disk))) }
 
-        // The disk comes back. Each refusal has its cause, that of the disk in the count of failures.
+        // The disk comes back, synced and with the bytes that it had where no call of it failed. Each refusal has
+        // its cause, that of the disk in the count of failures.
+        ensures kept { D.honest disk → IfErr result (λ pair. (pair.0 ≡ Refused.Disk) ⊎ (D.state pair.1 ≡ settled (D.state disk).now)) }
         ensures cause { D.honest disk → IfErr result (λ pair. (pair.0 ≡ Refused.Disk) ⊎ HasCause pair.0 tag (D.state disk).now) }
         ensures counted { IfErr result (λ pair. pair.0 ≡ Refused.Disk → D.failures pair.1 ≡ next_count (D.failures disk)) }
         ensures failures { IfOk result (λ pair. D.failures pair.0.disk ≡ D.failures disk) }

@@ -3,10 +3,10 @@ ghost use Rattle.std.specs.Prelude.{◌≡◌, ◌⊎◌, ◌+◌, ◌<◌, ◌�
 ghost use Rattle.ide_disk.specs.Disk.{CrashLeaves, LeavesAfterSync, settled};
 ghost use Rattle.ide_disk.specs.Time.{next_count, failures_after};
 ghost use Rattle.ide_journal.specs.Bytes.{IsBefore};
-ghost use Rattle.ide_journal.specs.Format.{Entry, Holds};
+ghost use Rattle.ide_journal.specs.Format.{Holds};
 ghost use Rattle.ide_journal.specs.Lists.{entry_of};
 ghost use Rattle.ide_journal.specs.Moments.{LeavesOnly};
-ghost use Rattle.ide_journal.specs.Opening.{IsFound, IsLoaded, LeftOrHolds};
+ghost use Rattle.ide_journal.specs.Opening.{IsFound, IsLoaded, LeftOrSame};
 ghost use Rattle.ide_journal.specs.Reading.{HasCause, IsStore};
 
 use crate::RawRecord;
@@ -97,6 +97,7 @@ fn load<D: Disk>(alloc: Global, disk: &mut D, tag: u8) -> Result<(Vec<RawRecord>
     ensures failures { OnOk result (D.failures disk.new ≡ D.failures disk.old) }
     ensures counted { result ≡ Err Refused.Disk → D.failures disk.new ≡ next_count (D.failures disk.old) }
     ensures cause { D.honest disk.old → IfErr result (λ refused. (refused ≡ Refused.Disk) ⊎ HasCause refused tag (D.state disk.old).now) }
+    ensures kept { D.honest disk.old → IfErr result (λ refused. (refused ≡ Refused.Disk) ⊎ (D.state disk.new ≡ settled (D.state disk.old).now)) }
 {
     settle(disk)?;
     let bytes = read_all(alloc, disk)?;
@@ -115,10 +116,11 @@ pub(crate) fn recover<D: Disk>(
     ensures held { D.honest disk.old → IfOk result (λ pair. Holds tag (map entry_of pair.0.items) (D.state disk.old).now) }
     ensures found { D.honest disk.old → IfOk result (λ pair. IsFound tag (map entry_of pair.0.items) pair.1 (D.state disk.new)) }
     ensures honest { D.honest disk.old → D.honest disk.new }
-    ensures any_moment { D.honest disk.old → (told : ℕ) → (entries : List Entry) → Holds told entries (D.state disk.old).now → LeavesOnly D.Disk disk.old disk.new (LeftOrHolds (D.state disk.old) told entries) }
+    ensures any_moment { D.honest disk.old → LeavesOnly D.Disk disk.old disk.new (LeftOrSame (D.state disk.old)) }
     ensures failures { OnOk result (D.failures disk.new ≡ D.failures disk.old) }
     ensures counted { result ≡ Err Refused.Disk → D.failures disk.new ≡ next_count (D.failures disk.old) }
     ensures cause { D.honest disk.old → IfErr result (λ refused. (refused ≡ Refused.Disk) ⊎ HasCause refused tag (D.state disk.old).now) }
+    ensures kept { D.honest disk.old → IfErr result (λ refused. (refused ≡ Refused.Disk) ⊎ (D.state disk.new ≡ settled (D.state disk.old).now)) }
 {
     let (records, gate) = load(alloc, disk, tag)?;
     match repair(disk, gate) {

@@ -25,7 +25,7 @@ returns-in-Ok-clause-any_moment g c honest =
     let bytes = (g.D.Disk.state c.args.disk.now).now in
     let loaded = c.in_ok-records.ensures.loaded honest in
     let split = loaded_split tag (map entry_of c.in_ok-records.records.items) gate bytes loaded in
-    recovered g.D.Disk c.args.disk.now c.load.new.disk c.repair.new.disk tag _ gate bytes loaded (c.load.ensures.any_moment honest)
+    recovered g.D.Disk c.args.disk.now c.load.new.disk c.repair.new.disk tag _ gate loaded (c.load.ensures.any_moment honest)
     (c.repair.ensures.any_moment (c.load.ensures.honest honest) (front tag gate bytes) (drop (gate + 1) bytes) (loaded_place tag _ gate bytes loaded)
     (c.in_ok-records.ensures.state honest ∙ ap settled split))
 
@@ -36,6 +36,6 @@ returns-in-Err-clause-any_moment g c honest =
     let bytes = (g.D.Disk.state c.args.disk.now).now in
     let loaded = c.in_ok-records.ensures.loaded honest in
     let split = loaded_split tag (map entry_of c.in_ok-records.records.items) gate bytes loaded in
-    recovered g.D.Disk c.args.disk.now c.load.new.disk c.repair.new.disk tag _ gate bytes loaded (c.load.ensures.any_moment honest)
+    recovered g.D.Disk c.args.disk.now c.load.new.disk c.repair.new.disk tag _ gate loaded (c.load.ensures.any_moment honest)
     (c.repair.ensures.any_moment (c.load.ensures.honest honest) (front tag gate bytes) (drop (gate + 1) bytes) (loaded_place tag _ gate bytes loaded)
     (c.in_ok-records.ensures.state honest ∙ ap settled split))
