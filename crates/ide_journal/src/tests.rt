@@ -257,3 +257,37 @@ fn refuses_other_files(rt: HostRuntime) -> Result<(), Fail> {
     refuses(&rt, alloc, disk, 1, Refused::NotAStore)?;
     Ok(())
 }
+
+// A record with a body of so many bytes is read back, from a file of so many.
+fn reads_back(rt: &impl Abort, alloc: Global, count: usize, len: u64) -> Result<(), Fail> {
+    let mut body = Vec::with_capacity(alloc, count)?;
+    body.resize(count, 7)?;
+    let disk = MemDisk::new(alloc, 4300000, 4300000)?;
+    let mut journal = match Journal::create(alloc, disk, 1) {
+        Ok(journal) => journal,
+        Err((refused, _)) => return Err(refused.into()),
+    };
+    store(rt, alloc, &mut journal, 3, &body)?;
+    let mut disk = journal.into_disk();
+    disk.crash(Leave::Old);
+    assert_eq!(rt; disk.len()?, len);
+    match Journal::open(alloc, disk, 1) {
+        Ok((_, records)) => {
+            assert_eq!(rt; records.len(), 1);
+            assert_eq!(rt; records[0].kind, 3);
+            assert!(rt; records[0].body.as_slice() == body.as_slice());
+            Ok(())
+        }
+        Err((refused, _)) => Err(refused.into()),
+    }
+}
+
+#[test]
+fn reads_back_bodies_of_each_length(rt: HostRuntime) -> Result<(), Fail> {
+    let alloc = rt.alloc();
+    reads_back(&rt, alloc, 0, 8193)?;
+    reads_back(&rt, alloc, 1, 8193)?;
+    reads_back(&rt, alloc, 4082, 8193)?;
+    reads_back(&rt, alloc, 4083, 12289)?;
+    reads_back(&rt, alloc, 4194304, 4202497)
+}
