@@ -15,8 +15,8 @@ use ide_disk::{DeviceFault, Disk};
 use ide_wire::Refused;
 use std::alloc::Global;
 
-/// All bytes of the disk.
-pub(crate) fn read_all<D: Disk>(alloc: Global, disk: &mut D) -> Result<Vec<u8>, Refused>
+// All bytes of the disk.
+fn read_all<D: Disk>(alloc: Global, disk: &mut D) -> Result<Vec<u8>, Refused>
     ensures bytes { D.honest disk.old → IfOk result (λ bytes. bytes.items ≡ (D.state disk.old).now) }
     ensures length { IfOk result (λ bytes. length bytes.items ≡ D.size disk.old) }
     ensures size { D.size disk.new ≡ D.size disk.old }
@@ -86,7 +86,7 @@ fn settle<D: Disk>(disk: &mut D) -> Result<(), Refused>
     }
 }
 
-/// The records of a store with that tag, and where the closed gate behind them stands.
+// The records of a store with that tag, and where the closed gate behind them stands.
 fn load<D: Disk>(alloc: Global, disk: &mut D, tag: u8) -> Result<(Vec<RawRecord>, u64), Refused>
     ensures inside { IfOk result (λ pair. pair.1 < D.size disk.new) }
     ensures few { IfOk result (λ pair. length pair.0.items ≤ 4294967295) }
@@ -129,8 +129,8 @@ pub(crate) fn recover<D: Disk>(
     }
 }
 
-/// Drops what stands behind a closed gate, and brings that onto the disk.
-pub(crate) fn repair<D: Disk>(disk: &mut D, gate: u64) -> Result<(), DeviceFault>
+// Drops what stands behind a closed gate, and brings that onto the disk.
+fn repair<D: Disk>(disk: &mut D, gate: u64) -> Result<(), DeviceFault>
     requires { gate < D.size disk.old }
     ensures size { OnOk result (gate < D.size disk.new) }
     ensures bytes { D.honest disk.old → (base rest : List ℕ) → gate ≡ length base → D.state disk.old ≡ settled (base ++ 0 ∷ rest) → OnOk result (D.state disk.new ≡ settled (base ++ 0 ∷ [])) }
