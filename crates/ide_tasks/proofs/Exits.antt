@@ -1,11 +1,12 @@
 -- One source more at an exit.
 use Rattle.std.proofs.Common.{◌≡◌, ℕ, ◌+◌, ◌<◌, Bool, false, List, [], ◌∷◌, ◌++◌, Option, None, Some, not, length, get_or, take, map, sym, ap, ◌∙◌, arith, append-nil}
 use Rattle.std.specs.Prelude.{slice_get, nat_eq}
-use Rattle.std.specs.List.{flat_map}
+use Rattle.std.specs.List.{flat_map, range_with_len}
 use Rattle.std.specs.Option.{option_eq}
 use Rattle.std.proofs.lemmas.Bool.Decides.{nat_tests}
 use Rattle.std.proofs.Math.Seq.{take-length}
-use Rattle.std.proofs.lemmas.List.{take_more, flat_map_more}
+use Rattle.std.proofs.lemmas.List.FromFn.{map-range_with_len_more}
+use Rattle.std.proofs.lemmas.List.{take_more, flat_map_more, map-id}
 use Rattle.ide_lattice.specs.Algebra.{EdgeAlgebra}
 use Rattle.ide_problem.specs.Flow.{Targets}
 use Rattle.ide_graph.specs.declared.site.Caller.{Caller}
@@ -23,6 +24,19 @@ one_more f before after all xs i x within is so_far more =
     ∙ flat_map_more f before (take i xs) x
     ∙ ap (λ y. before ++ flat_map f (take i xs ++ y ∷ [])) is
     ∙ ap (λ ys. before ++ flat_map f ys) (sym (take_more xs i x within))
+
+range_more : (n : ℕ) → range_with_len 0 n ++ n ∷ [] ≡ range_with_len 0 (n + 1)
+range_more n = ap (λ ns. ns ++ n ∷ []) (sym (map-id (range_with_len 0 n))) ∙ sym (map-range_with_len_more (λ (k : ℕ). k) 0 n n (omega arith)) ∙ map-id (range_with_len 0 (n + 1))
+
+-- one fact more
+pub one_fact_more : {A : Type 0} (f : ℕ → List A) (before after all : List A) (fact : ℕ)
+    → after ≡ before ++ flat_map f (range_with_len 0 fact) → all ≡ after ++ f fact
+    → all ≡ before ++ flat_map f (range_with_len 0 (fact + 1))
+one_fact_more f before after all fact so_far more =
+    more
+    ∙ ap (λ ys. ys ++ f fact) so_far
+    ∙ flat_map_more f before (range_with_len 0 fact) fact
+    ∙ ap (λ ns. before ++ flat_map f ns) (range_more fact)
 
 -- an index that is not another than the current one is it
 pub is_current : (current : Option ℕ) (index : ℕ) (other : Bool) → other ≡ not (option_eq nat_eq current (Some index))

@@ -1,3 +1,4 @@
 pub mod Parts
+pub mod Sources
 pub mod Task
 pub mod Work

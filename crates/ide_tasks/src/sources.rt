@@ -1,4 +1,7 @@
 //! The inverse of call flow.
+ghost use Rattle.std.specs.Prelude.{◌≡◌, ◌++◌, OnOk, map};
+ghost use Rattle.ide_tasks.specs.Sources.{source_of, sources_over};
+
 use crate::partners::Reaching;
 use ide_graph::{Caller, Graph, Site};
 use ide_lattice::EdgeFn;
@@ -18,7 +21,7 @@ pub struct Sources<P: Problem> {
 
 /// That the fact `reached` at the procedure's start depends on a fact at a caller.
 #[derive(Clone, Copy)]
-struct Source<F: EdgeFn> {
+struct Source<F> {
     reached: Fact,
     from: Reaching<F>,
 }
@@ -81,12 +84,12 @@ fn add_caller<P: Problem>(
     caller_index: u32,
     caller: &Caller,
     sources: &mut Vec<Source<P::F>>,
-) -> Result<(), AllocError> {
+) -> Result<(), AllocError>
+    ensures { OnOk result (sources.new.items ≡ sources.old.items ++ sources_over P.targets graph.now.facts caller_index caller.now) }
+{
     let mut targets = TargetList::new(alloc);
-    for fact in 0..=Fact::MAX {
-        if fact as usize >= graph.fact_count() {
-            break;
-        }
+    for fact in 0..graph.fact_count() {
+        let fact = fact as Fact;
         targets.clear();
         P::flow(&caller.call, fact, &mut targets)?;
         add_targets(caller_index, fact, &targets, sources)?;
@@ -100,7 +103,9 @@ fn add_targets<F: EdgeFn>(
     fact: Fact,
     targets: &TargetList<F>,
     sources: &mut Vec<Source<F>>,
-) -> Result<(), AllocError> {
+) -> Result<(), AllocError>
+    ensures { OnOk result (sources.new.items ≡ sources.old.items ++ map (source_of caller fact) targets.now.list.items) }
+{
     for (reached, function) in targets.list.as_slice() {
         sources.push(Source {
             reached: *reached,
