@@ -1,6 +1,6 @@
 //! The inverse of call flow.
-ghost use Rattle.std.specs.Prelude.{◌≡◌, ◌++◌, OnOk, map};
-ghost use Rattle.ide_tasks.specs.Sources.{source_of, sources_over};
+ghost use Rattle.std.specs.Prelude.{◌≡◌, ◌≤◌, ◌^◌, ◌++◌, OnOk, length, map};
+ghost use Rattle.ide_tasks.specs.Sources.{source_of, sources_over, sources_from};
 
 use crate::partners::Reaching;
 use ide_graph::{Caller, Graph, Site};
@@ -69,12 +69,28 @@ fn sources_at<P: Problem>(
 ) -> Result<Vec<Source<P::F>>, AllocError> {
     let mut sources = Vec::new(alloc);
     if let Site::Exit { callers, .. } = site {
-        for (index, caller) in (0u32..).zip(callers.iter()) {
-            add_caller::<P>(alloc, graph, index, caller, &mut sources)?;
-        }
+        add_callers::<P>(alloc, graph, callers.as_slice(), &mut sources)?;
     }
     sources.sort_by_key(|source| source.reached)?;
     Ok(sources)
+}
+
+/// Adds what the call flow of each caller reaches. An exit has fewer callers than a graph has nodes.
+fn add_callers<P: Problem>(
+    alloc: Global,
+    graph: &Graph,
+    callers: &[Caller],
+    sources: &mut Vec<Source<P::F>>,
+) -> Result<(), AllocError>
+    ensures { length callers.now ≤ 2 ^ 32 → OnOk result (sources.new.items ≡ sources.old.items ++ sources_from P.targets graph.now.facts 0 callers.now) }
+{
+    for (index, caller) in callers.iter().enumerate() {
+        let Ok(index) = u32::try_from(index) else {
+            break;
+        };
+        add_caller::<P>(alloc, graph, index, caller, sources)?;
+    }
+    Ok(())
 }
 
 /// Adds what the call flow of one caller reaches.
