@@ -1,5 +1,5 @@
 -- The inverse of call flow: which facts at callers reach a fact at a procedure's start.
-use Rattle.std.specs.Prelude.{ℕ, ◌+◌, List, [], ◌∷◌, ◌++◌, map, filter, nat_eq}
+use Rattle.std.specs.Prelude.{ℕ, ◌+◌, ◌^◌, ◌≤◌, length, List, [], ◌∷◌, ◌++◌, map, filter, nat_eq}
 use Rattle.std.specs.List.{flat_map, range_with_len}
 use Rattle.ide_problem.specs.Flow.{Targets}
 use Rattle.ide_graph.specs.declared.site.Caller.{Caller}
@@ -29,6 +29,12 @@ abbrev pub sources_at : {F : Type 0} → Targets F → ℕ → Site → List (So
 sources_at targets facts (Normal edges) = []
 sources_at targets facts (Call calls along) = []
 sources_at targets facts (Exit start callers) = sources_from targets facts 0 callers.items
+
+-- each of its callers has an index
+abbrev pub HasFewCallers : Site → Type 0
+HasFewCallers (Normal edges) = Unit {0}
+HasFewCallers (Call calls along) = Unit {0}
+HasFewCallers (Exit start callers) = length callers.items ≤ 2 ^ 32
 
 -- those of the sources that reach the fact
 abbrev pub reaching_of : {F : Type 0} → ℕ → List (Source F) → List (Reaching F)

@@ -1,6 +1,7 @@
 //! The inverse of call flow.
-ghost use Rattle.std.specs.Prelude.{◌≡◌, ◌≤◌, ◌^◌, ◌++◌, OnOk, length, map};
-ghost use Rattle.ide_tasks.specs.Sources.{source_of, sources_over, sources_from};
+ghost use Rattle.std.specs.Prelude.{◌≡◌, ℕ, ◌≤◌, ◌^◌, ◌++◌, IfOk, OnOk, length, map};
+ghost use Rattle.std.specs.List.Sorted.{IsNonDecreasingBy};
+ghost use Rattle.ide_tasks.specs.Sources.{HasFewCallers, reaching_of, source_of, sources_at, sources_over, sources_from};
 
 use crate::partners::Reaching;
 use ide_graph::{Caller, Graph, Site};
@@ -66,13 +67,31 @@ fn sources_at<P: Problem>(
     alloc: Global,
     graph: &Graph,
     site: &Site,
-) -> Result<Vec<Source<P::F>>, AllocError> {
-    let mut sources = Vec::new(alloc);
-    if let Site::Exit { callers, .. } = site {
-        add_callers::<P>(alloc, graph, callers.as_slice(), &mut sources)?;
-    }
+) -> Result<Vec<Source<P::F>>, AllocError>
+    ensures ascending { IfOk result (λ sources. IsNonDecreasingBy (λ source. source.reached) sources.items) }
+    ensures exact { HasFewCallers site.now → IfOk result (λ sources. (fact : ℕ) → reaching_of fact sources.items ≡ reaching_of fact (sources_at P.targets graph.now.facts site.now)) }
+{
+    let mut sources = unsorted_sources_at::<P>(alloc, graph, site)?;
     sources.sort_by_key(|source| source.reached)?;
     Ok(sources)
+}
+
+/// The same by caller, then by the fact at the call node, then by the fact reached.
+fn unsorted_sources_at<P: Problem>(
+    alloc: Global,
+    graph: &Graph,
+    site: &Site,
+) -> Result<Vec<Source<P::F>>, AllocError>
+    ensures { HasFewCallers site.now → IfOk result (λ sources. sources.items ≡ sources_at P.targets graph.now.facts site.now) }
+{
+    let mut sources = Vec::new(alloc);
+    match site {
+        Site::Exit { callers, .. } => {
+            add_callers::<P>(alloc, graph, callers.as_slice(), &mut sources)?;
+            Ok(sources)
+        }
+        _ => Ok(sources),
+    }
 }
 
 /// Adds what the call flow of each caller reaches. An exit has fewer callers than a graph has nodes.
