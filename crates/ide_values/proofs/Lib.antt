@@ -1,4 +1,7 @@
 pub mod Coming
+pub mod Edges
+pub mod Sound
+pub mod Started
 pub mod Extends
 pub mod Filled
 pub mod Passing

@@ -1,5 +1,6 @@
 pub mod BestDump
 pub mod Dump
+pub mod Closed
 pub mod Enter
 pub mod Extends
 pub mod Fill

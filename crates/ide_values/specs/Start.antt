@@ -1,5 +1,5 @@
 -- Start values: rows of values by procedure, one value for each fact.
-use Rattle.std.specs.Prelude.{ℕ, ◌+◌, ◌*◌, List, cond, nat_eq, slice_index, slice_index_or}
+use Rattle.std.specs.Prelude.{ℕ, ◌+◌, ◌*◌, ◌&&◌, List, cond, nat_eq, nat_lt, slice_index, slice_index_or}
 use Rattle.ide_graph.specs.Supergraph.{Supergraph}
 use Rattle.ide_lattice.specs.Algebra.{LatticeAlgebra}
 
@@ -18,4 +18,4 @@ module _ {L : Type 0} (A : LatticeAlgebra L) (graph : Supergraph) (starts : List
 
   -- the value of a fact at a start: top at each other node
   abbrev pub start_value : ℕ → ℕ → L
-  start_value s fact = cond (nat_eq (start_of graph s) s) (value_before s fact) A.top
+  start_value s fact = cond (nat_lt s graph.nodes && nat_eq (start_of graph s) s) (value_before s fact) A.top

@@ -2,6 +2,7 @@
 ghost use Rattle.std.specs.Prelude.{◌≡◌, ◌<◌, ◌≤◌, ◌⊎◌, ◌↔◌, Err, IfErr, IfOk};
 ghost use Rattle.std.specs.Arc.{arc_value};
 ghost use Rattle.ide_steps.specs.declared.loaded.Loaded.{Loaded};
+ghost use Rattle.ide_values.specs.Closed.{FollowFrom};
 ghost use Rattle.ide_values.specs.Values.{AreValues, value_of};
 
 use crate::fill::fill;
@@ -12,6 +13,7 @@ use ide_problem::Problem;
 use ide_steps::{Closed, HANDS, Loaded};
 use ide_tables::Tables;
 use ide_text::Program;
+use ide_theory::sites_make_a_graph;
 use ide_wire::{Fact, Node, Refused};
 use std::alloc::{AllocError, Global};
 use std::marker::Model;
@@ -52,6 +54,7 @@ impl<P: Problem> ValuePhase<P> for Closed<P> {
         ensures refused { IfErr result (λ e. (e ≡ Refused.Limit) ⊎ (e ≡ Refused.NoMemory)) }
         ensures graph { IfOk result (λ values. values.graph ≡ (arc_value {X = Loaded P P.L P.F} self.now.loaded).graph) }
         ensures roots { IfOk result (λ values. values.roots ≡ self.now.roots.items) }
+        ensures follow { IfOk result (λ values. FollowFrom P.L.algebra P.F.edge P.targets (arc_value {X = Loaded P P.L P.F} self.now.loaded).graph self.now.tables self.now.roots.items values.values) }
         ensures values { IfOk result (λ values. AreValues P.L.algebra P.F.edge P.targets (arc_value {X = Loaded P P.L P.F} self.now.loaded).graph self.now.tables self.now.roots.items values.values) }
     {
         if workers == 0 || workers > HANDS {
@@ -65,6 +68,7 @@ impl<P: Problem> ValuePhase<P> for Closed<P> {
 fn values_of<P: Problem>(alloc: Global, closed: &Closed<P>) -> Result<Values<P>, AllocError>
     ensures graph { IfOk result (λ values. values.graph ≡ (arc_value {X = Loaded P P.L P.F} closed.now.loaded).graph) }
     ensures roots { IfOk result (λ values. values.roots ≡ closed.now.roots.items) }
+    ensures follow { IfOk result (λ values. FollowFrom P.L.algebra P.F.edge P.targets (arc_value {X = Loaded P P.L P.F} closed.now.loaded).graph closed.now.tables closed.now.roots.items values.values) }
     ensures values { IfOk result (λ values. AreValues P.L.algebra P.F.edge P.targets (arc_value {X = Loaded P P.L P.F} closed.now.loaded).graph closed.now.tables closed.now.roots.items values.values) }
 {
     let rows = rows_of::<P>(
@@ -87,8 +91,10 @@ fn rows_of<P: Problem>(
     tables: &Tables<P::F>,
     roots: &[usize],
 ) -> Result<Vec<P::L>, AllocError>
-    ensures { IfOk result (λ values. AreValues P.L.algebra P.F.edge P.targets graph.now tables.now roots.now values.items) }
+    ensures follow { IfOk result (λ values. FollowFrom P.L.algebra P.F.edge P.targets graph.now tables.now roots.now values.items) }
+    ensures values { IfOk result (λ values. AreValues P.L.algebra P.F.edge P.targets graph.now tables.now roots.now values.items) }
 {
+    sites_make_a_graph::<P>();
     let starts = start_values::<P>(alloc, graph, tables, roots)?;
     let values = fill(alloc, graph, tables, starts.as_slice())?;
     Ok(values)
