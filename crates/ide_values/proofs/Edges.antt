@@ -1,6 +1,7 @@
 -- The call edges at a node, as data and as edges of the supergraph.
-use Rattle.std.proofs.Common.{◌≡◌, ℕ, ◌+◌, ◌<◌, ◌≤◌, ◌⊎◌, Bool, true, false, cond, List, [], ◌∷◌, Option, Some, None, ap, sym, subst, refl, inl, inr, ◌∙◌, arith}
+use Rattle.std.proofs.Common.{◌≡◌, ℕ, suc, ◌+◌, ◌<◌, ◌≤◌, ◌⊎◌, Bool, true, false, cond, List, [], ◌∷◌, Option, Some, None, ap, sym, subst, refl, inl, inr, ◌∙◌, arith}
 use Rattle.std.specs.Prelude.{IsTrue, nat_eq}
+use Rattle.std.specs.List.{Contains}
 use Rattle.std.proofs.lemmas.Bool.Decides.{nat_tests}
 use Rattle.ide_graph.specs.declared.edge.EdgeData.{EdgeData}
 use Rattle.ide_graph.specs.declared.site.Site.{Site}
@@ -9,7 +10,8 @@ use Rattle.ide_lattice.specs.Algebra.{EdgeAlgebra}
 use Rattle.ide_problem.specs.Flow.{AreTargets, function_to}
 use Rattle.ide_theory.specs.Given.{Edge}
 use Rattle.ide_theory.specs.Member.{IsIn, first, later, Each}
-use Rattle.ide_theory.specs.Sites.{IsEdgeOf, HasEdgesOf, HasCall, edges_from, edges_found}
+use Rattle.ide_graph.specs.Joined.{HasCall}
+use Rattle.ide_theory.specs.Sites.{IsEdgeOf, HasEdgesOf, edges_from, edges_found}
 use Rattle.ide_values.specs.Pass.{calls_in}
 
 pub none_in : {T : Type 0} {x : T} → IsIn x [] → ⊥
@@ -58,11 +60,16 @@ module _ (facts n : ℕ) where
   call_data (Some (Call calls along)) all e is = data_of calls.items (all (Call calls along) refl).0 e is
   call_data (Some (Exit start callers)) all e is = elim (none_in is) [ ]
 
+-- what stands in a list is contained in it
+contained : {T : Type 0} {x : T} {xs : List T} → IsIn x xs → Contains xs x
+contained first = (0, omega arith, refl)
+contained (later is) = let rest : Contains _ _ = contained is in (suc rest.0, omega (arith, rest.1), rest.2)
+
 -- the site that has a call
 pub call_site : (site : Option Site) (d : EdgeData) → IsIn d (calls_in site) → (s : Site) × (site ≡ Some s) × HasCall s d
 call_site None d is = elim (none_in is) [ ]
 call_site (Some (Normal edges)) d is = elim (none_in is) [ ]
-call_site (Some (Call calls along)) d is = (Call calls along, refl, is)
+call_site (Some (Call calls along)) d is = (Call calls along, refl, contained is)
 call_site (Some (Exit start callers)) d is = elim (none_in is) [ ]
 
 -- a listed target is in range and proper

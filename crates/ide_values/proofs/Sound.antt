@@ -18,7 +18,8 @@ use Rattle.ide_tables.specs.Tables.{Table, found}
 use Rattle.ide_theory.specs.Frame.{Frame, Roots}
 use Rattle.ide_theory.specs.Member.{IsIn, first, later}
 use Rattle.ide_theory.specs.Parts.{AreEdgesOf}
-use Rattle.ide_theory.specs.Sites.{AreJoined, HaveEdgesOf, IsEdgeOf, node_edges}
+use Rattle.ide_graph.specs.Joined.{AreJoined}
+use Rattle.ide_theory.specs.Sites.{HaveEdgesOf, IsEdgeOf, node_edges}
 use Rattle.ide_theory.specs.Value.{Found, nothing, given, passed, meet}
 use Rattle.ide_wire.specs.declared.key.Key.{Key}
 use Rattle.ide_wire.specs.declared.key.Key.TheVariants.{Jump, Summary}

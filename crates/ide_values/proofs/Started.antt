@@ -14,7 +14,8 @@ use Rattle.ide_problem.specs.Flow.{IsFlow, Targets, function_to}
 use Rattle.ide_tables.specs.Tables.{Table, found}
 use Rattle.ide_theory.specs.Member.{IsIn, first, later}
 use Rattle.ide_theory.specs.Parts.{AreEdgesOf}
-use Rattle.ide_theory.specs.Sites.{AreJoined, HaveEdgesOf, IsEdgeOf, node_edges}
+use Rattle.ide_graph.specs.Joined.{AreJoined}
+use Rattle.ide_theory.specs.Sites.{HaveEdgesOf, IsEdgeOf, node_edges}
 use Rattle.ide_theory.specs.Value.{Found, IsStarted, nothing, value_at}
 use Rattle.ide_wire.specs.declared.key.Key.{Key}
 use Rattle.ide_wire.specs.declared.key.Key.TheVariants.{Jump}

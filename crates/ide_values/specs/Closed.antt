@@ -1,5 +1,6 @@
 -- A graph whose numbers are its own, and the start values for the roots over it.
 use Rattle.std.specs.Prelude.{◌≡◌, ℕ, ◌+◌, ◌*◌, ◌<◌, List, Some, cond, length, map, nat_lt, slice_get, slice_index, slice_index_or}
+use Rattle.ide_graph.specs.Joined.{AreJoined, HasCall}
 use Rattle.ide_graph.specs.Supergraph.{Supergraph}
 use Rattle.ide_graph.specs.declared.edge.EdgeData.{EdgeData}
 use Rattle.ide_graph.specs.declared.site.Site.{Site}
@@ -8,7 +9,7 @@ use Rattle.ide_problem.specs.Flow.{Targets}
 use Rattle.ide_theory.specs.Frame.{Frame, Roots}
 use Rattle.ide_theory.specs.Given.{frame_of, roots_of}
 use Rattle.ide_theory.specs.Member.{IsIn}
-use Rattle.ide_theory.specs.Sites.{AreJoined, HasCall, HaveEdgesOf, edges_of}
+use Rattle.ide_theory.specs.Sites.{HaveEdgesOf, edges_of}
 use Rattle.ide_theory.specs.Value.{IsStarted, value_at}
 use Rattle.ide_tables.specs.Tables.{Table, found}
 use Rattle.ide_values.specs.Fill.{IsImage}
