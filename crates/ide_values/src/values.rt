@@ -43,8 +43,8 @@ pub trait ValuePhase<P: Problem> {
     /// The values of the image. The count of workers is tested; the calling thread fills all.
     ///
     /// Refusals, in this order: `Limit` where there are no workers or more than 64; `NoMemory`.
-    /// It reads each entry of the tables once, after work in proportion to how the start values
-    /// fall.
+    /// It reads each entry of the tables twice, after work in proportion to how the start values
+    /// fall: once to see that none falls any more, and once for the fill.
     fn values(&self, alloc: Global, workers: usize) -> Result<Values<P>, Refused>;
 }
 
