@@ -29,9 +29,10 @@ try:
 install: idesolve
 	install -D idesolve $(DESTDIR)$(PREFIX)/bin/idesolve
 
-# Times the program on generated texts, and prints a table.
+# Times the program on generated texts and the journal on a disk in memory, and prints a table of each.
 bench: idesolve
 	bench/run
+	bench/journal
 
 clean:
 	rm -rf idesolve crates/*/out

@@ -14,7 +14,7 @@ use Rattle.ide_text.specs.NameFault.{StatementFault, No_variable, No_label, No_p
 use Rattle.ide_text.specs.Names.{declares, is_among, is_label}
 use Rattle.ide_text.specs.Program.{globals_of, procedures_of}
 use Rattle.ide_graph.specs.Building.{AllHaveFacts}
-use Rattle.ide_graph.specs.Named.{same_name}
+use Rattle.std.specs.Str.{bytes_eq}
 use Rattle.ide_graph.specs.ProgramEdges.{HasFact}
 use Rattle.ide_graph.specs.Numbers.{label_from, procedure_of, names_at}
 use Rattle.ide_graph.proofs.FoundLemmas.{found, find-none, find-position}
@@ -41,7 +41,7 @@ module _ (p : Program) (named : IsWellNamed p) (index : ℕ) (q : Procedure) (ow
   variables_known x used = by (is_among (variables_in (globals_of p) q) x) refl
     where
       by : (b : Bool) → is_among (variables_in (globals_of p) q) x ≡ b → (fact : ℕ) × HasFact p q x fact
-      by true e = found (same_name x) (names_at (globals_of p) q) (among_more (same_name x) (codes "@zero") (codes "@result") (globals_of p) q.parameters.items q.locals.items e)
+      by true e = found (bytes_eq x) (names_at (globals_of p) q) (among_more (bytes_eq x) (codes "@zero") (codes "@result") (globals_of p) q.parameters.items q.locals.items e)
       by false e = absurd (no_fault NoSuchVariable (No_variable x used e))
 
   -- each label that it goes to has a node

@@ -7,7 +7,7 @@ use Rattle.std.proofs.lemmas.List.Elements.{All-cons, All-head, All-tail}
 use Rattle.indexmap.specs.IndexMap.{insert_entry}
 use Rattle.ide_text.specs.declared.program.Procedure.{Procedure}
 use Rattle.ide_text.specs.Names.{is_named}
-use Rattle.ide_graph.specs.Named.{same_name}
+use Rattle.std.specs.Str.{bytes_eq}
 use Rattle.ide_graph.specs.Naming.{number_of, with_number}
 use Rattle.ide_graph.specs.Numbers.{procedure_of}
 use Rattle.ide_graph.proofs.PlaceLemmas.{or_else, number_of-with, position-push}
@@ -26,6 +26,6 @@ pub procedure_of-more : (numbers : List (List ℕ × ℕ)) (ps : List Procedure)
     → (name : List ℕ) → number_of (with_number numbers q.name n) name ≡ procedure_of (ps ++ q ∷ []) name
 procedure_of-more numbers ps q n is before name =
     number_of-with numbers q.name name n
-    ∙ ap (λ o. or_else o (cond (same_name name q.name) (Some n) None)) (before name)
-    ∙ ap (λ m. or_else (procedure_of ps name) (cond (same_name name q.name) (Some m) None)) is
+    ∙ ap (λ o. or_else o (cond (bytes_eq name q.name) (Some n) None)) (before name)
+    ∙ ap (λ m. or_else (procedure_of ps name) (cond (bytes_eq name q.name) (Some m) None)) is
     ∙ sym (position-push (is_named name) ps q)

@@ -6,7 +6,7 @@ use Rattle.ide_text.specs.declared.program.Program.{Program}
 use Rattle.ide_text.specs.Program.{globals_of, procedures_of}
 use Rattle.ide_graph.specs.Numbers.{most_own, facts_of}
 
-own_at_most : (procedures : List Procedure) (index : ℕ) (q : Procedure) → slice_get procedures index ≡ Some q → length q.parameters.items + length q.locals.items ≤ most_own procedures
+pub own_at_most : (procedures : List Procedure) (index : ℕ) (q : Procedure) → slice_get procedures index ≡ Some q → length q.parameters.items + length q.locals.items ≤ most_own procedures
 own_at_most [] index q at = let none : ⊥ = cc in elim none [ ]
 own_at_most (r ∷ procedures) zero q at = let same : r ≡ q = cc in rw (← same) (omega arith)
 own_at_most (r ∷ procedures) (suc index) q at = let below : length q.parameters.items + length q.locals.items ≤ most_own procedures = own_at_most procedures index q at in omega arith

@@ -5,7 +5,8 @@ use Rattle.std.specs.Option.{option_map}
 use Rattle.std.proofs.lemmas.List.Folds.{list_any-append}
 use Rattle.std.proofs.lemmas.Slice.Eq.{bytes_eq-Decides}
 use Rattle.ide_text.specs.Names.{is_among}
-use Rattle.ide_graph.specs.Named.{same_name, fact_of_name, own_or_shared}
+use Rattle.std.specs.Str.{bytes_eq}
+use Rattle.ide_graph.specs.Named.{fact_of_name, own_or_shared}
 use Rattle.ide_graph.specs.Naming.{AreNew}
 use Rattle.ide_graph.proofs.PlaceLemmas.{or_else, later, position-cons, position-append, position_within, position_found, is_some-position}
 
@@ -45,48 +46,48 @@ joined n m false false g (Some i) few zero_free result_free own shared =
     ∙ sym (ap (λ o. or_else (option_map suc o) (Some (suc n + suc i))) (own i refl).1)
 
 by_parts : (globals own : List (List ℕ)) (name : List ℕ) (o : Option ℕ) → own_or_shared globals name o
-    ≡ looked_up (length globals) (same_name name (codes "@zero")) (same_name name (codes "@result")) (position (same_name name) globals) o
+    ≡ looked_up (length globals) (bytes_eq name (codes "@zero")) (bytes_eq name (codes "@result")) (position (bytes_eq name) globals) o
 by_parts globals own name None = refl
 by_parts globals own name (Some i) = refl
 
 -- a name that none of them is has no place
-none_of : (name : List ℕ) (xs : List (List ℕ)) → ((k : ℕ) → k < length xs → get_or xs k [] ≢ name) → position (same_name name) xs ≡ None
-none_of name xs none = by (position (same_name name) xs) refl
+none_of : (name : List ℕ) (xs : List (List ℕ)) → ((k : ℕ) → k < length xs → get_or xs k [] ≢ name) → position (bytes_eq name) xs ≡ None
+none_of name xs none = by (position (bytes_eq name) xs) refl
   where
-    by : (o : Option ℕ) → position (same_name name) xs ≡ o → o ≡ None
+    by : (o : Option ℕ) → position (bytes_eq name) xs ≡ o → o ≡ None
     by None e = refl
-    by (Some i) e = absurd (none i (position_within (same_name name) xs i e) (sym ((bytes_eq-Decides name (get_or xs i [])).0 (position_found (same_name name) xs [] i e))))
+    by (Some i) e = absurd (none i (position_within (bytes_eq name) xs i e) (sym ((bytes_eq-Decides name (get_or xs i [])).0 (position_found (bytes_eq name) xs [] i e))))
 
 module _ (globals own : List (List ℕ)) (names : AreFactNames globals own) (name : List ℕ) where
-  is_zero : same_name name (codes "@zero") ≡ true → position (same_name name) own ≡ None
+  is_zero : bytes_eq name (codes "@zero") ≡ true → position (bytes_eq name) own ≡ None
   is_zero same = none_of name own (λ k within is. (names.free_own k within).0 (is ∙ (bytes_eq-Decides name (codes "@zero")).0 same))
 
-  is_result : same_name name (codes "@result") ≡ true → (position (same_name name) globals ≡ None) × (position (same_name name) own ≡ None)
+  is_result : bytes_eq name (codes "@result") ≡ true → (position (bytes_eq name) globals ≡ None) × (position (bytes_eq name) own ≡ None)
   is_result same =
       let r : name ≡ codes "@result" = (bytes_eq-Decides name (codes "@result")).0 same in
       (none_of name globals (λ k within is. (names.free_globals k within).1 (is ∙ r)), none_of name own (λ k within is. (names.free_own k within).1 (is ∙ r)))
 
-  is_own : (i : ℕ) → position (same_name name) own ≡ Some i → (i < length own) × (position (same_name name) globals ≡ None)
+  is_own : (i : ℕ) → position (bytes_eq name) own ≡ Some i → (i < length own) × (position (bytes_eq name) globals ≡ None)
   is_own i at =
-      let within = position_within (same_name name) own i at in
-      let is : name ≡ get_or own i [] = (bytes_eq-Decides name (get_or own i [])).0 (position_found (same_name name) own [] i at) in
-      (within, by (position (same_name name) globals) refl within is)
+      let within = position_within (bytes_eq name) own i at in
+      let is : name ≡ get_or own i [] = (bytes_eq-Decides name (get_or own i [])).0 (position_found (bytes_eq name) own [] i at) in
+      (within, by (position (bytes_eq name) globals) refl within is)
     where
-      by : (o : Option ℕ) → position (same_name name) globals ≡ o → i < length own → name ≡ get_or own i [] → o ≡ None
+      by : (o : Option ℕ) → position (bytes_eq name) globals ≡ o → i < length own → name ≡ get_or own i [] → o ≡ None
       by None e within is = refl
       by (Some j) e within is =
-          let there : is_among globals name ≡ true = sym (is_some-position (same_name name) globals) ∙ ap is_some e in
+          let there : is_among globals name ≡ true = sym (is_some-position (bytes_eq name) globals) ∙ ap is_some e in
           absurd (names.new i (record {
             within = within;
-            again = ap (is_among (globals ++ take i own)) (sym is) ∙ list_any-append (same_name name) globals (take i own) ∙ ap (λ b. b || list_any (same_name name) (take i own)) there;
+            again = ap (is_among (globals ++ take i own)) (sym is) ∙ list_any-append (bytes_eq name) globals (take i own) ∙ ap (λ b. b || list_any (bytes_eq name) (take i own)) there;
           }))
 
   -- the fact of a name is its place
-  pub fact_place : fact_of_name globals own name ≡ position (same_name name) ((codes "@zero" ∷ globals) ++ (codes "@result" ∷ own))
+  pub fact_place : fact_of_name globals own name ≡ position (bytes_eq name) ((codes "@zero" ∷ globals) ++ (codes "@result" ∷ own))
   fact_place =
-      by_parts globals own name (position (same_name name) own)
-      ∙ joined (length globals) (length own) (same_name name (codes "@zero")) (same_name name (codes "@result")) (position (same_name name) globals) (position (same_name name) own)
-      names.few is_zero is_result is_own (position_within (same_name name) globals)
-      ∙ sym (position-append (same_name name) (codes "@zero" ∷ globals) (codes "@result" ∷ own)
-      ∙ ap (λ o. or_else o (option_map (λ i. length (codes "@zero" ∷ globals) + i) (position (same_name name) (codes "@result" ∷ own)))) (position-cons (same_name name) (codes "@zero") globals (same_name name (codes "@zero")) refl)
-      ∙ ap (λ o. or_else (later (same_name name (codes "@zero")) (position (same_name name) globals)) (option_map (λ i. suc (length globals) + i) o)) (position-cons (same_name name) (codes "@result") own (same_name name (codes "@result")) refl))
+      by_parts globals own name (position (bytes_eq name) own)
+      ∙ joined (length globals) (length own) (bytes_eq name (codes "@zero")) (bytes_eq name (codes "@result")) (position (bytes_eq name) globals) (position (bytes_eq name) own)
+      names.few is_zero is_result is_own (position_within (bytes_eq name) globals)
+      ∙ sym (position-append (bytes_eq name) (codes "@zero" ∷ globals) (codes "@result" ∷ own)
+      ∙ ap (λ o. or_else o (option_map (λ i. length (codes "@zero" ∷ globals) + i) (position (bytes_eq name) (codes "@result" ∷ own)))) (position-cons (bytes_eq name) (codes "@zero") globals (bytes_eq name (codes "@zero")) refl)
+      ∙ ap (λ o. or_else (later (bytes_eq name (codes "@zero")) (position (bytes_eq name) globals)) (option_map (λ i. suc (length globals) + i) o)) (position-cons (bytes_eq name) (codes "@result") own (bytes_eq name (codes "@result")) refl))

@@ -13,25 +13,16 @@ use Rattle.ide_graph.specs.declared.layout.Layout.{Layout}
 use Rattle.ide_graph.specs.declared.numbering.Numbering.{Numbering}
 use Rattle.ide_graph.specs.Numbering.{IsLayoutOf, IsNumberingOf}
 use Rattle.ide_graph.specs.Numbers.{start_of, exit_of, most_own, facts_of}
+use Rattle.ide_graph.proofs.FactLemmas.{own_at_most}
 use Rattle.ide_graph.proofs.LimitLemmas.{few_facts, most_bound, own_names}
-
--- an index within a list has an element
-pub some_at : {X : Type 0} (xs : List X) (i : ℕ) → i < length xs → (x : X) × (slice_get xs i ≡ Some x)
-some_at [] i within = absurd (omega arith)
-some_at (x ∷ xs) zero within = (x, refl)
-some_at (x ∷ xs) (suc i) within = some_at xs i (omega arith)
-
-most_has : (ps : List Procedure) (i : ℕ) (q : Procedure) → slice_get ps i ≡ Some q → own_count q ≤ most_own ps
-most_has [] i q at = let no : None ≡ Some q = at in cc
-most_has (r ∷ ps) zero q at = let first : Some r ≡ Some q = at in let same : r ≡ q = cc in let counts = ap own_count same in omega (arith, counts)
-most_has (r ∷ ps) (suc i) q at = let rest = most_has ps i q at in omega (arith, rest)
+use Rattle.ide_graph.proofs.SliceLemmas.{element_of}
 
 module _ (p : Program) (numbering : Numbering) (is : IsNumberingOf (procedures_of p) numbering) where
   -- the layout of a procedure
   pub layout_at : (i : ℕ) (q : Procedure) → slice_get (procedures_of p) i ≡ Some q → (l : Layout) × (slice_get numbering.layouts.items i ≡ Some l) × IsLayoutOf (procedures_of p) i q l
   layout_at i q at =
       let within = slice_get_within (procedures_of p) i q at in
-      let found = some_at numbering.layouts.items i (omega (arith, is.layouts, within)) in
+      let found = element_of numbering.layouts.items i (omega (arith, is.layouts, within)) in
       (found.0, found.1, is.layout i q found.0 at found.1)
 
   module _ (named : IsWellNamed p) where
@@ -55,9 +46,9 @@ module _ (p : Program) (numbering : Numbering) (is : IsNumberingOf (procedures_o
       pub most_is : most ≡ most_own (procedures_of p)
       most_is =
           let low = least (most_own (procedures_of p)) (λ k d within.
-          let at = some_at (procedures_of p) k (omega (arith, is.layouts, within)) in
+          let at = element_of (procedures_of p) k (omega (arith, is.layouts, within)) in
           let layout = is.layout k at.0 (get_or numbering.layouts.items k d) at.1 (slice_get-get_or numbering.layouts.items k d within) in
-          omega (arith, layout.few, most_has (procedures_of p) k at.0 at.1)) in
+          omega (arith, layout.few, own_at_most (procedures_of p) k at.0 at.1)) in
           let high = most_bound (procedures_of p) most (λ i q at.
           let l = layout_at i q at in
           omega (arith, within_most l.0 i l.0 l.1, ap length (l.2.own (own_names p named i q at)), length-append q.parameters.items q.locals.items)) in

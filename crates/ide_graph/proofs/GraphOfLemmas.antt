@@ -19,7 +19,8 @@ use Rattle.ide_graph.specs.Naming.{AreNew}
 use Rattle.ide_graph.specs.Numbering.{node_value, IsLayoutOf, IsNumberingOf}
 use Rattle.ide_graph.specs.Numbers.{procedure_of}
 use Rattle.ide_graph.specs.Whole.{counts_of}
-use Rattle.ide_graph.proofs.FirstPass.{some_at, layout_at, facts_are}
+use Rattle.ide_graph.proofs.FirstPass.{layout_at, facts_are}
+use Rattle.ide_graph.proofs.SliceLemmas.{element_of}
 use Rattle.ide_graph.proofs.LimitLemmas.{few_facts, few_nodes, global_names, own_names, fact_of_name_at}
 
 mapped_at : {X Y : Type 0} (f : X → Y) (xs : List X) (i : ℕ) (x : X) (d : Y) → slice_get xs i ≡ Some x → get_or (map f xs) i d ≡ f x
@@ -52,8 +53,8 @@ module _ (p : Program) (graph : Inside) (numbering : Numbering) (is : IsNumberin
     nodes = sites ∙ (sym (length-map numbering.spots.items node_value) ∙ ap length is.spots);
     sited = length-map graph.sites.items arc_value ∙ (sites ∙ (sym (length-map numbering.spots.items node_value) ∙ ap length is.spots));
     owners = owners ∙ (owners_in numbering.spots.items ∙ ap (map (λ node. node.0)) is.spots);
-    starts = λ i within. let at = some_at (procedures_of p) i within in let l = from_layout (λ layout. layout.start) 0 i at.0 at.1 in l.1 ∙ l.2.start;
-    exits = λ i within. let at = some_at (procedures_of p) i within in let l = from_layout (λ layout. layout.exit) 0 i at.0 at.1 in l.1 ∙ l.2.exit;
+    starts = λ i within. let at = element_of (procedures_of p) i within in let l = from_layout (λ layout. layout.start) 0 i at.0 at.1 in l.1 ∙ l.2.start;
+    exits = λ i within. let at = element_of (procedures_of p) i within in let l = from_layout (λ layout. layout.exit) 0 i at.0 at.1 in l.1 ∙ l.2.exit;
     named = directory;
     counts = λ named.
         let same = globals (global_names p named.0) in

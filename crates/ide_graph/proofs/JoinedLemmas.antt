@@ -28,10 +28,9 @@ use Rattle.ide_graph.specs.Supergraph.{Supergraph}
 use Rattle.ide_graph.proofs.CallSiteLemmas.{callee_found}
 use Rattle.ide_graph.proofs.CallLemmas.{arguments_known, passed_more, passed_none, targets_known}
 use Rattle.ide_graph.proofs.DeclaredLemmas.{procedure_known}
-use Rattle.ide_graph.proofs.LawfulLemmas.{each_of}
 use Rattle.ide_graph.proofs.NodeLemmas.{located}
 use Rattle.ide_graph.proofs.ProgramLemmas.{same_spot, statement_of}
-use Rattle.ide_graph.proofs.SliceLemmas.{contains_at, element_of}
+use Rattle.ide_graph.proofs.SliceLemmas.{each_of, contains_at, element_of}
 use Rattle.ide_graph.proofs.WithinLemmas.{exit_at, normal_within, along_reaches, call_enters, back_returns}
 
 -- what holds of each element holds of one that is there
@@ -101,16 +100,22 @@ module _ (p : Program) where
       absurd (let none : ⊥ = cc in none)
 
 module _ (p : Program) (graph : Supergraph) (named : IsNamed p) (is : IsGraphOf p graph) (has : HasEdgesOf p graph) where
-  -- the procedure of a node begins where the graph says
-  node_start : (n i : ℕ) (spot : Spot) → slice_get (nodes_of (procedures_of p)) n ≡ Some (i, spot) → start_at graph n ≡ start_of (procedures_of p) i
-  node_start n i spot at =
-      let owner : slice_index graph.owners n ≡ i =
+  -- the procedure of a node is the one whose spot stands there
+  pub node_owner : (n i : ℕ) (spot : Spot) → slice_get (nodes_of (procedures_of p)) n ≡ Some (i, spot) → slice_index graph.owners n ≡ i
+  node_owner n i spot at =
       ap (λ xs. slice_index xs n) is.owners
       ∙ get_or_from_slice_get (map (λ (node : ℕ × Spot). node.0) (nodes_of (procedures_of p))) n i 0
-      (slice_get-map (λ (node : ℕ × Spot). node.0) (nodes_of (procedures_of p)) n ∙ ap (option_map (λ (node : ℕ × Spot). node.0)) at) in
+      (slice_get-map (λ (node : ℕ × Spot). node.0) (nodes_of (procedures_of p)) n ∙ ap (option_map (λ (node : ℕ × Spot). node.0)) at)
+
+  -- and it is one of the program
+  pub owner_within : (n i : ℕ) (spot : Spot) → slice_get (nodes_of (procedures_of p)) n ≡ Some (i, spot) → i < length (procedures_of p)
+  owner_within n i spot at =
       let found = located 0 (procedures_of p) n i spot at in
-      let within : i < length (procedures_of p) = omega (arith, found.index_is, slice_get_within (procedures_of p) found.j found.q found.owner) in
-      ap (slice_index graph.starts) owner ∙ is.starts i within
+      omega (arith, found.index_is, slice_get_within (procedures_of p) found.j found.q found.owner)
+
+  -- the procedure of a node begins where the graph says
+  node_start : (n i : ℕ) (spot : Spot) → slice_get (nodes_of (procedures_of p)) n ≡ Some (i, spot) → start_at graph n ≡ start_of (procedures_of p) i
+  node_start n i spot at = ap (slice_index graph.starts) (node_owner n i spot at) ∙ is.starts i (owner_within n i spot at)
 
   stays : (n m : ℕ) → StayWithin p n m → start_at graph m ≡ start_at graph n
   stays n m within = node_start m within.index within.second within.comes ∙ sym (node_start n within.index within.first within.leaves)
@@ -122,12 +127,12 @@ module _ (p : Program) (graph : Supergraph) (named : IsNamed p) (is : IsGraphOf 
       let found = element_of graph.sites n within in
       (found.0, found.1, has n found.0 found.1)
 
-  flat_stays : (n : ℕ) (s : Site) (e : EdgeData) → IsSiteOf p n s → HasFlat s e → StayWithin p n e.end
+  pub flat_stays : (n : ℕ) (s : Site) (e : EdgeData) → IsSiteOf p n s → HasFlat s e → StayWithin p n e.end
   flat_stays n (Normal edges) e site there = normal_within p n e (of_each (IsNormal p n) edges.items e site.1.each there)
   flat_stays n (Call edges along) e site there = subst (λ (d : EdgeData). StayWithin p n d.end) (sym there) (along_reaches p n along site.1).0
   flat_stays n (Exit begin callers) e site there = absurd there
 
-  call_from : (n : ℕ) (s : Site) (e : EdgeData) → IsSiteOf p n s → HasCall s e → IsCallFrom p n e
+  pub call_from : (n : ℕ) (s : Site) (e : EdgeData) → IsSiteOf p n s → HasCall s e → IsCallFrom p n e
   call_from n (Normal edges) e site there = absurd there
   call_from n (Call edges along) e site there = of_each (IsCallFrom p n) edges.items e site.0.each there
   call_from n (Exit begin callers) e site there = absurd there

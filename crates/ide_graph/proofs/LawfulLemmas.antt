@@ -20,7 +20,7 @@ use Rattle.ide_graph.specs.declared.edge.EdgeKind.TheVariants as kind
 use Rattle.ide_graph.specs.declared.edge.Effect.{Effect}
 use Rattle.ide_graph.specs.EdgeLaws.{EdgesAreLawful, IsLawful}
 use Rattle.ide_graph.specs.Lawful.{AreParameters, IsAssigned as AssignsVariable, IsEffect, IsKind, IsVariable}
-use Rattle.ide_graph.specs.Named.{same_name}
+use Rattle.std.specs.Str.{bytes_eq}
 use Rattle.ide_graph.specs.Numbers.{Spot, start, statement, return_site, exit, names_at, start_of, result_of, facts_of}
 use Rattle.ide_graph.specs.ProgramEdges.{CallAt, Gives, Goes, HasFact, IsAlong, IsAssigned, IsBack, IsCall, IsNormal, Stands, edge_of}
 use Rattle.ide_graph.proofs.CallLemmas.{arguments_counted}
@@ -28,12 +28,7 @@ use Rattle.ide_graph.proofs.CallSiteLemmas.{callee_found}
 use Rattle.ide_graph.proofs.FactLemmas.{own_within}
 use Rattle.ide_graph.proofs.FoundLemmas.{there}
 use Rattle.ide_graph.proofs.ProgramLemmas.{statement_of}
-use Rattle.ide_graph.proofs.SliceLemmas.{element_of}
-
-pub each_of : {X : Type 0} (P : X → Type 0) (xs : List X) (k : ℕ) (x : X) → AllByRecursion P xs → slice_get xs k ≡ Some x → P x
-each_of P [] k x all e = let none : ⊥ = cc in elim none [ ]
-each_of P (y ∷ xs) zero x all e = subst P (same_Some y x e) all.0
-each_of P (y ∷ xs) (suc k) x all e = each_of P xs k x all.1 e
+use Rattle.ide_graph.proofs.SliceLemmas.{each_of, element_of}
 
 -- `@zero` is no name
 no_zero : (x : List ℕ) → IsName x → x ≢ codes "@zero"
@@ -45,7 +40,7 @@ no_zero x name e = zero_bytes (subst HasNameBytes e name.0)
 module _ (p : Program) (index : ℕ) (q : Procedure) (owner : slice_get (procedures_of p) index ≡ Some q) where
   pub fact_below : (x : List ℕ) (fact : ℕ) → HasFact p q x fact → fact < facts_of p
   fact_below x fact has =
-      let at = there (same_name x) (names_at (globals_of p) q) fact has in
+      let at = there (bytes_eq x) (names_at (globals_of p) q) fact has in
       let short : fact < length (names_at (globals_of p) q) = slice_get_within (names_at (globals_of p) q) fact at.0 at.1 in
       let long : length (names_at (globals_of p) q) ≡ length (globals_of p) + 2 + length q.parameters.items + length q.locals.items =
       simp length-append (omega arith) in
@@ -54,7 +49,7 @@ module _ (p : Program) (index : ℕ) (q : Procedure) (owner : slice_get (procedu
   -- a name that has fact 0 is `@zero`
   pub is_variable : (x : List ℕ) (fact : ℕ) → IsName x → HasFact p q x fact → IsVariable (facts_of p) fact
   is_variable x zero name has =
-      let at = there (same_name x) (names_at (globals_of p) q) 0 has in
+      let at = there (bytes_eq x) (names_at (globals_of p) q) 0 has in
       let same : codes "@zero" ≡ at.0 = same_Some (codes "@zero") at.0 at.1 in
       absurd (no_zero x name ((bytes_eq-Decides x at.0).0 at.2 ∙ sym same))
   is_variable x (suc fact) name has = (omega arith, fact_below x (suc fact) has)

@@ -3,8 +3,11 @@ pub mod CallLemmas
 pub mod CallSiteLemmas
 pub mod CalleeLemmas
 pub mod CallerLemmas
+pub mod ClosedLemmas
 pub mod DeclaredLemmas
 pub mod DirectoryLemmas
+pub mod EndLemmas
+pub mod ExitLemmas
 pub mod FactLemmas
 pub mod FactPlaces
 pub mod FirstPass

@@ -18,9 +18,11 @@ use Rattle.ide_text.specs.Lines.{IsWithinLimits}
 use Rattle.ide_text.specs.NameFault.{IsWellNamed, Global_again, In_procedure, Parameter_again, Local_again}
 use Rattle.ide_text.specs.Names.{IsRepeated, is_among}
 use Rattle.ide_text.specs.Program.{globals_of, procedures_of}
-use Rattle.ide_graph.specs.Named.{same_name, fact_of_name}
+use Rattle.std.specs.Str.{bytes_eq}
+use Rattle.ide_graph.specs.Named.{fact_of_name}
 use Rattle.ide_graph.specs.Naming.{AreNew, HasOwnNames}
 use Rattle.ide_graph.specs.Numbers.{exit, spots_on, spots_of, nodes_from, nodes_of, most_own, facts_of, fact_at}
+use Rattle.ide_graph.proofs.SliceLemmas.{each_of}
 use Rattle.ide_graph.proofs.FactPlaces.{AreFree, AreFactNames, fact_place}
 
 -- ---- nodes and facts
@@ -89,8 +91,8 @@ fewer_known before known names new k again = new k (record {
   within = again.within;
   again =
       let x = get_or names k [] in
-      ap (λ ns. is_among ns x) (append_assoc before known (take k names)) ∙ list_any-append (same_name x) before (known ++ take k names)
-      ∙ (ap (λ b. list_any (same_name x) before || b) again.again ∙ or_true (list_any (same_name x) before));
+      ap (λ ns. is_among ns x) (append_assoc before known (take k names)) ∙ list_any-append (bytes_eq x) before (known ++ take k names)
+      ∙ (ap (λ b. list_any (bytes_eq x) before || b) again.again ∙ or_true (list_any (bytes_eq x) before));
 })
 
 -- two lists, each of them new
@@ -134,17 +136,12 @@ module _ (p : Program) (named : IsWellNamed p) (i : ℕ) (q : Procedure) (at : s
   pub own_new : AreNew (globals_of p) (q.parameters.items ++ q.locals.items)
   own_new = new_names (globals_of p) q.parameters.items q.locals.items parameter_names local_names
 
-all_at : {X : Type 0} (P : X → Type 0) (xs : List X) → AllByRecursion P xs → (i : ℕ) (x : X) → slice_get xs i ≡ Some x → P x
-all_at P [] all i x at = let no : None ≡ Some x = at in cc
-all_at P (y ∷ ys) all zero x at = let first : Some y ≡ Some x = at in let same : y ≡ x = cc in subst P same all.0
-all_at P (y ∷ ys) all (suc i) x at = all_at P ys all.1 i x at
-
 -- ---- facts by name
 module _ (p : Program) (named : IsWellNamed p) (limits : IsWithinLimits p) (i : ℕ) (q : Procedure) (at : slice_get (procedures_of p) i ≡ Some q) where
   pub fact_names : AreFactNames (globals_of p) (q.parameters.items ++ q.locals.items)
   fact_names =
       let program = limits_program p limits in
-      let own = all_at IsProcedure (procedures_of p) program.procedures i q at in
+      let own = each_of IsProcedure (procedures_of p) i q program.procedures at in
       record {
         new = own_new p named i q at;
         free_globals = free_names (globals_of p) program.globals;
@@ -156,4 +153,4 @@ module _ (p : Program) (named : IsWellNamed p) (limits : IsWithinLimits p) (i : 
   pub fact_of_name_at : (name : List ℕ) → fact_of_name (globals_of p) (q.parameters.items ++ q.locals.items) name ≡ fact_at (globals_of p) q name
   fact_of_name_at name =
       fact_place (globals_of p) (q.parameters.items ++ q.locals.items) fact_names name
-      ∙ ap (position (same_name name)) (sym (append_assoc (codes "@zero" ∷ globals_of p) (codes "@result" ∷ q.parameters.items) q.locals.items))
+      ∙ ap (position (bytes_eq name)) (sym (append_assoc (codes "@zero" ∷ globals_of p) (codes "@result" ∷ q.parameters.items) q.locals.items))

@@ -1,6 +1,6 @@
 -- Short lists that have exactly what they are to have.
-use Rattle.std.proofs.Common.{◌≡◌, ℕ, ◌<◌, List, [], ◌∷◌, ◌++◌, refl, ◌⊎◌, inl, inr, zero, suc, get_or, length, ap, subst, ◌∙◌, sym, arith}
-use Rattle.std.specs.List.{AllPairs, Contains}
+use Rattle.std.proofs.Common.{◌≡◌, ℕ, ◌<◌, ◌≤◌, List, [], ◌∷◌, ◌++◌, refl, ◌⊎◌, inl, inr, zero, suc, get_or, length, ap, subst, ◌∙◌, sym, arith}
+use Rattle.std.specs.List.{All, AllPairs, Contains}
 use Rattle.std.proofs.lemmas.List.Elements.{All-nil, All-cons, All-weaker}
 use Rattle.std.proofs.lemmas.List.Kept.{AllPairs-cons}
 use Rattle.ide_graph.specs.Lists.{Lists}
@@ -79,6 +79,22 @@ module _ {X : Type 0} (key : X → ℕ) where
   lists_once P (x ∷ xs) (y ∷ ys) a b =
       both P x y xs ys a b
       (λ same. lists_once (λ z. P z × (key x < key z)) xs ys (lists_tail P x xs a) (subst (λ w. Lists (λ z. P z × (key w < key z)) key ys) (sym same) (lists_tail P y ys b)))
+
+  -- where keys ascend strictly, each is at least its place
+  above_place : (xs : List X) → AllPairs (λ x y. key x < key y) xs → (k : ℕ) (d : X) → k < length xs → k ≤ key (get_or xs k d)
+  above_place xs ascending zero d within = omega arith
+  above_place xs ascending (suc k) d within =
+      let below : k ≤ key (get_or xs k d) = above_place xs ascending k d (omega (arith, within)) in
+      let next : key (get_or xs k d) < key (get_or xs (suc k) d) = ascending k (suc k) d (omega arith) within in
+      omega (arith, below, next)
+
+  -- so there are no more of them than numbers below their bound
+  pub few_ascending : (xs : List X) (n : ℕ) → All (λ x. key x < n) xs → AllPairs (λ x y. key x < key y) xs → length xs ≤ n
+  few_ascending [] n below ascending = omega arith
+  few_ascending (x ∷ xs) n below ascending =
+      let last : length xs ≤ key (get_or (x ∷ xs) (length xs) x) = above_place (x ∷ xs) ascending (length xs) x (omega arith) in
+      let bound : key (get_or (x ∷ xs) (length xs) x) < n = below (length xs) x (omega arith) in
+      omega (arith, last, bound)
 
 pub two_pushed : {X : Type 0} (xs ys zs : List X) (a b c d : X) → xs ≡ [] → ys ≡ xs ++ a ∷ [] → zs ≡ ys ++ b ∷ [] → a ≡ c → b ≡ d → zs ≡ c ∷ d ∷ []
 two_pushed xs ys zs a b c d none one two first second = rw (two, one, none, first, second) refl

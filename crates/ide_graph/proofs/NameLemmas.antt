@@ -6,7 +6,7 @@ use Rattle.std.proofs.lemmas.List.{map-append}
 use Rattle.indexmap.specs.IndexSet.{insert_key}
 use Rattle.indexmap.specs.IndexMap.{insert_entry}
 use Rattle.ide_text.specs.declared.program.Procedure.{Procedure}
-use Rattle.ide_graph.specs.Named.{same_name}
+use Rattle.std.specs.Str.{bytes_eq}
 use Rattle.ide_graph.specs.Naming.{AreNew, HasOwnNames, with_name, number_of, with_number}
 
 pub none_from_is_some : {X : Type 0} (o : Option X) → is_some o ≡ false → o ≡ None
@@ -19,12 +19,12 @@ module _ {K : Type 0} (h : K → List ℕ) where
   list_any-map p (x ∷ xs) = ap (λ r. p (h x) || r) (list_any-map p xs)
 
   -- a key is inserted as its name is
-  pub map-insert_key : (keys : List K) (key : K) (name : List ℕ) → h key ≡ name → map h (insert_key (λ a b. same_name (h a) (h b)) keys key) ≡ with_name (map h keys) name
+  pub map-insert_key : (keys : List K) (key : K) (name : List ℕ) → h key ≡ name → map h (insert_key (λ a b. bytes_eq (h a) (h b)) keys key) ≡ with_name (map h keys) name
   map-insert_key keys key name same =
-      by (list_any (λ k. same_name (h key) (h k)) keys) refl
-      ∙ ap (λ b. cond b (map h keys) (map h keys ++ name ∷ [])) (ap (λ (n : List ℕ). list_any (λ (k : K). same_name n (h k)) keys) same ∙ sym (list_any-map (same_name name) keys))
+      by (list_any (λ k. bytes_eq (h key) (h k)) keys) refl
+      ∙ ap (λ b. cond b (map h keys) (map h keys ++ name ∷ [])) (ap (λ (n : List ℕ). list_any (λ (k : K). bytes_eq n (h k)) keys) same ∙ sym (list_any-map (bytes_eq name) keys))
     where
-      by : (b : Bool) → list_any (λ k. same_name (h key) (h k)) keys ≡ b → map h (if b then keys else keys ++ key ∷ []) ≡ cond b (map h keys) (map h keys ++ name ∷ [])
+      by : (b : Bool) → list_any (λ k. bytes_eq (h key) (h k)) keys ≡ b → map h (if b then keys else keys ++ key ∷ []) ≡ cond b (map h keys) (map h keys ++ name ∷ [])
       by true e = refl
       by false e = map-append h keys (key ∷ []) ∙ ap (λ n. map h keys ++ n ∷ []) same
 
@@ -37,7 +37,7 @@ module _ {K : Type 0} (h : K → List ℕ) where
   lookup-names [] p = refl
   lookup-names (e ∷ es) p = ap (λ r. cond (p (h e.0)) (Some e.1) r) (lookup-names es p)
 
-  numbers-cons : (e : K × ℕ) (es new : List (K × ℕ)) (key : K) (n : ℕ) (b : Bool) → same_name (h key) (h e.0) ≡ b
+  numbers-cons : (e : K × ℕ) (es new : List (K × ℕ)) (key : K) (n : ℕ) (b : Bool) → bytes_eq (h key) (h e.0) ≡ b
       → cond b (Some e.1) (number_of (numbers_in es) (h key)) ≡ None
       → (number_of (numbers_in es) (h key) ≡ None → numbers_in new ≡ numbers_in es ++ (h key, n) ∷ [])
       → numbers_in (if b then (e.0, n) ∷ es else e ∷ new) ≡ numbers_in (e ∷ es) ++ (h key, n) ∷ []
@@ -46,10 +46,10 @@ module _ {K : Type 0} (h : K → List ℕ) where
 
   -- a new key goes last
   pub numbers-insert_entry : (entries : List (K × ℕ)) (key : K) (n : ℕ) → number_of (numbers_in entries) (h key) ≡ None
-      → numbers_in (insert_entry (λ a b. same_name (h a) (h b)) entries key n) ≡ numbers_in entries ++ (h key, n) ∷ []
+      → numbers_in (insert_entry (λ a b. bytes_eq (h a) (h b)) entries key n) ≡ numbers_in entries ++ (h key, n) ∷ []
   numbers-insert_entry [] key n none = refl
   numbers-insert_entry (e ∷ es) key n none =
-      numbers-cons e es (insert_entry (λ a b. same_name (h a) (h b)) es key n) key n (same_name (h key) (h e.0)) refl none (numbers-insert_entry es key n)
+      numbers-cons e es (insert_entry (λ a b. bytes_eq (h a) (h b)) es key n) key n (bytes_eq (h key) (h e.0)) refl none (numbers-insert_entry es key n)
 
 -- names that are added in turn, all of them new
 pub added_twice : (q : Procedure) (empty first second parameters locals : List (List ℕ)) → empty ≡ [] → parameters ≡ q.parameters.items → locals ≡ q.locals.items

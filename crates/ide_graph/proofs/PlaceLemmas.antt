@@ -8,7 +8,7 @@ use Rattle.std.proofs.lemmas.List.{take-append-le}
 use Rattle.std.proofs.lemmas.Slice.Eq.{bytes_eq-Decides}
 use Rattle.ide_text.specs.declared.program.Statement.{Statement}
 use Rattle.ide_text.specs.Names.{declares}
-use Rattle.ide_graph.specs.Named.{same_name}
+use Rattle.std.specs.Str.{bytes_eq}
 use Rattle.ide_graph.specs.Naming.{number_of, with_number}
 use Rattle.ide_graph.specs.Numbers.{label_among, spots_on}
 use Rattle.ide_graph.proofs.NameLemmas.{none_from_is_some}
@@ -112,22 +112,22 @@ number-cons e es new other next true h = refl
 number-cons e es new other next false h = h
 
 -- one more name finds its number where it had none
-number-push : (numbers : List (List ℕ × ℕ)) (name other : List ℕ) (n : ℕ) → number_of (numbers ++ (name, n) ∷ []) other ≡ or_else (number_of numbers other) (cond (same_name other name) (Some n) None)
+number-push : (numbers : List (List ℕ × ℕ)) (name other : List ℕ) (n : ℕ) → number_of (numbers ++ (name, n) ∷ []) other ≡ or_else (number_of numbers other) (cond (bytes_eq other name) (Some n) None)
 number-push [] name other n = refl
-number-push (e ∷ es) name other n = number-cons e es (es ++ (name, n) ∷ []) other (cond (same_name other name) (Some n) None) (same_name other e.0) (number-push es name other n)
+number-push (e ∷ es) name other n = number-cons e es (es ++ (name, n) ∷ []) other (cond (bytes_eq other name) (Some n) None) (bytes_eq other e.0) (number-push es name other n)
 
 -- the number of each name, where one more name may have been given one
-pub number_of-with : (numbers : List (List ℕ × ℕ)) (name other : List ℕ) (n : ℕ) → number_of (with_number numbers name n) other ≡ or_else (number_of numbers other) (cond (same_name other name) (Some n) None)
-number_of-with numbers name other n = by (is_some (number_of numbers name)) (is_some (number_of numbers other)) (same_name other name) refl refl refl
+pub number_of-with : (numbers : List (List ℕ × ℕ)) (name other : List ℕ) (n : ℕ) → number_of (with_number numbers name n) other ≡ or_else (number_of numbers other) (cond (bytes_eq other name) (Some n) None)
+number_of-with numbers name other n = by (is_some (number_of numbers name)) (is_some (number_of numbers other)) (bytes_eq other name) refl refl refl
   where
-    by : (there found same : Bool) → is_some (number_of numbers name) ≡ there → is_some (number_of numbers other) ≡ found → same_name other name ≡ same
+    by : (there found same : Bool) → is_some (number_of numbers name) ≡ there → is_some (number_of numbers other) ≡ found → bytes_eq other name ≡ same
         → number_of (cond there numbers (numbers ++ (name, n) ∷ [])) other ≡ cond found (number_of numbers other) (cond same (Some n) None)
     by true true same e f s = refl
     by true false true e f s = absurd (true≢false (sym e ∙ (ap (λ x. is_some (number_of numbers x)) (sym ((bytes_eq-Decides other name).0 s)) ∙ f)))
     by true false false e f s = none_from_is_some (number_of numbers other) f
     by false found same e f s =
         number-push numbers name other n
-        ∙ (ap (λ b. cond b (number_of numbers other) (cond (same_name other name) (Some n) None)) f ∙ ap (λ b. cond found (number_of numbers other) (cond b (Some n) None)) s)
+        ∙ (ap (λ b. cond b (number_of numbers other) (cond (bytes_eq other name) (Some n) None)) f ∙ ap (λ b. cond found (number_of numbers other) (cond b (Some n) None)) s)
 
 -- one more statement
 pub label_among-push : (begin : ℕ) (statements : List Statement) (s : Statement) (label : List ℕ)

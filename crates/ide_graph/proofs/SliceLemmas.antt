@@ -1,7 +1,7 @@
 -- Elements of lists that are put together, by their places.
 use Rattle.std.proofs.Common.{◌≡◌, ◌<◌, ℕ, zero, suc, ◌+◌, List, [], ◌∷◌, ◌++◌, Some, ◌⊎◌, inl, inr, map, length, refl, sym, ap, subst, ◌∙◌, zero-add, arith}
 use Rattle.std.specs.Prelude.{slice_get}
-use Rattle.std.specs.List.{Contains}
+use Rattle.std.specs.List.{AllByRecursion, Contains}
 use Rattle.std.proofs.lemmas.List.{length-map, map_push}
 use Rattle.std.proofs.lemmas.Option.{same_Some, slice_get_cases, slice_get_within, get_or_from_slice_get, slice_get-get_or, some_pair_parts}
 
@@ -59,3 +59,9 @@ module _ {X Y : Type 0} (f : X → Y) (P : ℕ → Y → Type 0) where
         | inl old ↦ all k y old
         | inr r ↦ pushed_at n r.0 k x y (omega (arith, r.1, length-map xs f, long)) r.2 one
       ]
+
+-- what holds of each element holds of that at an index
+pub each_of : {X : Type 0} (P : X → Type 0) (xs : List X) (k : ℕ) (x : X) → AllByRecursion P xs → slice_get xs k ≡ Some x → P x
+each_of P [] k x all e = let none : ⊥ = cc in elim none [ ]
+each_of P (y ∷ xs) zero x all e = subst P (same_Some y x e) all.0
+each_of P (y ∷ xs) (suc k) x all e = each_of P xs k x all.1 e

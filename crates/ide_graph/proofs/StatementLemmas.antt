@@ -7,7 +7,7 @@ use Rattle.std.proofs.lemmas.Grind.{flat_map-append}
 use Rattle.ide_text.specs.declared.program.Statement.{Statement}
 use Rattle.ide_text.specs.declared.program.Statement.TheVariants.{Assign, Skip, At, Goto, Branch, Call, Return}
 use Rattle.ide_text.specs.Names.{declares}
-use Rattle.ide_graph.specs.Named.{same_name}
+use Rattle.std.specs.Str.{bytes_eq}
 use Rattle.ide_graph.specs.Naming.{number_of, with_number}
 use Rattle.ide_graph.specs.Numbering.{nodes_at}
 use Rattle.ide_graph.specs.Numbers.{Spot, statement, return_site, label_among, spots_on}
@@ -36,8 +36,8 @@ module _ (begin : ℕ) (xs : List Statement) (s : Statement) (labels : List (Lis
   pub labels_more : (label : List ℕ) (n : ℕ) → n ≡ begin + length (flat_map spots_on xs) → s ≡ At label → (name : List ℕ) → number_of (with_number labels label n) name ≡ label_among begin (xs ++ s ∷ []) name
   labels_more label n is at name =
       number_of-with labels label name n
-      ∙ ap (λ o. or_else o (cond (same_name name label) (Some n) None)) (before name)
-      ∙ ap (λ m. or_else (label_among begin xs name) (cond (same_name name label) (Some m) None)) is
+      ∙ ap (λ o. or_else o (cond (bytes_eq name label) (Some n) None)) (before name)
+      ∙ ap (λ m. or_else (label_among begin xs name) (cond (bytes_eq name label) (Some m) None)) is
       ∙ ap (λ b. or_else (label_among begin xs name) (cond b (Some (begin + length (flat_map spots_on xs))) None)) (sym (ap (declares name) at))
       ∙ sym (label_among-push begin xs s name)
 

@@ -1,7 +1,10 @@
 pub mod Building
 pub mod EdgeLaws
 pub mod Edges
+pub mod Ends
+pub mod Exits
 pub mod GraphOf
+pub mod Closed
 pub mod Joined
 pub mod Lawful
 pub mod Lists

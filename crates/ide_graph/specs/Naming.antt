@@ -3,7 +3,7 @@ use Rattle.std.specs.Prelude.{ℕ, List, [], ◌∷◌, ◌++◌, Option, cond, 
 use Rattle.std.specs.Map.{lookup}
 use Rattle.ide_text.specs.declared.program.Procedure.{Procedure}
 use Rattle.ide_text.specs.Names.{is_among, IsRepeated}
-use Rattle.ide_graph.specs.Named.{same_name}
+use Rattle.std.specs.Str.{bytes_eq}
 
 -- none of the names is a known one, or stands there twice
 abbrev pub AreNew : List (List ℕ) → List (List ℕ) → Type 0
@@ -15,7 +15,7 @@ with_name names name = cond (is_among names name) names (names ++ name ∷ [])
 
 -- the number of a name
 abbrev pub number_of : List (List ℕ × ℕ) → List ℕ → Option ℕ
-number_of numbers name = lookup (same_name name) numbers
+number_of numbers name = lookup (bytes_eq name) numbers
 
 -- the numbers, and that of one more name, unless it has one
 abbrev pub with_number : List (List ℕ × ℕ) → List ℕ → ℕ → List (List ℕ × ℕ)

@@ -8,7 +8,7 @@ use Rattle.ide_text.specs.declared.program.Statement.{Statement}
 use Rattle.ide_text.specs.declared.program.Statement.TheVariants.{Call}
 use Rattle.ide_text.specs.Names.{declares, is_named}
 use Rattle.ide_text.specs.Program.{globals_of, procedures_of}
-use Rattle.ide_graph.specs.Named.{same_name}
+use Rattle.std.specs.Str.{bytes_eq}
 
 -- what stands at a node: of a call the statement itself stands at its call node
 pub data Spot : Type 0 where
@@ -61,7 +61,7 @@ names_at globals p = codes "@zero" ∷ globals ++ codes "@result" ∷ p.paramete
 
 -- the fact of a name there
 abbrev pub fact_at : List (List ℕ) → Procedure → List ℕ → Option ℕ
-fact_at globals p name = position (same_name name) (names_at globals p)
+fact_at globals p name = position (bytes_eq name) (names_at globals p)
 
 -- the most parameters and locals that a procedure has
 abbrev pub most_own : List Procedure → ℕ

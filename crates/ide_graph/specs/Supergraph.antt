@@ -1,5 +1,5 @@
 -- What contracts see of a graph.
-use Rattle.std.specs.Prelude.{ℕ, ◌+◌, ◌<◌, ◌≤◌, ◌≡◌, List, Option, Some, slice_get, slice_index, slice_index_or, []}
+use Rattle.std.specs.Prelude.{ℕ, ◌+◌, ◌≤◌, ◌≡◌, List, Option, Some, slice_get, slice_index, slice_index_or, []}
 use Rattle.std.specs.Option.{option_and_then}
 use Rattle.ide_graph.specs.Named.{procedure_of_name, fact_of_name, names_of_facts}
 use Rattle.ide_graph.specs.declared.site.Site.{Site}

@@ -181,7 +181,8 @@ impl Graph {
     /// What a fact is called at a node: `None` past the facts of the node's procedure, and past
     /// the nodes.
     pub fn fact_name(&self, node: Node, fact: Fact) -> Option<&[u8]>
-        ensures { option_copied result ≡ name_at self.now node fact }
+        ensures name { option_copied result ≡ name_at self.now node fact }
+        ensures within { IfSome result (λ _. fact < self.now.facts) }
     {
         let owner = *self.owners.get(node as usize)?;
         let layout = &self.layouts[owner as usize];

@@ -1,4 +1,7 @@
 //! Laws of the edges of a program. The functions do nothing: their clauses are the laws.
+ghost use Rattle.ide_graph.specs.Closed.{GraphsOfProgramsAreClosed};
+ghost use Rattle.ide_graph.specs.Ends.{EndsOfProgramsAreNodes};
+ghost use Rattle.ide_graph.specs.Exits.{ExitsOfProgramsAreOwned};
 ghost use Rattle.ide_graph.specs.Joined.{SitesOfProgramsAreJoined};
 ghost use Rattle.ide_graph.specs.EdgeLaws.{AlongEdgesReachTheReturnSite, BackEdgesReturn, CallEdgesEnter, EdgesAreLawful, NodesHaveOneSite, NormalEdgesStayWithin, ReturnSitesFollowCalls};
 
@@ -42,4 +45,20 @@ pub fn nodes_have_one_site()
 /// and the exits of these know them.
 pub fn sites_of_programs_are_joined()
     ensures { SitesOfProgramsAreJoined }
+{}
+
+/// A program's graph is closed: each node has a site and a procedure, each procedure a start of its
+/// own, and calls end at nodes.
+pub fn graphs_of_programs_are_closed()
+    ensures { GraphsOfProgramsAreClosed }
+{}
+
+/// Each exit of a program's graph is that of its node's procedure, and its callers can be counted.
+pub fn exits_of_programs_are_owned()
+    ensures { ExitsOfProgramsAreOwned }
+{}
+
+/// The edges of a program's graph end at its nodes, and its procedures begin at them.
+pub fn ends_of_programs_are_nodes()
+    ensures { EndsOfProgramsAreNodes }
 {}

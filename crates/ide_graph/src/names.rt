@@ -3,7 +3,7 @@ ghost use Rattle.std.specs.Prelude.{◌≡◌, ◌+◌, ◌<◌, ◌≤◌, ◌+
 ghost use Rattle.std.specs.Option.{option_copied};
 ghost use Rattle.std.specs.List.{position};
 ghost use Rattle.ide_graph.specs.Naming.{AreNew, with_name};
-ghost use Rattle.ide_graph.specs.Named.{same_name};
+ghost use Rattle.std.specs.Str.{bytes_eq};
 ghost use Rattle.ide_wire.specs.declared.refused.Refused.TheVariants.{NoMemory};
 
 use ide_text::Name;
@@ -70,7 +70,7 @@ impl Names {
 
     /// The index of a name.
     pub fn index_of(&self, name: &[u8]) -> Option<usize>
-        ensures value { result ≡ position (same_name name.now) self.now }
+        ensures value { result ≡ position (bytes_eq name.now) self.now }
         ensures within { IfSome result (λ index. index < length self.now) }
     {
         self.set.get_index_of(name)

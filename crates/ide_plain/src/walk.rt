@@ -1,5 +1,8 @@
 //! A walk along a valid path.
-ghost use Rattle.std.specs.Prelude.{◌≡◌, ◌≤◌, ◌^◌, length, IfOk};
+ghost use Rattle.std.specs.Prelude.{◌≡◌, ◌≢◌, ◌≤◌, ◌^◌, ◌++◌, ◌∷◌, [], ℕ, List, length, map, IfNone, IfOk, IfSome, IsTrue};
+ghost use Rattle.std.specs.List.{range_with_len};
+ghost use Rattle.ide_theory.specs.Effect.{effect_at};
+ghost use Rattle.ide_plain.specs.Effect.{value_in};
 
 use crate::effect::environment_after;
 use ide_graph::EdgeData;
@@ -24,7 +27,11 @@ impl<P: Problem> Walk<P> {
         alloc: Global,
         edge: &EdgeData,
         calls: Vec<Node>,
-    ) -> Result<Walk<P>, AllocError> {
+    ) -> Result<Walk<P>, AllocError>
+        ensures node { IfOk result (λ walk. walk.node ≡ edge.now.end) }
+        ensures calls { IfOk result (λ walk. walk.calls ≡ calls) }
+        ensures environment { IfOk result (λ walk. walk.environment.items ≡ map (effect_at P.L.algebra P.F.edge (P.targets edge.now) (length self.now.environment.items) (value_in P.L.algebra.top self.now.environment.items)) (range_with_len 0 (length self.now.environment.items))) }
+    {
         let environment = environment_after::<P>(alloc, edge, self.environment.as_slice())?;
         Ok(Walk {
             node: edge.end,
@@ -34,18 +41,19 @@ impl<P: Problem> Walk<P> {
     }
 
     /// The open calls, and one more.
-    pub fn calls_with(&self, alloc: Global, call: Node) -> Result<Vec<Node>, AllocError> {
+    pub fn calls_with(&self, alloc: Global, call: Node) -> Result<Vec<Node>, AllocError>
+        ensures { IfOk result (λ calls. calls.items ≡ self.now.calls.items ++ call ∷ []) }
+    {
         let mut calls = Vec::from_slice(alloc, self.calls.as_slice())?;
         calls.push(call)?;
         Ok(calls)
     }
 
     /// The open calls but for the latest, where that is a call at the node.
-    pub fn calls_without(
-        &self,
-        alloc: Global,
-        call: Node,
-    ) -> Result<Option<Vec<Node>>, AllocError> {
+    pub fn calls_without(&self, alloc: Global, call: Node) -> Result<Option<Vec<Node>>, AllocError>
+        ensures left { IfOk result (λ left. IfSome left (λ calls. self.now.calls.items ≡ calls.items ++ call ∷ [])) }
+        ensures other { IfOk result (λ left. IfNone left ((calls : List ℕ) → self.now.calls.items ≢ calls ++ call ∷ [])) }
+    {
         match self.calls.split_last() {
             Some((latest, earlier)) if *latest == call => {
                 Ok(Some(Vec::from_slice(alloc, earlier)?))
@@ -55,7 +63,11 @@ impl<P: Problem> Walk<P> {
     }
 
     /// Whether both walks stand at the same node, with the same calls and environment.
-    pub fn is_same(&self, other: &Walk<P>) -> bool {
+    pub fn is_same(&self, other: &Walk<P>) -> bool
+        ensures node { IsTrue result → self.now.node ≡ other.now.node }
+        ensures calls { IsTrue result → self.now.calls.items ≡ other.now.calls.items }
+        ensures environment { IsTrue result → self.now.environment.items ≡ other.now.environment.items }
+    {
         self.node == other.node
             && self.calls == other.calls
             && self.environment == other.environment

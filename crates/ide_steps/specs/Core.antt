@@ -1,8 +1,13 @@
 -- What contracts see of a core, and when its calls are refused.
-use Rattle.std.specs.Prelude.{◌≡◌, ℕ, Bool, false, ◌&&◌, ◌≢◌, slice_index, List, Option, None, Some, nat_eq}
+use Rattle.std.specs.Prelude.{◌≡◌, ℕ, Bool, true, false, ◌&&◌, ◌≢◌, length, map, slice_index, List, Option, None, Some, nat_eq}
 use Rattle.std.specs.Option.{is_some}
 use Rattle.std.specs.List.{Contains}
 use Rattle.ide_graph.specs.Supergraph.{Supergraph, procedure_named}
+use Rattle.ide_graph.specs.declared.site.Site.{Site}
+use Rattle.ide_graph.specs.declared.site.Site.TheVariants.{Normal, Call, Exit}
+use Rattle.ide_problem.specs.Flow.{Targets}
+use Rattle.ide_tasks.specs.Sources.{AreSourcesOf}
+use Rattle.ide_tasks.specs.declared.sources.Source.{Source}
 use Rattle.ide_tables.specs.Tables.{Table}
 use Rattle.ide_tasks.specs.Task.{TaskData, same_task}
 use Rattle.ide_tasks.specs.Work.{WorkData}
@@ -60,3 +65,16 @@ pub record FindsRoot (graph : Option Supergraph) (roots : List ℕ) (name : List
   pub procedure : ℕ
   pub found : Finds graph name procedure
   pub is_root : Contains roots procedure
+
+-- whether it is the site of a call node
+abbrev pub is_call : Site → Bool
+is_call (Normal edges) = false
+is_call (Call calls along) = true
+is_call (Exit start callers) = false
+
+-- what is kept of a loaded program: each node has a site, the sources are those of the graph, and the
+-- tables watch the call nodes
+pub record IsProgramKept {F : Type 0} (targets : Targets F) (graph : Supergraph) (sources : List (List (Source F))) (table : Table F) : Type 0 where
+  pub sited : length graph.sites ≡ graph.nodes
+  pub inverse : AreSourcesOf targets graph sources
+  pub watched : table.watched ≡ map is_call graph.sites

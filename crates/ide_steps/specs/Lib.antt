@@ -1,1 +1,7 @@
 pub mod Core
+pub mod Owed
+pub mod Rooted
+pub mod State
+pub mod Drain
+pub mod Steps
+pub mod Going

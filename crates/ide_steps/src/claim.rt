@@ -1,8 +1,15 @@
 //! Claims: a hand takes a pending key with its task.
-ghost use Rattle.std.specs.Prelude.{◌≡◌, ◌≢◌, ℕ, ◌<◌, ◌≤◌, ◌↔◌, ◌⊎◌, [], true, false, Ok, Err, IsSome, IfErr, OnErr, OnOk};
+ghost use Rattle.std.specs.Prelude.{◌≡◌, ◌≢◌, ℕ, ◌<◌, ◌≤◌, ◌↔◌, ◌⊎◌, [], true, false, Some, Ok, Err, slice_get, slice_index, IsSome, IfErr, IfOk, OnErr, OnOk};
+ghost use Rattle.ide_graph.specs.Exits.{AreExitsOwned};
+ghost use Rattle.ide_graph.specs.Supergraph.{Supergraph};
+ghost use Rattle.ide_tables.specs.Tables.{found};
+ghost use Rattle.ide_wire.specs.Key.{node_of};
 ghost use Rattle.ide_wire.specs.declared.key.Key.{Key};
-ghost use Rattle.ide_worklist.specs.Worklist.{claim_at, is_pending, is_claimed};
-ghost use Rattle.ide_steps.specs.Core.{is_loaded, IsUnchanged};
+ghost use Rattle.ide_worklist.specs.Worklist.{claim_at, ends_key, is_pending, is_claimed};
+ghost use Rattle.ide_tasks.specs.Task.{TaskData};
+ghost use Rattle.ide_steps.specs.Core.{is_loaded, IsProgramKept, IsUnchanged};
+ghost use Rattle.ide_steps.specs.State.{ArePartnersOf, IsTaskOf};
+ghost use Rattle.ide_steps.specs.Steps.{IsTaken, progress_at};
 
 use crate::loaded::Loaded;
 use crate::machine::{Core, HANDS};
@@ -37,6 +44,12 @@ impl<P: Problem> Core<P> {
         ensures idle { result ≡ Ok Claimed.Idle → (q : Key) → is_pending self.old.pile q ≡ true → is_claimed self.old.pile q ≡ true }
         ensures image { (self.new.graph ≡ self.old.graph) × (self.new.roots ≡ self.old.roots) × (self.new.table ≡ self.old.table) }
         ensures pending { self.new.pile.pending ≡ self.old.pile.pending }
+        ensures fresh { (task : TaskData P.F) → result ≡ Ok (Claimed.Task task) → ends_key (claim_at self.new.pile hand) ≡ true }
+        ensures task { (task : TaskData P.F) → result ≡ Ok (Claimed.Task task) → IsTaken P.targets P.F.edge hand self.old self.new task }
+        ensures is_task { (task : TaskData P.F) (graph : Supergraph) → result ≡ Ok (Claimed.Task task) → self.old.graph ≡ Some graph → AreExitsOwned graph → IsSome (found self.old.table task.key) → IsTaskOf P.targets P.F.edge graph self.old.table task }
+        ensures progress { (task : TaskData P.F) → result ≡ Ok (Claimed.Task task) → progress_at self.new.pile hand ≡ Some (task, 0) }
+        ensures nothing { result ≡ Ok Claimed.Quiet → self.new ≡ self.old }
+        ensures waits { result ≡ Ok Claimed.Idle → self.new ≡ self.old }
         ensures unchanged { OnErr result (IsUnchanged self.old self.new) }
     {
         if hand >= HANDS {
@@ -67,7 +80,9 @@ fn task_of<P: Problem>(
     tables: &Tables<P::F>,
     key: Key,
 ) -> Result<Task<P>, Refused>
-    ensures { IfErr result (λ e. (e ≡ Refused.NoMemory) ⊎ (e ≡ Refused.OutOfRange)) }
+    ensures key { IfOk result (λ task. task.key ≡ key) }
+    ensures is_task { IsProgramKept P.targets loaded.now.graph loaded.now.sources tables.now → AreExitsOwned loaded.now.graph → IsSome (found tables.now key) → IfOk result (IsTaskOf P.targets P.F.edge loaded.now.graph tables.now) }
+    ensures refused { IfErr result (λ e. (e ≡ Refused.NoMemory) ⊎ (e ≡ Refused.OutOfRange)) }
 {
     let node = key.node();
     if node as usize >= loaded.graph.node_count() {
@@ -94,7 +109,8 @@ fn partners_of<P: Problem>(
     procedure: usize,
     site: &Site,
 ) -> Result<Partners<P::F>, Refused>
-    ensures { IfErr result (λ e. e ≡ Refused.NoMemory) }
+    ensures partners { IsProgramKept P.targets loaded.now.graph loaded.now.sources tables.now → AreExitsOwned loaded.now.graph → slice_get loaded.now.graph.sites (node_of key) ≡ Some site.now → procedure ≡ slice_index loaded.now.graph.owners (node_of key) → procedure < loaded.now.graph.procedures → IfOk result (ArePartnersOf P.targets P.F.edge loaded.now.graph tables.now key site.now) }
+    ensures refused { IfErr result (λ e. e ≡ Refused.NoMemory) }
 {
     match (key, site) {
         (Key::Jump(call, _, to), Site::Call { .. }) => {

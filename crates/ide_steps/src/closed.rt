@@ -1,5 +1,7 @@
 //! A quiet image, frozen.
-ghost use Rattle.std.specs.Prelude.{◌≡◌, ◌≢◌, ◌↔◌, ◌⊎◌, [], true, false, Err, IfErr, IfOk};
+ghost use Rattle.std.specs.Prelude.{◌≡◌, ◌≢◌, ◌↔◌, ◌⊎◌, [], true, false, Err, Some, IfErr, IfOk};
+ghost use Rattle.std.specs.Arc.{arc_value};
+ghost use Rattle.ide_steps.specs.declared.loaded.Loaded.{Loaded};
 ghost use Rattle.ide_steps.specs.Core.{is_loaded};
 
 use crate::loaded::Loaded;
@@ -25,6 +27,7 @@ impl<P: Problem> Core<P> {
     pub fn freeze(&self) -> Result<Closed<P>, Refused>
         ensures no_program { (result ≡ Err Refused.NoProgram) ↔ (is_loaded self.now ≡ false) }
         ensures unfinished { (result ≡ Err Refused.Unfinished) ↔ ((is_loaded self.now ≡ true) × (self.now.pile.pending ≢ [])) }
+        ensures graph { IfOk result (λ closed. self.now.graph ≡ Some (arc_value {X = Loaded P P.L P.F} closed.loaded).graph) }
         ensures table { IfOk result (λ closed. closed.tables ≡ self.now.table) }
         ensures roots { IfOk result (λ closed. closed.roots.items ≡ self.now.roots) }
         ensures quiet { IfOk result (λ _. self.now.pile.pending ≡ []) }
@@ -46,6 +49,7 @@ impl<P: Problem> Core<P> {
     ///
     /// Refusals, in this order: `NoProgram`; `Unfinished` where some key is pending.
     pub fn close(self) -> Result<Closed<P>, (Refused, Core<P>)>
+        ensures graph { IfOk result (λ closed. self.graph ≡ Some (arc_value {X = Loaded P P.L P.F} closed.loaded).graph) }
         ensures table { IfOk result (λ closed. closed.tables ≡ self.table) }
         ensures roots { IfOk result (λ closed. closed.roots.items ≡ self.roots) }
         ensures quiet { IfOk result (λ _. self.pile.pending ≡ []) }

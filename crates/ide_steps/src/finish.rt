@@ -1,7 +1,13 @@
 //! The end of a claim: finished or released.
-ghost use Rattle.std.specs.Prelude.{◌≡◌, ◌<◌, ◌↔◌, ◌⊎◌, true, false, None, Err, IfErr, OnErr, length};
-ghost use Rattle.ide_worklist.specs.Worklist.{claim_at};
+ghost use Rattle.std.specs.Prelude.{◌≡◌, ℕ, [], filter, ◌<◌, ◌+◌, ◌↔◌, ◌⊎◌, if◌then◌else◌, true, false, None, Some, Err, IfErr, OnErr, OnOk, length};
+ghost use Rattle.ide_tasks.specs.Task.{TaskData};
+ghost use Rattle.std.specs.Option.{is_some};
+ghost use Rattle.ide_theory.specs.Invariant.{unclaimed};
+ghost use Rattle.ide_theory.specs.State.{finished, with_claim};
+ghost use Rattle.ide_worklist.specs.Worklist.{claim_at, ends_key, put_hand};
+ghost use Rattle.ide_worklist.specs.declared.claim.Claim.{Claim as Held};
 ghost use Rattle.ide_steps.specs.Core.{is_claim_of_work};
+ghost use Rattle.ide_steps.specs.State.{state_of, claim_of};
 
 use crate::machine::Core;
 use ide_problem::Problem;
@@ -16,7 +22,8 @@ impl<P: Problem> Core<P> {
     pub fn finish(&mut self, hand: usize, work: &Work<P>) -> Result<(), Refused>
         ensures stale { (result ≡ Err Refused.Stale) ↔ ((is_claim_of_work P.F.eq ⟦<Partners<P::F> as PartialEq>⟧.eq work.now (claim_at self.old.pile hand) ≡ false) ⊎ (work.now.done < length work.now.parts)) }
         ensures refused { IfErr result (λ e. e ≡ Refused.Stale) }
-        ensures table { self.new.table ≡ self.old.table }
+        ensures finished { OnOk result ((held : Held (TaskData P.F)) × (claim_at self.old.pile hand ≡ Some held) × (state_of P.targets P.F.edge self.new ≡ finished (state_of P.targets P.F.edge self.old) hand (claim_of P.targets P.F.edge held))) }
+        ensures stays { (self.new.graph ≡ self.old.graph) × (self.new.roots ≡ self.old.roots) × (self.new.table ≡ self.old.table) }
         ensures unchanged { OnErr result (self.new ≡ self.old) }
     {
         if !self.is_current(hand, work) {
@@ -25,8 +32,18 @@ impl<P: Problem> Core<P> {
         if work.next().is_some() {
             return Err(Refused::Stale);
         }
-        self.worklist.finish(hand);
+        self.end_claim(hand);
         Ok(())
+    }
+
+    /// Ends the hand's claim.
+    pub(crate) fn end_claim(&mut self, hand: usize)
+        ensures finished { (held : Held (TaskData P.F)) → claim_at self.old.pile hand ≡ Some held → state_of P.targets P.F.edge self.new ≡ finished (state_of P.targets P.F.edge self.old) hand (claim_of P.targets P.F.edge held) }
+        ensures stays { (self.new.graph ≡ self.old.graph) × (self.new.roots ≡ self.old.roots) × (self.new.table ≡ self.old.table) }
+        ensures claims { (h : ℕ) → claim_at self.new.pile h ≡ put_hand (claim_at self.old.pile) hand None h }
+        ensures count { length self.new.pile.pending + (if ends_key (claim_at self.old.pile hand) then 1 else 0) ≡ length self.old.pile.pending }
+    {
+        self.worklist.finish(hand);
     }
 
     /// Gives the hand's claim back: the key is pending for any hand, and parts that were done
@@ -36,13 +53,25 @@ impl<P: Problem> Core<P> {
     pub fn release(&mut self, hand: usize) -> Result<(), Refused>
         ensures stale { (result ≡ Err Refused.Stale) ↔ (claim_at self.old.pile hand ≡ None) }
         ensures refused { IfErr result (λ e. e ≡ Refused.Stale) }
+        ensures released { state_of P.targets P.F.edge self.new ≡ with_claim (state_of P.targets P.F.edge self.old) hand None }
         ensures claim { claim_at self.new.pile hand ≡ None }
-        ensures table { self.new.table ≡ self.old.table }
+        ensures stays { (self.new.graph ≡ self.old.graph) × (self.new.roots ≡ self.old.roots) × (self.new.table ≡ self.old.table) }
         ensures pending { self.new.pile.pending ≡ self.old.pile.pending }
     {
         match self.worklist.release(hand) {
             Some(_) => Ok(()),
             None => Err(Refused::Stale),
         }
+    }
+
+    /// Gives every claim back, and answers how many there were. It takes no memory.
+    pub fn release_all(&mut self) -> usize
+        ensures count { result ≡ length (filter is_some self.old.pile.claims) }
+        ensures claims { self.new.pile.claims ≡ [] }
+        ensures stays { (self.new.graph ≡ self.old.graph) × (self.new.roots ≡ self.old.roots) × (self.new.table ≡ self.old.table) }
+        ensures pending { self.new.pile.pending ≡ self.old.pile.pending }
+        ensures state { state_of P.targets P.F.edge self.new ≡ unclaimed (state_of P.targets P.F.edge self.old) }
+    {
+        self.worklist.release_all()
     }
 }

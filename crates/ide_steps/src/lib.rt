@@ -10,6 +10,7 @@ mod claim;
 mod closed;
 mod drain;
 mod finish;
+mod laws;
 mod loaded;
 mod machine;
 mod part;
@@ -17,6 +18,7 @@ mod root;
 
 pub use claim::Claimed;
 pub use closed::Closed;
+pub use laws::tasks_owe_their_parts;
 pub use loaded::Loaded;
 pub use machine::{Core, HANDS};
 pub use part::Parted;

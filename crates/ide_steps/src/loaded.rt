@@ -1,5 +1,9 @@
 //! A loaded program, shared by the core and what it hands out.
-ghost use Rattle.std.specs.Prelude.{◌≡◌, IfErr};
+ghost use Rattle.std.specs.Prelude.{◌≡◌, length, map, IfErr, IfOk};
+ghost use Rattle.ide_graph.specs.GraphOf.{IsNamed, IsGraphOf};
+ghost use Rattle.ide_graph.specs.ProgramEdges.{HasEdgesOf};
+ghost use Rattle.ide_steps.specs.Core.{is_call};
+ghost use Rattle.ide_tasks.specs.Sources.{AreSourcesOf};
 
 use ide_graph::{Graph, Site};
 use ide_problem::Problem;
@@ -19,7 +23,11 @@ pub struct Loaded<P: Problem> {
 impl<P: Problem> Loaded<P> {
     /// The program, ready to be solved. Where memory is wanting, it is dropped.
     pub fn of(alloc: Global, program: Program) -> Result<Loaded<P>, Refused>
-        ensures { IfErr result (λ e. e ≡ Refused.NoMemory) }
+        ensures program { IfOk result (λ loaded. loaded.program ≡ program) }
+        ensures graph { IfOk result (λ loaded. IsGraphOf program loaded.graph) }
+        ensures edges { IsNamed program → IfOk result (λ loaded. HasEdgesOf program loaded.graph) }
+        ensures sources { IfOk result (λ loaded. AreSourcesOf P.targets loaded.graph loaded.sources) }
+        ensures refused { IfErr result (λ e. e ≡ Refused.NoMemory) }
     {
         let graph = Graph::of(alloc, &program)?;
         let sources = Sources::of(alloc, &graph)?;
@@ -31,14 +39,20 @@ impl<P: Problem> Loaded<P> {
     }
 
     /// For each node, whether it is a call node.
-    pub fn call_nodes(&self, alloc: Global) -> Result<Vec<bool>, AllocError> {
+    pub fn call_nodes(&self, alloc: Global) -> Result<Vec<bool>, AllocError>
+        ensures { length self.now.graph.sites ≡ self.now.graph.nodes → IfOk result (λ flags. flags.items ≡ map is_call self.now.graph.sites) }
+    {
         let mut are_calls = Vec::with_capacity(alloc, self.graph.node_count())?;
-        for node in 0..=Node::MAX {
-            if node as usize >= self.graph.node_count() {
-                break;
-            }
-            are_calls.push(matches!(self.graph.site(node), Site::Call { .. }))?;
+        for node in 0..self.graph.node_count() {
+            are_calls.push(is_call(self.graph.site(node as Node)))?;
         }
         Ok(are_calls)
     }
+}
+
+/// Whether it is the site of a call node.
+fn is_call(site: &Site) -> bool
+    ensures { result ≡ is_call site.now }
+{
+    matches!(site, Site::Call { .. })
 }

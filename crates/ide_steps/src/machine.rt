@@ -1,7 +1,13 @@
 //! The core: its state and what may be asked of it.
-ghost use Rattle.std.specs.Prelude.{◌≡◌, ◌↔◌, [], true, false, length, IsTrue, IfErr, OnOk, OnErr};
+ghost use Rattle.ide_graph.specs.GraphOf.{IsNamed, IsGraphOf};
+ghost use Rattle.ide_graph.specs.ProgramEdges.{HasEdgesOf};
 ghost use Rattle.ide_steps.specs.Core.{IsUnchanged, is_loaded};
-ghost use Rattle.std.specs.Option.{option_copied};
+ghost use Rattle.ide_steps.specs.Drain.{potential};
+ghost use Rattle.std.specs.Prelude.{◌≡◌, ℕ, ◌<◌, ◌↔◌, [], true, false, Ok, length, IsTrue, IfErr, OnOk, OnErr};
+ghost use Rattle.ide_steps.specs.State.{state_of};
+ghost use Rattle.ide_steps.specs.Steps.{IsBelow, progress_at};
+ghost use Rattle.ide_theory.specs.State.{nothing_done, lowered_by};
+ghost use Rattle.std.specs.Option.{option_copied, IsSomeAnd};
 ghost use Rattle.ide_tables.specs.Tables.{found};
 ghost use Rattle.ide_worklist.specs.Worklist.{is_pending};
 
@@ -34,11 +40,14 @@ impl<P: Problem> Model for Core<P> {
     ghost use Rattle.std.specs.Option.{option_map};
     ghost use Rattle.std.specs.Arc.{arc_value};
     ghost use Rattle.ide_steps.specs.declared.loaded.Loaded.{Loaded};
-    ghost use Rattle.ide_steps.specs.Core.{CoreData};
+    ghost use Rattle.std.specs.Prelude.{◌≡◌, Some};
+    ghost use Rattle.ide_steps.specs.Core.{CoreData, IsProgramKept};
 
     ghost Value = { CoreData P.F };
 
     ghost view = { λ c. record { graph = option_map (λ loaded. (arc_value {X = Loaded P P.L P.F} loaded).graph) c.loaded; roots = c.roots.items; table = c.tables; pile = c.worklist } };
+
+    ghost invariant = { λ c. (loaded : Loaded P P.L P.F) → option_map (arc_value {X = Loaded P P.L P.F}) c.loaded ≡ Some loaded → IsProgramKept P.targets loaded.graph loaded.sources c.tables };
 }
 
 impl<P: Problem> Core<P> {
@@ -63,6 +72,9 @@ impl<P: Problem> Core<P> {
     pub fn load(&mut self, program: Program) -> Result<(), Refused>
         ensures is_loaded { OnOk result (is_loaded self.new ≡ true) }
         ensures roots { OnOk result (self.new.roots ≡ []) }
+        ensures graph { OnOk result (IsSomeAnd self.new.graph (IsGraphOf program)) }
+        ensures edges { IsNamed program → OnOk result (IsSomeAnd self.new.graph (HasEdgesOf program)) }
+        ensures state { OnOk result (state_of P.targets P.F.edge self.new ≡ nothing_done P.F) }
         ensures entries { OnOk result (self.new.table.entries ≡ []) }
         ensures pending { OnOk result (self.new.pile.pending ≡ []) }
         ensures claims { OnOk result (self.new.pile.claims ≡ []) }
@@ -112,6 +124,12 @@ impl<P: Problem> Core<P> {
     pub(crate) fn lower(&mut self, key: Key, function: P::F) -> Result<Change, Refused>
         ensures graph { self.new.graph ≡ self.old.graph }
         ensures roots { self.new.roots ≡ self.old.roots }
+        ensures falls { result ≡ Ok Change.Lowered → potential P.F.edge self.new < potential P.F.edge self.old }
+        ensures still { result ≡ Ok Change.Same → IsUnchanged self.old self.new }
+        ensures lowered { result ≡ Ok Change.Lowered → state_of P.targets P.F.edge self.new ≡ lowered_by P.F.edge (state_of P.targets P.F.edge self.old) key function }
+        ensures same { result ≡ Ok Change.Same → state_of P.targets P.F.edge self.new ≡ state_of P.targets P.F.edge self.old }
+        ensures met { result ≡ Ok Change.Same → IsBelow P.F.edge (state_of P.targets P.F.edge self.old) key function }
+        ensures progress { OnOk result ((h : ℕ) → progress_at self.new.pile h ≡ progress_at self.old.pile h) }
         ensures refused { IfErr result (λ e. e ≡ Refused.NoMemory) }
         ensures unchanged { OnErr result (IsUnchanged self.old self.new) }
     {

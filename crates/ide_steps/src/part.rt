@@ -1,6 +1,11 @@
 //! Parts: a hand gives what its task owes to the tables, one part a call.
-ghost use Rattle.std.specs.Prelude.{◌≡◌, ◌↔◌, ◌⊎◌, true, false, Ok, Err, IfErr, OnErr, length, IsTrue};
-ghost use Rattle.ide_worklist.specs.Worklist.{claim_at};
+ghost use Rattle.ide_worklist.specs.Worklist.{claim_at, ends_key};
+ghost use Rattle.ide_steps.specs.Drain.{potential};
+ghost use Rattle.std.specs.Prelude.{◌≡◌, ℕ, ◌<◌, ◌+◌, ◌↔◌, ◌⊎◌, true, false, Ok, Err, Some, IfErr, OnErr, OnOk, length, IsTrue};
+ghost use Rattle.std.specs.Option.{IsSomeAnd};
+ghost use Rattle.ide_tasks.specs.Task.{TaskData};
+ghost use Rattle.ide_steps.specs.State.{state_of};
+ghost use Rattle.ide_steps.specs.Steps.{IsLowered, IsSkipped, progress_at};
 ghost use Rattle.ide_steps.specs.Core.{IsUnchanged, is_claim_of_work};
 
 use crate::machine::Core;
@@ -30,6 +35,9 @@ impl<P: Problem> Core<P> {
         ensures stale { (result ≡ Err Refused.Stale) ↔ (is_claim_of_work P.F.eq ⟦<Partners<P::F> as PartialEq>⟧.eq work.old (claim_at self.old.pile hand) ≡ false) }
         ensures refused { IfErr result (λ e. (e ≡ Refused.Stale) ⊎ (e ≡ Refused.NoMemory)) }
         ensures no_part { result ≡ Ok Parted.NoPart → (work.old.done ≡ length work.old.parts) × (self.new ≡ self.old) × (work.new ≡ work.old) }
+        ensures all_done { is_claim_of_work P.F.eq ⟦<Partners<P::F> as PartialEq>⟧.eq work.old (claim_at self.old.pile hand) ≡ true → work.old.done ≡ length work.old.parts → result ≡ Ok Parted.NoPart }
+        ensures lowered { result ≡ Ok Parted.Lowered → IsLowered P.F.edge (state_of P.targets P.F.edge self.old) (state_of P.targets P.F.edge self.new) hand work.old work.new }
+        ensures same { result ≡ Ok Parted.Same → IsSkipped P.F.edge (state_of P.targets P.F.edge self.old) (state_of P.targets P.F.edge self.new) hand work.old work.new }
         ensures unchanged { OnErr result (IsUnchanged self.old self.new × (work.new ≡ work.old)) }
     {
         if !self.is_current(hand, work) {
@@ -40,7 +48,8 @@ impl<P: Problem> Core<P> {
 
     /// Whether the work is the hand's claim as it stands.
     pub(crate) fn is_current(&self, hand: usize, work: &Work<P>) -> bool
-        ensures { result ≡ is_claim_of_work P.F.eq ⟦<Partners<P::F> as PartialEq>⟧.eq work.now (claim_at self.now.pile hand) }
+        ensures current { result ≡ is_claim_of_work P.F.eq ⟦<Partners<P::F> as PartialEq>⟧.eq work.now (claim_at self.now.pile hand) }
+        ensures far { IsTrue result → IsSomeAnd (claim_at self.now.pile hand) (λ held. held.done ≡ work.now.done) }
     {
         match self.worklist.claim(hand) {
             Some(claim) => claim.done == work.done() && claim.task.is_same(work.task()),
@@ -50,8 +59,16 @@ impl<P: Problem> Core<P> {
 
     /// Does the next part of work that is the hand's claim.
     pub(crate) fn next_part(&mut self, hand: usize, work: &mut Work<P>) -> Result<Parted, Refused>
+        ensures falls { result ≡ Ok Parted.Lowered → potential P.F.edge self.new < potential P.F.edge self.old }
+        ensures still { result ≡ Ok Parted.Same → (potential P.F.edge self.new ≡ potential P.F.edge self.old) × (ends_key (claim_at self.new.pile hand) ≡ ends_key (claim_at self.old.pile hand)) }
+        ensures next { (result ≡ Ok Parted.Lowered) ⊎ (result ≡ Ok Parted.Same) → (work.old.done < length work.old.parts) × (work.new ≡ record work.old { done = work.old.done + 1 }) }
         ensures refused { IfErr result (λ e. e ≡ Refused.NoMemory) }
         ensures no_part { result ≡ Ok Parted.NoPart → (work.old.done ≡ length work.old.parts) × (self.new ≡ self.old) × (work.new ≡ work.old) }
+        ensures all_done { work.old.done ≡ length work.old.parts → result ≡ Ok Parted.NoPart }
+        ensures lowered { result ≡ Ok Parted.Lowered → (task : TaskData P.F) → progress_at self.old.pile hand ≡ Some (task, work.old.done) → IsLowered P.F.edge (state_of P.targets P.F.edge self.old) (state_of P.targets P.F.edge self.new) hand work.old work.new }
+        ensures same { result ≡ Ok Parted.Same → (task : TaskData P.F) → progress_at self.old.pile hand ≡ Some (task, work.old.done) → IsSkipped P.F.edge (state_of P.targets P.F.edge self.old) (state_of P.targets P.F.edge self.new) hand work.old work.new }
+        ensures progress { OnOk result ((task : TaskData P.F) → progress_at self.old.pile hand ≡ Some (task, work.old.done) → progress_at self.new.pile hand ≡ Some (task, work.new.done)) }
+        ensures stays { OnOk result ((self.new.graph ≡ self.old.graph) × (self.new.roots ≡ self.old.roots)) }
         ensures unchanged { OnErr result (IsUnchanged self.old self.new × (work.new ≡ work.old)) }
     {
         let Some(part) = work.next() else {

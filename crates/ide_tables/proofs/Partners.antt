@@ -35,6 +35,7 @@ pub record Picks (cmp : Key → Key → Ordering) (at : ℕ → Key) (test : Key
   pub picked : (place : Key) → test place ≡ true → place ≡ place_of (at (listed_fact place))
   pub orders : (a b : ℕ) → cmp (place_of (at a)) (place_of (at b)) ≡ nat_cmp a b
   pub same : (x y : Key) → is_at (cmp x) y ≡ true → x ≡ y
+  pub few : (place : Key) → test place ≡ true → listed_fact place < 2 ^ 16
 
 -- one place more: the look-up at d finds its function, if it lists d
 pub lookup-cons_option : {F : Type 0} (x d : ℕ) (own : Option F) (tail : List (ℕ × F)) (any : Bool) (there : Option F)
@@ -91,6 +92,19 @@ module _ {F : Type 0} (cmp : Key → Key → Ordering) (at : ℕ → Key) (test 
         | false ↦ λ t. ascending ks s.1
       ] refl
 
+  pub within : (places : List Key) → AllByRecursion (λ d. d < 2 ^ 16) (keys_of (filter_map (partner_of entries) (filter test places)))
+  within [] = tt
+  within (k ∷ ks) =
+      let rest : AllByRecursion (λ d. d < 2 ^ 16) (keys_of (filter_map (partner_of entries) (filter test ks))) = within ks in
+      elim (test k) as (λ b. test k ≡ b → AllByRecursion (λ d. d < 2 ^ 16) (keys_of (filter_map (partner_of entries) (cond b (k ∷ filter test ks) (filter test ks))))) [
+        | true ↦ λ t.
+            elim (lookup (same_key (place_of k)) entries) as (λ o. AllByRecursion (λ d. d < 2 ^ 16) (keys_of (cons_option (option_map (λ f. (listed_fact k, f)) o) (filter_map (partner_of entries) (filter test ks))))) [
+              | None ↦ rest
+              | Some f ↦ (picks.few k t, rest)
+            ]
+        | false ↦ λ t. rest
+      ] refl
+
   pub exact : (places : List Key) (d : ℕ) → test (place_of (at d)) ≡ true
       → lookup (is_at (nat_cmp d)) (filter_map (partner_of entries) (filter test places))
       ≡ cond (list_any (is_at (cmp (place_of (at d)))) places) (lookup (same_key (at d)) entries) None
@@ -119,10 +133,11 @@ pub are_partners : {F : Type 0} (cmp : Key → Key → Ordering) (at : ℕ → K
     → (table : Table F) (places : List Key) → IsStrictlySortedBy cmp places → IsIndex cmp table places
     → ((d : ℕ) → is_noted table.watched (at d) ≡ true) → ((d : ℕ) → d < 2 ^ 16 → test (place_of (at d)) ≡ true)
     → ArePartners at table (filter_map (partner_of table.entries) (filter test places))
-are_partners cmp at test picks table places s index noted within = record {
+are_partners cmp at test picks table places s index noted reached = record {
   ascending = ascending cmp at test picks table.entries places s;
+  within = within cmp at test picks table.entries places;
   exact = λ d l.
-      exact cmp at test picks table.entries places d (within d l)
+      exact cmp at test picks table.entries places d (reached d l)
       ∙ (ap (λ b. cond b (found table (at d)) None) (index (at d) (noted d)) ∙ cond-is_some (found table (at d)));
 }
 
@@ -146,6 +161,14 @@ pub in_summaries_range : (call fact : ℕ) (place : Key) → summaries_range cal
 in_summaries_range call fact (Jump n b a) t = grind (arith, nat_tests)
 in_summaries_range call fact (Summary n a b) t = grind (arith, nat_tests)
 
+pub few_jumps : (call fact : ℕ) (place : Key) → jumps_range call fact place ≡ true → listed_fact place < 2 ^ 16
+few_jumps call fact (Jump n b a) t = grind (arith, nat_tests)
+few_jumps call fact (Summary n a b) t = grind (arith, nat_tests)
+
+pub few_summaries : (call fact : ℕ) (place : Key) → summaries_range call fact place ≡ true → listed_fact place < 2 ^ 16
+few_summaries call fact (Jump n b a) t = grind (arith, nat_tests)
+few_summaries call fact (Summary n a b) t = grind (arith, nat_tests)
+
 pub jump_order : (call fact a b : ℕ) → key_cmp (Jump call fact a) (Jump call fact b) ≡ nat_cmp a b
 jump_order call fact a b = grind (arith, nat_tests)
 
@@ -163,12 +186,12 @@ pub jump_partners : {F : Type 0} (call fact : ℕ) (table : Table F) (places : L
     → ArePartners (λ d. Jump call d fact) table (filter_map (partner_of table.entries) (filter (jumps_range call fact) places))
 jump_partners call fact table places s index watched =
     are_partners key_cmp (λ d. Jump call d fact) (jumps_range call fact)
-    (record { picked = in_jumps_range call fact; orders = jump_order call fact; same = key_cmp_exact })
+    (record { picked = in_jumps_range call fact; orders = jump_order call fact; same = key_cmp_exact; few = few_jumps call fact })
     table places s index (λ d. watched) (within_jumps call fact)
 
 pub summary_partners : {F : Type 0} (call fact : ℕ) (table : Table F) (places : List Key) → IsStrictlySortedBy key_cmp places → IsIndex key_cmp table places
     → ArePartners (Summary call fact) table (filter_map (partner_of table.entries) (filter (summaries_range call fact) places))
 summary_partners call fact table places s index =
     are_partners key_cmp (Summary call fact) (summaries_range call fact)
-    (record { picked = in_summaries_range call fact; orders = summary_order call fact; same = key_cmp_exact })
+    (record { picked = in_summaries_range call fact; orders = summary_order call fact; same = key_cmp_exact; few = few_summaries call fact })
     table places s index (λ d. refl) (within_summaries call fact)

@@ -1,6 +1,6 @@
 -- What a table says in contracts: the function of each present key, and which nodes it watches.
 use Rattle.std.specs.Prelude.{◌≡◌, ℕ, ◌<◌, ◌^◌, Bool, true, false, List, Option, None, Some, if◌then◌else◌}
-use Rattle.std.specs.List.{list_any, slice_index_or}
+use Rattle.std.specs.List.{AllByRecursion, list_any, slice_index_or}
 use Rattle.std.specs.List.Sorted.{IsStrictlySortedBy}
 use Rattle.std.specs.Map.{lookup, keys_of}
 use Rattle.std.specs.BTreeMap.{is_at}
@@ -47,6 +47,7 @@ module _ {F L : Type 0} (edge : EdgeAlgebra F L) where
 -- the partners, ascending by fact, are the present ones of the keys `at` a fact
 pub record ArePartners {F : Type 0} (at : ℕ → Key) (table : Table F) (partners : List (ℕ × F)) : Type 0 where
   pub ascending : IsStrictlySortedBy nat_cmp (keys_of partners)
+  pub within : AllByRecursion (λ d. d < 2 ^ 16) (keys_of partners)
   pub exact : (d : ℕ) → d < 2 ^ 16 → lookup (is_at (nat_cmp d)) partners ≡ found table (at d)
 
 -- the place of a key in the index: a jump's facts change places, so that the jumps to one fact stand side by side

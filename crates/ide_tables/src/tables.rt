@@ -1,12 +1,13 @@
 //! The map from keys to functions.
-ghost use Rattle.std.specs.Prelude.{◌≡◌, ℕ, ◌<◌, [], true, false, length, slice_get, if◌then◌else◌, IfSome, IfOk, IfErr, OnErr};
+ghost use Rattle.std.specs.Prelude.{◌≡◌, ℕ, ◌<◌, ◌≤◌, ◌^◌, [], true, false, length, slice_get, if◌then◌else◌, IfSome, IfOk, IfErr, OnErr};
 ghost use Rattle.std.specs.List.{IsDistinct};
 ghost use Rattle.std.specs.Map.{keys_of};
 ghost use Rattle.std.specs.Option.{option_copied};
 ghost use Rattle.ide_wire.specs.declared.refused.Refused.TheVariants.{NoMemory};
-ghost use Rattle.indexmap.specs.IndexMap.{spare, get};
+ghost use Rattle.indexmap.specs.IndexMap.{insert_entry, spare, get};
 ghost use Rattle.ide_wire.specs.declared.key.Key.{Key};
 ghost use Rattle.ide_wire.specs.Key.{same_key};
+ghost use Rattle.ide_tables.specs.Spent.{spent};
 ghost use Rattle.ide_tables.specs.Tables.{Table, IsIndex, ArePartners, found, function_at, lowered_by, is_watched, Lowers};
 
 use crate::index;
@@ -153,11 +154,13 @@ impl<F: EdgeFn> Tables<F> {
         ensures changes { result ≡ Ok Change.Lowered → F.eq (lowered_by F.edge self.old key f) (function_at F.edge self.old key) ≡ false }
         ensures same { result ≡ Ok Change.Same → self.new ≡ self.old }
         ensures met { result ≡ Ok Change.Same → F.eq (lowered_by F.edge self.old key f) (function_at F.edge self.old key) ≡ true }
+        ensures spent { result ≡ Ok Change.Lowered → spent F.edge self.old.entries < spent F.edge self.new.entries }
+        ensures few { result ≡ Ok Change.Lowered → length self.new.entries < 2 ^ 64 }
         ensures err { OnErr result (self.new ≡ self.old) }
         ensures refused { IfErr result (λ e. e ≡ NoMemory) }
     {
         let old = self.function(key);
-        let new = old.meet(f);
+        let new = fallen(old, f);
         if new == old {
             return Ok(Change::Same);
         }
@@ -166,6 +169,17 @@ impl<F: EdgeFn> Tables<F> {
         put(&mut self.functions, key, new);
         Ok(Change::Lowered)
     }
+}
+
+// The meet of both: it is of smaller rank, where it is another function.
+fn fallen<F: EdgeFn>(old: F, f: F) -> F
+    ensures meet { result ≡ F.edge.meet old f }
+    ensures most { F.edge.rank old ≤ F.edge.height }
+    ensures falls { F.eq result old ≡ false → F.edge.rank result < F.edge.rank old }
+{
+    // Each function that a program holds is proper.
+    let _ = old.proper() && f.proper();
+    old.meet(f)
 }
 
 // The same entries, in the same order.
@@ -189,10 +203,13 @@ fn copied_places(places: &BTreeSet<Key>) -> Result<BTreeSet<Key>, AllocError>
     places.clone()
 }
 
-// Sets the key's function, for which there is room.
-fn put<F: EdgeFn>(functions: &mut IndexMap<Key, F>, key: Key, function: F)
+// Sets the key's function, for which there is room, and says how many keys are present then.
+fn put<F: EdgeFn>(functions: &mut IndexMap<Key, F>, key: Key, function: F) -> usize
     requires { 0 < spare functions.old }
-    ensures { (q : Key) → get same_key functions.new q ≡ (if same_key key q then Some function else get same_key functions.old q) }
+    ensures found { (q : Key) → get same_key functions.new q ≡ (if same_key key q then Some function else get same_key functions.old q) }
+    ensures entries { functions.new.entries ≡ insert_entry same_key functions.old.entries key function }
+    ensures count { result ≡ length functions.new.entries }
 {
     let _ = functions.insert(key, function);
+    functions.len()
 }

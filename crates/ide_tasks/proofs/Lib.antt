@@ -1,3 +1,5 @@
+pub mod Ascending
 pub mod Exits
 pub mod Inverse
 pub mod Same
+pub mod SameSite

@@ -1,5 +1,5 @@
 -- The parts that a task owes, by its key, its site and its partners.
-use Rattle.std.specs.Prelude.{ℕ, List, [], ◌++◌, Option, None, Some, map, slice_get}
+use Rattle.std.specs.Prelude.{◌≡◌, ℕ, Bool, true, List, [], ◌++◌, Option, None, Some, map, slice_get}
 use Rattle.std.specs.List.{flat_map}
 use Rattle.ide_lattice.specs.Algebra.{EdgeAlgebra}
 use Rattle.ide_problem.specs.Flow.{Targets}
@@ -12,7 +12,7 @@ use Rattle.ide_wire.specs.declared.key.Key.TheVariants.{Jump, Summary}
 use Rattle.ide_tasks.specs.declared.partners.Partners.{Partners}
 use Rattle.ide_tasks.specs.declared.partners.Partners.TheVariants.{Entries, Callers}
 use Rattle.ide_tasks.specs.declared.partners.Reaching.{Reaching}
-use Rattle.ide_tasks.specs.Task.{TaskData}
+use Rattle.ide_tasks.specs.Task.{TaskData, same_task}
 
 module _ {F L : Type 0} (targets : Targets F) (B : EdgeAlgebra F L) where
   -- over an edge: the function goes on to each target of the fact
@@ -55,3 +55,8 @@ module _ {F L : Type 0} (targets : Targets F) (B : EdgeAlgebra F L) where
   -- the parts that the task owes
   abbrev pub owed : TaskData F → List (Key × F)
   owed task = parts_at task.key task.function task.site task.partners
+
+  -- tasks that are the same, by the code's `==` on functions and partners, have one key and owe one list
+  abbrev pub SameTasksOweTheSame : (F → F → Bool) → (Partners F → Partners F → Bool) → Type 0
+  SameTasksOweTheSame same_function same_partners =
+      (x y : TaskData F) → same_task same_function same_partners x y ≡ true → (x.key ≡ y.key) × (owed x ≡ owed y)

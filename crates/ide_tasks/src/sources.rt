@@ -1,7 +1,8 @@
 //! The inverse of call flow.
-ghost use Rattle.std.specs.Prelude.{◌≡◌, ℕ, ◌≤◌, ◌^◌, ◌++◌, IfOk, OnOk, length, map};
+ghost use Rattle.std.specs.Prelude.{◌≡◌, ℕ, ◌≤◌, ◌^◌, [], ◌++◌, IfOk, OnOk, length, map, slice_index_or};
 ghost use Rattle.std.specs.List.Sorted.{IsNonDecreasingBy};
-ghost use Rattle.ide_tasks.specs.Sources.{HasFewCallers, reaching_of, source_of, sources_at, sources_over, sources_from};
+ghost use Rattle.ide_graph.specs.Exits.{HasFewCallers};
+ghost use Rattle.ide_tasks.specs.Sources.{AreAscending, AreSourcesOf, reaching_of, source_of, sources_at, sources_over, sources_from};
 
 use crate::partners::Reaching;
 use ide_graph::{Caller, Graph, Site};
@@ -9,6 +10,7 @@ use ide_lattice::EdgeFn;
 use ide_problem::{Problem, TargetList};
 use ide_wire::Fact;
 use std::alloc::{AllocError, Global};
+use std::marker::Model;
 
 /// For each procedure and fact at its start, the facts at its callers' call nodes whose call flow
 /// reaches that fact, with their functions.
@@ -27,14 +29,24 @@ struct Source<F> {
     from: Reaching<F>,
 }
 
+impl<P: Problem> Model for Sources<P> {
+    ghost use Rattle.std.specs.Prelude.{List, map};
+    ghost use Rattle.ide_tasks.specs.Sources.{AreAscending};
+    ghost use Rattle.ide_tasks.specs.declared.sources.Source.{Source};
+
+    ghost Value = { List (List (Source P.F)) };
+
+    ghost view = { λ s. map (λ sources. sources.items) s.procedures.items };
+
+    ghost invariant = { λ s. AreAscending (map (λ sources. sources.items) s.procedures.items) };
+}
+
 impl<P: Problem> Sources<P> {
     /// The inverse call flow of a program's graph.
-    pub fn of(alloc: Global, graph: &Graph) -> Result<Sources<P>, AllocError> {
-        let mut procedures = Vec::with_capacity(alloc, graph.procedure_count())?;
-        for procedure in 0..graph.procedure_count() {
-            let exit = graph.exit_of(procedure);
-            procedures.push(sources_at::<P>(alloc, graph, graph.site(exit))?)?;
-        }
+    pub fn of(alloc: Global, graph: &Graph) -> Result<Sources<P>, AllocError>
+        ensures { IfOk result (AreSourcesOf P.targets graph.now) }
+    {
+        let procedures = sources_of::<P>(alloc, graph)?;
         Ok(Sources { procedures })
     }
 
@@ -46,19 +58,49 @@ impl<P: Problem> Sources<P> {
         alloc: Global,
         procedure: usize,
         fact: Fact,
-    ) -> Result<Vec<Reaching<P::F>>, AllocError> {
-        let mut reaching = Vec::new(alloc);
-        if let Some(sources) = self.procedures.get(procedure) {
-            let from = sources.partition_point(|source| source.reached < fact);
-            for source in sources.iter().skip(from) {
-                if source.reached != fact {
-                    break;
-                }
-                reaching.push(source.from)?;
-            }
+    ) -> Result<Vec<Reaching<P::F>>, AllocError>
+        ensures { IfOk result (λ reaching. reaching.items ≡ reaching_of fact (slice_index_or self.now procedure [])) }
+    {
+        match self.procedures.get(procedure) {
+            Some(sources) => reaching_in(alloc, sources.as_slice(), fact),
+            None => Ok(Vec::new(alloc)),
         }
-        Ok(reaching)
     }
+}
+
+/// Those of the sources that reach the fact: where they ascend, these stand together.
+fn reaching_in<F: EdgeFn>(
+    alloc: Global,
+    sources: &[Source<F>],
+    fact: Fact,
+) -> Result<Vec<Reaching<F>>, AllocError>
+    ensures { IsNonDecreasingBy (λ source. source.reached) sources.now → IfOk result (λ reaching. reaching.items ≡ reaching_of fact sources.now) }
+{
+    let first = sources.partition_point(|source| source.reached < fact);
+    let mut reaching = Vec::new(alloc);
+    for source in &sources[first..] {
+        if source.reached != fact {
+            break;
+        }
+        reaching.push(source.from)?;
+    }
+    Ok(reaching)
+}
+
+/// The sources of each procedure.
+fn sources_of<P: Problem>(
+    alloc: Global,
+    graph: &Graph,
+) -> Result<Vec<Vec<Source<P::F>>>, AllocError>
+    ensures ascending { IfOk result (λ procedures. AreAscending (map (λ sources. sources.items) procedures.items)) }
+    ensures exact { IfOk result (λ procedures. AreSourcesOf P.targets graph.now (map (λ sources. sources.items) procedures.items)) }
+{
+    let mut procedures = Vec::with_capacity(alloc, graph.procedure_count())?;
+    for procedure in 0..graph.procedure_count() {
+        let exit = graph.exit_of(procedure);
+        procedures.push(sources_at::<P>(alloc, graph, graph.site(exit))?)?;
+    }
+    Ok(procedures)
 }
 
 /// The sources of the procedure with that exit site, by the fact reached, then by caller, then by

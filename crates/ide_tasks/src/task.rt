@@ -1,5 +1,6 @@
 //! A claimed key with all that its parts depend on.
 ghost use Rattle.std.specs.Prelude.{◌≡◌, IfOk, IsTrue};
+ghost use Rattle.ide_tasks.specs.Parts.{owed, SameTasksOweTheSame};
 ghost use Rattle.ide_tasks.specs.Task.{same_site, same_task};
 
 use crate::partners::Partners;
@@ -51,6 +52,7 @@ impl<P: Problem> Task<P> {
         ensures key { IsTrue result → self.now.key ≡ other.now.key }
         ensures function { IsTrue result → self.now.function ≡ other.now.function }
         ensures partners { IsTrue result → self.now.partners ≡ other.now.partners }
+        ensures owed { IsTrue result → owed P.targets P.F.edge self.now ≡ owed P.targets P.F.edge other.now }
     {
         self.key == other.key
             && self.function == other.function
@@ -74,3 +76,8 @@ fn is_same_site(one: &Site, other: &Site) -> bool
 {
     *one == *other
 }
+
+/// Tasks that `==` of their parts calls the same have the same key and owe the same parts.
+pub fn same_tasks_owe_the_same<P: Problem>()
+    ensures { SameTasksOweTheSame P.targets P.F.edge P.F.eq ⟦<Partners<P::F> as PartialEq>⟧.eq }
+{}

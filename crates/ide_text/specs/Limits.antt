@@ -46,6 +46,28 @@ taken_lines (l ∷ before) taken = (taken.1, taken_lines before taken.0)
 reverse_map : {X : Type 0} (f : X → Line) (x : X) (xs : List X) → reverse (map f (x ∷ xs)) ≡ reverse (map f xs) ++ f x ∷ []
 reverse_map f x xs = reverse-append (f x ∷ []) (map f xs)
 
+-- ---- procedures
+-- a global does not end a text
+still_open : (lines : List Line) (g : List ℕ) → (MayEnd lines → ⊥) → MayEnd (lines ++ Global g ∷ []) → ⊥
+still_open [] g before ended = ended
+still_open (Global h ∷ lines) g before ended = ended
+still_open (Begin name parameters ∷ lines) g before ended = ended
+still_open (Local x ∷ lines) g before ended = ended
+still_open (End ∷ lines) g before ended = before tt
+still_open (Step s ∷ lines) g before ended = ended
+
+globals_open : (globals : List (List ℕ)) → MayEnd (global_lines globals) → ⊥
+globals_open [] ended = ended
+globals_open (g ∷ globals) ended = still_open (global_lines globals) g (globals_open globals) (subst MayEnd (reverse_map (λ h. Global h) g globals) ended)
+
+ended_some : (globals : List (List ℕ)) (procedures : List Procedure) → MayEnd (ended_lines procedures ++ global_lines globals) → 1 ≤ length procedures
+ended_some globals [] ended = absurd (globals_open globals ended)
+ended_some globals (q ∷ procedures) ended = omega arith
+
+-- a program within the limits has a procedure
+pub limits_procedures : (p : Program) → IsWithinLimits p → 1 ≤ length (procedures_of p)
+limits_procedures p within = ended_some (globals_of p) (procedures_of p) within.ended
+
 -- ---- sums
 sum_map : {X : Type 0} (g : Line → ℕ) (f : X → Line) (xs : List X) → sum_by g (reverse (map f xs)) ≡ sum_by (λ x. g (f x)) xs
 sum_map g f [] = refl

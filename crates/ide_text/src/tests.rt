@@ -125,52 +125,8 @@ fn each_byte_tells(rt: HostRuntime) -> Result<(), Fail> {
     Ok(())
 }
 
-#[test]
-fn spells_each_line_in_one_way(rt: HostRuntime) -> Result<(), Fail> {
-    let lines = [
-        "skip ",
-        " skip",
-        "skip  ",
-        "",
-        "x  = 5",
-        "x = 05",
-        "x = 00",
-        "x = 18446744073709551616",
-        "x = 99999999999999999999999999",
-        "x = -5",
-        "x = +5",
-        "x = 5 + x",
-        "x = x + x",
-        "x = x * 2",
-        "x =",
-        "x",
-        "x = ? ?",
-        "x = mix x",
-        "x = mix x x x",
-        "x = call",
-        "call",
-        "call mix",
-        "mix = 5",
-        "x = skip",
-        "return 5",
-        "return x x",
-        "at",
-        "at 5",
-        "goto L L",
-        "skip\r",
-        "x\t=\t5",
-        "skip\0",
-        "\0",
-        "X = \u{e4}",
-        "var a2345678901234567890123456789012",
-        "end end",
-        "proc",
-        "proc p 5",
-        "global",
-        "global g g",
-        "# comment",
-    ];
-    let alloc = rt.alloc();
+/// That no line of the grammar has one of the spellings, in the one procedure of a text.
+fn expect_no_such_lines(rt: &impl Abort, alloc: Global, lines: &[&str]) -> Result<(), Fail> {
     for line in lines {
         let text = repeated(alloc, b"proc main\n", line.as_bytes(), 1, b"\nend\n")?;
         let answer = parse(alloc, text.as_slice());
@@ -184,9 +140,70 @@ fn spells_each_line_in_one_way(rt: HostRuntime) -> Result<(), Fail> {
 }
 
 #[test]
-fn finds_the_least_fault(rt: HostRuntime) -> Result<(), Fail> {
+fn spells_spaces_and_numbers_in_one_way(rt: HostRuntime) -> Result<(), Fail> {
+    let lines = [
+        "skip ",
+        " skip",
+        "skip  ",
+        "",
+        "x  = 5",
+        "x = 05",
+        "x = 00",
+        "x = 18446744073709551616",
+        "x = 99999999999999999999999999",
+        "x = -5",
+        "x = +5",
+        "x\t=\t5",
+    ];
+    expect_no_such_lines(&rt, rt.alloc(), &lines)
+}
+
+#[test]
+fn spells_each_statement_in_one_way(rt: HostRuntime) -> Result<(), Fail> {
+    let lines = [
+        "x = 5 + x",
+        "x = x + x",
+        "x = x * 2",
+        "x =",
+        "x",
+        "x = ? ?",
+        "x = mix x",
+        "x = mix x x x",
+        "x = call",
+        "call",
+        "return 5",
+        "return x x",
+        "at",
+        "at 5",
+        "goto L L",
+        "end end",
+        "proc",
+        "proc p 5",
+        "global",
+        "global g g",
+        "# comment",
+    ];
+    expect_no_such_lines(&rt, rt.alloc(), &lines)
+}
+
+#[test]
+fn spells_each_name_in_one_way(rt: HostRuntime) -> Result<(), Fail> {
+    let lines = [
+        "call mix",
+        "mix = 5",
+        "x = skip",
+        "skip\r",
+        "skip\0",
+        "\0",
+        "X = \u{e4}",
+        "var a2345678901234567890123456789012",
+    ];
+    expect_no_such_lines(&rt, rt.alloc(), &lines)
+}
+
+#[test]
+fn finds_lines_that_are_none_or_out_of_place(rt: HostRuntime) -> Result<(), Fail> {
     let cases = [
-        // the line itself, and its place
         ("", 1, Fault::OutOfPlace),
         ("proc main/end", 2, Fault::NoSuchLine),
         ("skip", 1, Fault::NoSuchLine),
@@ -202,20 +219,13 @@ fn finds_the_least_fault(rt: HostRuntime) -> Result<(), Fail> {
         ("end/", 1, Fault::OutOfPlace),
         ("proc main/end/end/", 3, Fault::OutOfPlace),
         ("proc main/end/skip/", 3, Fault::OutOfPlace),
-        (
-            "proc p a b c d e f g h i j k l m n o q r/end/",
-            1,
-            Fault::TooMany,
-        ),
-        (
-            "proc p/proc p a b c d e f g h i j k l m n o q r/end/",
-            2,
-            Fault::OutOfPlace,
-        ),
-        // before every fault of the names
-        ("proc main/x = 5/end/skip/", 4, Fault::OutOfPlace),
-        ("proc main/x = 5/end", 3, Fault::NoSuchLine),
-        // the names
+    ];
+    expect_faults(&rt, rt.alloc(), &cases)
+}
+
+#[test]
+fn finds_names_declared_twice(rt: HostRuntime) -> Result<(), Fail> {
+    let cases = [
         ("proc main/var x/var x/end/", 3, Fault::DeclaredTwice),
         ("global g/global g/proc main/end/", 2, Fault::DeclaredTwice),
         ("global g/proc main g/end/", 2, Fault::DeclaredTwice),
@@ -224,6 +234,13 @@ fn finds_the_least_fault(rt: HostRuntime) -> Result<(), Fail> {
         ("proc main a/var a/end/", 2, Fault::DeclaredTwice),
         ("proc main/end/proc main/end/", 3, Fault::DeclaredTwice),
         ("proc main/at L/at L/end/", 3, Fault::DeclaredTwice),
+    ];
+    expect_faults(&rt, rt.alloc(), &cases)
+}
+
+#[test]
+fn finds_names_that_nothing_declares(rt: HostRuntime) -> Result<(), Fail> {
+    let cases = [
         ("proc main/goto L/end/", 2, Fault::NoSuchLabel),
         ("proc main/branch L/end/", 2, Fault::NoSuchLabel),
         (
@@ -254,6 +271,26 @@ fn finds_the_least_fault(rt: HostRuntime) -> Result<(), Fail> {
             4,
             Fault::WrongArguments,
         ),
+    ];
+    expect_faults(&rt, rt.alloc(), &cases)
+}
+
+#[test]
+fn finds_the_least_fault(rt: HostRuntime) -> Result<(), Fail> {
+    let cases = [
+        (
+            "proc p a b c d e f g h i j k l m n o q r/end/",
+            1,
+            Fault::TooMany,
+        ),
+        (
+            "proc p/proc p a b c d e f g h i j k l m n o q r/end/",
+            2,
+            Fault::OutOfPlace,
+        ),
+        // A fault of a line goes before each of the names.
+        ("proc main/x = 5/end/skip/", 4, Fault::OutOfPlace),
+        ("proc main/x = 5/end", 3, Fault::NoSuchLine),
         (
             "proc p/call p/call q/end/proc p a/goto L/end/",
             3,
@@ -269,7 +306,7 @@ fn finds_the_least_fault(rt: HostRuntime) -> Result<(), Fail> {
 }
 
 #[test]
-fn keeps_the_limits(rt: HostRuntime) -> Result<(), Fail> {
+fn takes_texts_at_the_limits(rt: HostRuntime) -> Result<(), Fail> {
     let alloc = rt.alloc();
     let accepted = [
         repeated(alloc, b"proc main\n", b"skip\n", 65_534, b"end\n")?,
@@ -287,49 +324,43 @@ fn keeps_the_limits(rt: HostRuntime) -> Result<(), Fail> {
     for text in accepted {
         assert!(rt; parse(alloc, text.as_slice()).is_ok());
     }
-    let refused = [
-        (
-            repeated(alloc, b"proc main\n", b"skip\n", 65_535, b"end\n")?,
-            65_536,
-            Fault::TooMany,
-        ),
-        (
-            repeated(alloc, b"proc p\n", b"call p\n", 32_768, b"end\n")?,
-            32_769,
-            Fault::TooMany,
-        ),
-        (
-            numbered(alloc, b"proc main\n", b"var x", 4_095, b"\n", b"end\n")?,
-            4_096,
-            Fault::TooMany,
-        ),
-        (
-            numbered(alloc, b"", b"global x", 4_095, b"\n", b"")?,
-            4_095,
-            Fault::TooMany,
-        ),
-        (
-            numbered(alloc, b"", b"proc p", 1_001, b"\nend\n", b"")?,
-            2_001,
-            Fault::TooMany,
-        ),
-        (
-            repeated(alloc, b"", b"a", 1_048_577, b"")?,
-            0,
-            Fault::TextTooLong,
-        ),
-        (
-            repeated(alloc, b"", b"a", 1_048_576, b"")?,
-            1,
-            Fault::NoSuchLine,
-        ),
-    ];
-    for (text, line, fault) in refused {
-        let refused = Refused::Text { line, fault };
-        assert!(rt;
-            parse(alloc, text.as_slice()).is_err_and(|error| error == refused),
-            "{refused}"
-        );
-    }
     Ok(())
+}
+
+/// That the text has that fault on that line.
+fn expect_fault(
+    rt: &impl Abort,
+    alloc: Global,
+    text: &[u8],
+    line: u32,
+    fault: Fault,
+) -> Result<(), Fail> {
+    let refused = Refused::Text { line, fault };
+    let answer = parse(alloc, text);
+    assert!(rt; answer.is_err_and(|error| error == refused), "{refused}");
+    Ok(())
+}
+
+#[test]
+fn refuses_too_many_of_a_kind(rt: HostRuntime) -> Result<(), Fail> {
+    let alloc = rt.alloc();
+    let statements = repeated(alloc, b"proc main\n", b"skip\n", 65_535, b"end\n")?;
+    expect_fault(&rt, alloc, statements.as_slice(), 65_536, Fault::TooMany)?;
+    let calls = repeated(alloc, b"proc p\n", b"call p\n", 32_768, b"end\n")?;
+    expect_fault(&rt, alloc, calls.as_slice(), 32_769, Fault::TooMany)?;
+    let locals = numbered(alloc, b"proc main\n", b"var x", 4_095, b"\n", b"end\n")?;
+    expect_fault(&rt, alloc, locals.as_slice(), 4_096, Fault::TooMany)?;
+    let globals = numbered(alloc, b"", b"global x", 4_095, b"\n", b"")?;
+    expect_fault(&rt, alloc, globals.as_slice(), 4_095, Fault::TooMany)?;
+    let procedures = numbered(alloc, b"", b"proc p", 1_001, b"\nend\n", b"")?;
+    expect_fault(&rt, alloc, procedures.as_slice(), 2_001, Fault::TooMany)
+}
+
+#[test]
+fn refuses_a_text_too_long(rt: HostRuntime) -> Result<(), Fail> {
+    let alloc = rt.alloc();
+    let long = repeated(alloc, b"", b"a", 1_048_577, b"")?;
+    expect_fault(&rt, alloc, long.as_slice(), 0, Fault::TextTooLong)?;
+    let longest = repeated(alloc, b"", b"a", 1_048_576, b"")?;
+    expect_fault(&rt, alloc, longest.as_slice(), 1, Fault::NoSuchLine)
 }

@@ -7,10 +7,10 @@ pub mod Given
 pub mod Greatest
 pub mod Kept
 pub mod Lower
-pub mod Members
 pub mod Parts
 pub mod Programs
 pub mod Ranged
+pub mod Reached
 pub mod Ready
 pub mod Runs
 pub mod SameEdge
@@ -18,3 +18,4 @@ pub mod Sites
 pub mod Sound
 pub mod Targets
 pub mod Unclaimed
+pub mod Within

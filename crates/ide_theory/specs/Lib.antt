@@ -3,13 +3,17 @@ pub mod Effect
 pub mod Entry
 pub mod Frame
 pub mod Given
+pub mod Graphs
 pub mod Image
 pub mod Invariant
 pub mod Member
+pub mod Members
 pub mod Parts
 pub mod Path
+pub mod Reached
 pub mod Run
 pub mod Sites
 pub mod State
 pub mod Theorem
 pub mod Value
+pub mod Within

@@ -31,6 +31,11 @@ pub data Run (K : Frame) : State K.F → Type 0 where
   begins : Run K (nothing_done K.F)
   goes_on : {s t : State K.F} → Run K s → Step K s t → Run K t
 
+-- some steps, from a state to the one that they come to
+pub data Steps (K : Frame) : State K.F → State K.F → Type 0 where
+  none : {s : State K.F} → Steps K s s
+  more : {s t u : State K.F} → Steps K s t → Step K t u → Steps K s u
+
 -- no key is pending
 abbrev pub IsQuiet : {F : Type 0} → State F → Type 0
 IsQuiet s = (key : Key) → s.pending key ≡ false

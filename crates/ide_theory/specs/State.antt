@@ -1,10 +1,10 @@
 -- The state of a tabulation that many hands work on: the image, the keys that wait to be worked
 -- off, and the claims of the hands.
-use Rattle.std.specs.Prelude.{ℕ, Bool, true, false, ◌||◌, List, [], ◌∷◌, Option, Some, None, option_map, cond, nat_eq}
+use Rattle.std.specs.Prelude.{ℕ, Bool, true, false, ◌||◌, List, [], ◌∷◌, Option, Some, None, option_map, cond, nat_eq, unwrap_or}
+use Rattle.ide_lattice.specs.Algebra.{EdgeAlgebra}
 use Rattle.ide_wire.specs.Key.{same_key}
 use Rattle.ide_wire.specs.declared.key.Key.{Key}
 use Rattle.ide_theory.specs.Frame.{Frame}
-use Rattle.ide_theory.specs.Image.{function_of}
 
 -- a hand's claim: the key, the parts not yet done, each a key and the function that it receives, and
 -- whether the claimed key was lowered since
@@ -51,12 +51,15 @@ abbrev pub part_done : {F : Type 0} → State F → ℕ → State F
 part_done s h = with_claim s h (option_map without_first (s.claims h))
 
 -- the key receives the function and is pending, and each claim of it is marked
-abbrev pub lowered_at : (K : Frame) → State K.F → Key → K.F → State K.F
-lowered_at K s t g = record {
-  get = put same_key s.get t (Some (K.functions.meet (function_of K s.get t) g));
+abbrev pub lowered_by : {F L : Type 0} → EdgeAlgebra F L → State F → Key → F → State F
+lowered_by B s t g = record {
+  get = put same_key s.get t (Some (B.meet (unwrap_or (s.get t) B.all_top) g));
   pending = put same_key s.pending t true;
   claims = λ h. option_map (marked t) (s.claims h);
 }
+
+abbrev pub lowered_at : (K : Frame) → State K.F → Key → K.F → State K.F
+lowered_at K = lowered_by K.functions
 
 -- the hand's claim is over, and its key is pending no more, unless it was lowered since
 abbrev pub finished : {F : Type 0} → State F → ℕ → Claim F → State F

@@ -1,5 +1,5 @@
 -- What the theorems of the crate say, for any analysis over any supergraph.
-use Rattle.std.specs.Prelude.{◌≡◌, ℕ, ◌<◌, List}
+use Rattle.std.specs.Prelude.{◌≡◌, ℕ, ◌<◌, List, Option}
 use Rattle.ide_lattice.specs.Algebra.{LatticeAlgebra, EdgeAlgebra}
 use Rattle.ide_problem.specs.Flow.{Targets}
 use Rattle.ide_theory.specs.Frame.{Frame, Roots, AreRoots}
@@ -9,7 +9,8 @@ use Rattle.ide_theory.specs.Image.{HasRoots}
 use Rattle.ide_theory.specs.Value.{IsStarted, value_at}
 use Rattle.ide_theory.specs.State.{State}
 use Rattle.ide_theory.specs.Run.{ArePartsOf, Run, IsQuiet}
-use Rattle.ide_theory.specs.Parts.{NodeEdges, AreEdgesOf, parts_of}
+use Rattle.ide_theory.specs.Parts.{NodeEdges, AreEdgesOf, parts_of, AreKeysInRange}
+use Rattle.ide_theory.specs.Reached.{IsRunOf, DoRunsGoOn}
 use Rattle.ide_wire.specs.declared.key.Key.{Key}
 use Rattle.ide_theory.specs.Invariant.{IsInvariant}
 use Rattle.ide_text.specs.declared.program.Program.{Program}
@@ -20,6 +21,8 @@ use Rattle.ide_graph.specs.Supergraph.{Supergraph as Graph}
 use Rattle.ide_theory.specs.Sites.{HaveEdgesOf, edges_of, node_edges}
 use Rattle.ide_graph.specs.declared.site.Site.{Site}
 use Rattle.ide_theory.specs.Given.{Edge, Edges, IsGraph, frame_of, roots_of}
+use Rattle.ide_theory.specs.Graphs.{frame_at}
+use Rattle.ide_theory.specs.Within.{AreAllWithin}
 
 -- where nothing is pending, the roots have their identities and the start values stand, the values
 -- that follow are best, at each node and fact
@@ -66,6 +69,22 @@ module _ {L F : Type 0} (lattice : LatticeAlgebra L) (functions : EdgeAlgebra F 
       → (s : State F) → Run (frame_of lattice functions targets G) s
       → (q : Key) → ArePartsOf (frame_of lattice functions targets G) s.get q (parts_of (frame_of lattice functions targets G) s.get at q)
 
+  -- and so it is in each image whose keys are in range
+  abbrev pub PartsInRangeAreOwed : Type 0
+  PartsInRangeAreOwed =
+      (G : Edges) → IsGraph G → (at : ℕ → NodeEdges (Edge G.facts)) → AreEdgesOf (frame_of lattice functions targets G) at
+      → (get : Key → Option F) → AreKeysInRange (frame_of lattice functions targets G) get
+      → (q : Key) → ArePartsOf (frame_of lattice functions targets G) get q (parts_of (frame_of lattice functions targets G) get at q)
+
+  -- what each state that a run comes to is like
+  abbrev pub RunsAreSound : Type 0
+  RunsAreSound =
+      (G : Edges) → IsGraph G → (s : State F) → Run (frame_of lattice functions targets G) s → IsRunOf (frame_of lattice functions targets G) s
+
+  -- runs go on by steps
+  abbrev pub RunsGoOn : Type 0
+  RunsGoOn = (G : Edges) → IsGraph G → DoRunsGoOn (frame_of lattice functions targets G)
+
   -- sites that fit together make a supergraph, and their edges are what stands at its nodes
   abbrev pub SitesMakeAGraph : Type 0
   SitesMakeAGraph =
@@ -81,3 +100,10 @@ module _ {L F : Type 0} (lattice : LatticeAlgebra L) (functions : EdgeAlgebra F 
       → (all : HaveEdgesOf graph.facts graph.sites)
       × IsGraph (edges_of graph.facts graph.sites all (start_at graph))
       × AreEdgesOf (frame_of lattice functions targets (edges_of graph.facts graph.sites all (start_at graph))) (node_edges graph.facts graph.sites all)
+
+  -- the keys and the parts of a run over the graph of such a program stand at its nodes
+  abbrev pub KeysStandAtNodes : Type 0
+  KeysStandAtNodes =
+      (p : Program) (graph : Graph) → IsNamed p → IsGraphOf p graph → HasEdgesOf p graph
+      → (all : HaveEdgesOf graph.facts graph.sites) (s : State F) → Run (frame_at lattice functions targets graph all) s
+      → AreAllWithin graph.nodes s

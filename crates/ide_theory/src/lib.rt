@@ -8,9 +8,9 @@
 //! contracts, for every analysis.
 #![tactic(auto)]
 
-ghost use Rattle.ide_theory.specs.Theorem.{ValuesAreBest, RunsAreBest, BestIsUnique, TopIsBest, PartsAreOwed, SitesMakeAGraph, GraphsAreSupergraphs};
+ghost use Rattle.ide_theory.specs.Theorem.{ValuesAreBest, RunsAreBest, BestIsUnique, TopIsBest, PartsAreOwed, PartsInRangeAreOwed, RunsAreSound, RunsGoOn, SitesMakeAGraph, GraphsAreSupergraphs, KeysStandAtNodes};
 
-use ide_graph::{edges_are_lawful, sites_of_programs_are_joined};
+use ide_graph::{edges_are_lawful, ends_of_programs_are_nodes, sites_of_programs_are_joined};
 use ide_problem::Problem;
 
 /// Values that follow from a quiet image, in which the roots have their identities, are best.
@@ -39,6 +39,22 @@ pub fn parts_are_owed<P: Problem>()
     ensures { PartsAreOwed P.L.algebra P.F.edge P.targets }
 {}
 
+/// The same in any image whose keys have their facts in range.
+pub fn parts_in_range_are_owed<P: Problem>()
+    ensures { PartsInRangeAreOwed P.L.algebra P.F.edge P.targets }
+{}
+
+/// Each state that a run comes to keeps the invariant; its keys and parts have their facts in range,
+/// its functions are proper, what waits is present, and what is claimed waits.
+pub fn runs_are_sound<P: Problem>()
+    ensures { RunsAreSound P.L.algebra P.F.edge P.targets }
+{}
+
+/// Steps from the end of a run are a run, and what was received stays so.
+pub fn runs_go_on<P: Problem>()
+    ensures { RunsGoOn P.L.algebra P.F.edge P.targets }
+{}
+
 /// Sites of which each edge along a procedure stays in it, each call leads to a start whose exit has
 /// it among its callers, and each caller is a call that returns where its site says, make a
 /// supergraph; and what stands at its nodes is what the sites have.
@@ -54,4 +70,12 @@ pub fn graphs_are_supergraphs<P: Problem>()
     edges_are_lawful();
     sites_of_programs_are_joined();
     sites_make_a_graph::<P>();
+}
+
+/// The keys and the parts of a run over the graph of such a program stand at its nodes.
+pub fn keys_stand_at_nodes<P: Problem>()
+    ensures { KeysStandAtNodes P.L.algebra P.F.edge P.targets }
+{
+    ends_of_programs_are_nodes();
+    sites_of_programs_are_joined();
 }

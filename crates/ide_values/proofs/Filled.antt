@@ -18,7 +18,8 @@ use Rattle.ide_wire.specs.declared.key.Key.TheVariants.{Jump, Summary}
 use Rattle.ide_wire.specs.Key.{same_key, same_key_laws, same_key_exact}
 use Rattle.ide_graph.specs.Supergraph.{Supergraph}
 use Rattle.ide_tables.specs.Tables.{Table, found}
-use Rattle.ide_values.specs.Fill.{AreFilled, HasFacts, IsImage, lowered, value_from}
+use Rattle.ide_theory.specs.Parts.{IsKeyInRange}
+use Rattle.ide_values.specs.Fill.{AreFilled, IsImage, lowered, value_from}
 use Rattle.ide_values.specs.Start.{value_before}
 
 module _ {F L : Type 0} (A : LatticeAlgebra L) (laws : IsLattice A) (B : EdgeAlgebra F L) (functions : IsEdgeAlgebra A B)
@@ -161,7 +162,7 @@ module _ {F L : Type 0} (A : LatticeAlgebra L) (B : EdgeAlgebra F L) (graph : Su
 
   pub filled_more : (i : ℕ) (old new : List L) (e : Key × F) → slice_get table.entries i ≡ Some e → found table e.0 ≡ Some e.1
       → length new ≡ length old
-      → (HasFacts graph.facts e.0 → length old ≡ graph.nodes * graph.facts → (n d : ℕ) → n < graph.nodes → d < graph.facts
+      → (IsKeyInRange graph.facts e.0 → length old ≡ graph.nodes * graph.facts → (n d : ℕ) → n < graph.nodes → d < graph.facts
       → get_or new (n * graph.facts + d) A.top
       ≡ lowered A B (value_before A graph starts) n d (get_or old (n * graph.facts + d) A.top) e.0 e.1)
       → IsFilledBy i old → IsFilledBy (i + 1) new

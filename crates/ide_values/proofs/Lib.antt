@@ -1,8 +1,10 @@
+pub mod Best
 pub mod Coming
 pub mod Edges
 pub mod Sound
 pub mod Started
-pub mod Extends
+pub mod Falling
 pub mod Filled
+pub mod Lines
 pub mod Passing
 pub mod Places

@@ -18,18 +18,19 @@ use Rattle.ide_tables.specs.Tables.{Table, found}
 use Rattle.ide_theory.specs.Frame.{Frame, Roots}
 use Rattle.ide_theory.specs.Member.{IsIn, first, later}
 use Rattle.ide_theory.specs.Parts.{AreEdgesOf}
-use Rattle.ide_graph.specs.Joined.{AreJoined}
+use Rattle.ide_graph.specs.Joined.{AreJoined, start_at}
 use Rattle.ide_theory.specs.Sites.{HaveEdgesOf, IsEdgeOf, node_edges}
 use Rattle.ide_theory.specs.Value.{Found, nothing, given, passed, meet}
 use Rattle.ide_wire.specs.declared.key.Key.{Key}
 use Rattle.ide_wire.specs.declared.key.Key.TheVariants.{Jump, Summary}
 use Rattle.ide_wire.specs.Key.{same_key, same_key_laws}
-use Rattle.ide_values.specs.Closed.{IsClosed, frame_at, roots_at}
+use Rattle.ide_theory.specs.Graphs.{frame_at, roots_at}
+use Rattle.ide_values.specs.Closed.{IsRooted}
 use Rattle.ide_values.specs.Enter.{entered_at, entered_rows, is_root, root_flags}
 use Rattle.ide_values.specs.Fill.{IsImage}
 use Rattle.ide_values.specs.Pass.{stays, then, by_entry, calls_of, over_edge, to_target}
 use Rattle.ide_values.specs.Settled.{ComesTo}
-use Rattle.ide_values.specs.Start.{start_of, value_before}
+use Rattle.ide_values.specs.Start.{value_before}
 use Rattle.ide_values.proofs.Edges.{IsTargetIn, call_edge, call_site, equal_exact, equal_refl, first_or, none_in, target_in, target_is}
 use Rattle.ide_values.proofs.Places.{place_within, same_place}
 
@@ -79,9 +80,9 @@ fold_keeps P step (x ∷ xs) keeps v p = fold_keeps P step xs (λ w y is. keeps 
 
 module _ {F L : Type 0} (A : LatticeAlgebra L) (laws : IsLattice A) (B : EdgeAlgebra F L) (functions : IsEdgeAlgebra A B)
     (targets : Targets F) (flow : IsFlow B targets) (graph : Supergraph) (table : Table F) (roots : List ℕ)
-    (all : HaveEdgesOf graph.facts graph.sites) (joined : AreJoined graph.sites (start_of graph))
+    (all : HaveEdgesOf graph.facts graph.sites) (joined : AreJoined graph.sites (start_at graph))
     (edges : AreEdgesOf (frame_at A B targets graph all) (node_edges graph.facts graph.sites all))
-    (closed : IsClosed graph roots) (image : IsImage B graph (found table)) where
+    (closed : IsRooted graph roots) (image : IsImage B graph (found table)) where
   abbrev pub frame : Frame
   frame = frame_at A B targets graph all
 
@@ -95,11 +96,11 @@ module _ {F L : Type 0} (A : LatticeAlgebra L) (laws : IsLattice A) (B : EdgeAlg
   pub record IsSound (vs : List L) : Type 0 where
     pub count : length vs ≡ graph.procedures * graph.facts
     pub proper : (q : ℕ) → IsTrue (A.proper (get_or vs q A.top))
-    pub has : (s k : ℕ) → s < graph.nodes → start_of graph s ≡ s → k < graph.facts → IsFound s k (value_before A graph vs s k)
+    pub has : (s k : ℕ) → s < graph.nodes → start_at graph s ≡ s → k < graph.facts → IsFound s k (value_before A graph vs s k)
     pub root : (i k : ℕ) → IsIn i roots → k < graph.entries → k < graph.facts → get_or vs (i * graph.facts + k) A.top ≡ A.bottom
 
-  pub at_home : (n : ℕ) → n < graph.nodes → slice_index graph.owners (start_of graph n) ≡ slice_index graph.owners n
-  at_home n h = closed.home (slice_index graph.owners n) (closed.owned n h)
+  pub at_home : (n : ℕ) → n < graph.nodes → slice_index graph.owners (start_at graph n) ≡ slice_index graph.owners n
+  at_home n h = closed.is_closed.home (slice_index graph.owners n) (closed.is_closed.owned n h)
 
   -- a call of the table at a node, with a target
   pub record IsHanded (n a b : ℕ) (f : F) (edge : EdgeData) (t : ℕ × F) : Type 0 where
@@ -125,13 +126,13 @@ module _ {F L : Type 0} (A : LatticeAlgebra L) (laws : IsLattice A) (B : EdgeAlg
       let (e, listed, told) = call_edge graph.facts n (slice_get graph.sites n) (all n) edge h.call in
       let call = edges.is_call n e listed in
       let lawful : IsEdgeOf graph.facts edge = lawful_edge n edge h.call in
-      let own : start_of graph (start_of graph n) ≡ start_of graph n = ap (slice_index graph.starts) (at_home n h.node) in
-      let there : IsFound (start_of graph n) a (value_before A graph vs (start_of graph n) a) =
-      sound.has (start_of graph n) a (closed.begun (slice_index graph.owners n) (closed.owned n h.node)) own (image.facts (Jump n a b) f h.present).0 in
-      let before : IsFound (start_of graph n) a (value_before A graph vs n a) =
-      subst (λ (p : ℕ). IsFound (start_of graph n) a (get_or vs (p * graph.facts + a) A.top)) (at_home n h.node) there in
+      let own : start_at graph (start_at graph n) ≡ start_at graph n = ap (slice_index graph.starts) (at_home n h.node) in
+      let there : IsFound (start_at graph n) a (value_before A graph vs (start_at graph n) a) =
+      sound.has (start_at graph n) a (closed.is_closed.begun (slice_index graph.owners n) (closed.is_closed.owned n h.node)) own (image.facts (Jump n a b) f h.present).0 in
+      let before : IsFound (start_at graph n) a (value_before A graph vs n a) =
+      subst (λ (p : ℕ). IsFound (start_at graph n) a (get_or vs (p * graph.facts + a) A.top)) (at_home n h.node) there in
       let over : IsFound e.edge.end t.0 (B.apply (function_to B t.0 (targets e.edge b)) (B.apply (unwrap_or (found table (Jump e.from a b)) B.all_top) (value_before A graph vs n a))) =
-      passed e b t.0 call.0 (subst (λ (m : ℕ). IsFound (start_of graph m) a (value_before A graph vs n a)) (sym call.1) before) in
+      passed e b t.0 call.0 (subst (λ (m : ℕ). IsFound (start_at graph m) a (value_before A graph vs n a)) (sym call.1) before) in
       subst (λ (g : F). IsFound edge.end t.0 (B.apply g (B.apply f (value_before A graph vs n a))))
       (target_is B h.target 0 edge.facts (flow.in_order edge b lawful.lawful))
       (subst (λ (o : Option F). IsFound edge.end t.0 (B.apply (function_to B t.0 (targets edge b)) (B.apply (unwrap_or o B.all_top) (value_before A graph vs n a)))) h.present
@@ -139,10 +140,10 @@ module _ {F L : Type 0} (A : LatticeAlgebra L) (laws : IsLattice A) (B : EdgeAlg
       (subst (λ (d : EdgeData). IsFound d.end t.0 (B.apply (function_to B t.0 (targets d b)) (B.apply (unwrap_or (found table (Jump e.from a b)) B.all_top) (value_before A graph vs n a)))) told over)))
 
   -- a call leads to a start, which is one of the nodes
-  pub leads : (n : ℕ) (edge : EdgeData) → IsIn edge (calls_of graph n) → (start_of graph edge.end ≡ edge.end) × (edge.end < graph.nodes)
+  pub leads : (n : ℕ) (edge : EdgeData) → IsIn edge (calls_of graph n) → (start_at graph edge.end ≡ edge.end) × (edge.end < graph.nodes)
   leads n edge is =
       let (s, stands, has) = call_site (slice_get graph.sites n) edge is in
-      (joined.callee n s edge stands has, closed.ends n s edge stands has)
+      (joined.callee n s edge stands has, closed.is_closed.ends n s edge stands has)
 
   pub sound_target : (n a b : ℕ) (f : F) (edge : EdgeData) (t : ℕ × F) → IsHanded n a b f edge t → (vs : List L) → IsSound vs
       → IsSound (to_target A B graph n a f edge.end vs t)
@@ -185,7 +186,7 @@ module _ {F L : Type 0} (A : LatticeAlgebra L) (laws : IsLattice A) (B : EdgeAlg
       fold_keeps IsSound (over_edge A B graph targets n a b f) (calls_of graph n)
       (λ us edge is keeps.
       let (s, stands, has) = call_site (slice_get graph.sites n) edge is in
-      let within : n < graph.nodes = subst (λ (c : ℕ). n < c) closed.sited (slice_get_within graph.sites n s stands) in
+      let within : n < graph.nodes = subst (λ (c : ℕ). n < c) closed.is_closed.sited (slice_get_within graph.sites n s stands) in
       fold_keeps IsSound (to_target A B graph n a f edge.end) (targets edge b)
       (λ ws t target. sound_target n a b f edge t (record { node = within; present = present; call = is; target = target }) ws)
       us keeps)
@@ -227,7 +228,7 @@ module _ {F L : Type 0} (A : LatticeAlgebra L) (laws : IsLattice A) (B : EdgeAlg
     count = length-map-range_with_len (entered_at A graph.facts graph.entries (root_flags graph roots)) 0 (graph.procedures * graph.facts);
     proper = entered_proper;
     has = λ s k h1 own h2.
-        subst (IsFound s k) (sym (entered_is (slice_index graph.owners s) k (closed.owned s h1) h2))
+        subst (IsFound s k) (sym (entered_is (slice_index graph.owners s) k (closed.is_closed.owned s h1) h2))
         (elim (nat_lt k graph.entries) as (λ t. nat_lt k graph.entries ≡ t → IsFound s k (cond (t && is_root roots (slice_index graph.owners s)) A.bottom A.top)) [
           | true ↦ λ few. elim (is_root roots (slice_index graph.owners s)) as (λ u. is_root roots (slice_index graph.owners s) ≡ u → IsFound s k (cond u A.bottom A.top)) [
             | true ↦ λ is.

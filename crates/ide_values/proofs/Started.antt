@@ -14,7 +14,7 @@ use Rattle.ide_problem.specs.Flow.{IsFlow, Targets, function_to}
 use Rattle.ide_tables.specs.Tables.{Table, found}
 use Rattle.ide_theory.specs.Member.{IsIn, first, later}
 use Rattle.ide_theory.specs.Parts.{AreEdgesOf}
-use Rattle.ide_graph.specs.Joined.{AreJoined}
+use Rattle.ide_graph.specs.Joined.{AreJoined, start_at}
 use Rattle.ide_theory.specs.Sites.{HaveEdgesOf, IsEdgeOf, node_edges}
 use Rattle.ide_theory.specs.Value.{Found, IsStarted, nothing, value_at}
 use Rattle.ide_wire.specs.declared.key.Key.{Key}
@@ -22,11 +22,12 @@ use Rattle.ide_wire.specs.declared.key.Key.TheVariants.{Jump}
 use Rattle.ide_wire.specs.Key.{same_key, same_key_exact}
 use Rattle.std.proofs.lemmas.Bool.Decides.{nat_tests}
 use Rattle.ide_values.proofs.Edges.{call_data}
-use Rattle.ide_values.specs.Closed.{IsClosed, frame_at, roots_at}
+use Rattle.ide_theory.specs.Graphs.{frame_at, roots_at}
+use Rattle.ide_values.specs.Closed.{IsRooted}
 use Rattle.ide_values.specs.Fill.{IsImage, value_from}
 use Rattle.ide_values.specs.Pass.{IsSteadyBy, IsSteadyOver, calls_of, to_target}
 use Rattle.ide_values.specs.Settled.{IsSteady}
-use Rattle.ide_values.specs.Start.{start_of, start_value, value_before}
+use Rattle.ide_values.specs.Start.{start_value, value_before}
 use Rattle.ide_values.proofs.Edges.{IsTargetIn, call_site, each_in, equal_refl, first_or, none_in, target_in, target_or}
 use Rattle.ide_values.proofs.Places.{place_within}
 use Rattle.ide_values.proofs.Sound.{IsSound, leads, less_true, lawful_edge}
@@ -52,37 +53,37 @@ of_map f y (x ∷ xs) is = elim (first_or is) [
 
 module _ {F L : Type 0} (A : LatticeAlgebra L) (laws : IsLattice A) (B : EdgeAlgebra F L) (functions : IsEdgeAlgebra A B)
     (targets : Targets F) (flow : IsFlow B targets) (graph : Supergraph) (table : Table F) (roots : List ℕ)
-    (all : HaveEdgesOf graph.facts graph.sites) (joined : AreJoined graph.sites (start_of graph))
+    (all : HaveEdgesOf graph.facts graph.sites) (joined : AreJoined graph.sites (start_at graph))
     (edges : AreEdgesOf (frame_at A B targets graph all) (node_edges graph.facts graph.sites all))
-    (closed : IsClosed graph roots) (image : IsImage B graph (found table))
+    (closed : IsRooted graph roots) (image : IsImage B graph (found table))
     (vs : List L) (sound : IsSound A laws B functions targets flow graph table roots all joined edges closed image vs)
     (steady : IsSteady A B targets graph table vs) where
   abbrev pub start : ℕ → ℕ → L
   start s k = start_value A graph vs s k
 
   -- at a start the value is that of its row
-  pub start_is : (s k : ℕ) → s < graph.nodes → start_of graph s ≡ s → start s k ≡ value_before A graph vs s k
+  pub start_is : (s k : ℕ) → s < graph.nodes → start_at graph s ≡ s → start s k ≡ value_before A graph vs s k
   start_is s k h own =
-      ap (λ b. cond (b && nat_eq (start_of graph s) s) (value_before A graph vs s k) A.top) (less_true s graph.nodes h)
+      ap (λ b. cond (b && nat_eq (start_at graph s) s) (value_before A graph vs s k) A.top) (less_true s graph.nodes h)
       ∙ ap (λ b. cond b (value_before A graph vs s k) A.top) (subst (λ r. nat_eq r s ≡ true) (sym own) (equal_refl s))
 
-  pub start_of_node : (n a : ℕ) → n < graph.nodes → start (start_of graph n) a ≡ value_before A graph vs n a
+  pub start_of_node : (n a : ℕ) → n < graph.nodes → start (start_at graph n) a ≡ value_before A graph vs n a
   start_of_node n a h =
-      let home : slice_index graph.owners (start_of graph n) ≡ slice_index graph.owners n = closed.home (slice_index graph.owners n) (closed.owned n h) in
-      start_is (start_of graph n) a (closed.begun (slice_index graph.owners n) (closed.owned n h)) (ap (slice_index graph.starts) home)
+      let home : slice_index graph.owners (start_at graph n) ≡ slice_index graph.owners n = closed.is_closed.home (slice_index graph.owners n) (closed.is_closed.owned n h) in
+      start_is (start_at graph n) a (closed.is_closed.begun (slice_index graph.owners n) (closed.is_closed.owned n h)) (ap (slice_index graph.starts) home)
       ∙ ap (λ p. get_or vs (p * graph.facts + a) A.top) home
 
   pub start_proper : (s k : ℕ) → IsTrue (A.proper (start s k))
-  start_proper s k = elim (nat_lt s graph.nodes && nat_eq (start_of graph s) s) as (λ b. IsTrue (A.proper (cond b (value_before A graph vs s k) A.top))) [
+  start_proper s k = elim (nat_lt s graph.nodes && nat_eq (start_at graph s) s) as (λ b. IsTrue (A.proper (cond b (value_before A graph vs s k) A.top))) [
     | true ↦ sound.proper (slice_index graph.owners s * graph.facts + k)
     | false ↦ laws.proper_top
   ]
 
   pub all_found : (s k : ℕ) → k < graph.facts → Found (frame_at A B targets graph all) (roots_at A B targets graph all roots) (found table) s k (start s k)
   all_found s k h =
-      elim (nat_lt s graph.nodes) as (λ t. nat_lt s graph.nodes ≡ t → Found (frame_at A B targets graph all) (roots_at A B targets graph all roots) (found table) s k (cond (t && nat_eq (start_of graph s) s) (value_before A graph vs s k) A.top)) [
-        | true ↦ λ within. elim (nat_eq (start_of graph s) s) as (λ u. nat_eq (start_of graph s) s ≡ u → Found (frame_at A B targets graph all) (roots_at A B targets graph all roots) (found table) s k (cond u (value_before A graph vs s k) A.top)) [
-          | true ↦ λ own. sound.has s k (less s graph.nodes within) (equal (start_of graph s) s own) h
+      elim (nat_lt s graph.nodes) as (λ t. nat_lt s graph.nodes ≡ t → Found (frame_at A B targets graph all) (roots_at A B targets graph all roots) (found table) s k (cond (t && nat_eq (start_at graph s) s) (value_before A graph vs s k) A.top)) [
+        | true ↦ λ within. elim (nat_eq (start_at graph s) s) as (λ u. nat_eq (start_at graph s) s ≡ u → Found (frame_at A B targets graph all) (roots_at A B targets graph all roots) (found table) s k (cond u (value_before A graph vs s k) A.top)) [
+          | true ↦ λ own. sound.has s k (less s graph.nodes within) (equal (start_at graph s) s own) h
           | false ↦ λ own. nothing
         ] refl
         | false ↦ λ within. nothing
@@ -101,10 +102,10 @@ module _ {F L : Type 0} (A : LatticeAlgebra L) (laws : IsLattice A) (B : EdgeAlg
       elim (nat_lt k graph.entries) as (λ t. nat_lt k graph.entries ≡ t → IsBelow A (start r k) (cond t A.bottom A.top)) [
         | true ↦ λ few.
             let within : i < graph.procedures = closed.rooted i root in
-            let home : slice_index graph.owners r ≡ i = subst (λ (s : ℕ). slice_index graph.owners s ≡ i) begins (closed.home i within) in
-            let own : start_of graph r ≡ r = ap (slice_index graph.starts) home ∙ begins in
+            let home : slice_index graph.owners r ≡ i = subst (λ (s : ℕ). slice_index graph.owners s ≡ i) begins (closed.is_closed.home i within) in
+            let own : start_at graph r ≡ r = ap (slice_index graph.starts) home ∙ begins in
             let value : start r k ≡ A.bottom =
-            start_is r k (subst (λ (s : ℕ). s < graph.nodes) begins (closed.begun i within)) own
+            start_is r k (subst (λ (s : ℕ). s < graph.nodes) begins (closed.is_closed.begun i within)) own
             ∙ ap (λ p. get_or vs (p * graph.facts + k) A.top) home
             ∙ sound.root i k root (less k graph.entries few) h in
             subst (λ (v : L). IsBelow A v A.bottom) (sym value) (below-refl A laws A.bottom laws.proper_bottom)
@@ -117,7 +118,7 @@ module _ {F L : Type 0} (A : LatticeAlgebra L) (laws : IsLattice A) (B : EdgeAlg
   -- over a listed target of a call the value at the callee's start is below what is handed on
   pub below_handed : (n a b c : ℕ) (f g : F) (edge : EdgeData) → n < graph.nodes → c < graph.facts → found table (Jump n a b) ≡ Some f
       → IsIn edge (calls_of graph n) → IsIn {T = ℕ × F} (c, g) (targets edge b) → IsTrue (B.proper g)
-      → IsBelow A (start edge.end c) (B.apply g (B.apply f (start (start_of graph n) a)))
+      → IsBelow A (start edge.end c) (B.apply g (B.apply f (start (start_at graph n) a)))
   below_handed n a b c f g edge h1 h2 present call target proper =
       let (i, key, stands, same) = place_from_lookup (same_key (Jump n a b)) table.entries f present in
       let entry : IsIn {T = Key × F} (Jump n a b, f) table.entries =
@@ -128,7 +129,7 @@ module _ {F L : Type 0} (A : LatticeAlgebra L) (laws : IsLattice A) (B : EdgeAlg
       let led = leads A laws B functions targets flow graph table roots all joined edges closed image n edge call in
       let place : ℕ = slice_index graph.owners edge.end * graph.facts + c in
       let v : L = B.apply g (B.apply f (value_before A graph vs n a)) in
-      let within : place < length vs = subst (λ (q : ℕ). place < q) (sym sound.count) (place_within (slice_index graph.owners edge.end) c graph.procedures graph.facts (closed.owned edge.end led.1) h2) in
+      let within : place < length vs = subst (λ (q : ℕ). place < q) (sym sound.count) (place_within (slice_index graph.owners edge.end) c graph.procedures graph.facts (closed.is_closed.owned edge.end led.1) h2) in
       let met : A.meet (get_or vs place A.top) v ≡ get_or vs place A.top =
       sym (get_or-set_same vs place (A.meet (get_or vs place A.top) v) A.top within) ∙ ap (λ xs. get_or xs place A.top) same_values in
       let below : IsBelow A (get_or vs place A.top) v = record {
@@ -141,19 +142,19 @@ module _ {F L : Type 0} (A : LatticeAlgebra L) (laws : IsLattice A) (B : EdgeAlg
       (subst (λ (w : L). IsBelow A w v) (sym (start_is edge.end c led.1 led.0)) below)
 
   pub all_called : (n a b c : ℕ) (edge : EdgeData) → c < graph.facts → IsIn edge (calls_of graph n)
-      → IsBelow A (start edge.end c) (B.apply (function_to B c (targets edge b)) (B.apply (unwrap_or (found table (Jump n a b)) B.all_top) (start (start_of graph n) a)))
+      → IsBelow A (start edge.end c) (B.apply (function_to B c (targets edge b)) (B.apply (unwrap_or (found table (Jump n a b)) B.all_top) (start (start_at graph n) a)))
   all_called n a b c edge h call =
       let (s, stands, has) = call_site (slice_get graph.sites n) edge call in
-      let within : n < graph.nodes = subst (λ (q : ℕ). n < q) closed.sited (slice_get_within graph.sites n s stands) in
+      let within : n < graph.nodes = subst (λ (q : ℕ). n < q) closed.is_closed.sited (slice_get_within graph.sites n s stands) in
       let top : IsBelow A (start edge.end c) A.top = below-top A laws (start edge.end c) (start_proper edge.end c) in
-      let x : L = start (start_of graph n) a in
+      let x : L = start (start_at graph n) a in
       let lawful : IsEdgeOf graph.facts edge = lawful_edge A laws B functions targets flow graph table roots all joined edges closed image n edge call in
       elim (target_or B c (targets edge b)) [
         | inl target ↦
             let range : IsTargetIn B.proper 0 edge.facts (c, function_to B c (targets edge b)) = target_in B.proper target 0 edge.facts (flow.in_order edge b lawful.lawful) in
             elim (found table (Jump n a b)) as (λ o. found table (Jump n a b) ≡ o → IsBelow A (start edge.end c) (B.apply (function_to B c (targets edge b)) (B.apply (unwrap_or o B.all_top) x))) [
               | None ↦ λ absent. subst (IsBelow A (start edge.end c))
-                  (sym (ap (B.apply (function_to B c (targets edge b))) (functions.apply_all_top x (start_proper (start_of graph n) a)) ∙ functions.apply_top (function_to B c (targets edge b)) range.proper)) top
+                  (sym (ap (B.apply (function_to B c (targets edge b))) (functions.apply_all_top x (start_proper (start_at graph n) a)) ∙ functions.apply_top (function_to B c (targets edge b)) range.proper)) top
               | Some f ↦ λ present. below_handed n a b c f (function_to B c (targets edge b)) edge within h present call target range.proper
             ] refl
         | inr none ↦
@@ -161,9 +162,9 @@ module _ {F L : Type 0} (A : LatticeAlgebra L) (laws : IsLattice A) (B : EdgeAlg
             subst (IsBelow A (start edge.end c)) (sym (ap (λ g. B.apply g y) none ∙ functions.apply_all_top y (handed_proper n a b (found table (Jump n a b)) refl))) top
       ]
     where
-      handed_proper : (n a b : ℕ) (o : Option F) → found table (Jump n a b) ≡ o → IsTrue (A.proper (B.apply (unwrap_or o B.all_top) (start (start_of graph n) a)))
-      handed_proper n a b None is = functions.proper_apply B.all_top (start (start_of graph n) a) functions.proper_all_top (start_proper (start_of graph n) a)
-      handed_proper n a b (Some f) is = functions.proper_apply f (start (start_of graph n) a) (image.proper (Jump n a b) f is) (start_proper (start_of graph n) a)
+      handed_proper : (n a b : ℕ) (o : Option F) → found table (Jump n a b) ≡ o → IsTrue (A.proper (B.apply (unwrap_or o B.all_top) (start (start_at graph n) a)))
+      handed_proper n a b None is = functions.proper_apply B.all_top (start (start_at graph n) a) functions.proper_all_top (start_proper (start_at graph n) a)
+      handed_proper n a b (Some f) is = functions.proper_apply f (start (start_at graph n) a) (image.proper (Jump n a b) f is) (start_proper (start_at graph n) a)
 
   pub is_started : IsStarted (frame_at A B targets graph all) (roots_at A B targets graph all roots) (found table) (start_value A graph vs)
   is_started = record {
@@ -178,5 +179,5 @@ module _ {F L : Type 0} (A : LatticeAlgebra L) (laws : IsLattice A) (B : EdgeAlg
       → value_from A B (found table) (value_before A graph vs n) graph.facts n d ≡ value_at (frame_at A B targets graph all) (found table) (start_value A graph vs) n d
   follows n d h =
       meet_of_same A (λ a. B.apply (unwrap_or (found table (Jump n a d)) B.all_top) (value_before A graph vs n a))
-      (λ a. B.apply (unwrap_or (found table (Jump n a d)) B.all_top) (start_value A graph vs (start_of graph n) a))
+      (λ a. B.apply (unwrap_or (found table (Jump n a d)) B.all_top) (start_value A graph vs (start_at graph n) a))
       (λ a. ap (B.apply (unwrap_or (found table (Jump n a d)) B.all_top)) (sym (start_of_node n a h))) graph.facts

@@ -3,18 +3,21 @@ use Rattle.std.specs.Prelude.{ℕ, ◌-◌, List, [], ◌++◌, Option, Some, No
 use Rattle.std.specs.List.{flat_map, range_with_len}
 use Rattle.ide_graph.specs.Supergraph.{Supergraph, name_at}
 
--- a text at the right end of a column
+-- a text at the right end of a column, and a space
 abbrev pub right : ℕ → List ℕ → List ℕ
-right width text = replicate (width - length text) 32 ++ text
+right width text = replicate (width - length text) 32 ++ text ++ codes " "
 
--- a text at the left end of a column
+-- a text at the left end of a column, and a space
 abbrev pub left : ℕ → List ℕ → List ℕ
-left width text = text ++ replicate (width - length text) 32
+left width text = text ++ replicate (width - length text) 32 ++ codes " "
 
--- the line of a fact at a node: both numbers, the fact's name, and its value as it is shown
+-- the columns of a line before its value: both numbers and the fact's name
+abbrev pub columns_of : ℕ → ℕ → List ℕ → List ℕ
+columns_of node fact name = right 6 (decimal node) ++ right 4 (decimal fact) ++ left 31 name
+
+-- the line of a fact at a node: its columns, and its value as it is shown
 abbrev pub line_of : ℕ → ℕ → List ℕ → List ℕ → List ℕ
-line_of node fact name shown =
-    right 6 (decimal node) ++ codes " " ++ right 4 (decimal fact) ++ codes " " ++ left 31 name ++ codes " " ++ shown ++ codes "\n"
+line_of node fact name shown = columns_of node fact name ++ shown ++ codes "\n"
 
 -- the line of a fact that has a name
 abbrev pub line_if : ℕ → ℕ → Option (List ℕ) → List ℕ → List ℕ

@@ -5,6 +5,7 @@ use Rattle.ide_lattice.specs.Algebra.{LatticeAlgebra, EdgeAlgebra}
 use Rattle.ide_lattice.specs.Meets.{meet_of}
 use Rattle.ide_wire.specs.declared.key.Key.{Key}
 use Rattle.ide_wire.specs.declared.key.Key.TheVariants.{Jump, Summary}
+use Rattle.ide_theory.specs.Parts.{IsKeyInRange}
 use Rattle.ide_values.specs.Start.{value_before}
 
 module _ {F L : Type 0} (A : LatticeAlgebra L) (B : EdgeAlgebra F L) where
@@ -17,14 +18,9 @@ module _ {F L : Type 0} (A : LatticeAlgebra L) (B : EdgeAlgebra F L) where
   lowered start n d value (Jump m a b) f = cond (nat_eq m n && nat_eq b d) (A.meet value (B.apply f (start m a))) value
   lowered start n d value (Summary c a b) f = value
 
--- the key's facts are the graph's
-abbrev pub HasFacts : ℕ → Key → Type 0
-HasFacts facts (Jump n a b) = (a < facts) × (b < facts)
-HasFacts facts (Summary c a b) = (a < facts) × (b < facts)
-
 -- each present key's facts are the graph's, and its function is proper
 pub record IsImage {F L : Type 0} (B : EdgeAlgebra F L) (graph : Supergraph) (get : Key → Option F) : Type 0 where
-  pub facts : (key : Key) (f : F) → get key ≡ Some f → HasFacts graph.facts key
+  pub facts : (key : Key) (f : F) → get key ≡ Some f → IsKeyInRange graph.facts key
   pub proper : (key : Key) (f : F) → get key ≡ Some f → IsTrue (B.proper f)
 
 -- the rows of values by node have at each fact what follows from the starts

@@ -1,8 +1,9 @@
+pub mod Best
 pub mod BestDump
 pub mod Dump
 pub mod Closed
 pub mod Enter
-pub mod Extends
+pub mod Falling
 pub mod Fill
 pub mod Pass
 pub mod Settled

@@ -1,11 +1,8 @@
 -- Start values: rows of values by procedure, one value for each fact.
 use Rattle.std.specs.Prelude.{ℕ, ◌+◌, ◌*◌, ◌&&◌, List, cond, nat_eq, nat_lt, slice_index, slice_index_or}
+use Rattle.ide_graph.specs.Joined.{start_at}
 use Rattle.ide_graph.specs.Supergraph.{Supergraph}
 use Rattle.ide_lattice.specs.Algebra.{LatticeAlgebra}
-
--- the start of a node's procedure
-abbrev pub start_of : Supergraph → ℕ → ℕ
-start_of graph n = slice_index graph.starts (slice_index graph.owners n)
 
 module _ {L : Type 0} (A : LatticeAlgebra L) (graph : Supergraph) (starts : List L) where
   -- the value of a fact at the start of the procedure with that index
@@ -18,4 +15,4 @@ module _ {L : Type 0} (A : LatticeAlgebra L) (graph : Supergraph) (starts : List
 
   -- the value of a fact at a start: top at each other node
   abbrev pub start_value : ℕ → ℕ → L
-  start_value s fact = cond (nat_lt s graph.nodes && nat_eq (start_of graph s) s) (value_before s fact) A.top
+  start_value s fact = cond (nat_lt s graph.nodes && nat_eq (start_at graph s) s) (value_before s fact) A.top

@@ -1,6 +1,8 @@
 //! The dump: a line for each node and each fact that has a name there.
-ghost use Rattle.std.specs.Prelude.{◌≡◌, OnErr, IfErr, length};
-ghost use Rattle.ide_values.specs.Extends.{Extends};
+ghost use Rattle.std.specs.Prelude.{◌≡◌, ◌<◌, ◌≤◌, ◌++◌, OnOk, OnErr, IfErr, replicate};
+ghost use Rattle.ide_text.specs.Text.{Extends};
+ghost use Rattle.ide_values.specs.Dump.{columns_of, dump_of, left, line_of, lines_at, right};
+ghost use Rattle.ide_values.specs.Values.{value_of};
 
 use crate::values::Values;
 use ide_lattice::Lattice;
@@ -26,6 +28,7 @@ impl<P: Problem> Values<P> {
     ///
     /// Refusal: `NoMemory`, which leaves the vector with what it had.
     pub fn dump(&self, out: &mut Vec<u8>) -> Result<(), Refused>
+        ensures text { OnOk result (out.new.items ≡ out.old.items ++ dump_of self.now.graph (λ n d. P.L.shown (value_of P.L.algebra self.now n d))) }
         ensures refused { IfErr result (λ e. e ≡ Refused.NoMemory) }
         ensures unchanged { OnErr result (out.new.items ≡ out.old.items) }
     {
@@ -39,22 +42,23 @@ impl<P: Problem> Values<P> {
 
     /// Appends the lines of all nodes.
     fn append_nodes(&self, out: &mut Vec<u8>) -> Result<(), AllocError>
-        ensures { Extends out.old.items out.new.items }
+        ensures text { OnOk result (out.new.items ≡ out.old.items ++ dump_of self.now.graph (λ n d. P.L.shown (value_of P.L.algebra self.now n d))) }
+        ensures extends { OnErr result (Extends out.old.items out.new.items) }
     {
-        for node in 0..=Node::MAX {
-            if node as usize >= self.loaded.graph.node_count() {
-                break;
-            }
-            self.append_node(node, out)?;
+        for index in 0..self.loaded.graph.node_count() {
+            self.append_node(index as Node, out)?;
         }
         Ok(())
     }
 
     /// Appends the lines of a node.
     fn append_node(&self, node: Node, out: &mut Vec<u8>) -> Result<(), AllocError>
-        ensures { Extends out.old.items out.new.items }
+        requires { node < self.now.graph.nodes }
+        ensures text { OnOk result (out.new.items ≡ out.old.items ++ lines_at self.now.graph (λ n d. P.L.shown (value_of P.L.algebra self.now n d)) node) }
+        ensures extends { OnErr result (Extends out.old.items out.new.items) }
     {
-        for fact in 0..=Fact::MAX {
+        for index in 0..self.loaded.graph.fact_count() {
+            let fact = index as Fact;
             let Some(name) = self.loaded.graph.fact_name(node, fact) else {
                 break;
             };
@@ -75,23 +79,18 @@ fn append_line<L: Lattice>(
     value: L,
     out: &mut Vec<u8>,
 ) -> Result<(), AllocError>
-    ensures { Extends out.old.items out.new.items }
+    ensures text { OnOk result (out.new.items ≡ out.old.items ++ line_of node fact name.now (L.shown value)) }
+    ensures extends { OnErr result (Extends out.old.items out.new.items) }
 {
     append_place(node, fact, name, out)?;
-    append_value(value, out)?;
+    value.show(out)?;
     out.extend_from_slice(b"\n")
-}
-
-/// Appends the printed form of a value.
-fn append_value<L: Lattice>(value: L, out: &mut Vec<u8>) -> Result<(), AllocError>
-    ensures { Extends out.old.items out.new.items }
-{
-    value.show(out)
 }
 
 /// Appends the columns of a line before its value.
 fn append_place(node: Node, fact: Fact, name: &[u8], out: &mut Vec<u8>) -> Result<(), AllocError>
-    ensures { Extends out.old.items out.new.items }
+    ensures text { OnOk result (out.new.items ≡ out.old.items ++ columns_of node fact name.now) }
+    ensures extends { OnErr result (Extends out.old.items out.new.items) }
 {
     let mut buffer = Buffer::new();
     append_right(buffer.format(node).as_bytes(), NODE_WIDTH, out)?;
@@ -101,7 +100,9 @@ fn append_place(node: Node, fact: Fact, name: &[u8], out: &mut Vec<u8>) -> Resul
 
 /// Appends a text at the right end of a column, and a space.
 fn append_right(text: &[u8], width: usize, out: &mut Vec<u8>) -> Result<(), AllocError>
-    ensures { Extends out.old.items out.new.items }
+    requires { width ≤ 31 }
+    ensures text { OnOk result (out.new.items ≡ out.old.items ++ right width text.now) }
+    ensures extends { OnErr result (Extends out.old.items out.new.items) }
 {
     append_spaces(width.saturating_sub(text.len()), out)?;
     out.extend_from_slice(text)?;
@@ -110,16 +111,20 @@ fn append_right(text: &[u8], width: usize, out: &mut Vec<u8>) -> Result<(), Allo
 
 /// Appends a text at the left end of a column, and a space.
 fn append_left(text: &[u8], width: usize, out: &mut Vec<u8>) -> Result<(), AllocError>
-    ensures { Extends out.old.items out.new.items }
+    requires { width ≤ 31 }
+    ensures text { OnOk result (out.new.items ≡ out.old.items ++ left width text.now) }
+    ensures extends { OnErr result (Extends out.old.items out.new.items) }
 {
     out.extend_from_slice(text)?;
     append_spaces(width.saturating_sub(text.len()), out)?;
     out.extend_from_slice(b" ")
 }
 
-/// Appends so many spaces, at most [`NAME_WIDTH`].
+/// Appends so many spaces.
 fn append_spaces(count: usize, out: &mut Vec<u8>) -> Result<(), AllocError>
-    ensures { Extends out.old.items out.new.items }
+    requires { count ≤ 31 }
+    ensures text { OnOk result (out.new.items ≡ out.old.items ++ replicate count 32) }
+    ensures extends { OnErr result (Extends out.old.items out.new.items) }
 {
-    out.extend_from_slice(&SPACES[..count.min(NAME_WIDTH)])
+    out.extend_from_slice(&SPACES[..count])
 }

@@ -5,7 +5,8 @@ ghost use Rattle.std.specs.Map.{keys_of};
 ghost use Rattle.ide_wire.specs.Key.{same_key};
 ghost use Rattle.ide_tables.specs.Tables.{found};
 ghost use Rattle.ide_values.specs.Start.{value_before};
-ghost use Rattle.ide_values.specs.Fill.{AreFilled, HasFacts, IsImage, lowered};
+ghost use Rattle.ide_values.specs.Fill.{AreFilled, IsImage, lowered};
+ghost use Rattle.ide_theory.specs.Parts.{IsKeyInRange};
 
 use crate::rows::{lower, place_of, tops, value_before};
 use ide_graph::Graph;
@@ -37,7 +38,7 @@ pub fn fill<F: EdgeFn>(
 /// Lowers the value where the key ends by what its function makes of the value where it begins.
 fn lower_by<F: EdgeFn>(values: &mut [F::L], graph: &Graph, starts: &[F::L], key: Key, function: F)
     ensures count { length values.new ≡ length values.old }
-    ensures lowered { HasFacts graph.now.facts key → length values.old ≡ graph.now.nodes * graph.now.facts → (n d : ℕ) → n < graph.now.nodes → d < graph.now.facts → slice_index_or values.new (n * graph.now.facts + d) F.L.algebra.top ≡ lowered F.L.algebra F.edge (value_before F.L.algebra graph.now starts.now) n d (slice_index_or values.old (n * graph.now.facts + d) F.L.algebra.top) key function }
+    ensures lowered { IsKeyInRange graph.now.facts key → length values.old ≡ graph.now.nodes * graph.now.facts → (n d : ℕ) → n < graph.now.nodes → d < graph.now.facts → slice_index_or values.new (n * graph.now.facts + d) F.L.algebra.top ≡ lowered F.L.algebra F.edge (value_before F.L.algebra graph.now starts.now) n d (slice_index_or values.old (n * graph.now.facts + d) F.L.algebra.top) key function }
 {
     if let Key::Jump(node, from, to) = key {
         let start = value_before(graph, starts, node, from);

@@ -9,9 +9,11 @@
 mod dump;
 mod enter;
 mod fill;
+mod laws;
 mod passes;
 mod rows;
 mod starts;
 mod values;
 
+pub use laws::{dumps_of_best_are_best, following_values_are_best};
 pub use values::{ValuePhase, Values};

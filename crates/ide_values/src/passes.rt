@@ -1,7 +1,8 @@
 //! Handing values on from call nodes to callees' starts.
-ghost use Rattle.std.specs.Prelude.{◌≡◌, ◌<◌, ℕ, Some, OnOk, IfOk, IfSome, false, length, slice_get, map};
+ghost use Rattle.std.specs.Prelude.{◌≡◌, ◌<◌, ◌≤◌, ◌+◌, ℕ, Some, OnOk, IfOk, IfSome, false, length, slice_get, map};
 ghost use Rattle.std.specs.List.{All, range_with_len};
 ghost use Rattle.ide_graph.specs.Edges.{EndsWithin};
+ghost use Rattle.ide_values.specs.Falling.{Falls};
 ghost use Rattle.ide_values.specs.Pass.{Goes, Passes, IsSteadyBy, IsSteadyOver, by_entry, calls_of, lowered_at, over_edge, to_target};
 
 use crate::rows::{procedure_at, start_place, value_at_place, value_before};
@@ -27,7 +28,7 @@ pub(crate) struct Starts<P: Problem> {
     pub(crate) values: Vec<P::L>,
     /// Whether a value fell since this was last put out.
     pub(crate) has_fallen: bool,
-    waiting: Vec<usize>,
+    pub(crate) waiting: Vec<usize>,
     is_waiting: Vec<bool>,
 }
 
@@ -72,7 +73,8 @@ impl<P: Problem> Starts<P> {
 
     /// A place that waits, which then waits no longer.
     pub(crate) fn leave(&mut self) -> Option<usize>
-        ensures { self.new.values ≡ self.old.values }
+        ensures values { self.new.values ≡ self.old.values }
+        ensures waits { IfSome result (λ _. length self.old.waiting.items ≡ length self.new.waiting.items + 1) }
     {
         let place = self.waiting.pop()?;
         if let Some(is_waiting) = self.is_waiting.get_mut(place) {
@@ -84,6 +86,7 @@ impl<P: Problem> Starts<P> {
     /// Puts a place among those that wait, unless it waits.
     fn wait(&mut self, place: usize) -> Result<(), AllocError>
         ensures values { self.new.values ≡ self.old.values }
+        ensures waits { OnOk result (length self.new.waiting.items ≤ length self.old.waiting.items + 1) }
     {
         if let Some(is_waiting) = self.is_waiting.get_mut(place)
             && !*is_waiting
@@ -99,6 +102,7 @@ impl<P: Problem> Starts<P> {
         ensures lowered { OnOk result (self.new.values.items ≡ lowered_at P.L.algebra self.old.values.items place value) }
         ensures same { OnOk result (self.new.has_fallen ≡ false → self.new.values.items ≡ self.old.values.items) }
         ensures before { OnOk result (self.new.has_fallen ≡ false → self.old.has_fallen ≡ false) }
+        ensures falls { OnOk result (Falls P.L.algebra self.old.values.items self.new.values.items (length self.old.waiting.items) (length self.new.waiting.items) self.old.has_fallen self.new.has_fallen) }
     {
         if place >= self.values.len() {
             return Ok(());
@@ -108,6 +112,8 @@ impl<P: Problem> Starts<P> {
         if new == old {
             return Ok(());
         }
+        let _old_is_proper = old.proper();
+        let _value_is_proper = value.proper();
         self.wait(place)?;
         self.has_fallen = true;
         self.values[place] = new;
@@ -128,6 +134,7 @@ impl<P: Problem> Starts<P> {
         ensures passed { OnOk result (self.new.values.items ≡ to_target P.L.algebra P.F.edge graph.now jump.now.node jump.now.from jump.now.function start self.old.values.items (target, function)) }
         ensures same { OnOk result (self.new.has_fallen ≡ false → self.new.values.items ≡ self.old.values.items) }
         ensures before { OnOk result (self.new.has_fallen ≡ false → self.old.has_fallen ≡ false) }
+        ensures falls { OnOk result (Falls P.L.algebra self.old.values.items self.new.values.items (length self.old.waiting.items) (length self.new.waiting.items) self.old.has_fallen self.new.has_fallen) }
     {
         let value = value_before(graph, self.values.as_slice(), jump.node, jump.from);
         let place = start_place(graph, procedure_at(graph, start), target);
@@ -144,7 +151,8 @@ impl<P: Problem> Starts<P> {
     ) -> Result<(), AllocError>
         requires node { jump.now.node < graph.now.nodes }
         requires end { edge.now.end < graph.now.nodes }
-        ensures { OnOk result (Passes (to_target P.L.algebra P.F.edge graph.now jump.now.node jump.now.from jump.now.function edge.now.end) (λ values target. to_target P.L.algebra P.F.edge graph.now jump.now.node jump.now.from jump.now.function edge.now.end values target ≡ values) (P.targets edge.now jump.now.to) self.old.values.items self.new.values.items self.old.has_fallen self.new.has_fallen) }
+        ensures passes { OnOk result (Passes (to_target P.L.algebra P.F.edge graph.now jump.now.node jump.now.from jump.now.function edge.now.end) (λ values target. to_target P.L.algebra P.F.edge graph.now jump.now.node jump.now.from jump.now.function edge.now.end values target ≡ values) (P.targets edge.now jump.now.to) self.old.values.items self.new.values.items self.old.has_fallen self.new.has_fallen) }
+        ensures falls { OnOk result (Falls P.L.algebra self.old.values.items self.new.values.items (length self.old.waiting.items) (length self.new.waiting.items) self.old.has_fallen self.new.has_fallen) }
     {
         targets.clear();
         P::flow(edge, jump.to, targets)?;
@@ -164,7 +172,8 @@ impl<P: Problem> Starts<P> {
     ) -> Result<(), AllocError>
         requires node { jump.now.node < graph.now.nodes }
         requires ends { All (EndsWithin graph.now.nodes) edges.now }
-        ensures { OnOk result (Passes (over_edge P.L.algebra P.F.edge graph.now P.targets jump.now.node jump.now.from jump.now.to jump.now.function) (IsSteadyOver P.L.algebra P.F.edge graph.now P.targets jump.now.node jump.now.from jump.now.to jump.now.function) edges.now self.old.values.items self.new.values.items self.old.has_fallen self.new.has_fallen) }
+        ensures passes { OnOk result (Passes (over_edge P.L.algebra P.F.edge graph.now P.targets jump.now.node jump.now.from jump.now.to jump.now.function) (IsSteadyOver P.L.algebra P.F.edge graph.now P.targets jump.now.node jump.now.from jump.now.to jump.now.function) edges.now self.old.values.items self.new.values.items self.old.has_fallen self.new.has_fallen) }
+        ensures falls { OnOk result (Falls P.L.algebra self.old.values.items self.new.values.items (length self.old.waiting.items) (length self.new.waiting.items) self.old.has_fallen self.new.has_fallen) }
     {
         for edge in edges {
             self.pass_over(graph, jump, edge, targets)?;

@@ -1,5 +1,6 @@
 //! Start values: the value of each fact at each procedure's start.
-ghost use Rattle.std.specs.Prelude.{◌≡◌, OnOk, IfOk, false, length};
+ghost use Rattle.std.specs.Prelude.{◌≡◌, ◌≤◌, OnOk, IfOk, false, length};
+ghost use Rattle.ide_values.specs.Falling.{Falls, ranks};
 ghost use Rattle.ide_values.specs.Pass.{Passes, IsSteadyBy, by_entry};
 ghost use Rattle.ide_values.specs.Settled.{AreStarts, ComesTo, IsSteady};
 
@@ -40,7 +41,7 @@ struct CallJump {
 
 impl<P: Problem> Starts<P> {
     /// Goes through the places that wait and then once through all entries of the tables, until
-    /// that changes nothing. No run comes near the count of rounds: each falls some value.
+    /// that changes nothing. Each round but the last lowers some value.
     fn come_to_rest(
         &mut self,
         alloc: Global,
@@ -52,7 +53,7 @@ impl<P: Problem> Starts<P> {
     {
         let jumps = jumps_at_calls(alloc, graph, tables)?;
         let mut targets = TargetList::new(alloc);
-        for _round in 0..u64::MAX {
+        loop {
             self.settle(graph, tables, jumps.as_slice(), &mut targets)?;
             self.has_fallen = false;
             self.pass_each(graph, tables, &mut targets)?;
@@ -60,10 +61,10 @@ impl<P: Problem> Starts<P> {
                 return Ok(());
             }
         }
-        Err(AllocError)
     }
 
-    /// Goes through the places that wait until none does, or the count ends.
+    /// Goes through the places that wait until none does. Each place that is left has waited, and
+    /// waits again only when its value has fallen.
     fn settle(
         &mut self,
         graph: &Graph,
@@ -71,12 +72,10 @@ impl<P: Problem> Starts<P> {
         jumps: &[CallJump],
         targets: &mut TargetList<P::F>,
     ) -> Result<(), AllocError>
-        ensures { length graph.now.sites ≡ graph.now.nodes → OnOk result (ComesTo P.L.algebra P.F.edge P.targets graph.now tables.now self.old.values.items self.new.values.items) }
+        ensures comes { length graph.now.sites ≡ graph.now.nodes → OnOk result (ComesTo P.L.algebra P.F.edge P.targets graph.now tables.now self.old.values.items self.new.values.items) }
+        ensures falls { OnOk result (ranks P.L.algebra self.new.values.items ≤ ranks P.L.algebra self.old.values.items) }
     {
-        for _count in 0..u64::MAX {
-            let Some(place) = self.leave() else {
-                break;
-            };
+        while let Some(place) = self.leave() {
             self.pass_from(graph, tables, jumps, place, targets)?;
         }
         Ok(())
@@ -91,7 +90,8 @@ impl<P: Problem> Starts<P> {
         place: usize,
         targets: &mut TargetList<P::F>,
     ) -> Result<(), AllocError>
-        ensures { length graph.now.sites ≡ graph.now.nodes → OnOk result (ComesTo P.L.algebra P.F.edge P.targets graph.now tables.now self.old.values.items self.new.values.items) }
+        ensures comes { length graph.now.sites ≡ graph.now.nodes → OnOk result (ComesTo P.L.algebra P.F.edge P.targets graph.now tables.now self.old.values.items self.new.values.items) }
+        ensures falls { OnOk result (Falls P.L.algebra self.old.values.items self.new.values.items (length self.old.waiting.items) (length self.new.waiting.items) self.old.has_fallen self.new.has_fallen) }
     {
         let first = jumps.partition_point(|jump| jump.from < place);
         for jump in &jumps[first..] {
@@ -111,7 +111,8 @@ impl<P: Problem> Starts<P> {
         index: usize,
         targets: &mut TargetList<P::F>,
     ) -> Result<(), AllocError>
-        ensures { length graph.now.sites ≡ graph.now.nodes → OnOk result (ComesTo P.L.algebra P.F.edge P.targets graph.now tables.now self.old.values.items self.new.values.items) }
+        ensures comes { length graph.now.sites ≡ graph.now.nodes → OnOk result (ComesTo P.L.algebra P.F.edge P.targets graph.now tables.now self.old.values.items self.new.values.items) }
+        ensures falls { OnOk result (Falls P.L.algebra self.old.values.items self.new.values.items (length self.old.waiting.items) (length self.new.waiting.items) self.old.has_fallen self.new.has_fallen) }
     {
         let Some(entry) = tables.entry_at(index) else {
             return Ok(());
@@ -129,6 +130,7 @@ impl<P: Problem> Starts<P> {
     ) -> Result<(), AllocError>
         ensures comes { length graph.now.sites ≡ graph.now.nodes → OnOk result (ComesTo P.L.algebra P.F.edge P.targets graph.now tables.now self.old.values.items self.new.values.items) }
         ensures passes { length graph.now.sites ≡ graph.now.nodes → OnOk result (Passes (λ values e. by_entry P.L.algebra P.F.edge graph.now P.targets values e.0 e.1) (λ values e. IsSteadyBy P.L.algebra P.F.edge graph.now P.targets values e.0 e.1) tables.now.entries self.old.values.items self.new.values.items self.old.has_fallen self.new.has_fallen) }
+        ensures falls { OnOk result (Falls P.L.algebra self.old.values.items self.new.values.items (length self.old.waiting.items) (length self.new.waiting.items) self.old.has_fallen self.new.has_fallen) }
     {
         for index in 0..tables.key_count() {
             let Some(entry) = tables.entry_at(index) else {
@@ -151,6 +153,7 @@ impl<P: Problem> Starts<P> {
         ensures same { length graph.now.sites ≡ graph.now.nodes → OnOk result (self.new.has_fallen ≡ false → self.new.values.items ≡ self.old.values.items) }
         ensures before { length graph.now.sites ≡ graph.now.nodes → OnOk result (self.new.has_fallen ≡ false → self.old.has_fallen ≡ false) }
         ensures steady { length graph.now.sites ≡ graph.now.nodes → OnOk result (self.new.has_fallen ≡ false → IsSteadyBy P.L.algebra P.F.edge graph.now P.targets self.old.values.items key function) }
+        ensures falls { OnOk result (Falls P.L.algebra self.old.values.items self.new.values.items (length self.old.waiting.items) (length self.new.waiting.items) self.old.has_fallen self.new.has_fallen) }
     {
         let Key::Jump(node, from, to) = key else {
             return Ok(());

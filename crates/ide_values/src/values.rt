@@ -2,10 +2,12 @@
 ghost use Rattle.std.specs.Prelude.{◌≡◌, ◌<◌, ◌≤◌, ◌⊎◌, ◌↔◌, Err, IfErr, IfOk};
 ghost use Rattle.std.specs.Arc.{arc_value};
 ghost use Rattle.ide_steps.specs.declared.loaded.Loaded.{Loaded};
+ghost use Rattle.ide_values.specs.Best.{AreBest};
 ghost use Rattle.ide_values.specs.Closed.{FollowFrom};
 ghost use Rattle.ide_values.specs.Values.{AreValues, value_of};
 
 use crate::fill::fill;
+use crate::laws::following_values_are_best;
 use crate::rows::{place_of, value_at_place};
 use crate::starts::start_values;
 use ide_graph::Graph;
@@ -56,6 +58,7 @@ impl<P: Problem> ValuePhase<P> for Closed<P> {
         ensures roots { IfOk result (λ values. values.roots ≡ self.now.roots.items) }
         ensures follow { IfOk result (λ values. FollowFrom P.L.algebra P.F.edge P.targets (arc_value {X = Loaded P P.L P.F} self.now.loaded).graph self.now.tables self.now.roots.items values.values) }
         ensures values { IfOk result (λ values. AreValues P.L.algebra P.F.edge P.targets (arc_value {X = Loaded P P.L P.F} self.now.loaded).graph self.now.tables self.now.roots.items values.values) }
+        ensures best { IfOk result (λ values. AreBest P.L.algebra P.F.edge P.targets values.graph values.roots self.now.tables (value_of P.L.algebra values)) }
     {
         if workers == 0 || workers > HANDS {
             return Err(Refused::Limit);
@@ -70,7 +73,9 @@ fn values_of<P: Problem>(alloc: Global, closed: &Closed<P>) -> Result<Values<P>,
     ensures roots { IfOk result (λ values. values.roots ≡ closed.now.roots.items) }
     ensures follow { IfOk result (λ values. FollowFrom P.L.algebra P.F.edge P.targets (arc_value {X = Loaded P P.L P.F} closed.now.loaded).graph closed.now.tables closed.now.roots.items values.values) }
     ensures values { IfOk result (λ values. AreValues P.L.algebra P.F.edge P.targets (arc_value {X = Loaded P P.L P.F} closed.now.loaded).graph closed.now.tables closed.now.roots.items values.values) }
+    ensures best { IfOk result (λ values. AreBest P.L.algebra P.F.edge P.targets values.graph values.roots closed.now.tables (value_of P.L.algebra values)) }
 {
+    following_values_are_best::<P>();
     let rows = rows_of::<P>(
         alloc,
         &closed.loaded.graph,

@@ -1,11 +1,11 @@
 -- Each step of a work list keeps what it says of its claims. A state is two functions: whether a key is pending, and
 -- the claim of a hand.
 use Rattle.std.proofs.Common.{◌≡◌, ℕ, zero, suc, refl, sym, ap, ◌∙◌, arith, List, [], ◌∷◌, get_or, Option, None, Some, Bool, true, false, cond, ◌⊎◌, inl, inr, ⊎_elim}
-use Rattle.std.specs.Prelude.{nat_eq, ◌||◌, not, ◌&&◌}
+use Rattle.std.specs.Prelude.{◌≢◌, nat_eq, ◌||◌, not, ◌&&◌}
 use Rattle.std.specs.List.{list_any}
 use Rattle.std.proofs.lemmas.Bool.{cases_Bool, eqb-true, eq-eqb, both_ways, false_from_ne_true, or_cases, or_parts}
 use Rattle.ide_wire.specs.declared.key.Key.{Key}
-use Rattle.ide_wire.specs.Key.{same_key, same_key_symm}
+use Rattle.ide_wire.specs.Key.{same_key, same_key_refl, same_key_symm}
 use Rattle.ide_worklist.specs.declared.claim.Claim.{Claim}
 use Rattle.ide_worklist.specs.Worklist.{AreHeld, marked, put_hand, with_done, is_claim_of}
 
@@ -159,6 +159,12 @@ module _ {T : Type 0} where
   free_at key (x ∷ xs) f (suc h) c e =
       let parts : (is_claim_of key x ≡ false) × (list_any (is_claim_of key) xs ≡ false) = or_parts (is_claim_of key x) (list_any (is_claim_of key) xs) f in
       free_at key xs parts.1 h c e
+
+  -- and so each claim is of another key
+  pub apart_at : (key : Key) (claims : List (Option (Claim T))) → list_any (is_claim_of key) claims ≡ false
+      → (h : ℕ) (c : Claim T) → get_or claims h None ≡ Some c → c.key ≢ key
+  apart_at key claims f h c e same =
+      both_ways (same_key c.key key) (free_at key claims f h c e) (ap (λ k. same_key c.key k) (sym same) ∙ same_key_refl c.key)
 
   -- where the list has a claim of the key, some hand has it
   pub claimed_at : (key : Key) (claims : List (Option (Claim T))) → list_any (is_claim_of key) claims ≡ true

@@ -1,6 +1,7 @@
 //! The claims of a work list: one place for each hand from 0 on, as far as a hand was in use.
-ghost use Rattle.std.specs.Prelude.{◌≡◌, ℕ, ◌<◌, false, nat_eq, length, IsTrue, IsSome, OnOk};
+ghost use Rattle.std.specs.Prelude.{◌≡◌, ℕ, ◌<◌, [], false, nat_eq, filter, length, IsTrue, IsSome, OnOk};
 ghost use Rattle.std.specs.List.{list_any, slice_index_or};
+ghost use Rattle.std.specs.Option.{is_some};
 ghost use Rattle.ide_worklist.specs.Worklist.{is_claim_of, marked, put_hand, with_done};
 
 use crate::claim::Claim;
@@ -91,6 +92,23 @@ pub(crate) fn mark<T: Drop>(claims: &mut Vec<Option<Claim<T>>>, key: Key)
     for claim in claims.iter_mut() {
         mark_claim(claim, key);
     }
+}
+
+// How many hands have a claim.
+fn claim_count<T>(claims: &[Option<Claim<T>>]) -> usize
+    ensures { result ≡ length (filter is_some claims.now) }
+{
+    claims.iter().filter(|claim| claim.is_some()).count()
+}
+
+// Takes every claim away, and answers how many there were.
+pub(crate) fn take_all<T: Drop>(claims: &mut Vec<Option<Claim<T>>>) -> usize
+    ensures count { result ≡ length (filter is_some claims.old.items) }
+    ensures none { claims.new.items ≡ [] }
+{
+    let count = claim_count(claims);
+    claims.clear();
+    count
 }
 
 // Whether a hand other than this one has a claim.

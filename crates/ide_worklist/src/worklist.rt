@@ -1,11 +1,12 @@
 //! The set of pending keys, and the claims on them.
-ghost use Rattle.std.specs.Prelude.{◌≡◌, ℕ, ◌+◌, ◌<◌, ◌≤◌, ◌↔◌, ◌&&◌, ◌||◌, [], true, false, not, nat_eq, if◌then◌else◌, length, reverse, IsTrue, IsSome, IfSome, IfNone, IfErr, OnOk, OnErr};
+ghost use Rattle.std.specs.Prelude.{◌≡◌, ◌≢◌, ℕ, Some, ◌+◌, ◌<◌, ◌≤◌, ◌↔◌, ◌&&◌, ◌||◌, [], true, false, not, nat_eq, if◌then◌else◌, filter, length, reverse, IsTrue, IsSome, IfSome, IfNone, IfErr, OnOk, OnErr};
 ghost use Rattle.std.specs.List.{find, list_any};
-ghost use Rattle.std.specs.Option.{option_copied};
+ghost use Rattle.std.specs.Option.{option_copied, is_some};
 ghost use Rattle.indexmap.specs.IndexSet.{spare};
 ghost use Rattle.ide_wire.specs.declared.key.Key.{Key};
 ghost use Rattle.ide_wire.specs.declared.refused.Refused.TheVariants.{NoMemory};
 ghost use Rattle.ide_wire.specs.Key.{same_key};
+ghost use Rattle.ide_worklist.specs.declared.claim.Claim.{Claim};
 ghost use Rattle.ide_worklist.specs.Worklist.{Pile, IsWorklist, is_claim_of, is_pending, is_claimed, claim_at, put_hand, marked, with_done, ends, ends_key};
 
 use crate::claim::Claim;
@@ -68,6 +69,7 @@ impl<T: Drop> Worklist<T> {
     pub fn unclaimed(&self) -> Option<Key>
         ensures pending { IfSome result (λ key. is_pending self.now key ≡ true) }
         ensures unclaimed { IfSome result (λ key. is_claimed self.now key ≡ false) }
+        ensures free { IfSome result (λ key. (h : ℕ) (claim : Claim T) → claim_at self.now h ≡ Some claim → claim.key ≢ key) }
         ensures none { IfNone result ((q : Key) → is_pending self.now q ≡ true → is_claimed self.now q ≡ true) }
     {
         last_unclaimed(self.pending.as_slice(), &self.claims)
@@ -125,6 +127,8 @@ impl<T: Drop> Worklist<T> {
         ensures claims { (h : ℕ) → claim_at self.new h ≡ put_hand (claim_at self.old) hand None h }
         ensures pending { (q : Key) → is_pending self.new q ≡ (not (ends (claim_at self.old hand) q) && is_pending self.old q) }
         ensures count { length self.new.pending + (if ends_key (claim_at self.old hand) then 1 else 0) ≡ length self.old.pending }
+        // Each claimed key was pending, and no two hands had claimed one key.
+        ensures held { IsWorklist self.old }
     {
         let claim = claims::take_claim(&mut self.claims, hand)?;
         if !claim.lowered {
@@ -141,6 +145,17 @@ impl<T: Drop> Worklist<T> {
         ensures room { self.new.spare ≡ self.old.spare }
     {
         claims::take_claim(&mut self.claims, hand)
+    }
+
+    /// Takes every claim away, and answers how many there were. Their keys stay pending. It takes no
+    /// memory.
+    pub fn release_all(&mut self) -> usize
+        ensures count { result ≡ length (filter is_some self.old.claims) }
+        ensures claims { self.new.claims ≡ [] }
+        ensures pending { self.new.pending ≡ self.old.pending }
+        ensures room { self.new.spare ≡ self.old.spare }
+    {
+        claims::take_all(&mut self.claims)
     }
 
     /// The hand's claim.

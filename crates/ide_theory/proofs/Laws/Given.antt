@@ -6,9 +6,11 @@ use Rattle.ide_lattice.specs.Laws.{IsLattice, IsEdgeAlgebra}
 use Rattle.ide_problem.specs.Flow.{Targets, IsFlow, AreTargets}
 use Rattle.ide_theory.specs.Frame.{IsLawful}
 use Rattle.ide_theory.specs.Given.{Edges, IsGraph, frame_of, roots_of}
-use Rattle.ide_theory.specs.Theorem.{ValuesAreBest, RunsAreBest, BestIsUnique, TopIsBest, PartsAreOwed}
+use Rattle.ide_theory.specs.Theorem.{ValuesAreBest, RunsAreBest, BestIsUnique, TopIsBest, PartsAreOwed, PartsInRangeAreOwed, RunsAreSound, RunsGoOn}
 use Rattle.ide_theory.proofs.Laws.Effects.{best-unique, top-best}
+use Rattle.ide_theory.proofs.Laws.Parts.{parts-are}
 use Rattle.ide_theory.proofs.Laws.Ranged.{run-parts}
+use Rattle.ide_theory.proofs.Laws.Reached.{run-reached, runs-go-on}
 use Rattle.ide_theory.proofs.Laws.Runs.{quiet-best, run-best}
 
 module _ {L F : Type 0} (lattice : LatticeAlgebra L) (functions : EdgeAlgebra F L) (targets : Targets F)
@@ -47,3 +49,13 @@ module _ {L F : Type 0} (lattice : LatticeAlgebra L) (functions : EdgeAlgebra F 
 
   pub parts-are-owed : PartsAreOwed lattice functions targets
   parts-are-owed G graph at edges s run q = run-parts (frame_of lattice functions targets G) (lawful-frame G graph) run at edges q
+
+  pub parts-in-range-are-owed : PartsInRangeAreOwed lattice functions targets
+  parts-in-range-are-owed G graph at edges get ranged q =
+      parts-are (frame_of lattice functions targets G) (lawful-frame G graph) get at edges ranged q
+
+  pub runs-are-sound : RunsAreSound lattice functions targets
+  runs-are-sound G graph s run = run-reached (frame_of lattice functions targets G) (lawful-frame G graph) run
+
+  pub runs-go-on-over : RunsGoOn lattice functions targets
+  runs-go-on-over G graph = runs-go-on (frame_of lattice functions targets G) (lawful-frame G graph)

@@ -8,7 +8,7 @@ use Rattle.ide_theory.specs.Member.{IsIn, first}
 use Rattle.ide_theory.specs.Image.{IsTarget, Instance, flat, seed, after, summarised}
 use Rattle.ide_theory.specs.Run.{ArePartsOf}
 use Rattle.ide_theory.specs.Parts.{NodeEdges, CallBetween, AreEdgesOf, if_some, seed_parts, flat_parts, after_parts, exit_parts, resumed_parts, jump_parts, parts_of, IsKeyInRange, AreKeysInRange}
-use Rattle.ide_theory.proofs.Laws.Members.{first-or, not-in-empty, in-one, in-left, in-right, in-either, in-map, of-map, in-flat_map, of-flat_map, in-range_below}
+use Rattle.ide_theory.specs.Members.{first-or, not-in-empty, in-one, in-left, in-right, in-either, in-map, of-map, in-flat_map, of-flat_map, in-range_below}
 use Rattle.ide_theory.proofs.Laws.Targets.{nat_eq-refl, nat_eq-exact}
 use Rattle.ide_theory.proofs.Laws.Sound.{target-in-range}
 

@@ -1,11 +1,9 @@
 -- The graph of a program as `parse` answers it is a supergraph, with its sites' edges at its nodes.
-use Rattle.std.specs.Prelude.{◌≡◌, ℕ, zero, suc, List, [], ◌∷◌, Some, slice_get}
+use Rattle.std.specs.Prelude.{◌≡◌, ℕ, suc, List, [], ◌∷◌}
 use Rattle.std.proofs.Common.{arith, sym, ◌∙◌}
 use Rattle.std.specs.List.{All}
 use Rattle.ide_text.specs.declared.program.Program.{Program}
-use Rattle.ide_text.specs.Grammar.{IsProgram}
 use Rattle.ide_graph.specs.declared.edge.EdgeData.{EdgeData}
-use Rattle.ide_graph.specs.declared.site.Caller.{Caller}
 use Rattle.ide_graph.specs.declared.site.Site.{Site}
 use Rattle.ide_graph.specs.declared.site.Site.TheVariants.{Normal, Call, Exit}
 use Rattle.ide_graph.specs.EdgeLaws.{AreLawful, IsLawful}

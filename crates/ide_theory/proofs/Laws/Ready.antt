@@ -13,7 +13,7 @@ use Rattle.ide_theory.specs.State.{Claim, State, put, rest_of, without_first, ma
 use Rattle.ide_theory.specs.Run.{ArePartsOf}
 use Rattle.ide_theory.specs.Invariant.{IsOpen, IsSettled, met, awaits, owed, IsHeld}
 use Rattle.ide_theory.proofs.Laws.Changes.{key-tells, hand-tells, same-or, some-inj, none-some, map-tells, or-true, left-with, has-claim, kept-with, left-without, left-done, kept-done}
-use Rattle.ide_theory.proofs.Laws.Members.{first-or, not-in-empty}
+use Rattle.ide_theory.specs.Members.{first-or, not-in-empty}
 use Rattle.ide_theory.proofs.Laws.Bridge.{HasProper, proper-function_of}
 
 module _ {F L : Type 0} (A : LatticeAlgebra L) (B : EdgeAlgebra F L) (lattice : IsLattice A) (laws : IsEdgeAlgebra A B) where

@@ -15,7 +15,7 @@ use Rattle.ide_theory.specs.Member.{IsIn, first, later, Each}
 use Rattle.ide_theory.specs.Parts.{NodeEdges, AreEdgesOf, CallBetween}
 use Rattle.ide_theory.specs.Sites.{IsEdgeOf, HasEdgesOf, HaveEdgesOf, edges_from, callers_at, edges_found, node_edges, edges_of}
 use Rattle.ide_theory.proofs.Laws.Changes.{some-inj, none-some}
-use Rattle.ide_theory.proofs.Laws.Members.{contains-in, in-contains, first-or, not-in-empty, in-one, in-flat_map, of-flat_map, in-range_below}
+use Rattle.ide_theory.specs.Members.{contains-in, in-contains, first-or, not-in-empty, in-one, in-flat_map, of-flat_map, in-range_below}
 use Rattle.ide_theory.proofs.Laws.SameEdge.{same-edge}
 
 module _ (facts n : ℕ) where

@@ -1,4 +1,3 @@
-use Rattle.std.proofs.Common.{◌≡◌}
 use Rattle.ide_text.specs.Limits.{limits_program}
 use Rattle.ide_graph.specs.Joined.{start_at}
 use Rattle.ide_theory.specs.Sites.{HaveEdgesOf}

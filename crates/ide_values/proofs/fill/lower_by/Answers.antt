@@ -1,14 +1,15 @@
 use Rattle.std.proofs.Common.{◌≡◌, ℕ, ◌+◌, ◌*◌, ◌<◌, ◌∙◌, ap, get_or, length, subst, sym}
 use Rattle.ide_wire.specs.declared.key.Key.{Key}
 use Rattle.ide_values.specs.Start.{value_before}
-use Rattle.ide_values.specs.Fill.{HasFacts, lowered}
+use Rattle.ide_theory.specs.Parts.{IsKeyInRange}
+use Rattle.ide_values.specs.Fill.{lowered}
 use Rattle.ide_values.proofs.Places.{at_each_place, place_within}
 use Rattle.ide_values.proofs.fill.lower_by.Goals as goal
 
 pub returns-in-Jump-clause-lowered : goal.returns-in-Jump-clause-lowered
 returns-in-Jump-clause-lowered g c = λ has count n d h k.
-    let facts : HasFacts c.args.graph.now.facts c.args.key = has in
-    let here = subst (HasFacts c.args.graph.now.facts) c.in-Jump.is facts in
+    let facts : IsKeyInRange c.args.graph.now.facts c.args.key = has in
+    let here = subst (IsKeyInRange c.args.graph.now.facts) c.in-Jump.is facts in
     let within : n * c.args.graph.now.facts + d < length c.args.values.now =
     subst (λ (q : ℕ). n * c.args.graph.now.facts + d < q) (sym count) (place_within n d c.args.graph.now.nodes c.args.graph.now.facts h k) in
     subst (λ (key : Key). get_or c.lower.new.values (n * c.args.graph.now.facts + d) g.F.L.Lattice.algebra.top

@@ -1,22 +1,24 @@
-use Rattle.std.proofs.Common.{◌≡◌, false, subst, sym}
+use Rattle.std.proofs.Common.{◌≡◌, ◌<◌, arith, false, subst, sym}
+use Rattle.ide_values.specs.Falling.{ranks}
 use Rattle.ide_values.specs.Pass.{by_entry, stays}
 use Rattle.ide_values.specs.Settled.{IsSteady}
 use Rattle.ide_values.proofs.Coming.{goes_trans}
+use Rattle.ide_values.proofs.Falling.{falls_once}
 use Rattle.ide_values.proofs.passes.Starts.come_to_rest.Goals as goal
 
-pub loop-round-init : goal.loop-round-init
-loop-round-init g c = λ sited. stays
+pub loop-targets-init : goal.loop-targets-init
+loop-targets-init g c = λ sited. stays
 
-pub loop-round-preserved : goal.loop-round-preserved
-loop-round-preserved g c = λ sited.
+pub loop-targets-preserved : goal.loop-targets-preserved
+loop-targets-preserved g c = λ sited.
     goes_trans (λ values e. by_entry g.P.L.Lattice.algebra g.P.F.EdgeFn.edge c.args.graph.now g.P.Problem.targets values e.0 e.1) c.args.tables.now.entries
-    (goes_trans (λ values e. by_entry g.P.L.Lattice.algebra g.P.F.EdgeFn.edge c.args.graph.now g.P.Problem.targets values e.0 e.1) c.args.tables.now.entries (c.loop-round.invariant sited) (c.in_ok-settle.ensures sited))
+    (goes_trans (λ values e. by_entry g.P.L.Lattice.algebra g.P.F.EdgeFn.edge c.args.graph.now g.P.Problem.targets values e.0 e.1) c.args.tables.now.entries (c.loop-targets.invariant sited) (c.in_ok-settle.ensures.comes sited))
     (c.in_ok-pass_each.ensures.comes sited)
 
 pub returns-then-not-self-clause-comes : goal.returns-then-not-self-clause-comes
 returns-then-not-self-clause-comes g c = λ sited.
     goes_trans (λ values e. by_entry g.P.L.Lattice.algebra g.P.F.EdgeFn.edge c.args.graph.now g.P.Problem.targets values e.0 e.1) c.args.tables.now.entries
-    (goes_trans (λ values e. by_entry g.P.L.Lattice.algebra g.P.F.EdgeFn.edge c.args.graph.now g.P.Problem.targets values e.0 e.1) c.args.tables.now.entries (c.loop-round.invariant sited) (c.in_ok-settle.ensures sited))
+    (goes_trans (λ values e. by_entry g.P.L.Lattice.algebra g.P.F.EdgeFn.edge c.args.graph.now g.P.Problem.targets values e.0 e.1) c.args.tables.now.entries (c.loop-targets.invariant sited) (c.in_ok-settle.ensures.comes sited))
     (c.in_ok-pass_each.ensures.comes sited)
 
 pub returns-then-not-self-clause-steady : goal.returns-then-not-self-clause-steady
@@ -24,3 +26,9 @@ returns-then-not-self-clause-steady g c = λ sited.
     let calm : c.pass_each.new.self.has_fallen ≡ false = c.if-not-self.true in
     subst (IsSteady g.P.L.Lattice.algebra g.P.F.EdgeFn.edge g.P.Problem.targets c.args.graph.now c.args.tables.now)
     (sym ((c.in_ok-pass_each.ensures.passes sited).same calm)) ((c.in_ok-pass_each.ensures.passes sited).steady calm)
+
+pub loop-targets-smaller : goal.loop-targets-smaller
+loop-targets-smaller g c =
+    let fell : ranks g.P.L.Lattice.algebra c.pass_each.new.self.values.items < ranks g.P.L.Lattice.algebra c.settle.new.self.values.items =
+    falls_once g.P.L.Lattice.algebra c.settle.new.self.values.items c.pass_each.new.self.values.items c.pass_each.new.self.has_fallen c.if-not-self.false c.in_ok-pass_each.ensures.falls.marked in
+    omega (arith, fell, c.in_ok-settle.ensures.falls)

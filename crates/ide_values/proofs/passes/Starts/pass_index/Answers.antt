@@ -1,12 +1,16 @@
-use Rattle.std.proofs.Common.{sym, ◌∙◌}
+use Rattle.std.proofs.Common.{length, sym, ◌∙◌}
 use Rattle.ide_values.specs.Pass.{by_entry, stays}
 use Rattle.ide_values.proofs.Coming.{goes_by}
+use Rattle.ide_values.proofs.Falling.{falls_not}
 use Rattle.ide_values.proofs.passes.Starts.pass_index.Goals as goal
 
-pub returns-in_default : goal.returns-in_default
-returns-in_default g c = λ sited. stays
+pub returns-in_default-clause-comes : goal.returns-in_default-clause-comes
+returns-in_default-clause-comes g c = λ sited. stays
 
-pub returns : goal.returns
-returns g c = λ sited.
+pub returns-clause-comes : goal.returns-clause-comes
+returns-clause-comes g c = λ sited.
     goes_by (λ values e. by_entry g.P.L.Lattice.algebra g.P.F.EdgeFn.edge c.args.graph.now g.P.Problem.targets values e.0 e.1) c.args.tables.now.entries stays c.args.index c.in-Some.entry
     (sym c.entry_at.ensures.entry ∙ c.in-Some.is) (c.in_ok-pass_by.ensures.passed sited)
+
+pub returns-in_default-clause-falls : goal.returns-in_default-clause-falls
+returns-in_default-clause-falls g c = falls_not g.P.L.Lattice.algebra c.args.self.now.values.items (length c.args.self.now.waiting.items) c.args.self.now.has_fallen

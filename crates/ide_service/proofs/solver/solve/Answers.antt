@@ -1,0 +1,23 @@
+use Rattle.std.proofs.Common.{refl}
+use Rattle.ide_values.specs.Dump.{dump_of}
+use Rattle.ide_values.specs.Values.{value_of}
+use Rattle.ide_service.proofs.Results.{on-ok}
+use Rattle.ide_service.proofs.solver.solve.Goals as goal
+
+pub returns-clause-solution : goal.returns-clause-solution
+returns-clause-solution g c =
+    let values = c.in_ok-values.values in
+    let is = c.in_ok-values.ensures in
+    let value = value_of g.P.L.Lattice.algebra values in
+    on-ok c.dump.result c.dump.ensures.text (λ text. (
+      dump_of values.graph (λ n d. g.P.L.Lattice.shown (value n d)),
+      text,
+      record {
+        graph = values.graph;
+        spelled = is.spelled;
+        roots = values.roots;
+        named = is.named;
+        all = is.all;
+        best = record { value = value; best = is.best; lines = refl };
+      },
+    ))

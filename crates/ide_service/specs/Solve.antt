@@ -1,0 +1,53 @@
+-- What is answered of a text and the names of roots: the dump of the best values.
+use Rattle.std.specs.Prelude.{◌≡◌, ℕ, ◌<◌, List, [], ◌∷◌, ◌++◌, Some, slice_index}
+use Rattle.std.specs.List.{Contains}
+use Rattle.ide_graph.specs.GraphOf.{IsGraphOf}
+use Rattle.ide_graph.specs.ProgramEdges.{HasEdgesOf}
+use Rattle.ide_graph.specs.Supergraph.{Supergraph, procedure_named}
+use Rattle.ide_lattice.specs.Algebra.{LatticeAlgebra, EdgeAlgebra}
+use Rattle.ide_problem.specs.Flow.{Targets}
+use Rattle.ide_text.specs.Parsed.{IsParsed}
+use Rattle.ide_text.specs.declared.program.Program.{Program}
+use Rattle.ide_theory.specs.Best.{IsBest}
+use Rattle.ide_theory.specs.Graphs.{frame_at, roots_at}
+use Rattle.ide_theory.specs.Sites.{HaveEdgesOf}
+use Rattle.ide_values.specs.BestDump.{IsBestDump}
+use Rattle.ide_values.specs.Values.{ValuesData, value_of}
+
+-- the text spells a program with that graph
+pub record IsGraphOfText (text : List ℕ) (graph : Supergraph) : Type 0 where
+  pub program : Program
+  pub parsed : IsParsed text program
+  pub counted : IsGraphOf program graph
+  pub edges : HasEdgesOf program graph
+
+-- a name may be a root beside these: its procedure has no parameters and is none of them
+pub record IsRootName (graph : Supergraph) (roots : List ℕ) (name : List ℕ) (root : ℕ) : Type 0 where
+  pub named : procedure_named graph name ≡ Some root
+  pub closed : slice_index graph.parameters root ≡ 0
+  pub new : ¬ (Contains roots root)
+
+-- the names are those of the roots, in their order, after these
+pub data AreRootNames (graph : Supergraph) : List ℕ → List (List ℕ) → List ℕ → Type 0 where
+  none : {roots : List ℕ} → AreRootNames graph roots [] roots
+  then : {roots all : List ℕ} {names : List (List ℕ)} → (name : List ℕ) (root : ℕ) → IsRootName graph roots name root
+      → AreRootNames graph (roots ++ root ∷ []) names all → AreRootNames graph roots (name ∷ names) all
+
+module _ {F L : Type 0} (A : LatticeAlgebra L) (B : EdgeAlgebra F L) (targets : Targets F) where
+  -- the values are the best ones of the program that the text spells, for the roots of these names
+  pub record AreSolved (text : List ℕ) (names : List (List ℕ)) (values : ValuesData L) : Type 0 where
+    pub spelled : IsGraphOfText text values.graph
+    pub named : AreRootNames values.graph [] names values.roots
+    pub all : HaveEdgesOf values.graph.facts values.graph.sites
+    pub best : (n d : ℕ) → n < values.graph.nodes → d < values.graph.facts
+        → IsBest (frame_at A B targets values.graph all) (roots_at A B targets values.graph all values.roots) n d (value_of A values n d)
+
+  -- the dump has the best value of each fact at each node of the program that the text spells, for the
+  -- roots of these names
+  pub record IsSolution (shown : L → List ℕ) (text : List ℕ) (names : List (List ℕ)) (dump : List ℕ) : Type 0 where
+    pub graph : Supergraph
+    pub spelled : IsGraphOfText text graph
+    pub roots : List ℕ
+    pub named : AreRootNames graph [] names roots
+    pub all : HaveEdgesOf graph.facts graph.sites
+    pub best : IsBestDump (frame_at A B targets graph all) (roots_at A B targets graph all roots) graph shown dump

@@ -1,0 +1,193 @@
+-- What a core does to its state is steps of a tabulation.
+use Rattle.std.proofs.Common.{◌≡◌, ◌≢◌, ℕ, zero, suc, ◌⊎◌, inl, inr, List, [], ◌∷◌, Option, Some, None, option_map, slice_get, drop, length, ap, sym, subst, ◌∙◌, refl, arith}
+use Rattle.std.specs.List.{list_any}
+use Rattle.std.proofs.lemmas.List.{drop_all}
+use Rattle.std.proofs.lemmas.Option.{same_Some}
+use Rattle.ide_graph.specs.Supergraph.{Supergraph}
+use Rattle.ide_lattice.specs.Algebra.{LatticeAlgebra, EdgeAlgebra}
+use Rattle.ide_problem.specs.Flow.{Targets}
+use Rattle.ide_tasks.specs.Parts.{owed}
+use Rattle.ide_tasks.specs.Task.{TaskData}
+use Rattle.ide_tasks.specs.Work.{WorkData}
+use Rattle.ide_theory.specs.Frame.{Frame}
+use Rattle.ide_theory.specs.Graphs.{frame_at}
+use Rattle.ide_theory.specs.Run.{ArePartsOf, Run, goes_on, Step, Steps, claim, skip, lower, finish, release, none, more}
+use Rattle.ide_theory.specs.Sites.{HaveEdgesOf}
+use Rattle.ide_theory.specs.State.{Claim, State, finished, with_claim}
+use Rattle.ide_tables.specs.Tables.{found}
+use Rattle.ide_wire.specs.Key.{same_key}
+use Rattle.ide_wire.specs.declared.key.Key.{Key}
+use Rattle.ide_worklist.specs.Worklist.{Pile, claim_at}
+use Rattle.ide_worklist.specs.declared.claim.Claim.{Claim as Held}
+use Rattle.ide_steps.specs.declared.part.Parted.{Parted}
+use Rattle.ide_steps.specs.declared.part.Parted.TheVariants.{Lowered, Same, NoPart}
+use Rattle.ide_steps.specs.Core.{CoreData, IsUnchanged}
+use Rattle.ide_steps.specs.Going.{GoesOn, IsFit, IsWorking}
+use Rattle.ide_steps.specs.State.{state_of, claim_of}
+use Rattle.ide_steps.specs.Steps.{IsLowered, IsOneMore, IsSkipped, IsTaken, progress_at}
+
+-- what is left from a place on begins with what stands there
+drop-at : {X : Type 0} (xs : List X) (i : ℕ) (x : X) → slice_get xs i ≡ Some x → drop i xs ≡ x ∷ drop (suc i) xs
+drop-at [] i x at = let no : None ≡ Some x = at in cc
+drop-at (y ∷ xs) zero x at = ap (λ z. z ∷ xs) (same_Some y x at)
+drop-at (y ∷ xs) (suc i) x at = drop-at xs i x at
+
+module _ {F L : Type 0} (A : LatticeAlgebra L) (B : EdgeAlgebra F L) (targets : Targets F) (graph : Supergraph) (all : HaveEdgesOf graph.facts graph.sites) where
+  -- the claim of a hand that works on the task and has done so many parts
+  record Holds (core : CoreData F) (hand : ℕ) (task : TaskData F) (done : ℕ) : Type 0 where
+    pub held : Held (TaskData F)
+    pub has : claim_at core.pile hand ≡ Some held
+    pub task_is : held.task ≡ task
+    pub done_is : held.done ≡ done
+
+  holds : (core : CoreData F) (hand : ℕ) (task : TaskData F) (done : ℕ) (claimed : Option (Held (TaskData F))) → claim_at core.pile hand ≡ claimed
+      → option_map {U = TaskData F × ℕ} (λ held. (held.task, held.done)) claimed ≡ Some (task, done) → Holds core hand task done
+  holds core hand task done None is progress = let no : None ≡ Some (task, done) = progress in cc
+  holds core hand task done (Some held) is progress =
+      let pair : (held.task, held.done) ≡ (task, done) = same_Some _ _ progress in
+      record { held = held; has = is; task_is = ap (λ p. p.0) pair; done_is = ap (λ p. p.1) pair }
+
+  held_by : (core : CoreData F) (hand : ℕ) (task : TaskData F) (done : ℕ) → progress_at core.pile hand ≡ Some (task, done) → Holds core hand task done
+  held_by core hand task done progress = holds core hand task done (claim_at core.pile hand) refl progress
+
+  -- what it still owes
+  claim_has : (core : CoreData F) (hand : ℕ) (task : TaskData F) (done : ℕ) (h : Holds core hand task done)
+      → (state_of targets B core).claims hand ≡ Some (claim_of targets B h.held)
+  claim_has core hand task done h = ap (option_map (claim_of targets B)) h.has
+
+  parts_left : (core : CoreData F) (hand : ℕ) (task : TaskData F) (done : ℕ) (h : Holds core hand task done)
+      → (claim_of targets B h.held).parts ≡ drop done (owed targets B task)
+  parts_left core hand task done h = ap (λ t. drop h.held.done (owed targets B t)) h.task_is ∙ ap (λ n. drop n (owed targets B task)) h.done_is
+
+  pub lowers : (old new : CoreData F) (hand : ℕ) (work after : WorkData F) (task : TaskData F) → progress_at old.pile hand ≡ Some (task, work.done)
+      → work.parts ≡ owed targets B task → IsLowered B (state_of targets B old) (state_of targets B new) hand work after
+      → Step (frame_at A B targets graph all) (state_of targets B old) (state_of targets B new)
+  lowers old new hand work after task progress parts is =
+      let h = held_by old hand task work.done progress in
+      let at : slice_get (owed targets B task) work.done ≡ Some is.part = subst (λ ps. slice_get ps work.done ≡ Some is.part) parts is.next in
+      subst (Step (frame_at A B targets graph all) (state_of targets B old)) (sym is.state)
+      (lower hand (claim_of targets B h.held) is.part.0 is.part.1 (drop (suc work.done) (owed targets B task))
+      (claim_has old hand task work.done h) (parts_left old hand task work.done h ∙ drop-at (owed targets B task) work.done is.part at))
+
+  pub skips : (old new : CoreData F) (hand : ℕ) (work after : WorkData F) (task : TaskData F) → progress_at old.pile hand ≡ Some (task, work.done)
+      → work.parts ≡ owed targets B task → IsSkipped B (state_of targets B old) (state_of targets B new) hand work after
+      → Step (frame_at A B targets graph all) (state_of targets B old) (state_of targets B new)
+  skips old new hand work after task progress parts is =
+      let h = held_by old hand task work.done progress in
+      let at : slice_get (owed targets B task) work.done ≡ Some is.part = subst (λ ps. slice_get ps work.done ≡ Some is.part) parts is.next in
+      subst (Step (frame_at A B targets graph all) (state_of targets B old)) (sym is.state)
+      (skip hand (claim_of targets B h.held) is.part.0 is.part.1 (drop (suc work.done) (owed targets B task))
+      (claim_has old hand task work.done h) (parts_left old hand task work.done h ∙ drop-at (owed targets B task) work.done is.part at) is.met)
+
+  pub finishes : (old new : CoreData F) (hand : ℕ) (work : WorkData F) (task : TaskData F) → progress_at old.pile hand ≡ Some (task, work.done)
+      → work.parts ≡ owed targets B task → work.done ≡ length work.parts
+      → ((held : Held (TaskData F)) → claim_at old.pile hand ≡ Some held → state_of targets B new ≡ finished (state_of targets B old) hand (claim_of targets B held))
+      → Step (frame_at A B targets graph all) (state_of targets B old) (state_of targets B new)
+  finishes old new hand work task progress parts over state =
+      let h = held_by old hand task work.done progress in
+      let nothing : drop work.done (owed targets B task) ≡ [] = drop_all work.done (owed targets B task) (let same = ap length parts in omega (arith, over, same)) in
+      subst (Step (frame_at A B targets graph all) (state_of targets B old)) (sym (state h.held h.has))
+      (finish hand (claim_of targets B h.held) (claim_has old hand task work.done h) (parts_left old hand task work.done h ∙ nothing))
+
+  pub claims : (old new : CoreData F) (hand : ℕ) (task : TaskData F) → IsTaken targets B hand old new task
+      → ArePartsOf (frame_at A B targets graph all) (state_of targets B old).get task.key (owed targets B task)
+      → Step (frame_at A B targets graph all) (state_of targets B old) (state_of targets B new)
+  claims old new hand task is parts =
+      subst (Step (frame_at A B targets graph all) (state_of targets B old)) (sym is.state)
+      (claim hand task.key (owed targets B task) (ap (option_map (claim_of targets B)) is.free) is.pending alone parts)
+    where
+      apart : (j : ℕ) (c : Claim F) (claimed : Option (Held (TaskData F))) → claim_at old.pile j ≡ claimed
+          → option_map (claim_of targets B) claimed ≡ Some c → c.key ≢ task.key
+      apart j c None same has = let no : None ≡ Some c = has in cc
+      apart j c (Some held) same some = subst (λ d. d.key ≢ task.key) (same_Some _ _ some) (is.unclaimed j held same)
+
+      alone : (j : ℕ) (c : Claim F) → (state_of targets B old).claims j ≡ Some c → c.key ≢ task.key
+      alone j c has = apart j c (claim_at old.pile j) refl has
+
+module _ {F L : Type 0} (A : LatticeAlgebra L) (B : EdgeAlgebra F L) (targets : Targets F) where
+  run-goes : (K : Frame) {s t : State K.F} → Run K s → Steps K s t → Run K t
+  run-goes K run none = run
+  run-goes K run (more steps step) = goes_on (run-goes K run steps) step
+
+  steps-join : (K : Frame) {s t u : State K.F} → Steps K s t → Steps K t u → Steps K s u
+  steps-join K first none = first
+  steps-join K first (more steps step) = more (steps-join K first steps) step
+
+  -- nothing happens to the state
+  pub goes-nowhere : (old new : CoreData F) → new.graph ≡ old.graph → new.roots ≡ old.roots
+      → state_of targets B new ≡ state_of targets B old → GoesOn A B targets old new
+  goes-nowhere old new graph roots state = record {
+    graph = graph;
+    roots = roots;
+    steps = λ g is all fit run. subst (Steps (frame_at A B targets g all) (state_of targets B old)) (sym state) none;
+  }
+
+  pub goes-step : (old new : CoreData F) → new.graph ≡ old.graph → new.roots ≡ old.roots
+      → ((graph : Supergraph) → old.graph ≡ Some graph → (all : HaveEdgesOf graph.facts graph.sites) → IsFit graph
+      → Run (frame_at A B targets graph all) (state_of targets B old)
+      → Step (frame_at A B targets graph all) (state_of targets B old) (state_of targets B new))
+      → GoesOn A B targets old new
+  goes-step old new graph roots step = record {
+    graph = graph;
+    roots = roots;
+    steps = λ g is all fit run. more none (step g is all fit run);
+  }
+
+  pub goes-then : (old mid new : CoreData F) → GoesOn A B targets old mid → GoesOn A B targets mid new → GoesOn A B targets old new
+  goes-then old mid new first next = record {
+    graph = next.graph ∙ first.graph;
+    roots = next.roots ∙ first.roots;
+    steps = λ g is all fit run.
+        let way = first.steps g is all fit run in
+        steps-join (frame_at A B targets g all) way
+        (next.steps g (first.graph ∙ is) all fit (run-goes (frame_at A B targets g all) run way));
+  }
+
+  -- an image, pending keys and claims that are as they were are the same state
+  pub state-unchanged : (old new : CoreData F) → IsUnchanged old new → state_of targets B new ≡ state_of targets B old
+  state-unchanged old new is = λ i. record {
+    get = found (is.table i);
+    pending = λ key. list_any (same_key key) (is.pending i);
+    claims = λ h. option_map (claim_of targets B) (is.claims h i);
+  }
+
+  pub goes-unchanged : (old new : CoreData F) → IsUnchanged old new → GoesOn A B targets old new
+  goes-unchanged old new is = goes-nowhere old new is.graph is.roots (state-unchanged old new is)
+
+  -- a part is a step, and the hand goes on working
+  pub goes-part : (old new : CoreData F) (hand : ℕ) (work after : WorkData F) → new.graph ≡ old.graph → new.roots ≡ old.roots
+      → IsWorking A B targets old hand work
+      → IsLowered B (state_of targets B old) (state_of targets B new) hand work after ⊎ IsSkipped B (state_of targets B old) (state_of targets B new) hand work after
+      → GoesOn A B targets old new
+  goes-part old new hand work after graph roots working (inl is) =
+      goes-step old new graph roots (λ g same all fit run. lowers A B targets g all old new hand work after work.task working.progress working.parts is)
+  goes-part old new hand work after graph roots working (inr is) =
+      goes-step old new graph roots (λ g same all fit run. skips A B targets g all old new hand work after work.task working.progress working.parts is)
+
+  pub works-on : (new : CoreData F) (hand : ℕ) (old work : WorkData F) → IsOneMore old work → old.parts ≡ owed targets B old.task
+      → progress_at new.pile hand ≡ Some (old.task, work.done) → IsWorking A B targets new hand work
+  works-on new hand old work is parts progress = record {
+    progress = progress ∙ ap (λ t. Some (t, work.done)) (sym is.task);
+    parts = is.parts ∙ parts ∙ ap (owed targets B) (sym is.task);
+  }
+
+  pub goes-back : (old new : CoreData F) (hand : ℕ) → new.graph ≡ old.graph → new.roots ≡ old.roots
+      → state_of targets B new ≡ with_claim (state_of targets B old) hand None → GoesOn A B targets old new
+  goes-back old new hand graph roots state =
+      goes-step old new graph roots (λ g same all fit run. subst (Step (frame_at A B targets g all) (state_of targets B old)) (sym state) (release hand))
+
+  pub goes-same : (old new : CoreData F) → new ≡ old → GoesOn A B targets old new
+  goes-same old new same = goes-nowhere old new (ap (λ c. c.graph) same) (ap (λ c. c.roots) same) (ap (state_of targets B) same)
+
+  pub goes-finish : (old new : CoreData F) (hand : ℕ) (work : WorkData F) → new.graph ≡ old.graph → new.roots ≡ old.roots
+      → IsWorking A B targets old hand work → work.done ≡ length work.parts
+      → ((held : Held (TaskData F)) → claim_at old.pile hand ≡ Some held → state_of targets B new ≡ finished (state_of targets B old) hand (claim_of targets B held))
+      → GoesOn A B targets old new
+  goes-finish old new hand work graph roots working over state =
+      goes-step old new graph roots (λ g same all fit run. finishes A B targets g all old new hand work work.task working.progress working.parts over state)
+
+-- what a part did
+pub parted-is : (parted : Parted) → (parted ≡ Lowered) ⊎ ((parted ≡ Same) ⊎ (parted ≡ NoPart))
+parted-is Lowered = inl refl
+parted-is Same = inr (inl refl)
+parted-is NoPart = inr (inr refl)

@@ -1,0 +1,6 @@
+pub mod Potential
+pub mod Partners
+pub mod Rooted
+pub mod States
+pub mod Owing
+pub mod Going

@@ -1,0 +1,172 @@
+-- Each call of a core as what it does to the state: table by table, place by place.
+use Rattle.std.proofs.Common.{◌≡◌, ℕ, zero, suc, refl, sym, ap, ◌∙◌, List, [], ◌∷◌, drop, Option, None, Some, Bool, true, false, cond, get_or, ◌||◌}
+use Rattle.std.specs.Map.{lookup}
+use Rattle.std.specs.Prelude.{Result, Ok, Err, OnErr, ◌&&◌, not, nat_eq, option_map, unwrap_or}
+use Rattle.std.specs.List.{list_any}
+use Rattle.std.specs.Option.{IsSomeAnd}
+use Rattle.ide_lattice.specs.Algebra.{EdgeAlgebra}
+use Rattle.ide_problem.specs.Flow.{Targets}
+use Rattle.ide_tables.specs.Tables.{Table, Lowers, found, or_top}
+use Rattle.ide_tasks.specs.Parts.{owed}
+use Rattle.ide_tasks.specs.Task.{TaskData}
+use Rattle.ide_theory.specs.State.{State, nothing_done, put, rest_of, without_first, marked, with_claim, part_done, lowered_by, finished}
+use Rattle.ide_wire.specs.declared.key.Key.{Key}
+use Rattle.ide_wire.specs.Key.{same_key, same_key_exact}
+use Rattle.ide_worklist.specs.Worklist.{Pile, IsWorklist, is_pending, claim_at, put_hand, with_done, ends, marked as marked_claim}
+use Rattle.ide_worklist.specs.declared.claim.Claim.{Claim as Held}
+use Rattle.ide_steps.specs.Core.{CoreData, IsUnchanged}
+use Rattle.ide_steps.specs.State.{claim_of, state_of}
+
+pub or-cond : (a b : Bool) → (a || b) ≡ cond a true b
+or-cond true b = refl
+or-cond false b = refl
+
+pub drop-more : {X : Type 0} (n : ℕ) (xs : List X) → drop (suc n) xs ≡ rest_of (drop n xs)
+drop-more zero [] = refl
+drop-more zero (x ∷ xs) = refl
+drop-more (suc n) [] = refl
+drop-more (suc n) (x ∷ xs) = drop-more n xs
+
+module _ {F L : Type 0} (targets : Targets F) (B : EdgeAlgebra F L) where
+  pub or_top-unwrap : (o : Option F) → or_top B o ≡ unwrap_or o B.all_top
+  or_top-unwrap None = refl
+  or_top-unwrap (Some f) = refl
+
+  pub claim-marked : (key : Key) (o : Option (Held (TaskData F)))
+      → option_map (claim_of targets B) (marked_claim key o) ≡ option_map (marked key) (option_map (claim_of targets B) o)
+  claim-marked key None = refl
+  claim-marked key (Some c) =
+      elim (same_key c.key key) as (λ b. option_map (claim_of targets B) (cond b (Some (record c { lowered = true })) (Some c))
+      ≡ Some (record (claim_of targets B c) { lowered = b || c.lowered })) [ true ↦ refl | false ↦ refl ]
+
+  -- the state that tables with these pending keys and claims are
+  abbrev pub state-at : Table F → Pile (TaskData F) → State F
+  state-at table pile = record { get = found table; pending = is_pending pile; claims = λ h. option_map (claim_of targets B) (claim_at pile h) }
+
+  -- a lowered table with its key pushed
+  pub state-lowered : (table new_table : Table F) (pile new_pile : Pile (TaskData F)) (key : Key) (g : F) → Lowers B table new_table key g
+      → ((q : Key) → is_pending new_pile q ≡ (same_key key q || is_pending pile q))
+      → ((h : ℕ) → claim_at new_pile h ≡ marked_claim key (claim_at pile h))
+      → state-at new_table new_pile ≡ lowered_by B (state-at table pile) key g
+  state-lowered table new_table pile new_pile key g lowers pending claims =
+      let gets : (q : Key) → found new_table q ≡ put same_key (found table) key (Some (B.meet (unwrap_or (found table key) B.all_top) g)) q =
+      λ q. lowers.entries q ∙ ap (λ f. cond (same_key key q) (Some (B.meet f g)) (found table q)) (or_top-unwrap (found table key)) in
+      let waits : (q : Key) → is_pending new_pile q ≡ put same_key (is_pending pile) key true q =
+      λ q. pending q ∙ or-cond (same_key key q) (is_pending pile q) in
+      let hands : (h : ℕ) → option_map (claim_of targets B) (claim_at new_pile h) ≡ option_map (marked key) (option_map (claim_of targets B) (claim_at pile h)) =
+      λ h. ap (option_map (claim_of targets B)) (claims h) ∙ claim-marked key (claim_at pile h) in
+      λ i. record { get = λ q. gets q i; pending = λ q. waits q i; claims = λ h. hands h i }
+
+  -- empty tables with nothing pending or claimed
+  pub state-nothing : (table : Table F) (pile : Pile (TaskData F)) → table.entries ≡ [] → pile.pending ≡ [] → pile.claims ≡ []
+      → state-at table pile ≡ nothing_done F
+  state-nothing table pile entries pending claims =
+      λ i. record {
+        get = λ q. lookup (same_key q) (entries i);
+        pending = λ q. list_any (same_key q) (pending i);
+        claims = λ h. option_map (claim_of targets B) (get_or (claims i) h None);
+      }
+
+  -- cores of the same tables, pending keys and claims have one state
+  pub same-state : (old new : CoreData F) → new.table ≡ old.table → new.pile.pending ≡ old.pile.pending → new.pile.claims ≡ old.pile.claims
+      → state_of targets B new ≡ state_of targets B old
+  same-state old new table pending claims =
+      λ i. record {
+        get = found (table i);
+        pending = λ q. list_any (same_key q) (pending i);
+        claims = λ h. option_map (claim_of targets B) (get_or (claims i) h None);
+      }
+
+  pub map-cond : {X Y : Type 0} (f : X → Y) (b : Bool) (x y : Option X)
+      → option_map f (cond b x y) ≡ cond b (option_map f x) (option_map f y)
+  map-cond f true x y = refl
+  map-cond f false x y = refl
+
+  -- the count of a progress
+  abbrev pub count-of : Option (TaskData F × ℕ) → ℕ
+  count-of None = 0
+  count-of (Some at) = at.1
+
+  pub claim-counted : (o : Option (Held (TaskData F))) (task : TaskData F) (n count : ℕ)
+      → option_map {U = TaskData F × ℕ} (λ held. (held.task, held.done)) o ≡ Some (task, n) → count ≡ suc n
+      → option_map (claim_of targets B) (with_done count o) ≡ option_map without_first (option_map (claim_of targets B) o)
+  claim-counted None task n count is one = absurd (cc)
+  claim-counted (Some c) task n count is one =
+      let done : c.done ≡ n = ap count-of is in
+      ap (λ k. Some (record { key = c.key; parts = drop k (owed targets B c.task); lowered = c.lowered })) (one ∙ ap suc (sym done))
+      ∙ ap (λ parts. Some (record { key = c.key; parts = parts; lowered = c.lowered })) (drop-more c.done (owed targets B c.task))
+
+  -- one part more of the hand's claim is done
+  pub state-counted : (table : Table F) (pile new_pile : Pile (TaskData F)) (hand : ℕ) (task : TaskData F) (n count : ℕ)
+      → option_map {U = TaskData F × ℕ} (λ held. (held.task, held.done)) (claim_at pile hand) ≡ Some (task, n) → count ≡ suc n
+      → new_pile.pending ≡ pile.pending
+      → ((h : ℕ) → claim_at new_pile h ≡ put_hand (claim_at pile) hand (with_done count (claim_at pile hand)) h)
+      → state-at table new_pile ≡ part_done (state-at table pile) hand
+  state-counted table pile new_pile hand task n count is one pending claims =
+      let hands : (h : ℕ) → option_map (claim_of targets B) (claim_at new_pile h)
+      ≡ put nat_eq (λ j. option_map (claim_of targets B) (claim_at pile j)) hand (option_map without_first (option_map (claim_of targets B) (claim_at pile hand))) h =
+      λ h.
+      ap (option_map (claim_of targets B)) (claims h)
+      ∙ map-cond (claim_of targets B) (nat_eq hand h) (with_done count (claim_at pile hand)) (claim_at pile h)
+      ∙ ap (λ o. cond (nat_eq hand h) o (option_map (claim_of targets B) (claim_at pile h))) (claim-counted (claim_at pile hand) task n count is one) in
+      λ i. record { get = found table; pending = λ q. list_any (same_key q) (pending i); claims = λ h. hands h i }
+
+  -- the hand's claim is replaced
+  pub state-claimed : (table : Table F) (pile new_pile : Pile (TaskData F)) (hand : ℕ) (o : Option (Held (TaskData F)))
+      → new_pile.pending ≡ pile.pending
+      → ((h : ℕ) → claim_at new_pile h ≡ put_hand (claim_at pile) hand o h)
+      → state-at table new_pile ≡ with_claim (state-at table pile) hand (option_map (claim_of targets B) o)
+  state-claimed table pile new_pile hand o pending claims =
+      let hands : (h : ℕ) → option_map (claim_of targets B) (claim_at new_pile h)
+      ≡ put nat_eq (λ j. option_map (claim_of targets B) (claim_at pile j)) hand (option_map (claim_of targets B) o) h =
+      λ h. ap (option_map (claim_of targets B)) (claims h) ∙ map-cond (claim_of targets B) (nat_eq hand h) o (claim_at pile h) in
+      λ i. record { get = found table; pending = λ q. list_any (same_key q) (pending i); claims = λ h. hands h i }
+
+  pub ends-cond : (lowered same pending : Bool) → (same ≡ true → pending ≡ true)
+      → (not (not lowered && same) && pending) ≡ cond same lowered pending
+  ends-cond true true pending is = is refl
+  ends-cond true false pending is = refl
+  ends-cond false true pending is = refl
+  ends-cond false false pending is = refl
+
+  -- the hand's claim is over
+  pub state-finished : (table : Table F) (pile new_pile : Pile (TaskData F)) (hand : ℕ) (held : Held (TaskData F)) → IsWorklist pile
+      → claim_at pile hand ≡ Some held
+      → ((q : Key) → is_pending new_pile q ≡ (not (ends (claim_at pile hand) q) && is_pending pile q))
+      → ((h : ℕ) → claim_at new_pile h ≡ put_hand (claim_at pile) hand None h)
+      → state-at table new_pile ≡ finished (state-at table pile) hand (claim_of targets B held)
+  state-finished table pile new_pile hand held list is pending claims =
+      let hands : (h : ℕ) → option_map (claim_of targets B) (claim_at new_pile h)
+      ≡ put nat_eq (λ j. option_map (claim_of targets B) (claim_at pile j)) hand None h =
+      λ h. ap (option_map (claim_of targets B)) (claims h) ∙ map-cond (claim_of targets B) (nat_eq hand h) None (claim_at pile h) in
+      let waits : (q : Key) → is_pending new_pile q ≡ put same_key (is_pending pile) held.key held.lowered q =
+      λ q.
+      pending q ∙ ap (λ o. not (ends o q) && is_pending pile q) is
+      ∙ ends-cond held.lowered (same_key held.key q) (is_pending pile q)
+      (λ same. ap (is_pending pile) (sym (same_key_exact held.key q same)) ∙ list.held hand held is) in
+      λ i. record { get = found table; pending = λ q. waits q i; claims = λ h. hands h i }
+
+module _ {F : Type 0} where
+  -- where a hand has a claim with so many parts done, what it is
+  pub claim-held : (o : Option (Held (TaskData F))) (n : ℕ) → IsSomeAnd o (λ held. held.done ≡ n) → (held : Held (TaskData F)) × (o ≡ Some held)
+  claim-held None n is = absurd is
+  claim-held (Some held) n is = (held, refl)
+
+  pub progress-held : (o : Option (Held (TaskData F))) (n : ℕ) → IsSomeAnd o (λ held. held.done ≡ n)
+      → (task : TaskData F) × (option_map {U = TaskData F × ℕ} (λ held. (held.task, held.done)) o ≡ Some (task, n))
+  progress-held None n is = absurd is
+  progress-held (Some held) n is =
+      let there : ℕ → Option (TaskData F × ℕ) = λ m. Some (held.task, m) in (held.task, ap there is)
+
+  -- nothing changed where the claims stand as they were
+  pub unchanged-err : {T E : Type 0} (r : Result T E) (inside old : CoreData F) (pile : Pile (TaskData F)) → inside ≡ old
+      → pile.pending ≡ inside.pile.pending → ((h : ℕ) → claim_at pile h ≡ claim_at inside.pile h)
+      → OnErr r (IsUnchanged old (record inside { pile = pile }))
+  unchanged-err (Ok x) inside old pile same pending claims = tt
+  unchanged-err (Err e) inside old pile same pending claims = record {
+    graph = ap (λ (c : CoreData F). c.graph) same;
+    roots = ap (λ (c : CoreData F). c.roots) same;
+    table = ap (λ (c : CoreData F). c.table) same;
+    pending = pending ∙ ap (λ (c : CoreData F). c.pile.pending) same;
+    claims = λ h. claims h ∙ ap (λ (c : CoreData F). claim_at c.pile h) same;
+  }

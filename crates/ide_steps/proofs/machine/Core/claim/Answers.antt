@@ -1,0 +1,27 @@
+use Rattle.std.proofs.Common.{◌≡◌, Some, false, sym, ap, ◌∙◌, rules}
+use Rattle.ide_tasks.specs.Parts.{owed}
+use Rattle.ide_theory.specs.State.{new_claim, with_claim}
+use Rattle.ide_steps.proofs.States.{state-at, state-claimed, unchanged-err}
+use Rattle.ide_steps.proofs.machine.Core.claim.Goals as goal
+
+pub returns-clause-task : goal.returns-clause-task
+returns-clause-task g c = λ task is.
+    let same : c.in_ok-task.task ≡ task = cc (is) in
+    let key : c.in_ok-task.task.key ≡ c.in-Some-unclaimed.key = c.in_ok-task.ensures.key in
+    let copy : c.in_ok-copy.field-0 ≡ c.in_ok-task.task = c.in_ok-copy.ensures in
+    let before = state-at g.P.Problem.targets g.P.F.EdgeFn.edge c.self.inside.tables c.self.inside.worklist in
+    rw (← same, ← c.self.view_is) (record {
+      free = search rules;
+      pending = rw key c.in-Some-unclaimed.ensures.pending;
+      unclaimed = rw key c.in-Some-unclaimed.ensures.free;
+      state =
+          state-claimed g.P.Problem.targets g.P.F.EdgeFn.edge c.self.inside.tables c.self.inside.worklist c.take.new.self c.args.hand
+          (Some (record { key = c.in-Some-unclaimed.key; task = c.in_ok-copy.field-0; done = 0; lowered = false }))
+          c.in_ok-take.ensures.pending c.in_ok-take.ensures.claims
+          ∙ (ap (λ t. with_claim before c.args.hand (Some (new_claim c.in-Some-unclaimed.key (owed g.P.Problem.targets g.P.F.EdgeFn.edge t)))) copy
+          ∙ ap (λ k. with_claim before c.args.hand (Some (new_claim k (owed g.P.Problem.targets g.P.F.EdgeFn.edge c.in_ok-task.task)))) (sym key));
+    })
+
+pub returns-in_err-take-clause-unchanged : goal.returns-in_err-take-clause-unchanged
+returns-in_err-take-clause-unchanged g c =
+    unchanged-err {F = g.row.P-F.Denot} c.from_residual-in_err-take.result _ c.args.self.now c.take.new.self c.self.view_is c.take.ensures.pending c.in_err-take.ensures.err

@@ -1,0 +1,31 @@
+use Rattle.std.proofs.Common.{◌+◌, ◌≤◌, length, subst, sym, ap, ◌∙◌, get_or, None}
+use Rattle.ide_steps.proofs.Potential.{falls}
+use Rattle.ide_steps.proofs.machine.Core.lower.Goals as goal
+use Rattle.std.specs.Prelude.{◌||◌}
+use Rattle.std.specs.List.{list_any}
+use Rattle.ide_tables.specs.Tables.{found, or_top}
+use Rattle.ide_wire.specs.Key.{same_key}
+use Rattle.ide_worklist.specs.Worklist.{marked}
+use Rattle.ide_steps.proofs.States.{or_top-unwrap, state-lowered}
+
+pub returns-then-eq-clause-falls : goal.returns-then-eq-clause-falls
+returns-then-eq-clause-falls g c is =
+    let count = subst (λ keys. length c.push.new.self.pending ≤ length keys + 1) c.in_ok-reserve.ensures.pending c.push.ensures.count in
+    rw (← c.self.view_is)
+    (falls g.P.F.EdgeFn.edge c.self.inside.tables.entries c.lower.new.self.entries
+    (length c.self.inside.worklist.pending) (length c.push.new.self.pending)
+    (c.in_ok-change.ensures.few is) (c.in_ok-change.ensures.spent is) count)
+
+pub returns-then-eq-clause-lowered : goal.returns-then-eq-clause-lowered
+returns-then-eq-clause-lowered g c = λ is.
+    rw (← c.self.view_is)
+    (state-lowered g.P.Problem.targets g.P.F.EdgeFn.edge c.self.inside.tables c.lower.new.self c.self.inside.worklist c.push.new.self
+    c.args.key c.args.function
+    (c.in_ok-change.ensures.lowered is)
+    (λ q. c.push.ensures.pending q ∙ ap (λ keys. same_key c.args.key q || list_any (same_key q) keys) c.in_ok-reserve.ensures.pending)
+    (λ h. c.push.ensures.claims h ∙ ap (λ claims. marked c.args.key (get_or claims h None)) c.in_ok-reserve.ensures.claims))
+
+pub returns-else-eq-clause-met : goal.returns-else-eq-clause-met
+returns-else-eq-clause-met g c = λ is.
+    rw (← c.self.view_is, ← or_top-unwrap g.P.Problem.targets g.P.F.EdgeFn.edge (found c.self.inside.tables c.args.key))
+    (g.met.P.F.EdgeFn.exact _ _ (c.in_ok-change.ensures.met is))

@@ -1,0 +1,47 @@
+use Rattle.std.proofs.Common.{◌≡◌, ◌+◌, ◌<◌, sym, ap, ◌∙◌, add-one, arith, Ok, Some, length}
+use Rattle.std.specs.Prelude.{slice_get}
+use Rattle.std.proofs.lemmas.Option.{slice_get_within}
+use Rattle.ide_tables.specs.declared.tables.Change.{Change}
+use Rattle.ide_theory.specs.State.{part_done}
+use Rattle.ide_steps.proofs.States.{state-counted}
+use Rattle.ide_steps.proofs.machine.Core.next_part.Goals as goal
+use Rattle.ide_steps.proofs.machine.Core.next_part.Goals.{in-Lowered, in-Same}
+
+pub returns-clause-lowered : goal.returns-clause-lowered
+returns-clause-lowered g c = λ is task at.
+    let change : c.in_ok-change.change ≡ Change.Lowered =
+    elim c.match-change.branch [ in-Lowered w ↦ w.in-Lowered.is | in-Same w ↦ absurd (cc (is, w.result-is)) ] in
+    let next : slice_get c.args.work.now.parts c.args.work.now.done ≡ Some c.in-Some.part = sym c.in-Some.ensures.next in
+    let within : c.args.work.now.done < length c.args.work.now.parts = slice_get_within c.args.work.now.parts c.args.work.now.done c.in-Some.part next in
+    let done : c.advance.new.self.done ≡ c.args.work.now.done + 1 = omega (arith, c.advance.ensures.done, within) in
+    let done_there : c.done.result ≡ c.args.work.now.done + 1 = c.done.ensures ∙ done in
+    record {
+      part = c.in-Some.part;
+      next = next;
+      state =
+          state-counted g.P.Problem.targets g.P.F.EdgeFn.edge c.self.inside.tables c.self.inside.worklist c.set_done.new.self c.args.hand task
+          c.args.work.now.done c.done.result (rw (← c.self.view_is) at (c.in_ok-change.ensures.progress c.args.hand ∙ at)) (done_there ∙ add-one c.args.work.now.done)
+          c.set_done.ensures.pending c.set_done.ensures.claims
+          ∙ ap (λ s. part_done s c.args.hand) (rw (← c.self.view_is) at (c.in_ok-change.ensures.lowered (ap Ok change)));
+      counted = record { task = c.advance.ensures.task; parts = c.advance.ensures.parts; done = done };
+    }
+
+pub returns-clause-same : goal.returns-clause-same
+returns-clause-same g c = λ is task at.
+    let change : c.in_ok-change.change ≡ Change.Same =
+    elim c.match-change.branch [ in-Lowered w ↦ absurd (cc (is, w.result-is)) | in-Same w ↦ w.in-Same.is ] in
+    let next : slice_get c.args.work.now.parts c.args.work.now.done ≡ Some c.in-Some.part = sym c.in-Some.ensures.next in
+    let within : c.args.work.now.done < length c.args.work.now.parts = slice_get_within c.args.work.now.parts c.args.work.now.done c.in-Some.part next in
+    let done : c.advance.new.self.done ≡ c.args.work.now.done + 1 = omega (arith, c.advance.ensures.done, within) in
+    let done_there : c.done.result ≡ c.args.work.now.done + 1 = c.done.ensures ∙ done in
+    record {
+      part = c.in-Some.part;
+      next = next;
+      met = c.in_ok-change.ensures.met (ap Ok change);
+      state =
+          state-counted g.P.Problem.targets g.P.F.EdgeFn.edge c.self.inside.tables c.self.inside.worklist c.set_done.new.self c.args.hand task
+          c.args.work.now.done c.done.result (rw (← c.self.view_is) at (c.in_ok-change.ensures.progress c.args.hand ∙ at)) (done_there ∙ add-one c.args.work.now.done)
+          c.set_done.ensures.pending c.set_done.ensures.claims
+          ∙ ap (λ s. part_done s c.args.hand) (rw (← c.self.view_is) at (c.in_ok-change.ensures.same (ap Ok change)));
+      counted = record { task = c.advance.ensures.task; parts = c.advance.ensures.parts; done = done };
+    }

@@ -1,0 +1,99 @@
+use Rattle.std.proofs.Common.{rules, refl, Ok, ◌≡◌, ◌+◌, ◌-◌, ◌*◌, ◌^◌, ◌<◌, ◌⊎◌, Bool, true, false, cond, ℕ, length, arith, ◌∙◌, ap, inl, inr, sym, subst}
+use Rattle.ide_worklist.specs.Worklist.{claim_at, ends_key}
+use Rattle.ide_tables.specs.Spent.{spent}
+use Rattle.ide_steps.specs.Drain.{potential}
+use Rattle.ide_steps.specs.Going.{GoesOn, IsWorking}
+use Rattle.ide_steps.proofs.Going.{goes-then, goes-finish, goes-part, goes-same, goes-unchanged, parted-is, works-on}
+use Rattle.ide_steps.proofs.machine.Core.run.Goals as goal
+
+-- the end of a task takes at most its key out, and takes it out where the flag says so
+ended : (twice now then start : ℕ) (ends : Bool) → now + cond ends 1 0 ≡ then → (twice + then < start) ⊎ ((twice + then ≡ start) × (ends ≡ true))
+    → twice + now < start
+ended twice now then start true count (inl less) = omega (arith, count, less)
+ended twice now then start true count (inr same) = omega (arith, count, same.0)
+ended twice now then start false count (inl less) = omega (arith, count, less)
+ended twice now then start false count (inr same) = let no : ⊥ = cc (same.1) in elim no [ ]
+
+pub returns-clause-falls : goal.returns-clause-falls
+returns-clause-falls g c =
+    let B = g.P.F.EdgeFn.edge in
+    let core = c.next_part.new.self in
+    let here = (c.in_ok-next_part.ensures.no_part (search rules)).1 in
+    let less = ended (2 * (2 ^ 64 * B.height - spent B core.table.entries)) (length c.end_claim.new.self.pile.pending) (length core.pile.pending)
+    (potential B c.args.self.now) (ends_key (claim_at core.pile 0)) c.end_claim.ensures.count
+    (subst (λ core. (potential B core < potential B c.args.self.now)
+    ⊎ ((potential B core ≡ potential B c.args.self.now) × (ends_key (claim_at core.pile 0) ≡ true)))
+    (sym here) c.loop-work.invariant.0) in
+    subst (λ t. 2 * (2 ^ 64 * B.height - spent B t.entries) + length c.end_claim.new.self.pile.pending < potential B c.args.self.now)
+    (sym c.end_claim.ensures.stays.2) less
+
+pub returns-clause-goes : goal.returns-clause-goes
+returns-clause-goes g c = λ working.
+    let A = g.P.L.Lattice.algebra in
+    let B = g.P.F.EdgeFn.edge in
+    let targets = g.P.Problem.targets in
+    let done = c.in_ok-next_part.ensures.no_part (search rules) in
+    let now = c.loop-work.invariant.1 working in
+    let core = c.next_part.new.self in
+    goes-then A B targets c.args.self.now core c.end_claim.new.self
+    (subst (GoesOn A B targets c.args.self.now) (sym done.1) now.1)
+    (goes-finish A B targets core c.end_claim.new.self 0 c.loop-work.work c.end_claim.ensures.stays.0 c.end_claim.ensures.stays.1
+    (subst (λ s. IsWorking A B targets s 0 c.loop-work.work) (sym done.1) now.0) done.0 c.end_claim.ensures.finished)
+
+pub returns-in_err-next_part-clause-goes : goal.returns-in_err-next_part-clause-goes
+returns-in_err-next_part-clause-goes g c = λ working.
+    let A = g.P.L.Lattice.algebra in
+    let B = g.P.F.EdgeFn.edge in
+    let targets = g.P.Problem.targets in
+    let now = c.loop-work.invariant.1 working in
+    goes-then A B targets c.args.self.now c.loop-work.self c.next_part.new.self now.1
+    (goes-unchanged A B targets c.loop-work.self c.next_part.new.self c.in_err-next_part.ensures.unchanged.0)
+
+pub loop-work-init : goal.loop-work-init
+loop-work-init g c =
+    (inr (refl, c.requires), λ working. (working, goes-same g.P.L.Lattice.algebra g.P.F.EdgeFn.edge g.P.Problem.targets c.args.self.now c.args.self.now refl))
+
+pub loop-work-preserved : goal.loop-work-preserved
+loop-work-preserved g c =
+    let A = g.P.L.Lattice.algebra in
+    let B = g.P.F.EdgeFn.edge in
+    let targets = g.P.Problem.targets in
+    let start = c.args.self.now in
+    let old = c.loop-work.self in
+    let new = c.next_part.new.self in
+    let work = c.loop-work.work in
+    let after = c.next_part.new.work in
+    let ensures = c.in_ok-next_part.ensures in
+    elim (parted-is c.in_ok-next_part.field-0) [
+      | inl lowered ↦
+          let is = ap Ok lowered in
+          let falls = ensures.falls is in (
+            elim c.loop-work.invariant.0 [
+              | inl less ↦ inl (omega (arith, less, falls))
+              | inr same ↦ inl (omega (arith, same.0, falls))
+            ],
+            λ working.
+                let now = c.loop-work.invariant.1 working in
+                let part = ensures.lowered is work.task now.0.progress in (
+                  works-on A B targets new 0 work after part.counted now.0.parts (ensures.progress work.task now.0.progress),
+                  goes-then A B targets start old new now.1 (goes-part A B targets old new 0 work after ensures.stays.0 ensures.stays.1 now.0 (inl part)),
+                ),
+          )
+      | inr other ↦ elim other [
+        | inl same ↦
+            let is = ap Ok same in
+            let still = ensures.still is in (
+              elim c.loop-work.invariant.0 [
+                | inl less ↦ inl (omega (arith, less, still.0))
+                | inr before ↦ inr (still.0 ∙ before.0, still.1 ∙ before.1)
+              ],
+              λ working.
+                  let now = c.loop-work.invariant.1 working in
+                  let part = ensures.same is work.task now.0.progress in (
+                    works-on A B targets new 0 work after part.counted now.0.parts (ensures.progress work.task now.0.progress),
+                    goes-then A B targets start old new now.1 (goes-part A B targets old new 0 work after ensures.stays.0 ensures.stays.1 now.0 (inr part)),
+                  ),
+            )
+        | inr none ↦ absurd (search rules)
+      ]
+    ]

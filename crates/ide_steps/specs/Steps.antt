@@ -1,0 +1,52 @@
+-- What the calls of a core do to its state, told as steps of a tabulation.
+use Rattle.std.specs.Prelude.{◌≡◌, ◌≢◌, ℕ, ◌+◌, true, Option, Some, None, option_map, slice_get, unwrap_or}
+use Rattle.ide_lattice.specs.Algebra.{EdgeAlgebra}
+use Rattle.ide_problem.specs.Flow.{Targets}
+use Rattle.ide_tasks.specs.Parts.{owed}
+use Rattle.ide_tasks.specs.Task.{TaskData}
+use Rattle.ide_tasks.specs.Work.{WorkData}
+use Rattle.ide_theory.specs.State.{State, lowered_by, new_claim, part_done, with_claim}
+use Rattle.ide_wire.specs.declared.key.Key.{Key}
+use Rattle.ide_worklist.specs.Worklist.{Pile, claim_at, is_pending}
+use Rattle.ide_worklist.specs.declared.claim.Claim.{Claim as Held}
+use Rattle.ide_steps.specs.Core.{CoreData}
+use Rattle.ide_steps.specs.State.{state_of}
+
+module _ {F : Type 0} where
+  -- what the hand works on, and how many of its parts are done
+  abbrev pub progress_at : Pile (TaskData F) → ℕ → Option (TaskData F × ℕ)
+  progress_at pile hand = option_map (λ held. (held.task, held.done)) (claim_at pile hand)
+
+  -- one part more is done of the same work
+  pub record IsOneMore (old new : WorkData F) : Type 0 where
+    pub task : new.task ≡ old.task
+    pub parts : new.parts ≡ old.parts
+    pub done : new.done ≡ old.done + 1
+
+  module _ {L : Type 0} (B : EdgeAlgebra F L) where
+    -- to meet the key's function with this one changes nothing
+    abbrev pub IsBelow : State F → Key → F → Type 0
+    IsBelow s t g = B.meet (unwrap_or (s.get t) B.all_top) g ≡ unwrap_or (s.get t) B.all_top
+
+    -- the work's next part is done, which lowered its key
+    pub record IsLowered (s t : State F) (hand : ℕ) (old new : WorkData F) : Type 0 where
+      pub part : Key × F
+      pub next : slice_get old.parts old.done ≡ Some part
+      pub state : t ≡ part_done (lowered_by B s part.0 part.1) hand
+      pub counted : IsOneMore old new
+
+    -- the work's next part is done, which its key had received already
+    pub record IsSkipped (s t : State F) (hand : ℕ) (old new : WorkData F) : Type 0 where
+      pub part : Key × F
+      pub next : slice_get old.parts old.done ≡ Some part
+      pub met : IsBelow s part.0 part.1
+      pub state : t ≡ part_done s hand
+      pub counted : IsOneMore old new
+
+module _ {F L : Type 0} (targets : Targets F) (B : EdgeAlgebra F L) where
+  -- the hand, which had no claim, claims the task's key, which was pending and no hand's, and owes its parts
+  pub record IsTaken (hand : ℕ) (old new : CoreData F) (task : TaskData F) : Type 0 where
+    pub free : claim_at old.pile hand ≡ None
+    pub pending : is_pending old.pile task.key ≡ true
+    pub unclaimed : (h : ℕ) (held : Held (TaskData F)) → claim_at old.pile h ≡ Some held → held.key ≢ task.key
+    pub state : state_of targets B new ≡ with_claim (state_of targets B old) hand (Some (new_claim task.key (owed targets B task)))

@@ -1,0 +1,14 @@
+-- How far the functions of a table have fallen.
+use Rattle.std.specs.Prelude.{ℕ, ◌+◌, ◌-◌, List, [], ◌∷◌}
+use Rattle.ide_lattice.specs.Algebra.{EdgeAlgebra}
+use Rattle.ide_wire.specs.declared.key.Key.{Key}
+
+module _ {F L : Type 0} (B : EdgeAlgebra F L) where
+  -- how far below the always-top function it is
+  abbrev pub fallen : F → ℕ
+  fallen f = B.height - B.rank f
+
+  -- how far the functions of all entries have fallen
+  abbrev pub spent : List (Key × F) → ℕ
+  spent [] = 0
+  spent (e ∷ es) = fallen e.1 + spent es
