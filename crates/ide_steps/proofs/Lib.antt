@@ -3,4 +3,5 @@ pub mod Partners
 pub mod Rooted
 pub mod States
 pub mod Owing
+pub mod Free
 pub mod Going

@@ -1,8 +1,33 @@
 -- What falls where an entry is lowered, and where a task is over.
-use Rattle.std.proofs.Common.{ℕ, zero, suc, ◌+◌, ◌-◌, ◌*◌, ◌^◌, ◌<◌, ◌≤◌, List, [], ◌∷◌, length, arith}
+use Rattle.std.proofs.Common.{◌≡◌, ℕ, zero, suc, ◌+◌, ◌-◌, ◌*◌, ◌^◌, ◌<◌, ◌≤◌, Bool, true, false, List, [], ◌∷◌, Option, Some, None, cond, length, arith, ap, sym, ◌∙◌, refl}
 use Rattle.ide_lattice.specs.Algebra.{EdgeAlgebra}
+use Rattle.ide_wire.specs.Key.{same_key, same_key_exact}
 use Rattle.ide_wire.specs.declared.key.Key.{Key}
 use Rattle.ide_tables.specs.Spent.{spent}
+use Rattle.ide_worklist.specs.Worklist.{IsWorklist, Pile, claim_at, ends_key, is_pending, marked}
+use Rattle.ide_worklist.specs.declared.claim.Claim.{Claim}
+use Rattle.ide_steps.specs.Drain.{left_by}
+
+pub at-most-one : (b : Bool) → cond b 0 1 ≤ 1
+at-most-one true = omega arith
+at-most-one false = omega arith
+
+-- a key that is pushed is pending for the first time, or its claim ends with the key pending
+module _ {T : Type 0} (pile : Pile T) (key : Key) (list : IsWorklist pile) where
+  claim-pays : (h : ℕ) (claim : Option (Claim T)) → claim_at pile h ≡ claim
+      → left_by (marked key claim) + cond (is_pending pile key) 0 1 ≤ left_by claim + 1
+  claim-pays h None is = let one = at-most-one (is_pending pile key) in omega (arith, one)
+  claim-pays h (Some c) is =
+      elim (same_key c.key key) as (λ b. same_key c.key key ≡ b → left_by (cond b (Some (record c { lowered = true })) (Some c)) + cond (is_pending pile key) 0 1 ≤ left_by (Some c) + 1) [
+        | true ↦ λ same.
+            let pending : is_pending pile key ≡ true = ap (is_pending pile) (sym (same_key_exact c.key key same)) ∙ list.held h c is in
+            let none : ◌≡◌ {A = ℕ} (cond (is_pending pile key) 0 1) 0 = ap (λ b. cond b 0 1) pending in
+            omega (arith, none)
+        | false ↦ λ other. let one = at-most-one (is_pending pile key) in omega (arith, one)
+      ] refl
+
+  pub push-pays : (h : ℕ) → left_by (marked key (claim_at pile h)) + cond (is_pending pile key) 0 1 ≤ left_by (claim_at pile h) + 1
+  push-pays h = claim-pays h (claim_at pile h) refl
 
 module _ {F L : Type 0} (B : EdgeAlgebra F L) where
   pub spent_most : (es : List (Key × F)) (n : ℕ) → length es ≤ n → spent B es ≤ n * B.height

@@ -1,5 +1,5 @@
 -- What contracts see of a core, and when its calls are refused.
-use Rattle.std.specs.Prelude.{◌≡◌, ℕ, Bool, true, false, ◌&&◌, ◌≢◌, length, map, slice_index, List, Option, None, Some, nat_eq}
+use Rattle.std.specs.Prelude.{◌≡◌, ℕ, ◌≤◌, Bool, true, false, ◌&&◌, ◌≢◌, length, map, slice_index, List, Option, None, Some, nat_eq}
 use Rattle.std.specs.Option.{is_some}
 use Rattle.std.specs.List.{Contains}
 use Rattle.ide_graph.specs.Supergraph.{Supergraph, procedure_named}
@@ -12,8 +12,10 @@ use Rattle.ide_tables.specs.Tables.{Table}
 use Rattle.ide_tasks.specs.Task.{TaskData, same_task}
 use Rattle.ide_tasks.specs.Work.{WorkData}
 use Rattle.ide_tasks.specs.declared.partners.Partners.{Partners}
+use Rattle.ide_wire.specs.Key.{node_of}
+use Rattle.ide_wire.specs.declared.key.Key.{Key}
 use Rattle.ide_worklist.specs.declared.claim.Claim.{Claim}
-use Rattle.ide_worklist.specs.Worklist.{Pile, claim_at}
+use Rattle.ide_worklist.specs.Worklist.{Pile, claim_at, is_pending}
 
 -- the graph of the loaded program, if one is loaded; the roots, as indices of procedures; the tables;
 -- and the pending keys with the claims
@@ -41,6 +43,14 @@ module _ {F : Type 0} where
     pub table : new.table ≡ old.table
     pub pending : new.pile.pending ≡ old.pile.pending
     pub claims : (hand : ℕ) → claim_at new.pile hand ≡ claim_at old.pile hand
+
+-- a key is pending that stands at no node of the graph
+pub record HasKeyOutside {F : Type 0} (core : CoreData F) : Type 0 where
+  pub key : Key
+  pub pending : is_pending core.pile key ≡ true
+  pub graph : Supergraph
+  pub is : core.graph ≡ Some graph
+  pub outside : graph.nodes ≤ node_of key
 
 -- the name finds a procedure of the graph
 pub record Finds (graph : Option Supergraph) (name : List ℕ) (procedure : ℕ) : Type 0 where

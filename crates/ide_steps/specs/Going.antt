@@ -1,5 +1,7 @@
 -- That what a core does are steps of a tabulation over its graph.
-use Rattle.std.specs.Prelude.{◌≡◌, ℕ, ◌≤◌, ◌^◌, Some}
+use Rattle.std.specs.Prelude.{◌≡◌, ℕ, ◌≤◌, ◌^◌, Some, length}
+use Rattle.ide_graph.specs.Ends.{AreEndsNodes}
+use Rattle.ide_graph.specs.Exits.{AreExitsOwned}
 use Rattle.ide_graph.specs.Joined.{AreJoined, start_at}
 use Rattle.ide_graph.specs.Supergraph.{Supergraph}
 use Rattle.ide_lattice.specs.Algebra.{LatticeAlgebra, EdgeAlgebra}
@@ -7,22 +9,32 @@ use Rattle.ide_problem.specs.Flow.{Targets}
 use Rattle.ide_tasks.specs.Parts.{owed}
 use Rattle.ide_tasks.specs.Work.{WorkData}
 use Rattle.ide_theory.specs.Graphs.{frame_at}
-use Rattle.ide_theory.specs.Run.{Run, Steps}
+use Rattle.ide_theory.specs.Run.{Run, Steps, claims_in}
 use Rattle.ide_theory.specs.Sites.{HaveEdgesOf}
-use Rattle.ide_graph.specs.Exits.{AreExitsOwned}
 use Rattle.ide_steps.specs.Core.{CoreData}
 use Rattle.ide_steps.specs.State.{state_of}
 use Rattle.ide_steps.specs.Steps.{progress_at}
 
--- the sites fit together, facts are 16 bit numbers, and exits are those of their procedures
+-- each node has a site, the sites fit together, facts are 16 bit numbers, exits are those of their
+-- procedures, and edges end at nodes
 pub record IsFit (graph : Supergraph) : Type 0 where
+  pub sited : length graph.sites ≡ graph.nodes
   pub joined : AreJoined graph.sites (start_at graph)
   pub few : graph.facts ≤ 2 ^ 16
   pub exits : AreExitsOwned graph
+  pub ends : AreEndsNodes graph
 
 module _ {F L : Type 0} (A : LatticeAlgebra L) (B : EdgeAlgebra F L) (targets : Targets F) where
   -- over a graph that is fit, steps lead from the one core's state to the other's, where a run came to
-  -- that; program and roots stay
+  -- that, and so many of them are claims; program and roots stay
+  pub record GoesOnBy (claims : ℕ) (old new : CoreData F) : Type 0 where
+    pub graph : new.graph ≡ old.graph
+    pub roots : new.roots ≡ old.roots
+    pub steps : (graph : Supergraph) → old.graph ≡ Some graph → (all : HaveEdgesOf graph.facts graph.sites) → IsFit graph
+        → Run (frame_at A B targets graph all) (state_of targets B old)
+        → (way : Steps (frame_at A B targets graph all) (state_of targets B old) (state_of targets B new)) × (claims_in way ≡ claims)
+
+  -- the same, with any number of claims
   pub record GoesOn (old new : CoreData F) : Type 0 where
     pub graph : new.graph ≡ old.graph
     pub roots : new.roots ≡ old.roots
@@ -34,3 +46,9 @@ module _ {F L : Type 0} (A : LatticeAlgebra L) (B : EdgeAlgebra F L) (targets : 
   pub record IsWorking (core : CoreData F) (hand : ℕ) (work : WorkData F) : Type 0 where
     pub progress : progress_at core.pile hand ≡ Some (work.task, work.done)
     pub parts : work.parts ≡ owed targets B work.task
+
+  -- over a graph that is fit, no run came to the core's state: it has a key at no node
+  abbrev pub IsOutside : CoreData F → Type 0
+  IsOutside core =
+      (graph : Supergraph) → core.graph ≡ Some graph → (all : HaveEdgesOf graph.facts graph.sites) → IsFit graph
+      → ¬ (Run (frame_at A B targets graph all) (state_of targets B core))

@@ -1,5 +1,5 @@
 //! Claims: a hand takes a pending key with its task.
-ghost use Rattle.std.specs.Prelude.{◌≡◌, ◌≢◌, ℕ, ◌<◌, ◌≤◌, ◌↔◌, ◌⊎◌, [], true, false, Some, Ok, Err, slice_get, slice_index, IsSome, IfErr, IfOk, OnErr, OnOk};
+ghost use Rattle.std.specs.Prelude.{◌≡◌, ◌≢◌, ℕ, nat_eq, ◌<◌, ◌≤◌, ◌↔◌, ◌⊎◌, [], true, false, Some, Ok, Err, slice_get, slice_index, IsSome, IfErr, IfOk, OnErr, OnOk};
 ghost use Rattle.ide_graph.specs.Exits.{AreExitsOwned};
 ghost use Rattle.ide_graph.specs.Supergraph.{Supergraph};
 ghost use Rattle.ide_tables.specs.Tables.{found};
@@ -7,7 +7,7 @@ ghost use Rattle.ide_wire.specs.Key.{node_of};
 ghost use Rattle.ide_wire.specs.declared.key.Key.{Key};
 ghost use Rattle.ide_worklist.specs.Worklist.{claim_at, ends_key, is_pending, is_claimed};
 ghost use Rattle.ide_tasks.specs.Task.{TaskData};
-ghost use Rattle.ide_steps.specs.Core.{is_loaded, IsProgramKept, IsUnchanged};
+ghost use Rattle.ide_steps.specs.Core.{is_loaded, HasKeyOutside, IsProgramKept, IsUnchanged};
 ghost use Rattle.ide_steps.specs.State.{ArePartnersOf, IsTaskOf};
 ghost use Rattle.ide_steps.specs.Steps.{IsTaken, progress_at};
 
@@ -35,15 +35,20 @@ impl<P: Problem> Core<P> {
     /// Claims a pending key that no hand has claimed.
     ///
     /// Refusals, in this order: `Limit` where the hand's number is over 63; `NoProgram`; `Busy`
-    /// where the hand has a claim; `NoMemory`.
+    /// where the hand has a claim; `NoMemory`. A key that stands at no node of the graph, which no run
+    /// over the graph of a text leads to, is refused by `OutOfRange`.
     pub fn claim(&mut self, hand: usize) -> Result<Claimed<P>, Refused>
         ensures limit { (result ≡ Err Refused.Limit) ↔ (64 ≤ hand) }
         ensures no_program { (result ≡ Err Refused.NoProgram) ↔ ((hand < 64) × (is_loaded self.old ≡ false)) }
         ensures busy { (result ≡ Err Refused.Busy) ↔ ((hand < 64) × (is_loaded self.old ≡ true) × IsSome (claim_at self.old.pile hand)) }
+        ensures refused { IfErr result (λ e. (e ≡ Refused.Limit) ⊎ (e ≡ Refused.NoProgram) ⊎ (e ≡ Refused.Busy) ⊎ (e ≡ Refused.NoMemory) ⊎ (e ≡ Refused.OutOfRange)) }
+        ensures out_of_range { result ≡ Err Refused.OutOfRange → HasKeyOutside self.old }
         ensures quiet { result ≡ Ok Claimed.Quiet → self.old.pile.pending ≡ [] }
+        ensures waiting { result ≡ Ok Claimed.Idle → self.old.pile.pending ≢ [] }
         ensures idle { result ≡ Ok Claimed.Idle → (q : Key) → is_pending self.old.pile q ≡ true → is_claimed self.old.pile q ≡ true }
         ensures image { (self.new.graph ≡ self.old.graph) × (self.new.roots ≡ self.old.roots) × (self.new.table ≡ self.old.table) }
         ensures pending { self.new.pile.pending ≡ self.old.pile.pending }
+        ensures others { (h : ℕ) → nat_eq hand h ≡ false → claim_at self.new.pile h ≡ claim_at self.old.pile h }
         ensures fresh { (task : TaskData P.F) → result ≡ Ok (Claimed.Task task) → ends_key (claim_at self.new.pile hand) ≡ true }
         ensures task { (task : TaskData P.F) → result ≡ Ok (Claimed.Task task) → IsTaken P.targets P.F.edge hand self.old self.new task }
         ensures is_task { (task : TaskData P.F) (graph : Supergraph) → result ≡ Ok (Claimed.Task task) → self.old.graph ≡ Some graph → AreExitsOwned graph → IsSome (found self.old.table task.key) → IsTaskOf P.targets P.F.edge graph self.old.table task }
@@ -82,7 +87,7 @@ fn task_of<P: Problem>(
 ) -> Result<Task<P>, Refused>
     ensures key { IfOk result (λ task. task.key ≡ key) }
     ensures is_task { IsProgramKept P.targets loaded.now.graph loaded.now.sources tables.now → AreExitsOwned loaded.now.graph → IsSome (found tables.now key) → IfOk result (IsTaskOf P.targets P.F.edge loaded.now.graph tables.now) }
-    ensures refused { IfErr result (λ e. (e ≡ Refused.NoMemory) ⊎ (e ≡ Refused.OutOfRange)) }
+    ensures refused { IfErr result (λ e. (e ≡ Refused.NoMemory) ⊎ ((e ≡ Refused.OutOfRange) × (loaded.now.graph.nodes ≤ node_of key))) }
 {
     let node = key.node();
     if node as usize >= loaded.graph.node_count() {

@@ -1,11 +1,12 @@
 //! All steps that are left, by one hand.
-ghost use Rattle.std.specs.Prelude.{◌≡◌, ◌<◌, ◌↔◌, [], true, false, Ok, Err, Some, None, IsSome, IfErr, IfOk, OnOk};
-ghost use Rattle.ide_worklist.specs.Worklist.{claim_at, ends_key};
-ghost use Rattle.ide_steps.specs.Drain.{potential};
-ghost use Rattle.ide_steps.specs.Going.{GoesOn, IsWorking};
+ghost use Rattle.std.specs.Prelude.{◌≡◌, ℕ, ◌-◌, ◌^◌, ◌<◌, ◌↔◌, ◌⊎◌, [], true, false, nat_eq, min, if◌then◌else◌, Ok, Err, Some, None, IsSome, IfErr, IfOk, OnErr, OnOk};
+ghost use Rattle.std.specs.Option.{is_some};
+ghost use Rattle.ide_steps.specs.Core.{is_loaded};
+ghost use Rattle.ide_steps.specs.Drain.{ArePaid, IsFree, potential};
+ghost use Rattle.ide_steps.specs.Going.{GoesOn, GoesOnBy, IsOutside, IsWorking};
 ghost use Rattle.ide_steps.specs.Steps.{progress_at};
 ghost use Rattle.ide_tasks.specs.Task.{TaskData};
-ghost use Rattle.ide_steps.specs.Core.{is_loaded};
+ghost use Rattle.ide_worklist.specs.Worklist.{claim_at, ends_key};
 
 use crate::claim::Claimed;
 use crate::laws::tasks_owe_their_parts;
@@ -13,23 +14,33 @@ use crate::machine::Core;
 use crate::part::Parted;
 use ide_problem::Problem;
 use ide_tasks::{Task, Work};
-use ide_theory::{runs_are_sound, sites_make_a_graph};
+use ide_theory::{keys_stand_at_nodes, runs_are_sound, sites_make_a_graph};
 use ide_wire::Refused;
 
 /// The hand that drains.
 const DRAINING: usize = 0;
 
 impl<P: Problem> Core<P> {
-    /// Claims and finishes tasks as hand 0 until no key is pending, and answers how many.
+    /// Claims and finishes tasks as hand 0 until no key is pending, and answers how many, up to the
+    /// largest number of 64 bits. There are at most as many as keys were pending, and ranks that the
+    /// entries lose.
     ///
     /// Refusals: `NoProgram`; `Busy` where hand 0 has a claim; `Unfinished` where another hand has
     /// one; all tested first, in this order. `NoMemory` keeps the steps done before it and releases
-    /// hand 0's claim.
+    /// hand 0's claim. So does `OutOfRange`, where a key to claim stands at no node of the graph,
+    /// which no run over the graph of a text leads to.
     pub fn drain(&mut self) -> Result<u64, Refused>
-        ensures no_program { is_loaded self.old ≡ false → result ≡ Err Refused.NoProgram }
-        ensures busy { is_loaded self.old ≡ true → IsSome (claim_at self.old.pile 0) → result ≡ Err Refused.Busy }
+        ensures no_program { (result ≡ Err Refused.NoProgram) ↔ (is_loaded self.old ≡ false) }
+        ensures busy { (result ≡ Err Refused.Busy) ↔ ((is_loaded self.old ≡ true) × IsSome (claim_at self.old.pile 0)) }
+        ensures unfinished { (result ≡ Err Refused.Unfinished) ↔ ((is_loaded self.old ≡ true) × (claim_at self.old.pile 0 ≡ None) × (h : ℕ) × (nat_eq 0 h ≡ false) × IsSome (claim_at self.old.pile h)) }
+        ensures refused { IfErr result (λ e. (e ≡ Refused.NoProgram) ⊎ (e ≡ Refused.Busy) ⊎ (e ≡ Refused.Unfinished) ⊎ (e ≡ Refused.NoMemory) ⊎ (e ≡ Refused.OutOfRange)) }
+        ensures within { result ≡ Err Refused.OutOfRange → IsOutside P.L.algebra P.F.edge P.targets self.old }
         ensures quiet { OnOk result (self.new.pile.pending ≡ []) }
+        ensures free { IsFree self.old.pile → IsFree self.new.pile }
+        ensures claims { IfOk result (λ tasks. (claims : ℕ) × (tasks ≡ min claims (2 ^ 64 - 1)) × GoesOnBy P.L.algebra P.F.edge P.targets claims self.old self.new) }
+        ensures paid { IfOk result (λ tasks. ArePaid P.F.edge tasks self.old self.new) }
         ensures goes { GoesOn P.L.algebra P.F.edge P.targets self.old self.new }
+        ensures unchanged { IfErr result (λ e. (e ≡ Refused.NoMemory) ⊎ (e ≡ Refused.OutOfRange) ⊎ (self.new ≡ self.old)) }
     {
         if self.loaded.is_none() {
             return Err(Refused::NoProgram);
@@ -49,7 +60,15 @@ impl<P: Problem> Core<P> {
 
     /// Runs tasks until none is left, and counts them, up to the largest number of 64 bits.
     fn run_all(&mut self) -> Result<u64, Refused>
+        requires loaded { is_loaded self.old ≡ true }
+        requires free { IsFree self.old.pile }
+        ensures refused { IfErr result (λ e. (e ≡ Refused.NoMemory) ⊎ (e ≡ Refused.OutOfRange)) }
+        ensures within { result ≡ Err Refused.OutOfRange → IsOutside P.L.algebra P.F.edge P.targets self.old }
         ensures quiet { OnOk result (self.new.pile.pending ≡ []) }
+        ensures free { OnOk result (IsFree self.new.pile) }
+        ensures others { (h : ℕ) → nat_eq 0 h ≡ false → claim_at self.new.pile h ≡ None }
+        ensures claims { IfOk result (λ tasks. (claims : ℕ) × (tasks ≡ min claims (2 ^ 64 - 1)) × GoesOnBy P.L.algebra P.F.edge P.targets claims self.old self.new) }
+        ensures paid { IfOk result (λ tasks. ArePaid P.F.edge tasks self.old self.new) }
         ensures goes { GoesOn P.L.algebra P.F.edge P.targets self.old self.new }
     {
         let mut tasks = 0_u64;
@@ -61,8 +80,16 @@ impl<P: Problem> Core<P> {
 
     /// Claims and finishes one task; false where no key is pending.
     fn run_next(&mut self) -> Result<bool, Refused>
+        requires loaded { is_loaded self.old ≡ true }
+        requires free { IsFree self.old.pile }
+        ensures refused { IfErr result (λ e. (e ≡ Refused.NoMemory) ⊎ (e ≡ Refused.OutOfRange)) }
+        ensures within { result ≡ Err Refused.OutOfRange → IsOutside P.L.algebra P.F.edge P.targets self.old }
         ensures quiet { result ≡ Ok false → self.new.pile.pending ≡ [] }
         ensures falls { result ≡ Ok true → potential P.F.edge self.new < potential P.F.edge self.old }
+        ensures free { OnOk result (IsFree self.new.pile) }
+        ensures others { (h : ℕ) → nat_eq 0 h ≡ false → claim_at self.new.pile h ≡ None }
+        ensures claims { IfOk result (λ more. GoesOnBy P.L.algebra P.F.edge P.targets (if more then 1 else 0) self.old self.new) }
+        ensures paid { IfOk result (λ more. ArePaid P.F.edge (if more then 1 else 0) self.old self.new) }
         ensures goes { GoesOn P.L.algebra P.F.edge P.targets self.old self.new }
     {
         let Some(task) = self.take_next()? else {
@@ -77,13 +104,21 @@ impl<P: Problem> Core<P> {
     /// Claims the next task, or none where no key is pending. It is a step, as the task owes what a
     /// claim of its key does.
     fn take_next(&mut self) -> Result<Option<Task<P>>, Refused>
+        requires loaded { is_loaded self.old ≡ true }
+        requires free { IsFree self.old.pile }
+        ensures refused { IfErr result (λ e. (e ≡ Refused.NoMemory) ⊎ (e ≡ Refused.OutOfRange)) }
+        ensures within { result ≡ Err Refused.OutOfRange → IsOutside P.L.algebra P.F.edge P.targets self.old }
         ensures quiet { result ≡ Ok None → self.new.pile.pending ≡ [] }
-        ensures same { potential P.F.edge self.new ≡ potential P.F.edge self.old }
+        ensures same { (self.new.table ≡ self.old.table) × (self.new.pile.pending ≡ self.old.pile.pending) }
         ensures fresh { (task : TaskData P.F) → result ≡ Ok (Some task) → ends_key (claim_at self.new.pile 0) ≡ true }
         ensures progress { (task : TaskData P.F) → result ≡ Ok (Some task) → progress_at self.new.pile 0 ≡ Some (task, 0) }
+        ensures others { (h : ℕ) → nat_eq 0 h ≡ false → claim_at self.new.pile h ≡ None }
+        ensures none { result ≡ Ok None → IsFree self.new.pile }
+        ensures claims { IfOk result (λ task. GoesOnBy P.L.algebra P.F.edge P.targets (if is_some task then 1 else 0) self.old self.new) }
         ensures goes { GoesOn P.L.algebra P.F.edge P.targets self.old self.new }
     {
         runs_are_sound::<P>();
+        keys_stand_at_nodes::<P>();
         sites_make_a_graph::<P>();
         tasks_owe_their_parts::<P>();
         match self.claim(DRAINING)? {
@@ -96,9 +131,13 @@ impl<P: Problem> Core<P> {
     /// Does all parts of the work that was claimed last, and finishes it.
     fn run(&mut self, mut work: Work<P>) -> Result<bool, Refused>
         requires { ends_key (claim_at self.old.pile 0) ≡ true }
+        ensures refused { IfErr result (λ e. e ≡ Refused.NoMemory) }
         ensures more { IfOk result (λ more. more ≡ true) }
         ensures falls { OnOk result (potential P.F.edge self.new < potential P.F.edge self.old) }
-        ensures goes { IsWorking P.L.algebra P.F.edge P.targets self.old 0 work → GoesOn P.L.algebra P.F.edge P.targets self.old self.new }
+        ensures paid { OnOk result (ArePaid P.F.edge 1 self.old self.new) }
+        ensures done { OnOk result (claim_at self.new.pile 0 ≡ None) }
+        ensures others { (h : ℕ) → nat_eq 0 h ≡ false → claim_at self.old.pile h ≡ None → claim_at self.new.pile h ≡ None }
+        ensures goes { IsWorking P.L.algebra P.F.edge P.targets self.old 0 work → GoesOnBy P.L.algebra P.F.edge P.targets 0 self.old self.new }
     {
         while self.next_part(DRAINING, &mut work)? != Parted::NoPart {}
         self.end_claim(DRAINING);

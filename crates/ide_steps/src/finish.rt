@@ -55,6 +55,7 @@ impl<P: Problem> Core<P> {
         ensures refused { IfErr result (λ e. e ≡ Refused.Stale) }
         ensures released { state_of P.targets P.F.edge self.new ≡ with_claim (state_of P.targets P.F.edge self.old) hand None }
         ensures claim { claim_at self.new.pile hand ≡ None }
+        ensures claims { (h : ℕ) → claim_at self.new.pile h ≡ put_hand (claim_at self.old.pile) hand None h }
         ensures stays { (self.new.graph ≡ self.old.graph) × (self.new.roots ≡ self.old.roots) × (self.new.table ≡ self.old.table) }
         ensures pending { self.new.pile.pending ≡ self.old.pile.pending }
     {

@@ -1,5 +1,5 @@
 -- Runs of the tabulation, by any number of hands in any order.
-use Rattle.std.specs.Prelude.{◌≡◌, ◌≢◌, ℕ, ◌<◌, true, false, List, [], ◌∷◌, Option, Some, None}
+use Rattle.std.specs.Prelude.{◌≡◌, ◌≢◌, ℕ, ◌+◌, ◌<◌, true, false, List, [], ◌∷◌, Option, Some, None}
 use Rattle.ide_wire.specs.declared.key.Key.{Key}
 use Rattle.ide_wire.specs.declared.key.Key.TheVariants.{Jump}
 use Rattle.ide_theory.specs.Frame.{Frame}
@@ -35,6 +35,19 @@ pub data Run (K : Frame) : State K.F → Type 0 where
 pub data Steps (K : Frame) : State K.F → State K.F → Type 0 where
   none : {s : State K.F} → Steps K s s
   more : {s t u : State K.F} → Steps K s t → Step K t u → Steps K s u
+
+-- how many of the steps are claims
+abbrev pub claims_of : {K : Frame} {s t : State K.F} → Step K s t → ℕ
+claims_of (claim h q parts free waits alone owes) = 1
+claims_of (skip h c t g rest mine parts met) = 0
+claims_of (lower h c t g rest mine parts) = 0
+claims_of (release h) = 0
+claims_of (finish h c mine over) = 0
+claims_of (root r d is_start in_range) = 0
+
+abbrev pub claims_in : {K : Frame} {s t : State K.F} → Steps K s t → ℕ
+claims_in none = 0
+claims_in (more steps step) = claims_in steps + claims_of step
 
 -- no key is pending
 abbrev pub IsQuiet : {F : Type 0} → State F → Type 0

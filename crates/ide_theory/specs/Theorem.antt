@@ -1,5 +1,5 @@
 -- What the theorems of the crate say, for any analysis over any supergraph.
-use Rattle.std.specs.Prelude.{◌≡◌, ℕ, ◌<◌, List, Option}
+use Rattle.std.specs.Prelude.{◌≡◌, ℕ, ◌<◌, List, Option, length}
 use Rattle.ide_lattice.specs.Algebra.{LatticeAlgebra, EdgeAlgebra}
 use Rattle.ide_problem.specs.Flow.{Targets}
 use Rattle.ide_theory.specs.Frame.{Frame, Roots, AreRoots}
@@ -14,6 +14,7 @@ use Rattle.ide_theory.specs.Reached.{IsRunOf, DoRunsGoOn}
 use Rattle.ide_wire.specs.declared.key.Key.{Key}
 use Rattle.ide_theory.specs.Invariant.{IsInvariant}
 use Rattle.ide_text.specs.declared.program.Program.{Program}
+use Rattle.ide_graph.specs.Ends.{AreEndsNodes}
 use Rattle.ide_graph.specs.GraphOf.{IsNamed, IsGraphOf}
 use Rattle.ide_graph.specs.Joined.{AreJoined, start_at}
 use Rattle.ide_graph.specs.ProgramEdges.{HasEdgesOf}
@@ -101,9 +102,10 @@ module _ {L F : Type 0} (lattice : LatticeAlgebra L) (functions : EdgeAlgebra F 
       × IsGraph (edges_of graph.facts graph.sites all (start_at graph))
       × AreEdgesOf (frame_of lattice functions targets (edges_of graph.facts graph.sites all (start_at graph))) (node_edges graph.facts graph.sites all)
 
-  -- the keys and the parts of a run over the graph of such a program stand at its nodes
+  -- the keys and the parts of a run stand at the nodes of its graph, where edges end at nodes and each
+  -- node has a site
   abbrev pub KeysStandAtNodes : Type 0
   KeysStandAtNodes =
-      (p : Program) (graph : Graph) → IsNamed p → IsGraphOf p graph → HasEdgesOf p graph
+      (graph : Graph) → AreJoined graph.sites (start_at graph) → AreEndsNodes graph → length graph.sites ≡ graph.nodes
       → (all : HaveEdgesOf graph.facts graph.sites) (s : State F) → Run (frame_at lattice functions targets graph all) s
       → AreAllWithin graph.nodes s

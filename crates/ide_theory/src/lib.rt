@@ -10,7 +10,7 @@
 
 ghost use Rattle.ide_theory.specs.Theorem.{ValuesAreBest, RunsAreBest, BestIsUnique, TopIsBest, PartsAreOwed, PartsInRangeAreOwed, RunsAreSound, RunsGoOn, SitesMakeAGraph, GraphsAreSupergraphs, KeysStandAtNodes};
 
-use ide_graph::{edges_are_lawful, ends_of_programs_are_nodes, sites_of_programs_are_joined};
+use ide_graph::{edges_are_lawful, sites_of_programs_are_joined};
 use ide_problem::Problem;
 
 /// Values that follow from a quiet image, in which the roots have their identities, are best.
@@ -72,10 +72,8 @@ pub fn graphs_are_supergraphs<P: Problem>()
     sites_make_a_graph::<P>();
 }
 
-/// The keys and the parts of a run over the graph of such a program stand at its nodes.
+/// The keys and the parts of a run stand at the nodes of its graph, where edges end at nodes and each
+/// node has a site.
 pub fn keys_stand_at_nodes<P: Problem>()
     ensures { KeysStandAtNodes P.L.algebra P.F.edge P.targets }
-{
-    ends_of_programs_are_nodes();
-    sites_of_programs_are_joined();
-}
+{}

@@ -91,7 +91,9 @@ impl<T: Drop> Worklist<T> {
     pub fn push(&mut self, key: Key)
         requires { 0 < self.old.spare }
         ensures pending { (q : Key) → is_pending self.new q ≡ (same_key key q || is_pending self.old q) }
-        ensures count { length self.new.pending ≤ length self.old.pending + 1 }
+        ensures count { length self.new.pending ≡ length self.old.pending + (if is_pending self.old key then 0 else 1) }
+        // Each claimed key was pending, and no two hands had claimed one key.
+        ensures held { IsWorklist self.old }
         ensures claims { (h : ℕ) → claim_at self.new h ≡ marked key (claim_at self.old h) }
     {
         add(&mut self.pending, key);
@@ -209,7 +211,7 @@ fn last_unclaimed<T>(pending: &[Key], claims: &[Option<Claim<T>>]) -> Option<Key
 fn add(pending: &mut IndexSet<Key>, key: Key)
     requires { 0 < spare pending.old }
     ensures keys { (q : Key) → list_any (same_key q) pending.new.keys ≡ (same_key key q || list_any (same_key q) pending.old.keys) }
-    ensures count { length pending.new.keys ≤ length pending.old.keys + 1 }
+    ensures count { length pending.new.keys ≡ length pending.old.keys + (if list_any (same_key key) pending.old.keys then 0 else 1) }
 {
     let _ = pending.insert(key);
 }

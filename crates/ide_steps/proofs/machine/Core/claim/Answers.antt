@@ -1,4 +1,4 @@
-use Rattle.std.proofs.Common.{◌≡◌, Some, false, sym, ap, ◌∙◌, rules}
+use Rattle.std.proofs.Common.{◌≡◌, Some, false, sym, ap, ◌∙◌, inl, inr, rules}
 use Rattle.ide_tasks.specs.Parts.{owed}
 use Rattle.ide_theory.specs.State.{new_claim, with_claim}
 use Rattle.ide_steps.proofs.States.{state-at, state-claimed, unchanged-err}
@@ -25,3 +25,16 @@ returns-clause-task g c = λ task is.
 pub returns-in_err-take-clause-unchanged : goal.returns-in_err-take-clause-unchanged
 returns-in_err-take-clause-unchanged g c =
     unchanged-err {F = g.row.P-F.Denot} c.from_residual-in_err-take.result _ c.args.self.now c.take.new.self c.self.view_is c.take.ensures.pending c.in_err-take.ensures.err
+
+pub returns-in_err-task-clause-out_of_range : goal.returns-in_err-task-clause-out_of_range
+returns-in_err-task-clause-out_of_range g c = λ is.
+    elim c.in_err-task.ensures.refused [
+      | inl memory ↦ absurd (search rules)
+      | inr out ↦ rw (← c.self.view_is) (record {
+        key = c.in-Some-unclaimed.key;
+        pending = c.in-Some-unclaimed.ensures.pending;
+        graph = c.deref.result.now.graph;
+        is = search rules;
+        outside = out.1;
+      })
+    ]

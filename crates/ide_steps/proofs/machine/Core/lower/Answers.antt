@@ -1,16 +1,19 @@
-use Rattle.std.proofs.Common.{◌+◌, ◌≤◌, length, subst, sym, ap, ◌∙◌, get_or, None}
-use Rattle.ide_steps.proofs.Potential.{falls}
+use Rattle.std.proofs.Common.{◌≡◌, ◌+◌, ◌≤◌, length, subst, sym, ap, ◌∙◌, get_or, arith, None}
+use Rattle.ide_steps.specs.Drain.{left_by}
+use Rattle.ide_steps.proofs.Potential.{at-most-one, falls, push-pays}
 use Rattle.ide_steps.proofs.machine.Core.lower.Goals as goal
 use Rattle.std.specs.Prelude.{◌||◌}
 use Rattle.std.specs.List.{list_any}
 use Rattle.ide_tables.specs.Tables.{found, or_top}
 use Rattle.ide_wire.specs.Key.{same_key}
-use Rattle.ide_worklist.specs.Worklist.{marked}
+use Rattle.ide_worklist.specs.Worklist.{claim_at, marked}
 use Rattle.ide_steps.proofs.States.{or_top-unwrap, state-lowered}
 
 pub returns-then-eq-clause-falls : goal.returns-then-eq-clause-falls
 returns-then-eq-clause-falls g c is =
-    let count = subst (λ keys. length c.push.new.self.pending ≤ length keys + 1) c.in_ok-reserve.ensures.pending c.push.ensures.count in
+    let one = at-most-one (list_any (same_key c.args.key) c.reserve.new.self.pending) in
+    let more : length c.push.new.self.pending ≤ length c.reserve.new.self.pending + 1 = omega (arith, c.push.ensures.count, one) in
+    let count = subst (λ keys. length c.push.new.self.pending ≤ length keys + 1) c.in_ok-reserve.ensures.pending more in
     rw (← c.self.view_is)
     (falls g.P.F.EdgeFn.edge c.self.inside.tables.entries c.lower.new.self.entries
     (length c.self.inside.worklist.pending) (length c.push.new.self.pending)
@@ -29,3 +32,13 @@ pub returns-else-eq-clause-met : goal.returns-else-eq-clause-met
 returns-else-eq-clause-met g c = λ is.
     rw (← c.self.view_is, ← or_top-unwrap g.P.Problem.targets g.P.F.EdgeFn.edge (found c.self.inside.tables c.args.key))
     (g.met.P.F.EdgeFn.exact _ _ (c.in_ok-change.ensures.met is))
+
+pub returns-then-eq-clause-paid : goal.returns-then-eq-clause-paid
+returns-then-eq-clause-paid g c = λ is h.
+    let pays = push-pays c.reserve.new.self c.args.key c.push.ensures.held h in
+    let claims : claim_at c.push.new.self h ≡ marked c.args.key (claim_at c.reserve.new.self h) = c.push.ensures.claims h in
+    let less = c.in_ok-change.ensures.spent is in
+    let after : left_by (claim_at c.push.new.self h) ≡ left_by (marked c.args.key (claim_at c.reserve.new.self h)) = ap left_by claims in
+    let before : left_by (claim_at c.reserve.new.self h) ≡ left_by (claim_at c.self.inside.worklist h) = ap (λ claims. left_by (get_or claims h None)) c.in_ok-reserve.ensures.claims in
+    let keys : length c.reserve.new.self.pending ≡ length c.self.inside.worklist.pending = ap length c.in_ok-reserve.ensures.pending in
+    rw (← c.self.view_is) (omega (arith, pays, c.push.ensures.count, less, after, before, keys))

@@ -1,8 +1,9 @@
-use Rattle.std.proofs.Common.{rules, refl, Ok, ◌≡◌, ◌+◌, ◌-◌, ◌*◌, ◌^◌, ◌<◌, ◌⊎◌, Bool, true, false, cond, ℕ, length, arith, ◌∙◌, ap, inl, inr, sym, subst}
+use Rattle.std.proofs.Common.{rules, refl, Ok, None, ◌≡◌, ◌+◌, ◌-◌, ◌*◌, ◌^◌, ◌<◌, ◌≤◌, ◌⊎◌, Bool, true, false, cond, ℕ, length, arith, ◌∙◌, ap, inl, inr, sym, subst}
+use Rattle.std.specs.Prelude.{nat_eq}
 use Rattle.ide_worklist.specs.Worklist.{claim_at, ends_key}
 use Rattle.ide_tables.specs.Spent.{spent}
-use Rattle.ide_steps.specs.Drain.{potential}
-use Rattle.ide_steps.specs.Going.{GoesOn, IsWorking}
+use Rattle.ide_steps.specs.Drain.{IsPaidBy, left_by, potential}
+use Rattle.ide_steps.specs.Going.{GoesOnBy, IsWorking}
 use Rattle.ide_steps.proofs.Going.{goes-then, goes-finish, goes-part, goes-same, goes-unchanged, parted-is, works-on}
 use Rattle.ide_steps.proofs.machine.Core.run.Goals as goal
 
@@ -13,6 +14,11 @@ ended twice now then start true count (inl less) = omega (arith, count, less)
 ended twice now then start true count (inr same) = omega (arith, count, same.0)
 ended twice now then start false count (inl less) = omega (arith, count, less)
 ended twice now then start false count (inr same) = let no : ⊥ = cc (same.1) in elim no [ ]
+
+-- it pays for its own task, by its key or by the rank that its key lost
+settled : (now then paid start : ℕ) (ends : Bool) → now + cond ends 1 0 ≡ then → paid + then + cond ends 0 1 ≤ start → 1 + paid + now ≤ start
+settled now then paid start true count is = omega (arith, count, is)
+settled now then paid start false count is = omega (arith, count, is)
 
 pub returns-clause-falls : goal.returns-clause-falls
 returns-clause-falls g c =
@@ -27,6 +33,27 @@ returns-clause-falls g c =
     subst (λ t. 2 * (2 ^ 64 * B.height - spent B t.entries) + length c.end_claim.new.self.pile.pending < potential B c.args.self.now)
     (sym c.end_claim.ensures.stays.2) less
 
+pub returns-clause-paid : goal.returns-clause-paid
+returns-clause-paid g c =
+    let B = g.P.F.EdgeFn.edge in
+    let start = c.args.self.now in
+    let core = c.next_part.new.self in
+    let here = (c.in_ok-next_part.ensures.no_part (search rules)).1 in
+    let by = subst (IsPaidBy B 0 start) (sym here) c.loop-work.invariant.2 in
+    let fresh : left_by (claim_at start.pile 0) ≡ 0 = ap (λ b. cond b 0 1) c.requires in
+    let due : spent B start.table.entries + length core.pile.pending + left_by (claim_at core.pile 0) ≤ length start.pile.pending + spent B core.table.entries =
+    omega (arith, by, fresh) in
+    let paid = settled (length c.end_claim.new.self.pile.pending) (length core.pile.pending) (spent B start.table.entries)
+    (length start.pile.pending + spent B core.table.entries) (ends_key (claim_at core.pile 0)) c.end_claim.ensures.count due in
+    subst (λ t. 1 + spent B start.table.entries + length c.end_claim.new.self.pile.pending ≤ length start.pile.pending + spent B t.entries)
+    (sym c.end_claim.ensures.stays.2) paid
+
+pub returns-clause-others : goal.returns-clause-others
+returns-clause-others g c = λ h other none.
+    c.end_claim.ensures.claims h
+    ∙ ap (λ b. cond b None (claim_at c.next_part.new.self.pile h)) other
+    ∙ c.in_ok-next_part.ensures.free h (c.loop-work.invariant.3 h other none)
+
 pub returns-clause-goes : goal.returns-clause-goes
 returns-clause-goes g c = λ working.
     let A = g.P.L.Lattice.algebra in
@@ -35,10 +62,13 @@ returns-clause-goes g c = λ working.
     let done = c.in_ok-next_part.ensures.no_part (search rules) in
     let now = c.loop-work.invariant.1 working in
     let core = c.next_part.new.self in
-    goes-then A B targets c.args.self.now core c.end_claim.new.self
-    (subst (GoesOn A B targets c.args.self.now) (sym done.1) now.1)
+    goes-then A B targets 0 0 c.args.self.now core c.end_claim.new.self
+    (subst (GoesOnBy A B targets 0 c.args.self.now) (sym done.1) now.1)
     (goes-finish A B targets core c.end_claim.new.self 0 c.loop-work.work c.end_claim.ensures.stays.0 c.end_claim.ensures.stays.1
     (subst (λ s. IsWorking A B targets s 0 c.loop-work.work) (sym done.1) now.0) done.0 c.end_claim.ensures.finished)
+
+pub returns-in_err-next_part-clause-others : goal.returns-in_err-next_part-clause-others
+returns-in_err-next_part-clause-others g c = λ h other none. c.in_err-next_part.ensures.free h (c.loop-work.invariant.3 h other none)
 
 pub returns-in_err-next_part-clause-goes : goal.returns-in_err-next_part-clause-goes
 returns-in_err-next_part-clause-goes g c = λ working.
@@ -46,12 +76,16 @@ returns-in_err-next_part-clause-goes g c = λ working.
     let B = g.P.F.EdgeFn.edge in
     let targets = g.P.Problem.targets in
     let now = c.loop-work.invariant.1 working in
-    goes-then A B targets c.args.self.now c.loop-work.self c.next_part.new.self now.1
+    goes-then A B targets 0 0 c.args.self.now c.loop-work.self c.next_part.new.self now.1
     (goes-unchanged A B targets c.loop-work.self c.next_part.new.self c.in_err-next_part.ensures.unchanged.0)
 
 pub loop-work-init : goal.loop-work-init
-loop-work-init g c =
-    (inr (refl, c.requires), λ working. (working, goes-same g.P.L.Lattice.algebra g.P.F.EdgeFn.edge g.P.Problem.targets c.args.self.now c.args.self.now refl))
+loop-work-init g c = (
+  inr (refl, c.requires),
+  λ working. (working, goes-same g.P.L.Lattice.algebra g.P.F.EdgeFn.edge g.P.Problem.targets c.args.self.now c.args.self.now refl),
+  omega arith,
+  λ h other none. none,
+)
 
 pub loop-work-preserved : goal.loop-work-preserved
 loop-work-preserved g c =
@@ -64,6 +98,10 @@ loop-work-preserved g c =
     let work = c.loop-work.work in
     let after = c.next_part.new.work in
     let ensures = c.in_ok-next_part.ensures in
+    let due = c.loop-work.invariant.2 in
+    let part_paid = ensures.paid in
+    let paid : IsPaidBy B 0 start new = omega (arith, due, part_paid) in
+    let others : (h : ℕ) → nat_eq 0 h ≡ false → claim_at start.pile h ≡ None → claim_at new.pile h ≡ None = λ h other none. ensures.free h (c.loop-work.invariant.3 h other none) in
     elim (parted-is c.in_ok-next_part.field-0) [
       | inl lowered ↦
           let is = ap Ok lowered in
@@ -76,8 +114,10 @@ loop-work-preserved g c =
                 let now = c.loop-work.invariant.1 working in
                 let part = ensures.lowered is work.task now.0.progress in (
                   works-on A B targets new 0 work after part.counted now.0.parts (ensures.progress work.task now.0.progress),
-                  goes-then A B targets start old new now.1 (goes-part A B targets old new 0 work after ensures.stays.0 ensures.stays.1 now.0 (inl part)),
+                  goes-then A B targets 0 0 start old new now.1 (goes-part A B targets old new 0 work after ensures.stays.0 ensures.stays.1 now.0 (inl part)),
                 ),
+            paid,
+            others,
           )
       | inr other ↦ elim other [
         | inl same ↦
@@ -91,8 +131,10 @@ loop-work-preserved g c =
                   let now = c.loop-work.invariant.1 working in
                   let part = ensures.same is work.task now.0.progress in (
                     works-on A B targets new 0 work after part.counted now.0.parts (ensures.progress work.task now.0.progress),
-                    goes-then A B targets start old new now.1 (goes-part A B targets old new 0 work after ensures.stays.0 ensures.stays.1 now.0 (inr part)),
+                    goes-then A B targets 0 0 start old new now.1 (goes-part A B targets old new 0 work after ensures.stays.0 ensures.stays.1 now.0 (inr part)),
                   ),
+              paid,
+              others,
             )
         | inr none ↦ absurd (search rules)
       ]

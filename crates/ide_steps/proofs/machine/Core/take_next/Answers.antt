@@ -1,17 +1,34 @@
-use Rattle.std.proofs.Common.{ap, Ok}
+use Rattle.std.proofs.Common.{◌<◌, ap, arith, sym, ◌∙◌, rules, Ok}
+use Rattle.std.proofs.lemmas.Option.{same_Some}
 use Rattle.std.specs.Option.{is_some}
 use Rattle.ide_graph.specs.Joined.{start_at}
+use Rattle.ide_wire.specs.Key.{node_of}
 use Rattle.ide_theory.specs.Sites.{edges_of}
 use Rattle.ide_steps.specs.State.{state_of}
-use Rattle.ide_steps.proofs.Going.{claims, goes-same, goes-step, goes-unchanged}
+use Rattle.ide_steps.proofs.Free.{some-unclaimed}
+use Rattle.ide_steps.proofs.Going.{claims, goes-on, goes-same, goes-step, goes-unchanged}
 use Rattle.ide_steps.proofs.machine.Core.take_next.Goals as goal
 
 pub returns-in_err-task-clause-goes : goal.returns-in_err-task-clause-goes
 returns-in_err-task-clause-goes g c =
-    goes-unchanged g.P.L.Lattice.algebra g.P.F.EdgeFn.edge g.P.Problem.targets c.args.self.now c.claim.new.self c.in_err-task.ensures.unchanged
+    goes-on g.P.L.Lattice.algebra g.P.F.EdgeFn.edge g.P.Problem.targets 0 c.args.self.now c.claim.new.self
+    (goes-unchanged g.P.L.Lattice.algebra g.P.F.EdgeFn.edge g.P.Problem.targets c.args.self.now c.claim.new.self c.in_err-task.ensures.unchanged)
 
-pub returns-in-Task-clause-goes : goal.returns-in-Task-clause-goes
-returns-in-Task-clause-goes g c =
+-- each pending key of a run is present, and each present one stands at a node
+pub returns-in_err-task-clause-within : goal.returns-in_err-task-clause-within
+returns-in_err-task-clause-within g c = λ is graph at all fit run.
+    let old = c.args.self.now in
+    let out = c.in_err-task.ensures.out_of_range (search rules) in
+    let made = c.sites_make_a_graph.ensures graph.facts graph.sites all (start_at graph) fit.joined in
+    let state = state_of g.P.Problem.targets g.P.F.EdgeFn.edge old in
+    let present = (c.runs_are_sound.ensures (edges_of graph.facts graph.sites all (start_at graph)) made.0 state run).present out.key out.pending in
+    let within : node_of out.key < graph.nodes = (c.keys_stand_at_nodes.ensures graph fit.joined fit.ends fit.sited all state run).keys out.key present.0 present.1 in
+    let same = ap (λ graph. graph.nodes) (same_Some out.graph graph (sym out.is ∙ at)) in
+    let outside = out.outside in
+    omega (arith, within, same, outside)
+
+pub returns-in-Task-clause-claims : goal.returns-in-Task-clause-claims
+returns-in-Task-clause-claims g c =
     let A = g.P.L.Lattice.algebra in
     let B = g.P.F.EdgeFn.edge in
     let targets = g.P.Problem.targets in
@@ -20,7 +37,7 @@ returns-in-Task-clause-goes g c =
     let task = c.in-Task.task in
     let is = ap Ok c.in-Task.is in
     let taken = c.in_ok-task.ensures.task task is in
-    goes-step A B targets old new c.in_ok-task.ensures.image.0 c.in_ok-task.ensures.image.1 (λ graph same all fit run.
+    goes-step A B targets 1 old new c.in_ok-task.ensures.image.0 c.in_ok-task.ensures.image.1 (λ graph same all fit run.
     let made = c.sites_make_a_graph.ensures graph.facts graph.sites all (start_at graph) fit.joined in
     let sound = c.runs_are_sound.ensures (edges_of graph.facts graph.sites all (start_at graph)) made.0 (state_of targets B old) run in
     let present = sound.present task.key taken.pending in
@@ -28,10 +45,24 @@ returns-in-Task-clause-goes g c =
     (c.tasks_owe_their_parts.ensures graph all fit.joined fit.few old.table task
     (c.in_ok-task.ensures.is_task task graph is same fit.exits (ap is_some present.1)) sound.ranged.keys))
 
+pub returns-in-Task-clause-goes : goal.returns-in-Task-clause-goes
+returns-in-Task-clause-goes g c =
+    goes-on g.P.L.Lattice.algebra g.P.F.EdgeFn.edge g.P.Problem.targets 1 c.args.self.now c.claim.new.self (returns-in-Task-clause-claims g c)
+
+pub returns-in-Idle-clause-refused : goal.returns-in-Idle-clause-refused
+returns-in-Idle-clause-refused g c =
+    let is = ap Ok c.in-Idle.is in
+    absurd (some-unclaimed c.args.self.now.pile c.requires.free (c.in_ok-task.ensures.waiting is) (c.in_ok-task.ensures.idle is))
+
 pub returns-in-Idle-clause-goes : goal.returns-in-Idle-clause-goes
 returns-in-Idle-clause-goes g c =
-    goes-same g.P.L.Lattice.algebra g.P.F.EdgeFn.edge g.P.Problem.targets c.args.self.now c.claim.new.self (c.in_ok-task.ensures.waits (ap Ok c.in-Idle.is))
+    goes-on g.P.L.Lattice.algebra g.P.F.EdgeFn.edge g.P.Problem.targets 0 c.args.self.now c.claim.new.self
+    (goes-same g.P.L.Lattice.algebra g.P.F.EdgeFn.edge g.P.Problem.targets c.args.self.now c.claim.new.self (c.in_ok-task.ensures.waits (ap Ok c.in-Idle.is)))
+
+pub returns-in-Quiet-clause-claims : goal.returns-in-Quiet-clause-claims
+returns-in-Quiet-clause-claims g c =
+    goes-same g.P.L.Lattice.algebra g.P.F.EdgeFn.edge g.P.Problem.targets c.args.self.now c.claim.new.self (c.in_ok-task.ensures.nothing (ap Ok c.in-Quiet.is))
 
 pub returns-in-Quiet-clause-goes : goal.returns-in-Quiet-clause-goes
 returns-in-Quiet-clause-goes g c =
-    goes-same g.P.L.Lattice.algebra g.P.F.EdgeFn.edge g.P.Problem.targets c.args.self.now c.claim.new.self (c.in_ok-task.ensures.nothing (ap Ok c.in-Quiet.is))
+    goes-on g.P.L.Lattice.algebra g.P.F.EdgeFn.edge g.P.Problem.targets 0 c.args.self.now c.claim.new.self (returns-in-Quiet-clause-claims g c)

@@ -1,0 +1,43 @@
+-- What follows where no hand has a claim.
+use Rattle.std.proofs.Common.{◌≡◌, ◌≢◌, ℕ, suc, Bool, true, false, List, [], ◌∷◌, Option, None, ap, sym, subst, ◌∙◌, refl, get_or, ◌||◌}
+use Rattle.std.specs.Prelude.{Result, Ok, Err, OnOk, nat_eq}
+use Rattle.std.specs.List.{list_any}
+use Rattle.std.proofs.lemmas.Bool.{eqb-true}
+use Rattle.ide_wire.specs.Key.{same_key, same_key_refl}
+use Rattle.ide_wire.specs.declared.key.Key.{Key}
+use Rattle.ide_worklist.specs.Worklist.{Pile, claim_at, is_claim_of, is_claimed, is_pending}
+use Rattle.ide_worklist.specs.declared.claim.Claim.{Claim}
+use Rattle.ide_steps.specs.Drain.{IsFree}
+
+first-waits : (key : Key) (keys : List Key) → list_any (same_key key) (key ∷ keys) ≡ true
+first-waits key keys = ap (λ b. b || list_any (same_key key) keys) (same_key_refl key)
+
+module _ {T : Type 0} where
+  none-of : (key : Key) (claims : List (Option (Claim T))) → ((h : ℕ) → get_or claims h None ≡ None) → list_any (is_claim_of key) claims ≡ false
+  none-of key [] free = refl
+  none-of key (claim ∷ claims) free =
+      (λ i. is_claim_of key (free 0 i) || list_any (is_claim_of key) claims) ∙ none-of key claims (λ h. free (suc h))
+
+  -- not every pending key is claimed
+  pub some-unclaimed : (pile : Pile T) → IsFree pile → pile.pending ≢ [] → ((q : Key) → is_pending pile q ≡ true → is_claimed pile q ≡ true) → ⊥
+  some-unclaimed pile free waits claimed = among pile.pending refl
+    where
+      among : (keys : List Key) → pile.pending ≡ keys → ⊥
+      among [] none = waits none
+      among (key ∷ keys) some =
+          let is : true ≡ false = sym (claimed key (ap (list_any (same_key key)) some ∙ first-waits key keys)) ∙ none-of key pile.claims free in
+          let no : ⊥ = cc (is) in
+          no
+
+  -- a hand that ends its claim leaves none, where no other hand has one
+  pub free-without : (pile : Pile T) → claim_at pile 0 ≡ None → ((h : ℕ) → nat_eq 0 h ≡ false → claim_at pile h ≡ None) → IsFree pile
+  free-without pile none others = λ h.
+      elim (nat_eq 0 h) as (λ b. nat_eq 0 h ≡ b → claim_at pile h ≡ None) [
+        | true ↦ λ same. subst (λ j. claim_at pile j ≡ None) (eqb-true 0 h same) none
+        | false ↦ λ other. others h other
+      ] refl
+
+  pub free-after : {X E : Type 0} (r : Result X E) (pile : Pile T) → OnOk r (claim_at pile 0 ≡ None)
+      → ((h : ℕ) → nat_eq 0 h ≡ false → claim_at pile h ≡ None) → OnOk r (IsFree pile)
+  free-after (Ok x) pile none others = free-without pile none others
+  free-after (Err e) pile none others = tt
