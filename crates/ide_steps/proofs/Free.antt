@@ -1,5 +1,5 @@
 -- What follows where no hand has a claim.
-use Rattle.std.proofs.Common.{◌≡◌, ◌≢◌, ℕ, suc, Bool, true, false, List, [], ◌∷◌, Option, None, ap, sym, subst, ◌∙◌, refl, get_or, ◌||◌}
+use Rattle.std.proofs.Common.{◌≡◌, ◌≢◌, ℕ, suc, true, false, List, [], ◌∷◌, Option, None, ap, sym, subst, ◌∙◌, refl, get_or, ◌||◌}
 use Rattle.std.specs.Prelude.{Result, Ok, Err, OnOk, nat_eq}
 use Rattle.std.specs.List.{list_any}
 use Rattle.std.proofs.lemmas.Bool.{eqb-true}

@@ -1,5 +1,5 @@
 -- What a task is joined with, by its key and its site.
-use Rattle.std.proofs.Common.{◌≡◌, ℕ, ◌+◌, zero, suc, ◌<◌, refl, sym, ap, ◌∙◌, List, [], ◌∷◌, ◌++◌, take, Option, Some, None, map, length, true, false}
+use Rattle.std.proofs.Common.{◌≡◌, ℕ, ◌+◌, zero, suc, ◌<◌, sym, ap, ◌∙◌, List, [], ◌∷◌, ◌++◌, take, Some, map, length, true, false}
 use Rattle.std.specs.Prelude.{slice_get, slice_index, slice_index_or}
 use Rattle.std.proofs.lemmas.List.{map-append, take_more}
 use Rattle.std.specs.Global.{Vec}
@@ -11,7 +11,7 @@ use Rattle.ide_graph.specs.declared.site.Site.TheVariants.{Normal, Call, Exit}
 use Rattle.ide_lattice.specs.Algebra.{EdgeAlgebra}
 use Rattle.ide_problem.specs.Flow.{Targets}
 use Rattle.ide_tables.specs.Tables.{Table, ArePartners, is_watched}
-use Rattle.ide_tasks.specs.Sources.{AreSourcesOf, reaching_of}
+use Rattle.ide_tasks.specs.Sources.{reaching_of}
 use Rattle.ide_tasks.specs.declared.partners.Partners.TheVariants.{Entries, Callers}
 use Rattle.ide_tasks.specs.declared.partners.Reaching.{Reaching}
 use Rattle.ide_tasks.specs.declared.sources.Source.{Source}

@@ -4,7 +4,7 @@ use Rattle.ide_lattice.specs.Algebra.{EdgeAlgebra}
 use Rattle.ide_wire.specs.Key.{same_key, same_key_exact}
 use Rattle.ide_wire.specs.declared.key.Key.{Key}
 use Rattle.ide_tables.specs.Spent.{spent}
-use Rattle.ide_worklist.specs.Worklist.{IsWorklist, Pile, claim_at, ends_key, is_pending, marked}
+use Rattle.ide_worklist.specs.Worklist.{IsWorklist, Pile, claim_at, is_pending, marked}
 use Rattle.ide_worklist.specs.declared.claim.Claim.{Claim}
 use Rattle.ide_steps.specs.Drain.{left_by}
 

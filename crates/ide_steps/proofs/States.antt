@@ -146,18 +146,20 @@ module _ {F L : Type 0} (targets : Targets F) (B : EdgeAlgebra F L) where
       (λ same. ap (is_pending pile) (sym (same_key_exact held.key q same)) ∙ list.held hand held is) in
       λ i. record { get = found table; pending = λ q. waits q i; claims = λ h. hands h i }
 
-module _ {F : Type 0} where
+module _ {F : Type 0} (P : TaskData F → Type 0) where
   -- where a hand has a claim with so many parts done, what it is
-  pub claim-held : (o : Option (Held (TaskData F))) (n : ℕ) → IsSomeAnd o (λ held. held.done ≡ n) → (held : Held (TaskData F)) × (o ≡ Some held)
+  pub claim-held : (o : Option (Held (TaskData F))) (n : ℕ) → IsSomeAnd o (λ held. (held.done ≡ n) × P held.task)
+      → (held : Held (TaskData F)) × (o ≡ Some held) × (held.done ≡ n) × P held.task
   claim-held None n is = absurd is
-  claim-held (Some held) n is = (held, refl)
+  claim-held (Some held) n is = (held, refl, is.0, is.1)
 
-  pub progress-held : (o : Option (Held (TaskData F))) (n : ℕ) → IsSomeAnd o (λ held. held.done ≡ n)
+  pub progress-held : (o : Option (Held (TaskData F))) (n : ℕ) → IsSomeAnd o (λ held. (held.done ≡ n) × P held.task)
       → (task : TaskData F) × (option_map {U = TaskData F × ℕ} (λ held. (held.task, held.done)) o ≡ Some (task, n))
   progress-held None n is = absurd is
   progress-held (Some held) n is =
-      let there : ℕ → Option (TaskData F × ℕ) = λ m. Some (held.task, m) in (held.task, ap there is)
+      let there : ℕ → Option (TaskData F × ℕ) = λ m. Some (held.task, m) in (held.task, ap there is.0)
 
+module _ {F : Type 0} where
   -- nothing changed where the claims stand as they were
   pub unchanged-err : {T E : Type 0} (r : Result T E) (inside old : CoreData F) (pile : Pile (TaskData F)) → inside ≡ old
       → pile.pending ≡ inside.pile.pending → ((h : ℕ) → claim_at pile h ≡ claim_at inside.pile h)

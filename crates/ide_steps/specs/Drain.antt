@@ -2,7 +2,6 @@
 use Rattle.std.specs.Prelude.{◌≡◌, ℕ, ◌+◌, ◌-◌, ◌*◌, ◌^◌, ◌≤◌, Option, None, if◌then◌else◌, length}
 use Rattle.ide_lattice.specs.Algebra.{EdgeAlgebra}
 use Rattle.ide_tables.specs.Spent.{spent}
-use Rattle.ide_tasks.specs.Task.{TaskData}
 use Rattle.ide_worklist.specs.Worklist.{Pile, claim_at, ends_key}
 use Rattle.ide_worklist.specs.declared.claim.Claim.{Claim}
 use Rattle.ide_steps.specs.Core.{CoreData}

@@ -1,5 +1,5 @@
 -- A core as the state of a tabulation, and what its tasks have to be.
-use Rattle.std.specs.Prelude.{◌≡◌, ℕ, List, Option, Some, option_map, drop, slice_get, slice_index}
+use Rattle.std.specs.Prelude.{◌≡◌, Some, option_map, drop, slice_get}
 use Rattle.ide_graph.specs.Supergraph.{Supergraph}
 use Rattle.ide_graph.specs.declared.site.Site.{Site}
 use Rattle.ide_graph.specs.declared.site.Site.TheVariants.{Normal, Call, Exit}

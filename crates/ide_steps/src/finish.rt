@@ -22,7 +22,7 @@ impl<P: Problem> Core<P> {
     pub fn finish(&mut self, hand: usize, work: &Work<P>) -> Result<(), Refused>
         ensures stale { (result ≡ Err Refused.Stale) ↔ ((is_claim_of_work P.F.eq ⟦<Partners<P::F> as PartialEq>⟧.eq work.now (claim_at self.old.pile hand) ≡ false) ⊎ (work.now.done < length work.now.parts)) }
         ensures refused { IfErr result (λ e. e ≡ Refused.Stale) }
-        ensures finished { OnOk result ((held : Held (TaskData P.F)) × (claim_at self.old.pile hand ≡ Some held) × (state_of P.targets P.F.edge self.new ≡ finished (state_of P.targets P.F.edge self.old) hand (claim_of P.targets P.F.edge held))) }
+        ensures finished { OnOk result ((held : Held (TaskData P.F)) × (claim_at self.old.pile hand ≡ Some held) × ((claim_of P.targets P.F.edge held).parts ≡ []) × (state_of P.targets P.F.edge self.new ≡ finished (state_of P.targets P.F.edge self.old) hand (claim_of P.targets P.F.edge held))) }
         ensures stays { (self.new.graph ≡ self.old.graph) × (self.new.roots ≡ self.old.roots) × (self.new.table ≡ self.old.table) }
         ensures unchanged { OnErr result (self.new ≡ self.old) }
     {

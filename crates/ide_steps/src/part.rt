@@ -3,6 +3,7 @@ ghost use Rattle.ide_worklist.specs.Worklist.{claim_at, ends_key};
 ghost use Rattle.ide_steps.specs.Drain.{IsPaidBy, potential};
 ghost use Rattle.std.specs.Prelude.{◌≡◌, ℕ, ◌<◌, ◌+◌, ◌↔◌, ◌⊎◌, true, false, None, Ok, Err, Some, IfErr, OnErr, OnOk, length, IsTrue};
 ghost use Rattle.std.specs.Option.{IsSomeAnd};
+ghost use Rattle.ide_tasks.specs.Parts.{owed};
 ghost use Rattle.ide_tasks.specs.Task.{TaskData};
 ghost use Rattle.ide_steps.specs.State.{state_of};
 ghost use Rattle.ide_steps.specs.Steps.{IsLowered, IsSkipped, progress_at};
@@ -49,7 +50,7 @@ impl<P: Problem> Core<P> {
     /// Whether the work is the hand's claim as it stands.
     pub(crate) fn is_current(&self, hand: usize, work: &Work<P>) -> bool
         ensures current { result ≡ is_claim_of_work P.F.eq ⟦<Partners<P::F> as PartialEq>⟧.eq work.now (claim_at self.now.pile hand) }
-        ensures far { IsTrue result → IsSomeAnd (claim_at self.now.pile hand) (λ held. held.done ≡ work.now.done) }
+        ensures far { IsTrue result → IsSomeAnd (claim_at self.now.pile hand) (λ held. (held.done ≡ work.now.done) × (owed P.targets P.F.edge held.task ≡ owed P.targets P.F.edge work.now.task)) }
     {
         match self.worklist.claim(hand) {
             Some(claim) => claim.done == work.done() && claim.task.is_same(work.task()),

@@ -1,10 +1,10 @@
-use Rattle.std.proofs.Common.{◌≡◌, ◌+◌, ◌≤◌, length, subst, sym, ap, ◌∙◌, get_or, arith, None}
+use Rattle.std.proofs.Common.{◌≡◌, ◌+◌, ◌≤◌, length, subst, ap, ◌∙◌, get_or, arith, None}
 use Rattle.ide_steps.specs.Drain.{left_by}
 use Rattle.ide_steps.proofs.Potential.{at-most-one, falls, push-pays}
 use Rattle.ide_steps.proofs.machine.Core.lower.Goals as goal
 use Rattle.std.specs.Prelude.{◌||◌}
 use Rattle.std.specs.List.{list_any}
-use Rattle.ide_tables.specs.Tables.{found, or_top}
+use Rattle.ide_tables.specs.Tables.{found}
 use Rattle.ide_wire.specs.Key.{same_key}
 use Rattle.ide_worklist.specs.Worklist.{claim_at, marked}
 use Rattle.ide_steps.proofs.States.{or_top-unwrap, state-lowered}

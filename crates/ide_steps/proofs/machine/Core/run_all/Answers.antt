@@ -1,6 +1,4 @@
-use Rattle.std.proofs.Common.{◌≡◌, ◌+◌, ◌-◌, ◌^◌, ℕ, cond, length, refl, rules, subst, sym, arith}
-use Rattle.std.specs.Prelude.{min}
-use Rattle.ide_tables.specs.Spent.{spent}
+use Rattle.std.proofs.Common.{◌≡◌, ◌+◌, ℕ, cond, refl, rules, subst, arith}
 use Rattle.ide_steps.specs.Drain.{ArePaid}
 use Rattle.ide_steps.specs.Going.{GoesOnBy}
 use Rattle.ide_steps.proofs.Going.{goes-on, goes-on-then, goes-same, goes-then, outside-before}
