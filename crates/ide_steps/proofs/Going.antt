@@ -113,7 +113,7 @@ module _ {F L : Type 0} (A : LatticeAlgebra L) (B : EdgeAlgebra F L) (targets : 
       alone j c has = apart j c (claim_at old.pile j) refl has
 
 module _ {F L : Type 0} (A : LatticeAlgebra L) (B : EdgeAlgebra F L) (targets : Targets F) where
-  run-goes : (K : Frame) {s t : State K.F} → Run K s → Steps K s t → Run K t
+  pub run-goes : (K : Frame) {s t : State K.F} → Run K s → Steps K s t → Run K t
   run-goes K run none = run
   run-goes K run (more steps step) = goes_on (run-goes K run steps) step
 

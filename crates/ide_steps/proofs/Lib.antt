@@ -1,7 +1,9 @@
 pub mod Potential
 pub mod Partners
+pub mod Room
 pub mod Rooted
 pub mod States
 pub mod Owing
+pub mod Bounded
 pub mod Free
 pub mod Going

@@ -16,7 +16,8 @@ use Rattle.ide_tasks.specs.declared.partners.Partners.TheVariants.{Entries, Call
 use Rattle.ide_tasks.specs.declared.partners.Reaching.{Reaching}
 use Rattle.ide_tasks.specs.declared.sources.Source.{Source}
 use Rattle.ide_wire.specs.declared.key.Key.TheVariants.{Jump, Summary}
-use Rattle.ide_steps.specs.Core.{IsProgramKept, is_call}
+use Rattle.ide_theory.specs.Within.{is_call}
+use Rattle.ide_steps.specs.Core.{IsProgramKept}
 use Rattle.ide_steps.specs.State.{ArePartnersOf}
 
 -- the flags of the sites tell the calls

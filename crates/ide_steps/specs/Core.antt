@@ -3,8 +3,6 @@ use Rattle.std.specs.Prelude.{◌≡◌, ℕ, ◌≤◌, Bool, true, false, ◌&
 use Rattle.std.specs.Option.{is_some}
 use Rattle.std.specs.List.{Contains}
 use Rattle.ide_graph.specs.Supergraph.{Supergraph, procedure_named}
-use Rattle.ide_graph.specs.declared.site.Site.{Site}
-use Rattle.ide_graph.specs.declared.site.Site.TheVariants.{Normal, Call, Exit}
 use Rattle.ide_problem.specs.Flow.{Targets}
 use Rattle.ide_tasks.specs.Sources.{AreSourcesOf}
 use Rattle.ide_tasks.specs.declared.sources.Source.{Source}
@@ -12,6 +10,7 @@ use Rattle.ide_tables.specs.Tables.{Table}
 use Rattle.ide_tasks.specs.Task.{TaskData, same_task}
 use Rattle.ide_tasks.specs.Work.{WorkData}
 use Rattle.ide_tasks.specs.declared.partners.Partners.{Partners}
+use Rattle.ide_theory.specs.Within.{is_call}
 use Rattle.ide_wire.specs.Key.{node_of}
 use Rattle.ide_wire.specs.declared.key.Key.{Key}
 use Rattle.ide_worklist.specs.declared.claim.Claim.{Claim}
@@ -75,12 +74,6 @@ pub record FindsRoot (graph : Option Supergraph) (roots : List ℕ) (name : List
   pub procedure : ℕ
   pub found : Finds graph name procedure
   pub is_root : Contains roots procedure
-
--- whether it is the site of a call node
-abbrev pub is_call : Site → Bool
-is_call (Normal edges) = false
-is_call (Call calls along) = true
-is_call (Exit start callers) = false
 
 -- what is kept of a loaded program: each node has a site, the sources are those of the graph, and the
 -- tables watch the call nodes

@@ -1,5 +1,6 @@
 pub mod Core
 pub mod Owed
+pub mod Room
 pub mod Rooted
 pub mod State
 pub mod Drain

@@ -1,15 +1,19 @@
 //! All steps that are left, by one hand.
 ghost use Rattle.std.specs.Prelude.{◌≡◌, ℕ, ◌-◌, ◌^◌, ◌<◌, ◌↔◌, ◌⊎◌, [], true, false, nat_eq, min, if◌then◌else◌, Ok, Err, Some, None, IsSome, IfErr, IfOk, OnErr, OnOk};
+ghost use Rattle.std.specs.List.{IsDistinct};
+ghost use Rattle.std.specs.Map.{keys_of};
 ghost use Rattle.std.specs.Option.{is_some};
 ghost use Rattle.ide_steps.specs.Core.{is_loaded};
 ghost use Rattle.ide_steps.specs.Drain.{ArePaid, IsFree, potential};
 ghost use Rattle.ide_steps.specs.Going.{GoesOn, GoesOnBy, IsOutside, IsWorking};
+ghost use Rattle.ide_steps.specs.Room.{AreTasksFew};
 ghost use Rattle.ide_steps.specs.Steps.{progress_at};
 ghost use Rattle.ide_tasks.specs.Task.{TaskData};
+ghost use Rattle.ide_wire.specs.Key.{same_key};
 ghost use Rattle.ide_worklist.specs.Worklist.{claim_at, ends_key};
 
 use crate::claim::Claimed;
-use crate::laws::tasks_owe_their_parts;
+use crate::laws::{images_have_room, tasks_owe_their_parts};
 use crate::machine::Core;
 use crate::part::Parted;
 use ide_problem::Problem;
@@ -22,8 +26,9 @@ const DRAINING: usize = 0;
 
 impl<P: Problem> Core<P> {
     /// Claims and finishes tasks as hand 0 until no key is pending, and answers how many, up to the
-    /// largest number of 64 bits. There are at most as many as keys were pending, and ranks that the
-    /// entries lose.
+    /// largest number of 64 bits. Each is paid for by a key that was pending, or by a rank that an
+    /// entry lost: in a run over the graph of a text there are at most as many as keys were pending,
+    /// and `HEIGHT` for each jump of a node and two facts and each summary of a call and two facts.
     ///
     /// Refusals: `NoProgram`; `Busy` where hand 0 has a claim; `Unfinished` where another hand has
     /// one; all tested first, in this order. `NoMemory` keeps the steps done before it and releases
@@ -39,6 +44,7 @@ impl<P: Problem> Core<P> {
         ensures free { IsFree self.old.pile → IsFree self.new.pile }
         ensures claims { IfOk result (λ tasks. (claims : ℕ) × (tasks ≡ min claims (2 ^ 64 - 1)) × GoesOnBy P.L.algebra P.F.edge P.targets claims self.old self.new) }
         ensures paid { IfOk result (λ tasks. ArePaid P.F.edge tasks self.old self.new) }
+        ensures few { IfOk result (λ tasks. AreTasksFew P.L.algebra P.F.edge P.targets tasks self.old) }
         ensures goes { GoesOn P.L.algebra P.F.edge P.targets self.old self.new }
         ensures unchanged { IfErr result (λ e. (e ≡ Refused.NoMemory) ⊎ (e ≡ Refused.OutOfRange) ⊎ (self.new ≡ self.old)) }
     {
@@ -52,10 +58,19 @@ impl<P: Problem> Core<P> {
             return Err(Refused::Unfinished);
         }
         let drained = self.run_all();
+        images_have_room::<P>();
+        self.keys_are_distinct();
         if drained.is_err() {
             let _ = self.release(DRAINING);
         }
         drained
+    }
+
+    /// It does nothing: its clause is what is known of the tables' keys.
+    fn keys_are_distinct(&self)
+        ensures { IsDistinct same_key (keys_of self.now.table.entries) }
+    {
+        let _ = self.tables.key_count();
     }
 
     /// Runs tasks until none is left, and counts them, up to the largest number of 64 bits.

@@ -1,13 +1,25 @@
 //! Laws of tasks. The functions do nothing: their clauses are the laws.
 ghost use Rattle.ide_steps.specs.Owed.{TasksOweTheirParts};
+ghost use Rattle.ide_steps.specs.Room.{ImagesHaveRoom};
 
 use ide_problem::Problem;
-use ide_theory::{parts_in_range_are_owed, sites_make_a_graph};
+use ide_theory::{
+    keys_stand_at_nodes, parts_in_range_are_owed, runs_are_sound, sites_make_a_graph,
+};
 
 /// A task, as it is claimed, owes exactly what each rule instance with its key gives.
 pub fn tasks_owe_their_parts<P: Problem>()
     ensures { TasksOweTheirParts P.L.algebra P.F.edge P.targets }
 {
     parts_in_range_are_owed::<P>();
+    sites_make_a_graph::<P>();
+}
+
+/// The image of a run has no more keys than its graph has room for.
+pub fn images_have_room<P: Problem>()
+    ensures { ImagesHaveRoom P.L.algebra P.F.edge P.targets }
+{
+    keys_stand_at_nodes::<P>();
+    runs_are_sound::<P>();
     sites_make_a_graph::<P>();
 }

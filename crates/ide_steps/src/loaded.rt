@@ -2,8 +2,8 @@
 ghost use Rattle.std.specs.Prelude.{◌≡◌, length, map, IfErr, IfOk};
 ghost use Rattle.ide_graph.specs.GraphOf.{IsNamed, IsGraphOf};
 ghost use Rattle.ide_graph.specs.ProgramEdges.{HasEdgesOf};
-ghost use Rattle.ide_steps.specs.Core.{is_call};
 ghost use Rattle.ide_tasks.specs.Sources.{AreSourcesOf};
+ghost use Rattle.ide_theory.specs.Within.{is_call};
 
 use ide_graph::{Graph, Site};
 use ide_problem::Problem;

@@ -1,5 +1,5 @@
 -- What the theorems of the crate say, for any analysis over any supergraph.
-use Rattle.std.specs.Prelude.{◌≡◌, ℕ, ◌<◌, List, Option, length}
+use Rattle.std.specs.Prelude.{◌≡◌, ℕ, ◌<◌, List, Option}
 use Rattle.ide_lattice.specs.Algebra.{LatticeAlgebra, EdgeAlgebra}
 use Rattle.ide_problem.specs.Flow.{Targets}
 use Rattle.ide_theory.specs.Frame.{Frame, Roots, AreRoots}
@@ -102,10 +102,9 @@ module _ {L F : Type 0} (lattice : LatticeAlgebra L) (functions : EdgeAlgebra F 
       × IsGraph (edges_of graph.facts graph.sites all (start_at graph))
       × AreEdgesOf (frame_of lattice functions targets (edges_of graph.facts graph.sites all (start_at graph))) (node_edges graph.facts graph.sites all)
 
-  -- the keys and the parts of a run stand at the nodes of its graph, where edges end at nodes and each
-  -- node has a site
+  -- the keys and the parts of a run stand at the nodes of its graph, where edges end at nodes
   abbrev pub KeysStandAtNodes : Type 0
   KeysStandAtNodes =
-      (graph : Graph) → AreJoined graph.sites (start_at graph) → AreEndsNodes graph → length graph.sites ≡ graph.nodes
+      (graph : Graph) → AreJoined graph.sites (start_at graph) → AreEndsNodes graph
       → (all : HaveEdgesOf graph.facts graph.sites) (s : State F) → Run (frame_at lattice functions targets graph all) s
-      → AreAllWithin graph.nodes s
+      → AreAllWithin graph s

@@ -72,8 +72,8 @@ pub fn graphs_are_supergraphs<P: Problem>()
     sites_make_a_graph::<P>();
 }
 
-/// The keys and the parts of a run stand at the nodes of its graph, where edges end at nodes and each
-/// node has a site.
+/// The keys and the parts of a run stand at the nodes of its graph, and summaries at its call nodes,
+/// where edges end at nodes.
 pub fn keys_stand_at_nodes<P: Problem>()
     ensures { KeysStandAtNodes P.L.algebra P.F.edge P.targets }
 {}

@@ -1,8 +1,7 @@
 -- Keys stay at the nodes of a graph in each step of a run, where its edges end at nodes and its
 -- procedures begin at them.
-use Rattle.std.proofs.Common.{◌≡◌, ℕ, ◌<◌, ◌⊎◌, List, Option, Some, length, ap, sym, subst, refl, ◌∙◌, inl, inr}
+use Rattle.std.proofs.Common.{◌≡◌, ℕ, ◌<◌, ◌⊎◌, true, List, Option, Some, ap, sym, subst, refl, ◌∙◌, inl, inr}
 use Rattle.std.specs.Prelude.{slice_get, unwrap_or}
-use Rattle.std.proofs.lemmas.Option.{slice_get_within}
 use Rattle.ide_graph.specs.declared.edge.EdgeData.{EdgeData}
 use Rattle.ide_graph.specs.declared.site.Site.{Site}
 use Rattle.ide_graph.specs.declared.site.Site.TheVariants.{Normal, Call, Exit}
@@ -11,7 +10,6 @@ use Rattle.ide_graph.specs.Joined.{AreJoined, HasFlat, HasCall, ReturnsTo, start
 use Rattle.ide_graph.specs.Supergraph.{Supergraph}
 use Rattle.ide_lattice.specs.Algebra.{LatticeAlgebra, EdgeAlgebra}
 use Rattle.ide_problem.specs.Flow.{Targets}
-use Rattle.ide_wire.specs.Key.{node_of}
 use Rattle.ide_wire.specs.declared.key.Key.{Key}
 use Rattle.ide_wire.specs.declared.key.Key.TheVariants.{Jump}
 use Rattle.ide_theory.specs.Frame.{Frame}
@@ -23,29 +21,29 @@ use Rattle.ide_theory.specs.Parts.{AreEdgesOf}
 use Rattle.ide_theory.specs.Run.{Step, claim, skip, lower, release, finish, root, Run, begins, goes_on}
 use Rattle.ide_theory.specs.Sites.{HaveEdgesOf, node_edges}
 use Rattle.ide_theory.specs.State.{Claim, State, nothing_done, without_first, marked, new_claim, part_done, lowered_at}
-use Rattle.ide_theory.specs.Within.{AreAllWithin}
+use Rattle.ide_theory.specs.Within.{AreAllWithin, IsPlaced, is_call, is_some_call}
 use Rattle.ide_theory.proofs.Laws.Changes.{key-tells, none-some, map-tells, left-with, left-without, left-done}
 use Rattle.ide_theory.proofs.Laws.Kept.{in-rest}
 use Rattle.ide_theory.proofs.Laws.Sites.{SiteWith, of-flat, of-calls, of-sites, joined-edges}
 
--- the edges of the frame end at nodes, calls leave them, and what is its own start is one
-pub record AreNodesOf (K : Frame) (nodes : ℕ) : Type 0 where
-  pub flat : (e : K.graph.Edge) → K.graph.IsFlat e → K.graph.to e < nodes
-  pub call : (e : K.graph.Edge) → K.graph.IsCall e → K.graph.to e < nodes
-  pub back : (call ret : K.graph.Edge) → K.graph.Matched call ret → K.graph.to ret < nodes
-  pub from : (call ret : K.graph.Edge) → K.graph.Matched call ret → K.graph.from call < nodes
-  pub start : (n : ℕ) → K.graph.start_of n ≡ n → n < nodes
+-- the edges of the frame end at nodes, calls leave call nodes, and what is its own start is a node
+pub record AreNodesOf (K : Frame) (G : Supergraph) : Type 0 where
+  pub flat : (e : K.graph.Edge) → K.graph.IsFlat e → K.graph.to e < G.nodes
+  pub call : (e : K.graph.Edge) → K.graph.IsCall e → K.graph.to e < G.nodes
+  pub back : (call ret : K.graph.Edge) → K.graph.Matched call ret → K.graph.to ret < G.nodes
+  pub from : (call ret : K.graph.Edge) → K.graph.Matched call ret → is_some_call (slice_get G.sites (K.graph.from call)) ≡ true
+  pub start : (n : ℕ) → K.graph.start_of n ≡ n → n < G.nodes
 
-module _ (K : Frame) (nodes : ℕ) (has : AreNodesOf K nodes) where
+module _ (K : Frame) (G : Supergraph) (has : AreNodesOf K G) where
   open K use {F, functions as B}
 
-  within-instance : (get : Key → Option F) {ks : List Key} {k : Key} {g : F} → Instance K get ks k g → node_of k < nodes
+  within-instance : (get : Key → Option F) {ks : List Key} {k : Key} {g : F} → Instance K get ks k g → IsPlaced G k
   within-instance get (flat e a b c f g is_flat same is) = has.flat e is_flat
   within-instance get (seed e a b c f g is_call same is) = has.call e is_call
   within-instance get (after call ret a b d f s matched same passed) = has.back call ret matched
   within-instance get (summarised call ret a b c d g f h matched is same out) = has.from call ret matched
 
-  within-done : (s : State F) → AreAllWithin nodes s → (h : ℕ) → AreAllWithin nodes (part_done s h)
+  within-done : (s : State F) → AreAllWithin G s → (h : ℕ) → AreAllWithin G (part_done s h)
   within-done s all h = record {
     keys = all.keys;
     parts = λ j d left k g part.
@@ -56,10 +54,10 @@ module _ (K : Frame) (nodes : ℕ) (has : AreNodesOf K nodes) where
         ]);
   }
 
-  within-lowered : (s : State F) → AreAllWithin nodes s → (t : Key) (f : F) → node_of t < nodes → AreAllWithin nodes (lowered_at K s t f)
+  within-lowered : (s : State F) → AreAllWithin G s → (t : Key) (f : F) → IsPlaced G t → AreAllWithin G (lowered_at K s t f)
   within-lowered s all t f within = record {
     keys = λ k g same. elim (key-tells s.get t (Some (B.meet (unwrap_or (s.get t) B.all_top) f)) k) [
-      | inl here ↦ subst (λ q. node_of q < nodes) here.0 within
+      | inl here ↦ subst (IsPlaced G) here.0 within
       | inr other ↦ all.keys k g (sym other.1 ∙ same)
     ];
     parts = λ j c left k g part.
@@ -67,7 +65,7 @@ module _ (K : Frame) (nodes : ℕ) (has : AreNodesOf K nodes) where
         all.parts j was.0 was.1 k g (subst (IsIn {T = Key × F} (k, g)) (sym (ap (λ e. e.parts) was.2)) part);
   }
 
-  within-step : {s t : State F} → Step K s t → AreAllWithin nodes s → AreAllWithin nodes t
+  within-step : {s t : State F} → Step K s t → AreAllWithin G s → AreAllWithin G t
   within-step (claim {s = s} h q parts free waits alone owes) all = record {
     keys = all.keys;
     parts = λ j c left k g part. elim (left-with s h (new_claim q parts) j c left) [
@@ -86,10 +84,10 @@ module _ (K : Frame) (nodes : ℕ) (has : AreNodesOf K nodes) where
   within-step (finish {s = s} h c mine none) all = record { keys = all.keys; parts = λ j d left. all.parts j d (left-without s h j d left).1 }
   within-step (root {s = s} r d is_start in_range) all = within-lowered s all (Jump r d d) B.id (has.start r is_start)
 
-  within-empty : AreAllWithin nodes (nothing_done F)
+  within-empty : AreAllWithin G (nothing_done F)
   within-empty = record { keys = λ k f same. elim (none-some same) [ ]; parts = λ h c mine k g part. elim (none-some mine) [ ] }
 
-  pub within-run : {s : State F} → Run K s → AreAllWithin nodes s
+  pub within-run : {s : State F} → Run K s → AreAllWithin G s
   within-run begins = within-empty
   within-run (goes_on run step) = within-step step (within-run run)
 
@@ -99,9 +97,14 @@ returned (Normal edges) m none = elim none [ ]
 returned (Call calls along) m is = (along, refl, is)
 returned (Exit start callers) m none = elim none [ ]
 
+-- and it is the site of a call node
+is-call : (s : Site) (m : ℕ) → ReturnsTo s m → is_call s ≡ true
+is-call (Normal edges) m none = elim none [ ]
+is-call (Call calls along) m is = refl
+is-call (Exit start callers) m none = elim none [ ]
+
 module _ {L F : Type 0} (A : LatticeAlgebra L) (B : EdgeAlgebra F L) (targets : Targets F) (graph : Supergraph)
-    (all : HaveEdgesOf graph.facts graph.sites) (joined : AreJoined graph.sites (start_at graph)) (ends : AreEndsNodes graph)
-    (sited : length graph.sites ≡ graph.nodes) where
+    (all : HaveEdgesOf graph.facts graph.sites) (joined : AreJoined graph.sites (start_at graph)) (ends : AreEndsNodes graph) where
   abbrev K : Frame
   K = frame_at A B targets graph all
 
@@ -113,7 +116,7 @@ module _ {L F : Type 0} (A : LatticeAlgebra L) (B : EdgeAlgebra F L) (targets : 
   return-site call ret matched =
       of-sites graph.facts call.from (slice_get graph.sites call.from) (all call.from) ret.edge.end (edges.has_site call ret matched)
 
-  pub nodes-of : AreNodesOf K graph.nodes
+  pub nodes-of : AreNodesOf K graph
   nodes-of = record {
     flat = λ e is_flat.
         let found : SiteWith graph.facts e.from (slice_get graph.sites e.from) (λ s. HasFlat s e.edge) =
@@ -129,6 +132,6 @@ module _ {L F : Type 0} (A : LatticeAlgebra L) (B : EdgeAlgebra F L) (targets : 
         subst (λ m. m < graph.nodes) (sym along.2) (ends.flat call.from found.0 along.0 found.1 along.1);
     from = λ call ret matched.
         let found : SiteWith graph.facts call.from (slice_get graph.sites call.from) (λ s. ReturnsTo s ret.edge.end) = return-site call ret matched in
-        subst (λ m. call.from < m) sited (slice_get_within graph.sites call.from found.0 found.1);
+        ap is_some_call found.1 ∙ is-call found.0 ret.edge.end found.2;
     start = ends.start;
   }

@@ -1,5 +1,5 @@
 use Rattle.std.proofs.Common.{◌≡◌, length, map, take}
-use Rattle.ide_steps.specs.Core.{is_call}
+use Rattle.ide_theory.specs.Within.{is_call}
 use Rattle.ide_steps.proofs.loaded.Loaded.call_nodes.Given as goal
 
 abbrev pub invariant-loop-node : goal.invariant-loop-node

@@ -2,6 +2,7 @@ use Rattle.std.proofs.Common.{None, ap, cond, refl, ◌∙◌}
 use Rattle.ide_worklist.specs.Worklist.{claim_at}
 use Rattle.ide_steps.proofs.Free.{free-without}
 use Rattle.ide_steps.proofs.Going.{goes-back, goes-on, goes-on-then, goes-same}
+use Rattle.ide_steps.proofs.Bounded.{few-of}
 use Rattle.ide_steps.proofs.machine.Core.drain.Goals as goal
 
 pub returns-then-is_some-clause-goes : goal.returns-then-is_some-clause-goes
@@ -26,3 +27,11 @@ pub returns-then-is_err-clause-free : goal.returns-then-is_err-clause-free
 returns-then-is_err-clause-free g c = λ free.
     free-without c.release.new.self.pile c.release.ensures.claim (λ h other.
     c.release.ensures.claims h ∙ (ap (λ b. cond b None (claim_at c.run_all-drained.new.self.pile h)) other ∙ c.run_all-drained.ensures.others h other))
+
+pub returns-else-is_err-clause-few : goal.returns-else-is_err-clause-few
+returns-else-is_err-clause-few g c =
+    let A = g.P.L.Lattice.algebra in
+    let B = g.P.F.EdgeFn.edge in
+    let targets = g.P.Problem.targets in
+    few-of A B targets (c.images_have_room.ensures) c.run_all-drained.result c.args.self.now c.run_all-drained.new.self
+    c.keys_are_distinct.ensures c.run_all-drained.ensures.goes c.run_all-drained.ensures.paid

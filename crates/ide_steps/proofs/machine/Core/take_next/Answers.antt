@@ -7,6 +7,7 @@ use Rattle.ide_theory.specs.Sites.{edges_of}
 use Rattle.ide_steps.specs.State.{state_of}
 use Rattle.ide_steps.proofs.Free.{some-unclaimed}
 use Rattle.ide_steps.proofs.Going.{claims, goes-on, goes-same, goes-step, goes-unchanged}
+use Rattle.ide_steps.proofs.Room.{placed-within}
 use Rattle.ide_steps.proofs.machine.Core.take_next.Goals as goal
 
 pub returns-in_err-task-clause-goes : goal.returns-in_err-task-clause-goes
@@ -22,7 +23,8 @@ returns-in_err-task-clause-within g c = λ is graph at all fit run.
     let made = c.sites_make_a_graph.ensures graph.facts graph.sites all (start_at graph) fit.joined in
     let state = state_of g.P.Problem.targets g.P.F.EdgeFn.edge old in
     let present = (c.runs_are_sound.ensures (edges_of graph.facts graph.sites all (start_at graph)) made.0 state run).present out.key out.pending in
-    let within : node_of out.key < graph.nodes = (c.keys_stand_at_nodes.ensures graph fit.joined fit.ends fit.sited all state run).keys out.key present.0 present.1 in
+    let placed = (c.keys_stand_at_nodes.ensures graph fit.joined fit.ends all state run).keys out.key present.0 present.1 in
+    let within : node_of out.key < graph.nodes = placed-within graph fit.sited out.key placed in
     let same = ap (λ graph. graph.nodes) (same_Some out.graph graph (sym out.is ∙ at)) in
     let outside = out.outside in
     omega (arith, within, same, outside)
