@@ -1,3 +1,4 @@
 pub mod Copies
 pub mod Partners
 pub mod Falls
+pub mod Keys

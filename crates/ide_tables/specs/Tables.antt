@@ -25,6 +25,16 @@ found table key = lookup (same_key key) table.entries
 abbrev pub is_watched : {F : Type 0} → Table F → ℕ → Bool
 is_watched table node = slice_index_or table.watched node false
 
+-- the key's function is f, and every other entry stays
+pub record Sets {F : Type 0} (old new : Table F) (key : Key) (f : F) : Type 0 where
+  pub entries : (q : Key) → found new q ≡ (if same_key key q then Some f else found old q)
+  pub watched : new.watched ≡ old.watched
+
+-- the keys are the present ones, ascending
+pub record AreKeys {F : Type 0} (cmp : Key → Key → Ordering) (table : Table F) (keys : List Key) : Type 0 where
+  pub ascending : IsStrictlySortedBy cmp keys
+  pub exact : (key : Key) → list_any (same_key key) keys ≡ is_some (found table key)
+
 module _ {F L : Type 0} (edge : EdgeAlgebra F L) where
   -- the function, where an absent one is always top
   abbrev pub or_top : Option F → F
@@ -40,9 +50,8 @@ module _ {F L : Type 0} (edge : EdgeAlgebra F L) where
   lowered_by table key f = edge.meet (function_at table key) f
 
   -- the key's function is met with f, and every other entry stays
-  pub record Lowers (old new : Table F) (key : Key) (f : F) : Type 0 where
-    pub entries : (q : Key) → found new q ≡ (if same_key key q then Some (lowered_by old key f) else found old q)
-    pub watched : new.watched ≡ old.watched
+  abbrev pub Lowers : (old new : Table F) → Key → F → Type 0
+  Lowers old new key f = Sets old new key (lowered_by old key f)
 
 -- the partners, ascending by fact, are the present ones of the keys `at` a fact
 pub record ArePartners {F : Type 0} (at : ℕ → Key) (table : Table F) (partners : List (ℕ × F)) : Type 0 where

@@ -1,5 +1,5 @@
 //! The map from keys to functions.
-ghost use Rattle.std.specs.Prelude.{◌≡◌, ℕ, ◌<◌, ◌≤◌, ◌^◌, [], true, false, length, slice_get, if◌then◌else◌, IfSome, IfOk, IfErr, OnErr};
+ghost use Rattle.std.specs.Prelude.{◌≡◌, ℕ, ◌<◌, ◌≤◌, ◌^◌, [], true, false, length, slice_get, if◌then◌else◌, IfSome, IfOk, IfErr, OnOk, OnErr};
 ghost use Rattle.std.specs.List.{IsDistinct};
 ghost use Rattle.std.specs.Map.{keys_of};
 ghost use Rattle.std.specs.Option.{option_copied};
@@ -8,7 +8,7 @@ ghost use Rattle.indexmap.specs.IndexMap.{insert_entry, spare, get};
 ghost use Rattle.ide_wire.specs.declared.key.Key.{Key};
 ghost use Rattle.ide_wire.specs.Key.{same_key};
 ghost use Rattle.ide_tables.specs.Spent.{spent};
-ghost use Rattle.ide_tables.specs.Tables.{Table, IsIndex, ArePartners, found, function_at, lowered_by, is_watched, Lowers};
+ghost use Rattle.ide_tables.specs.Tables.{Table, IsIndex, AreKeys, ArePartners, found, function_at, lowered_by, is_watched, Sets, Lowers};
 
 use crate::index;
 use ide_lattice::EdgeFn;
@@ -92,6 +92,16 @@ impl<F: EdgeFn> Tables<F> {
         Some((*key, *function))
     }
 
+    /// The present keys, ascending.
+    pub fn keys(&self, alloc: Global) -> Result<Vec<Key>, Refused>
+        ensures keys { IfOk result (λ keys. AreKeys ⟦<Key as Ord>⟧.cmp self.now keys.items) }
+        ensures refused { IfErr result (λ e. e ≡ NoMemory) }
+    {
+        let mut keys = keys_of(alloc, &self.functions)?;
+        keys.sort_unstable();
+        Ok(keys)
+    }
+
     /// The jumps at the call node to the fact: for each the fact at the start of its procedure,
     /// and its function, ascending by fact. They are read from the index, so that they are the
     /// present ones if the node is watched.
@@ -164,10 +174,23 @@ impl<F: EdgeFn> Tables<F> {
         if new == old {
             return Ok(Change::Same);
         }
+        self.set(key, new)?;
+        Ok(Change::Lowered)
+    }
+
+    /// Makes `f` the key's function, whatever that was: it is replaced in its place, or goes last.
+    /// `NoMemory` leaves the table as it was.
+    pub fn set(&mut self, key: Key, f: F) -> Result<(), Refused>
+        ensures sets { OnOk result (Sets self.old self.new key f) }
+        ensures order { OnOk result (self.new.entries ≡ insert_entry same_key self.old.entries key f) }
+        ensures few { OnOk result (length self.new.entries < 2 ^ 64) }
+        ensures err { OnErr result (self.new ≡ self.old) }
+        ensures refused { IfErr result (λ e. e ≡ NoMemory) }
+    {
         self.functions.reserve(1)?;
         index::note(&mut self.places, &self.watched, key)?;
-        put(&mut self.functions, key, new);
-        Ok(Change::Lowered)
+        put(&mut self.functions, key, f);
+        Ok(())
     }
 }
 
@@ -180,6 +203,17 @@ fn fallen<F: EdgeFn>(old: F, f: F) -> F
     // Each function that a program holds is proper.
     let _ = old.proper() && f.proper();
     old.meet(f)
+}
+
+// The keys, in the map's order.
+fn keys_of<F: EdgeFn>(
+    alloc: Global,
+    functions: &IndexMap<Key, F>,
+) -> Result<Vec<Key>, AllocError>
+    ensures keys { IfOk result (λ keys. keys.items ≡ keys_of functions.now.entries) }
+    ensures distinct { IsDistinct same_key (keys_of functions.now.entries) }
+{
+    functions.keys().copied().collect(alloc)
 }
 
 // The same entries, in the same order.
