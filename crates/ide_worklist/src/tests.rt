@@ -71,3 +71,15 @@ fn ends_and_releases_claims(rt: HostRuntime) -> Result<(), Fail> {
     assert!(rt; list.is_quiet());
     Ok(())
 }
+
+#[test]
+fn sets_what_is_pending(rt: HostRuntime) -> Result<(), Fail> {
+    let mut list = both_pending(rt.alloc())?;
+    list.reserve(1)?;
+    if list.unclaimed() == Some(SECOND) {
+        list.set_pending(SECOND, false);
+    }
+    assert!(rt; !list.is_pending(SECOND));
+    assert!(rt; list.is_pending(FIRST));
+    Ok(())
+}

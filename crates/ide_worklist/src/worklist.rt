@@ -100,6 +100,20 @@ impl<T: Drop> Worklist<T> {
         claims::mark(&mut self.claims, key);
     }
 
+    /// Makes the key, which no hand has claimed, pending or not.
+    pub fn set_pending(&mut self, key: Key, pending: bool)
+        requires room { 0 < self.old.spare }
+        requires unclaimed { is_claimed self.old key ≡ false }
+        ensures pending { (q : Key) → is_pending self.new q ≡ (if same_key key q then pending else is_pending self.old q) }
+        ensures claims { self.new.claims ≡ self.old.claims }
+    {
+        if pending {
+            add(&mut self.pending, key);
+        } else if self.is_pending(key) {
+            remove(&mut self.pending, key);
+        }
+    }
+
     /// Gives the hand a claim on the key. `NoMemory` leaves the list as it was, and drops the task.
     pub fn take(&mut self, hand: usize, key: Key, task: T) -> Result<(), Refused>
         requires hand_in { hand < 64 }
