@@ -7,3 +7,4 @@ pub mod Owing
 pub mod Bounded
 pub mod Free
 pub mod Going
+pub mod Listed

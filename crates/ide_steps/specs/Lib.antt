@@ -4,5 +4,6 @@ pub mod Room
 pub mod Rooted
 pub mod State
 pub mod Drain
+pub mod Items
 pub mod Steps
 pub mod Going

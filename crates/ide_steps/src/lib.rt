@@ -3,13 +3,15 @@
 //! A hand claims a pending key and gets its task, computes the task's parts, gives each to the
 //! tables and finishes; or it releases the claim. Each call is one step: it either answers a
 //! refusal and leaves everything as it was, or does what it says at once. [`Core::drain`] takes
-//! all the steps that are left with one hand.
+//! all the steps that are left with one hand. [`Core::items`] lists the image; [`Core::set`], which
+//! makes an image again from such a list, is the one call that is no step.
 #![tactic(auto)]
 
 mod claim;
 mod closed;
 mod drain;
 mod finish;
+mod items;
 mod laws;
 mod loaded;
 mod machine;

@@ -1,0 +1,88 @@
+//! The image as a list, and an image made from one.
+ghost use Rattle.std.specs.Prelude.{◌≡◌, ℕ, ◌↔◌, None, false, IfErr, IfOk, IsTrue, OnErr, OnOk, map, if◌then◌else◌};
+ghost use Rattle.std.specs.Option.{IsSomeAnd};
+ghost use Rattle.ide_tables.specs.Tables.{Sets};
+ghost use Rattle.ide_wire.specs.Key.{same_key};
+ghost use Rattle.ide_wire.specs.declared.key.Key.{Key};
+ghost use Rattle.ide_worklist.specs.Worklist.{claim_at, is_pending};
+ghost use Rattle.ide_steps.specs.Core.{IsUnchanged};
+ghost use Rattle.ide_steps.specs.Items.{AreItems, IsKeyOf, item_of};
+
+use crate::machine::Core;
+use ide_graph::Graph;
+use ide_problem::Problem;
+use ide_wire::{Key, Refused};
+use std::alloc::AllocError;
+
+impl<P: Problem> Core<P> {
+    /// The present keys, ascending, each with its function and whether it is pending.
+    ///
+    /// Refusal: `NoMemory`.
+    pub fn items(&self) -> Result<Vec<(Key, P::F, bool)>, Refused>
+        ensures items { IfOk result (λ items. AreItems ⟦<Key as Ord>⟧.cmp self.now items.items) }
+        ensures refused { IfErr result (λ e. e ≡ Refused.NoMemory) }
+    {
+        let keys = self.tables.keys(self.alloc)?;
+        let items = self.items_of(&keys)?;
+        Ok(items)
+    }
+
+    /// The items of the keys.
+    fn items_of(&self, keys: &[Key]) -> Result<Vec<(Key, P::F, bool)>, AllocError>
+        ensures { IfOk result (λ items. items.items ≡ map (item_of P.F.edge self.now) keys.now) }
+    {
+        keys.iter().map(|key| self.item(*key)).collect(self.alloc)
+    }
+
+    /// The item of a present key.
+    fn item(&self, key: Key) -> (Key, P::F, bool)
+        ensures { result ≡ item_of P.F.edge self.now key }
+    {
+        (key, self.tables.function(key), self.is_pending(key))
+    }
+
+    /// Whether the core may have the key: a program is loaded, the key stands at a node of it, and
+    /// its facts are facts of it.
+    pub fn may_have(&self, key: Key) -> bool
+        ensures { IsTrue result ↔ IsSomeAnd self.now.graph (λ graph. IsKeyOf graph key) }
+    {
+        match &self.loaded {
+            Some(loaded) => is_key_of(&loaded.graph, key),
+            None => false,
+        }
+    }
+
+    /// Sets one entry, and whether its key is pending. It is for recovery, which makes an image
+    /// from items before any hand has a claim: alone of all calls it is no step of a run.
+    ///
+    /// Refusal: `NoMemory`.
+    pub fn set(&mut self, key: Key, function: P::F, pending: bool) -> Result<(), Refused>
+        requires unclaimed { (h : ℕ) → claim_at self.old.pile h ≡ None }
+        requires place { IsSomeAnd self.old.graph (λ graph. IsKeyOf graph key) }
+        requires present { P.F.eq function P.F.edge.all_top ≡ false }
+        ensures sets { OnOk result (Sets self.old.table self.new.table key function) }
+        ensures pending { OnOk result ((q : Key) → is_pending self.new.pile q ≡ (if same_key key q then pending else is_pending self.old.pile q)) }
+        ensures graph { self.new.graph ≡ self.old.graph }
+        ensures roots { self.new.roots ≡ self.old.roots }
+        ensures claims { (h : ℕ) → claim_at self.new.pile h ≡ claim_at self.old.pile h }
+        ensures refused { IfErr result (λ e. e ≡ Refused.NoMemory) }
+        ensures unchanged { OnErr result (IsUnchanged self.old self.new) }
+    {
+        self.worklist.reserve(1)?;
+        self.tables.set(key, function)?;
+        self.worklist.set_pending(key, pending);
+        Ok(())
+    }
+}
+
+/// Whether the key stands at a node of the graph, and its facts are facts of the graph.
+fn is_key_of(graph: &Graph, key: Key) -> bool
+    ensures { IsTrue result ↔ IsKeyOf graph.now key }
+{
+    let (node, first, second) = match key {
+        Key::Jump(node, from, to) => (node, from, to),
+        Key::Summary(call, from, to) => (call, from, to),
+    };
+    let facts = graph.fact_count();
+    (node as usize) < graph.node_count() && (first as usize) < facts && (second as usize) < facts
+}
