@@ -297,6 +297,35 @@ fn expect_summary(
     assert!(rt; !core.is_pending(key));
 }
 
+/// Sets an item in a core, where no hand has a claim then.
+fn set_item(core: &mut Core<CopyConst>, item: (Key, ConstFn, bool)) -> Result<(), Fail> {
+    let (key, function, pending) = item;
+    core.release_all();
+    if !core.may_have(key) || function == ConstFn::all_top() {
+        return Err("no such item".into());
+    }
+    core.set(key, function, pending)?;
+    Ok(())
+}
+
+#[test]
+fn items_make_their_image_again(rt: HostRuntime) -> Result<(), Fail> {
+    let mut core = begun(rt.alloc(), TWO_CALLS)?;
+    core.drain()?;
+    let items = core.items()?;
+    let jumps = items.iter().filter(|item| matches!(item.0, Key::Jump(..)));
+    assert_eq!(rt; (jumps.count(), items.len()), (51, 51 + 4));
+    assert!(rt; items.iter().map(|item| item.0).is_sorted());
+    assert!(rt; !items.iter().any(|item| item.2));
+    let mut again: Core<CopyConst> = Core::new(rt.alloc());
+    again.load(parse(rt.alloc(), TWO_CALLS.as_bytes())?)?;
+    for item in items.iter() {
+        set_item(&mut again, *item)?;
+    }
+    assert_eq!(rt; again.items()?, items);
+    Ok(())
+}
+
 /// Asserts the counts of procedures, nodes and facts.
 fn expect_counts(
     rt: &(impl Abort + AllocGlobal),
