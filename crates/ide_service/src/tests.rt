@@ -297,7 +297,7 @@ fn expect_summary(
     assert!(rt; !core.is_pending(key));
 }
 
-/// Sets an item in a core, where no hand has a claim then.
+/// Sets an item in a core, which takes every claim back first.
 fn set_item(core: &mut Core<CopyConst>, item: (Key, ConstFn, bool)) -> Result<(), Fail> {
     let (key, function, pending) = item;
     core.release_all();

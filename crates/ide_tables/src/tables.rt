@@ -206,10 +206,7 @@ fn fallen<F: EdgeFn>(old: F, f: F) -> F
 }
 
 // The keys, in the map's order.
-fn keys_of<F: EdgeFn>(
-    alloc: Global,
-    functions: &IndexMap<Key, F>,
-) -> Result<Vec<Key>, AllocError>
+fn keys_of<F: EdgeFn>(alloc: Global, functions: &IndexMap<Key, F>) -> Result<Vec<Key>, AllocError>
     ensures keys { IfOk result (λ keys. keys.items ≡ keys_of functions.now.entries) }
     ensures distinct { IsDistinct same_key (keys_of functions.now.entries) }
 {
