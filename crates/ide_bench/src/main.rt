@@ -2,6 +2,9 @@
 //!
 //! - `solve FILE` solves the program text of the file by copy constants with `main` as the root, and
 //!   prints how many nodes, facts, keys and tasks there were;
+//! - `parse FILE`, `graph FILE` and `tabulate FILE` do the same work up to that phase alone, and
+//!   print the procedures, the nodes and facts, and what `solve` prints;
+//! - `print FILE` solves the text and makes the dump of its values, and prints how long that is;
 //! - `append LENGTH COUNT` stores so many records with bodies of that length in a journal on a disk
 //!   in memory, and prints how many there are and how long the file is;
 //! - `reopen LENGTH COUNT` does so and reads them back;
@@ -9,10 +12,13 @@
 #![tactic(auto)]
 
 mod counts;
+mod phases;
 mod records;
 
 use anyhow::{Context, Result, bail};
-use counts::solve;
+use counts::Counts;
+use ide_graph::Graph;
+use phases::{count_procedures, graph_of, measure_dump, solve, tabulate};
 use records::{Sizes, Stored, append, copy, reopen};
 use std::{env, fs};
 
@@ -24,11 +30,22 @@ fn main(rt: HostRuntime) -> Result<()> {
 /// Does what the words ask for, and prints what it came to.
 fn run(rt: &HostRuntime, words: &[String]) -> Result<()> {
     match word(words, 1)? {
-        "solve" => print_counts(rt, word(words, 2)?),
         "append" => print_stored(rt, append(rt.alloc(), sizes_of(words)?)?),
         "reopen" => print_stored(rt, reopen(rt.alloc(), sizes_of(words)?)?),
-        "copy" => print_copied(rt, copy(rt.alloc(), sizes_of(words)?)?),
-        _ => bail!("solve, append, reopen or copy is wanted"),
+        "copy" => print_bytes(rt, copy(rt.alloc(), sizes_of(words)?)?),
+        phase => run_phase(rt, phase, text_of(rt, words)?.as_slice()),
+    }
+}
+
+/// Does the work on a text up to the phase of that name, and prints what it came to.
+fn run_phase(rt: &HostRuntime, phase: &str, text: &[u8]) -> Result<()> {
+    match phase {
+        "parse" => print_procedures(rt, count_procedures(rt.alloc(), text)?),
+        "graph" => print_graph(rt, &graph_of(rt.alloc(), text)?),
+        "tabulate" => print_counts(rt, tabulate(rt.alloc(), text)?),
+        "solve" => print_counts(rt, solve(rt.alloc(), text)?),
+        "print" => print_bytes(rt, measure_dump(rt.alloc(), text)?),
+        _ => bail!("parse, graph, tabulate, solve, print, append, reopen or copy is wanted"),
     }
 }
 
@@ -36,6 +53,11 @@ fn run(rt: &HostRuntime, words: &[String]) -> Result<()> {
 fn word(words: &[String], index: usize) -> Result<&str> {
     let word = words.get(index).context("a word is wanting")?;
     Ok(word.as_str())
+}
+
+/// The text of the file that a word names.
+fn text_of(rt: &HostRuntime, words: &[String]) -> Result<Vec<u8>> {
+    fs::read(rt, word(words, 2)?).context("the text cannot be read")
 }
 
 /// The length and the count that two words say.
@@ -51,10 +73,20 @@ fn number(word: &str) -> Result<usize> {
     word.parse().context("a number is wanted")
 }
 
-/// Prints the counts of solving the text of a file.
-fn print_counts(rt: &HostRuntime, file: &str) -> Result<()> {
-    let text = fs::read(rt, file).context("the text cannot be read")?;
-    let counts = solve(rt.alloc(), text.as_slice())?;
+/// Prints how many procedures there are.
+fn print_procedures(rt: &HostRuntime, count: usize) -> Result<()> {
+    println!(rt; "procedures {}", count)?;
+    Ok(())
+}
+
+/// Prints how large a graph is.
+fn print_graph(rt: &HostRuntime, graph: &Graph) -> Result<()> {
+    println!(rt; "nodes {} facts {}", graph.node_count(), graph.fact_count())?;
+    Ok(())
+}
+
+/// Prints counts.
+fn print_counts(rt: &HostRuntime, counts: Counts) -> Result<()> {
     println!(rt;
         "nodes {} facts {} keys {} tasks {}",
         counts.nodes, counts.facts, counts.keys, counts.tasks
@@ -68,8 +100,8 @@ fn print_stored(rt: &HostRuntime, stored: Stored) -> Result<()> {
     Ok(())
 }
 
-/// Prints how many bytes were copied.
-fn print_copied(rt: &HostRuntime, bytes: usize) -> Result<()> {
+/// Prints how many bytes there are.
+fn print_bytes(rt: &HostRuntime, bytes: usize) -> Result<()> {
     println!(rt; "bytes {}", bytes)?;
     Ok(())
 }

@@ -1,8 +1,12 @@
 //! Records in a journal on a disk in memory, and what copying their bodies alone takes.
-ghost use Rattle.std.specs.Prelude.{◌≡◌, ◌*◌, IfOk};
+ghost use Rattle.std.specs.Prelude.{◌≡◌, ◌*◌, [], ◌∷◌, ◌++◌, IfOk, List, OnOk, length};
+ghost use Rattle.ide_bench.specs.Records.{alike};
+ghost use Rattle.ide_journal.specs.Format.{Entry, zeros};
+ghost use Rattle.ide_journal.specs.Lists.{IsAtRest, entry_of};
 
 use anyhow::{Result, bail, ensure};
 use ide_disk::{Disk, MemDisk};
+use ide_journal::laws::holds_one_list;
 use ide_journal::{Journal, RawRecord};
 use std::alloc::Global;
 
@@ -19,16 +23,16 @@ const PAGE: usize = 4_096;
 
 /// How long the body of a record is, and how many records there are.
 #[derive(Clone, Copy)]
-pub struct Sizes {
-    pub length: usize,
-    pub count: usize,
+pub(crate) struct Sizes {
+    pub(crate) length: usize,
+    pub(crate) count: usize,
 }
 
 /// How many records a store has, and how long its file is.
 #[derive(Clone, Copy)]
-pub struct Stored {
-    pub records: usize,
-    pub bytes: u64,
+pub(crate) struct Stored {
+    pub(crate) records: usize,
+    pub(crate) bytes: u64,
 }
 
 impl Sizes {
@@ -48,14 +52,18 @@ impl Sizes {
     }
 
     /// A record, of zeros.
-    fn record(self, alloc: Global) -> Result<RawRecord> {
+    fn record(self, alloc: Global) -> Result<RawRecord>
+        ensures { IfOk result (λ raw. entry_of raw ≡ (KIND, zeros self.length)) }
+    {
         let mut body = Vec::with_capacity(alloc, self.length)?;
         body.resize(self.length, 0)?;
         Ok(RawRecord { kind: KIND, body })
     }
 
     /// A journal with the records.
-    fn journal(self, alloc: Global) -> Result<Journal<MemDisk>> {
+    fn journal(self, alloc: Global) -> Result<Journal<MemDisk>>
+        ensures { IfOk result (IsAtRest TAG (alike KIND self.length self.count)) }
+    {
         let record = self.record(alloc)?;
         let mut journal = match Journal::create(alloc, self.disk(alloc)?, TAG) {
             Ok(journal) => journal,
@@ -68,27 +76,30 @@ impl Sizes {
     }
 }
 
-/// Stores a record.
-fn store(journal: &mut Journal<MemDisk>, record: &RawRecord) -> Result<()> {
+/// Stores a record, by four disk calls.
+fn store(journal: &mut Journal<MemDisk>, raw: &RawRecord) -> Result<()>
+    ensures { (entries : List Entry) → IsAtRest TAG entries journal.old → OnOk result (IsAtRest TAG (entries ++ entry_of raw.now ∷ []) journal.new) }
+{
     ensure!(
         journal.is_idle() && journal.count() < MOST,
         "the journal takes no more records"
     );
     ensure!(
-        record.kind == KIND && record.body.len() <= LONGEST,
+        raw.kind == KIND && raw.body.len() <= LONGEST,
         "the record is too long"
     );
-    journal.begin(record)?;
-    for _ in 0..4 {
-        if !journal.is_idle() {
-            journal.advance()?;
-        }
-    }
+    journal.begin(raw)?;
+    journal.advance()?;
+    journal.advance()?;
+    journal.advance()?;
+    journal.advance()?;
     Ok(())
 }
 
 /// Stores the records.
-pub fn append(alloc: Global, sizes: Sizes) -> Result<Stored> {
+pub(crate) fn append(alloc: Global, sizes: Sizes) -> Result<Stored>
+    ensures { IfOk result (λ stored. stored.records ≡ sizes.count) }
+{
     let journal = sizes.journal(alloc)?;
     let records = journal.count() as usize;
     let bytes = journal.into_disk().len()?;
@@ -96,7 +107,10 @@ pub fn append(alloc: Global, sizes: Sizes) -> Result<Stored> {
 }
 
 /// Stores the records, and reads them back.
-pub fn reopen(alloc: Global, sizes: Sizes) -> Result<Stored> {
+pub(crate) fn reopen(alloc: Global, sizes: Sizes) -> Result<Stored>
+    ensures { IfOk result (λ stored. stored.records ≡ sizes.count) }
+{
+    holds_one_list();
     let disk = sizes.journal(alloc)?.into_disk();
     match Journal::open(alloc, disk, TAG) {
         Ok((journal, records)) => Ok(Stored {
@@ -108,7 +122,9 @@ pub fn reopen(alloc: Global, sizes: Sizes) -> Result<Stored> {
 }
 
 /// Copies as many bodies into one vector, and answers its length.
-pub fn copy(alloc: Global, sizes: Sizes) -> Result<usize> {
+pub(crate) fn copy(alloc: Global, sizes: Sizes) -> Result<usize>
+    ensures { IfOk result (λ bytes. bytes ≡ sizes.length * sizes.count) }
+{
     let record = sizes.record(alloc)?;
     let Some(length) = sizes.length.checked_mul(sizes.count) else {
         bail!("so many bytes have no room");

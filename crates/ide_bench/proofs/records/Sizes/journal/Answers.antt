@@ -1,0 +1,13 @@
+use Rattle.std.proofs.Common.{◌∷◌, [], ◌++◌, sym, subst, ap, ◌∙◌}
+use Rattle.ide_journal.specs.Lists.{IsAtRest}
+use Rattle.ide_bench.proofs.Alike.{one_more}
+use Rattle.ide_bench.specs.Records.{alike}
+use Rattle.ide_bench.specs.declared.records.TheConstants.{KIND, TAG}
+use Rattle.ide_bench.proofs.records.Sizes.journal.Goals as goal
+
+pub loop-preserved : goal.loop-preserved
+loop-preserved c =
+    let stored = alike KIND c.args.self.length c.loop.counter in
+    subst (λ entries. IsAtRest TAG entries c.store.new.journal)
+    (ap (λ entry. stored ++ entry ∷ []) c.in_ok-record.ensures ∙ sym (one_more KIND c.args.self.length c.loop.counter))
+    (c.in_ok-store.ensures stored c.loop.invariant)
