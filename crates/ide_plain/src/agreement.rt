@@ -1,4 +1,9 @@
 //! Whether the solver's values are those that the paths give.
+ghost use Rattle.std.specs.Prelude.{◌≡◌, ◌*◌, ◌<◌, ℕ, List, IfOk, IsTrue, length, map};
+ghost use Rattle.ide_plain.specs.Agreement.{AreSame, IsSameAt};
+ghost use Rattle.ide_service.specs.Solve.{AreSolved};
+ghost use Rattle.ide_values.specs.Values.{ValuesData};
+
 use crate::walks::values_of_paths;
 use ide_graph::Graph;
 use ide_problem::Problem;
@@ -16,7 +21,10 @@ pub fn agrees<P: Problem>(
     text: &[u8],
     roots: &[&[u8]],
     longest: usize,
-) -> Result<bool, Refused> {
+) -> Result<bool, Refused>
+    // The list is that of the paths, of which only its length is proved.
+    ensures { IfOk result (λ same. (values : ValuesData P.L) × (listed : List P.L) × AreSolved P.L.algebra P.F.edge P.targets text.now (map (λ name. name.now) roots.now) values × (length listed ≡ values.graph.nodes * values.graph.facts) × (IsTrue same → AreSame P.L.algebra values listed)) }
+{
     let values = values_of::<P>(alloc, text, roots)?;
     let graph = &values.loaded().graph;
     let starts = starts_of(alloc, graph, values.roots())?;
@@ -36,26 +44,39 @@ fn starts_of(alloc: Global, graph: &Graph, procedures: &[usize]) -> Result<Vec<N
 }
 
 /// Whether each of the values, by rows of nodes, is the one found.
-fn is_all_same<P: Problem>(values: &Values<P>, plain: &[P::L]) -> bool {
-    let facts = values.loaded().graph.fact_count();
-    for (place, value) in plain.iter().enumerate() {
-        if !is_same(values, place, facts, *value) {
+fn is_all_same<P: Problem>(values: &Values<P>, plain: &[P::L]) -> bool
+    ensures { IsTrue result → AreSame P.L.algebra values.now plain.now }
+{
+    for node in 0..values.loaded().graph.node_count() {
+        if !is_row_same(values, node as Node, plain) {
             return false;
         }
     }
     true
 }
 
-/// Whether the value at a place of the rows is the one found.
-fn is_same<P: Problem>(values: &Values<P>, place: usize, facts: usize, value: P::L) -> bool {
-    let node = place
-        .checked_div(facts)
-        .and_then(|node| Node::try_from(node).ok());
-    let fact = place
-        .checked_rem(facts)
-        .and_then(|fact| Fact::try_from(fact).ok());
-    match (node, fact) {
-        (Some(node), Some(fact)) => values.at(node, fact) == Ok(value),
+/// Whether the values of the facts at a node are those found.
+fn is_row_same<P: Problem>(values: &Values<P>, node: Node, plain: &[P::L]) -> bool
+    requires { node < values.now.graph.nodes }
+    ensures { IsTrue result → (d : ℕ) → d < values.now.graph.facts → IsSameAt P.L.algebra values.now plain.now node d }
+{
+    for fact in 0..values.loaded().graph.fact_count() {
+        if !is_same(values, node, fact as Fact, plain) {
+            return false;
+        }
+    }
+    true
+}
+
+/// Whether the value of the fact at the node is the one found.
+fn is_same<P: Problem>(values: &Values<P>, node: Node, fact: Fact, plain: &[P::L]) -> bool
+    requires node { node < values.now.graph.nodes }
+    requires fact { fact < values.now.graph.facts }
+    ensures { IsTrue result → IsSameAt P.L.algebra values.now plain.now node fact }
+{
+    let place = node as usize * values.loaded().graph.fact_count() + fact as usize;
+    match (plain.get(place), values.at(node, fact)) {
+        (Some(value), Ok(found)) => *value == found,
         _ => false,
     }
 }
