@@ -29,9 +29,10 @@ try:
 install: idesolve
 	install -D idesolve $(DESTDIR)$(PREFIX)/bin/idesolve
 
-# Times the program on generated texts and the journal on a disk in memory, and prints a table of each.
+# Times the program on generated texts, its phases, and the journal on a disk in memory, and prints a table of each.
 bench: idesolve
 	bench/run
+	bench/phases
 	bench/journal
 
 clean:
