@@ -1,5 +1,5 @@
 //! A quiet image, frozen.
-ghost use Rattle.std.specs.Prelude.{◌≡◌, ◌≢◌, ◌↔◌, ◌⊎◌, [], true, false, Err, Some, IfErr, IfOk};
+ghost use Rattle.std.specs.Prelude.{◌≡◌, ◌≢◌, ◌↔◌, ◌⊎◌, [], true, false, Err, Some, IfErr, IfOk, IsErrAnd};
 ghost use Rattle.std.specs.Arc.{arc_value};
 ghost use Rattle.ide_steps.specs.declared.loaded.Loaded.{Loaded};
 ghost use Rattle.ide_steps.specs.Core.{is_loaded};
@@ -49,6 +49,8 @@ impl<P: Problem> Core<P> {
     ///
     /// Refusals, in this order: `NoProgram`; `Unfinished` where some key is pending.
     pub fn close(self) -> Result<Closed<P>, (Refused, Core<P>)>
+        ensures no_program { IsErrAnd result (λ e. e.0 ≡ Refused.NoProgram) ↔ (is_loaded self ≡ false) }
+        ensures unfinished { IsErrAnd result (λ e. e.0 ≡ Refused.Unfinished) ↔ ((is_loaded self ≡ true) × (self.pile.pending ≢ [])) }
         ensures graph { IfOk result (λ closed. self.graph ≡ Some (arc_value {X = Loaded P P.L P.F} closed.loaded).graph) }
         ensures table { IfOk result (λ closed. closed.tables ≡ self.table) }
         ensures roots { IfOk result (λ closed. closed.roots.items ≡ self.roots) }
