@@ -1,6 +1,6 @@
 -- What follows from what is known of a result.
-use Rattle.std.specs.Prelude.{IfOk, OnOk}
-use Rattle.std.proofs.Common.{Ok, Err}
+use Rattle.std.specs.Prelude.{IfErr, IfOk, OnOk}
+use Rattle.std.proofs.Common.{◌≡◌, Ok, Err, sym, subst}
 use Rattle.std.specs.declared.result.Result.{Result}
 
 pub if-ok : {T E : Type 0} {P Q R S : T → Type 0} (r : Result T E) → IfOk r P → IfOk r Q → IfOk r R → ((x : T) → P x → Q x → R x → S x) → IfOk r S
@@ -10,3 +10,7 @@ if-ok (Err e) p q s follows = p
 pub on-ok : {T E : Type 0} {P Q : Type 0} (r : Result T E) → OnOk r P → (P → Q) → OnOk r Q
 on-ok (Ok x) p follows = follows p
 on-ok (Err e) p follows = p
+
+-- of a refusal that `?` hands on
+pub handed-on : {T E : Type 0} (P : E → Type 0) (result : Result T E) (given handed : E) → result ≡ Err handed → handed ≡ given → P given → IfErr result P
+handed-on P result given handed is same h = subst (λ r. IfErr r P) (sym is) (subst P (sym same) h)

@@ -1,7 +1,10 @@
 //! Solving a text in memory, with one hand.
-ghost use Rattle.std.specs.Prelude.{◌≡◌, ◌++◌, ℕ, List, IfOk, OnErr, OnOk, map};
+ghost use Rattle.std.specs.Prelude.{◌≡◌, ◌++◌, ℕ, List, IfErr, IfOk, OnErr, OnOk, map};
+ghost use Rattle.ide_graph.specs.Supergraph.{Supergraph};
 ghost use Rattle.ide_service.specs.Begun.{AreBegun};
+ghost use Rattle.ide_service.specs.Refusal.{IsRootsRefusal, IsSolveRefusal};
 ghost use Rattle.ide_service.specs.Solve.{AreSolved, IsSolution};
+ghost use Rattle.ide_service.specs.Started.{IsStarted};
 
 use ide_graph::{
     exits_of_programs_are_owned, graphs_of_programs_are_closed, sites_of_programs_are_joined,
@@ -28,6 +31,7 @@ pub fn solve<P: Problem>(
     out: &mut Vec<u8>,
 ) -> Result<(), Refused>
     ensures solution { OnOk result ((dump : List ℕ) × (out.new.items ≡ out.old.items ++ dump) × IsSolution P.L.algebra P.F.edge P.targets P.L.shown text.now (map (λ name. name.now) roots.now) dump) }
+    ensures refused { IfErr result (IsSolveRefusal text.now (map (λ name. name.now) roots.now)) }
     ensures unchanged { OnErr result (out.new.items ≡ out.old.items) }
 {
     let values = values_of::<P>(alloc, text, roots)?;
@@ -41,7 +45,23 @@ pub fn values_of<P: Problem>(
     text: &[u8],
     roots: &[&[u8]],
 ) -> Result<Values<P>, Refused>
-    ensures { IfOk result (AreSolved P.L.algebra P.F.edge P.targets text.now (map (λ name. name.now) roots.now)) }
+    ensures solved { IfOk result (AreSolved P.L.algebra P.F.edge P.targets text.now (map (λ name. name.now) roots.now)) }
+    ensures refused { IfErr result (IsSolveRefusal text.now (map (λ name. name.now) roots.now)) }
+{
+    sites_make_a_graph::<P>();
+    runs_go_on::<P>();
+    let mut core = started::<P>(alloc, text, roots)?;
+    core.drain()?;
+    match core.close() {
+        Ok(closed) => closed.values(alloc, 1),
+        Err((refused, _)) => Err(refused),
+    }
+}
+
+/// A core with the program that the text spells, and the procedures of these names as its roots.
+fn started<P: Problem>(alloc: Global, text: &[u8], roots: &[&[u8]]) -> Result<Core<P>, Refused>
+    ensures started { IfOk result (λ core. (graph : Supergraph) × IsStarted P.L.algebra P.F.edge P.targets text.now (map (λ name. name.now) roots.now) core graph) }
+    ensures refused { IfErr result (IsSolveRefusal text.now (map (λ name. name.now) roots.now)) }
 {
     graphs_are_supergraphs::<P>();
     sites_of_programs_are_joined();
@@ -53,16 +73,13 @@ pub fn values_of<P: Problem>(
     let program = parse(alloc, text)?;
     core.load(program)?;
     begin_roots(&mut core, roots)?;
-    core.drain()?;
-    match core.close() {
-        Ok(closed) => closed.values(alloc, 1),
-        Err((refused, _)) => Err(refused),
-    }
+    Ok(core)
 }
 
 /// Makes the procedures of these names roots, one after the other.
 fn begin_roots<P: Problem>(core: &mut Core<P>, names: &[&[u8]]) -> Result<(), Refused>
-    ensures { OnOk result (AreBegun P.L.algebra P.F.edge P.targets core.old core.new (map (λ name. name.now) names.now)) }
+    ensures begun { OnOk result (AreBegun P.L.algebra P.F.edge P.targets core.old core.new (map (λ name. name.now) names.now)) }
+    ensures refused { IfErr result (IsRootsRefusal core.old.graph core.old.roots (map (λ name. name.now) names.now)) }
 {
     sites_make_a_graph::<P>();
     runs_go_on::<P>();

@@ -3,7 +3,7 @@ use crate::{solve, values_of};
 use ide_graph::Graph;
 use ide_instances::{ConstFn, ConstValue, CopyConst, Reach, ShiftConst, Uninit, UninitValue};
 use ide_lattice::{EdgeFn, Lattice};
-use ide_steps::{Claimed, Core};
+use ide_steps::{Claimed, Core, Parted};
 use ide_tasks::Work;
 use ide_text::parse;
 use ide_wire::{Fact, Key, Node, Refused};
@@ -275,13 +275,18 @@ fn tasks_and_quiescent_tables(rt: HostRuntime) -> Result<(), Fail> {
     assert_eq!(rt; core.drain()?, 13);
     let mut core = begun(rt.alloc(), TWO_CALLS)?;
     core.drain()?;
+    expect_two_calls(&rt, &core);
+    Ok(())
+}
+
+/// Asserts that the program with two calls is tabulated.
+fn expect_two_calls(rt: &(impl Abort + AllocGlobal), core: &Core<CopyConst>) {
     assert!(rt; core.is_quiet());
     assert_eq!(rt; core.key_count(), 51 + 4);
-    expect_summary(&rt, &core, 6, 0, 0);
-    expect_summary(&rt, &core, 6, 2, 4);
-    expect_summary(&rt, &core, 8, 0, 0);
-    expect_summary(&rt, &core, 8, 3, 5);
-    Ok(())
+    expect_summary(rt, core, 6, 0, 0);
+    expect_summary(rt, core, 6, 2, 4);
+    expect_summary(rt, core, 8, 0, 0);
+    expect_summary(rt, core, 8, 3, 5);
 }
 
 /// Asserts that a summary is the identity, and not pending.
@@ -381,18 +386,174 @@ fn claims_of_several_hands(rt: HostRuntime) -> Result<(), Fail> {
     Ok(())
 }
 
+/// The work of the next key, claimed by the hand.
+fn claimed_work(
+    alloc: Global,
+    core: &mut Core<CopyConst>,
+    hand: usize,
+) -> Result<Work<CopyConst>, Fail> {
+    let Claimed::Task(task) = core.claim(hand)? else {
+        return Err("no task".into());
+    };
+    match Work::of(alloc, task) {
+        Ok(work) => Ok(work),
+        Err(_) => Err("no memory".into()),
+    }
+}
+
 #[test]
 fn work_of_before_a_load_is_stale(rt: HostRuntime) -> Result<(), Fail> {
     let mut core = begun(rt.alloc(), NUMBER)?;
-    let Claimed::Task(task) = core.claim(0)? else {
-        return Err("no task".into());
-    };
-    let Ok(mut work) = Work::of(rt.alloc(), task) else {
-        return Err("no memory".into());
-    };
+    let mut work = claimed_work(rt.alloc(), &mut core, 0)?;
     core.load(parse(rt.alloc(), EMPTY.as_bytes())?)?;
     assert_eq!(rt; core.part(0, &mut work), Err(Refused::Stale));
     assert_eq!(rt; core.key_count(), 0);
     assert!(rt; matches!(core.claim(0)?, Claimed::Quiet));
+    Ok(())
+}
+
+#[test]
+fn work_of_the_same_claim_goes_on(rt: HostRuntime) -> Result<(), Fail> {
+    let mut core = begun(rt.alloc(), NUMBER)?;
+    let mut work = claimed_work(rt.alloc(), &mut core, 0)?;
+    core.load(parse(rt.alloc(), NUMBER.as_bytes())?)?;
+    core.root(b"main")?;
+    claimed_work(rt.alloc(), &mut core, 0)?;
+    assert_eq!(rt; core.part(0, &mut work), Ok(Parted::Lowered));
+    Ok(())
+}
+
+#[test]
+fn work_of_before_a_release_is_stale(rt: HostRuntime) -> Result<(), Fail> {
+    let mut core = begun(rt.alloc(), NUMBER)?;
+    let mut work = claimed_work(rt.alloc(), &mut core, 0)?;
+    assert_eq!(rt; core.part(0, &mut work), Ok(Parted::Lowered));
+    core.release(0)?;
+    claimed_work(rt.alloc(), &mut core, 0)?;
+    assert_eq!(rt; core.part(0, &mut work), Err(Refused::Stale));
+    Ok(())
+}
+
+#[test]
+fn all_claims_are_released(rt: HostRuntime) -> Result<(), Fail> {
+    let mut core = begun(rt.alloc(), NUMBER)?;
+    let mut work = claimed_work(rt.alloc(), &mut core, 0)?;
+    assert_eq!(rt; core.release_all(), 1);
+    assert!(rt; matches!(core.claim(1)?, Claimed::Task(_)));
+    assert_eq!(rt; core.part(0, &mut work), Err(Refused::Stale));
+    assert_eq!(rt; core.release(0), Err(Refused::Stale));
+    Ok(())
+}
+
+#[test]
+fn no_part_follows_the_last(rt: HostRuntime) -> Result<(), Fail> {
+    let mut core = begun(rt.alloc(), NUMBER)?;
+    let mut work = claimed_work(rt.alloc(), &mut core, 0)?;
+    assert_eq!(rt; core.part(0, &mut work), Ok(Parted::Lowered));
+    assert_eq!(rt; core.finish(0, &work), Err(Refused::Stale));
+    for _ in 0..3 {
+        core.part(0, &mut work)?;
+    }
+    assert_eq!(rt; core.part(0, &mut work), Ok(Parted::NoPart));
+    assert_eq!(rt; core.finish(0, &work), Ok(()));
+    Ok(())
+}
+
+#[test]
+fn nothing_is_claimed_without_a_root(rt: HostRuntime) -> Result<(), Fail> {
+    let mut core: Core<CopyConst> = Core::new(rt.alloc());
+    core.load(parse(rt.alloc(), EMPTY.as_bytes())?)?;
+    assert!(rt; matches!(core.claim(0)?, Claimed::Quiet));
+    Ok(())
+}
+
+/// A hand that takes turns with others.
+#[derive(Drop)]
+struct Hand {
+    number: usize,
+    claims: u64,
+    work: Option<Work<CopyConst>>,
+}
+
+impl Hand {
+    fn new(number: usize) -> Hand {
+        Hand {
+            number,
+            claims: 0,
+            work: None,
+        }
+    }
+
+    /// Does one part, or ends the claim where none is left; each third claim is released after its
+    /// first part. Without a claim it takes one.
+    fn step(&mut self, alloc: Global, core: &mut Core<CopyConst>) -> Result<(), Fail> {
+        let Some(mut work) = self.work.take() else {
+            return self.claim(alloc, core);
+        };
+        if core.part(self.number, &mut work)? == Parted::NoPart {
+            core.finish(self.number, &work)?;
+        } else if self.claims % 3 == 0 {
+            core.release(self.number)?;
+        } else {
+            self.work = Some(work);
+        }
+        Ok(())
+    }
+
+    /// Claims a key, if one is to be had.
+    fn claim(&mut self, alloc: Global, core: &mut Core<CopyConst>) -> Result<(), Fail> {
+        let Claimed::Task(task) = core.claim(self.number)? else {
+            return Ok(());
+        };
+        let Ok(work) = Work::of(alloc, task) else {
+            return Err("no memory".into());
+        };
+        self.claims = self.claims.saturating_add(1);
+        self.work = Some(work);
+        Ok(())
+    }
+}
+
+#[test]
+fn three_hands_in_turns(rt: HostRuntime) -> Result<(), Fail> {
+    let mut core = begun(rt.alloc(), TWO_CALLS)?;
+    let mut first = Hand::new(0);
+    let mut second = Hand::new(1);
+    let mut third = Hand::new(2);
+    for _ in 0..500 {
+        first.step(rt.alloc(), &mut core)?;
+        second.step(rt.alloc(), &mut core)?;
+        third.step(rt.alloc(), &mut core)?;
+    }
+    expect_two_calls(&rt, &core);
+    Ok(())
+}
+
+/// The length of the dump of the empty main, of what may be uninitialised.
+fn dump_length(alloc: Global, roots: &[&[u8]]) -> Result<usize, Refused> {
+    let mut out = Vec::new(alloc);
+    solve::<Uninit>(alloc, EMPTY.as_bytes(), roots, &mut out)?;
+    Ok(out.len())
+}
+
+#[test]
+fn dumps_of_the_empty_main(rt: HostRuntime) {
+    assert_eq!(rt; dump_length(rt.alloc(), &[b"main".as_slice()]), Ok(201));
+    assert_eq!(rt; dump_length(rt.alloc(), &[]), Ok(192));
+}
+
+#[test]
+fn values_without_a_root(rt: HostRuntime) -> Result<(), Fail> {
+    let values = values_of::<CopyConst>(rt.alloc(), NUMBER.as_bytes(), &[])?;
+    let (node, fact) = values.loaded().graph.find(b"main", 0, b"@zero")?;
+    assert_eq!(rt; values.at(node, fact), Ok(ConstValue::Top));
+    Ok(())
+}
+
+#[test]
+fn places_past_the_empty_main(rt: HostRuntime) -> Result<(), Fail> {
+    let values = values_of::<CopyConst>(rt.alloc(), EMPTY.as_bytes(), &[b"main".as_slice()])?;
+    assert_eq!(rt; values.at(2, 0), Err(Refused::OutOfRange));
+    assert_eq!(rt; values.at(0, 2), Err(Refused::OutOfRange));
     Ok(())
 }

@@ -1,13 +1,14 @@
-use Rattle.std.proofs.Common.{refl}
+use Rattle.std.proofs.Common.{map, refl}
 use Rattle.ide_values.specs.Dump.{dump_of}
 use Rattle.ide_values.specs.Values.{value_of}
+use Rattle.ide_service.proofs.Refused.{wants-memory}
 use Rattle.ide_service.proofs.Results.{on-ok}
 use Rattle.ide_service.proofs.solver.solve.Goals as goal
 
 pub returns-clause-solution : goal.returns-clause-solution
 returns-clause-solution g c =
     let values = c.in_ok-values.values in
-    let is = c.in_ok-values.ensures in
+    let is = c.in_ok-values.ensures.solved in
     let value = value_of g.P.L.Lattice.algebra values in
     on-ok c.dump.result c.dump.ensures.text (λ text. (
       dump_of values.graph (λ n d. g.P.L.Lattice.shown (value n d)),
@@ -21,3 +22,6 @@ returns-clause-solution g c =
         best = record { value = value; best = is.best; lines = refl };
       },
     ))
+
+pub returns-clause-refused : goal.returns-clause-refused
+returns-clause-refused g c = wants-memory c.args.text.now (map (λ name. name.now) c.args.roots.now) c.dump.result c.dump.ensures.refused

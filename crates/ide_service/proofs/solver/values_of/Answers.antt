@@ -1,28 +1,43 @@
-use Rattle.std.proofs.Common.{Some, map, ap, sym, ◌∙◌}
+use Rattle.std.proofs.Common.{Some, Err, map, ap, subst, sym, ◌∙◌, arith}
+use Rattle.std.proofs.lemmas.Result.{err_from_is_err_and}
 use Rattle.ide_graph.specs.Joined.{start_at}
 use Rattle.ide_theory.specs.Sites.{edges_of}
-use Rattle.ide_service.proofs.Results.{if-ok}
-use Rattle.ide_service.proofs.Solved.{Laws, solved}
+use Rattle.ide_service.specs.Refusal.{IsSolveRefusal, memory}
+use Rattle.ide_service.proofs.Refused.{close-refused, drain-refused, values-refused}
+use Rattle.ide_service.proofs.Results.{handed-on, if-ok}
+use Rattle.ide_service.proofs.Solved.{solved}
 use Rattle.ide_service.proofs.solver.values_of.Goals as goal
 
-pub returns-in-Ok : goal.returns-in-Ok
-returns-in-Ok g c =
-    let A = g.P.L.Lattice.algebra in
-    let B = g.P.F.EdgeFn.edge in
-    let targets = g.P.Problem.targets in
-    let laws : Laws A B targets = record {
-      supergraphs = c.graphs_are_supergraphs.ensures;
-      joined = c.sites_of_programs_are_joined.ensures;
-      closed = c.graphs_of_programs_are_closed.ensures;
-      exits = c.exits_of_programs_are_owned.ensures;
-      goes = λ graph all joined.
-          c.runs_go_on.ensures (edges_of graph.facts graph.sites all (start_at graph)) (c.sites_make_a_graph.ensures graph.facts graph.sites all (start_at graph) joined).0;
-      proper_id = g.met.P.F.EdgeFn.lawful.proper_id;
-    } in
-    let parsed = c.in_ok-program.ensures.parsed in
+pub returns-in-Ok-clause-solved : goal.returns-in-Ok-clause-solved
+returns-in-Ok-clause-solved g c =
     if-ok c.values.result c.values.ensures.graph c.values.ensures.roots c.values.ensures.best (λ values graph roots best.
-    solved A B targets laws c.args.text.now (map (λ name. name.now) c.args.roots.now) c.in_ok-program.program parsed
-    c.load.new.self c.begin_roots.new.core c.drain.new.self values c.in-Ok.closed.tables
-    c.in_ok-load.ensures.graph (c.in_ok-load.ensures.edges (parsed.named, parsed.limits)) c.in_ok-load.ensures.state c.in_ok-load.ensures.roots
-    c.in_ok-begin_roots.ensures c.in_ok-drain.ensures.goes c.in_ok-drain.ensures.quiet
+    solved g.P.L.Lattice.algebra g.P.F.EdgeFn.edge g.P.Problem.targets
+    (λ graph all joined. c.runs_go_on.ensures (edges_of graph.facts graph.sites all (start_at graph)) (c.sites_make_a_graph.ensures graph.facts graph.sites all (start_at graph) joined).0)
+    g.met.P.F.EdgeFn.lawful.proper_id
+    c.args.text.now (map (λ name. name.now) c.args.roots.now) c.in_ok-core.core c.drain.new.self c.in_ok-core.ensures.started.0 values c.in-Ok.closed.tables
+    c.in_ok-core.ensures.started.1 c.in_ok-drain.ensures.goes c.in_ok-drain.ensures.quiet
     (c.in-Ok.ensures.graph ∙ ap (λ o. Some o) (sym graph)) (roots ∙ c.in-Ok.ensures.roots) c.in-Ok.ensures.table best)
+
+pub returns-in-Ok-clause-refused : goal.returns-in-Ok-clause-refused
+returns-in-Ok-clause-refused g c =
+    values-refused c.args.text.now (map (λ name. name.now) c.args.roots.now) 1 c.values.result (omega arith) (omega arith) c.values.ensures.limit c.values.ensures.refused
+
+pub returns-clause-refused : goal.returns-clause-refused
+returns-clause-refused g c =
+    let is = c.in-Err.ensures in
+    elim (close-refused g.P.L.Lattice.algebra g.P.F.EdgeFn.edge g.P.Problem.targets c.args.text.now (map (λ name. name.now) c.args.roots.now)
+    c.in_ok-core.core c.drain.new.self c.in_ok-core.ensures.started.0 _ c.in_ok-core.ensures.started.1 c.in_ok-drain.ensures.goes c.in_ok-drain.ensures.quiet
+    is.refused (λ same. is.no_program.0 same) (λ same. (is.unfinished.0 same).1)) [ ]
+
+pub returns-in_err-drain-clause-refused : goal.returns-in_err-drain-clause-refused
+returns-in_err-drain-clause-refused g c =
+    let p = err_from_is_err_and c.from_residual-in_err-drain.result c.from_residual-in_err-drain.ensures.1 in
+    let names = map (λ name. name.now) c.args.roots.now in
+    let refused = c.in_err-drain.field-0.0 in
+    let is = c.in_err-drain.ensures in
+    let wanting = drain-refused g.P.L.Lattice.algebra g.P.F.EdgeFn.edge g.P.Problem.targets c.args.text.now names
+    c.in_ok-core.core c.in_ok-core.ensures.started.0 refused c.in_ok-core.ensures.started.1 is.refused
+    (λ same. is.no_program.0 (ap Err same)) (λ same. (is.busy.0 (ap Err same)).1)
+    (λ same. ((is.unfinished.0 (ap Err same)).2, (is.unfinished.0 (ap Err same)).4)) (λ same. is.within (ap Err same)) in
+    handed-on (IsSolveRefusal c.args.text.now names) c.from_residual-in_err-drain.result refused p.0 p.1 p.2
+    (subst (IsSolveRefusal c.args.text.now names) (sym wanting) memory)

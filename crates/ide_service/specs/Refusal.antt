@@ -1,0 +1,38 @@
+-- Why a text and the names of roots are refused.
+use Rattle.std.specs.Prelude.{◌≡◌, ◌≢◌, ℕ, List, [], ◌∷◌, ◌++◌, Option, Some, None, slice_index}
+use Rattle.std.specs.List.{Contains}
+use Rattle.ide_graph.specs.Supergraph.{Supergraph, procedure_named}
+use Rattle.ide_text.specs.Parsed.{TextFault}
+use Rattle.ide_wire.specs.declared.refused.Fault.{Fault}
+use Rattle.ide_wire.specs.declared.refused.Refused.{Refused}
+use Rattle.ide_wire.specs.declared.refused.Refused.TheVariants.{NoMemory, Text, NoProgram, NoProcedure, HasParameters, Already}
+use Rattle.ide_service.specs.Solve.{IsGraphOfText, IsRootName}
+
+-- why a name cannot be a root beside these
+pub data RootFault (graph : Supergraph) (roots : List ℕ) (name : List ℕ) : Refused → Type 0 where
+  unnamed : procedure_named graph name ≡ None → RootFault graph roots name NoProcedure
+  parameters : (root : ℕ) → procedure_named graph name ≡ Some root → slice_index graph.parameters root ≢ 0 → RootFault graph roots name HasParameters
+  already : (root : ℕ) → procedure_named graph name ≡ Some root → slice_index graph.parameters root ≡ 0 → Contains roots root → RootFault graph roots name Already
+
+-- of names that are made roots one after the other, beside these, the first that cannot be one has that fault
+pub data FirstRootFault (graph : Supergraph) : List ℕ → List (List ℕ) → Refused → Type 0 where
+  here : {roots : List ℕ} {names : List (List ℕ)} {fault : Refused} → (name : List ℕ) → RootFault graph roots name fault
+      → FirstRootFault graph roots (name ∷ names) fault
+  later : {roots : List ℕ} {names : List (List ℕ)} {fault : Refused} → (name : List ℕ) (root : ℕ) → IsRootName graph roots name root
+      → FirstRootFault graph (roots ++ root ∷ []) names fault → FirstRootFault graph roots (name ∷ names) fault
+
+-- a refusal of names that are to be roots beside these: for want of memory, where no program is loaded,
+-- or for the first name that cannot be one
+pub data IsRootsRefusal (graph : Option Supergraph) (roots : List ℕ) (names : List (List ℕ)) : Refused → Type 0 where
+  no_memory : IsRootsRefusal graph roots names NoMemory
+  no_program : graph ≡ None → IsRootsRefusal graph roots names NoProgram
+  no_root : (loaded : Supergraph) (refused : Refused) → graph ≡ Some loaded → FirstRootFault loaded roots names refused
+      → IsRootsRefusal graph roots names refused
+
+-- a refusal of a text and the names of roots: for want of memory, for the text's fault, or for the first
+-- name that cannot be a root of its program
+pub data IsSolveRefusal (text : List ℕ) (names : List (List ℕ)) : Refused → Type 0 where
+  memory : IsSolveRefusal text names NoMemory
+  fault : (line : ℕ) (fault : Fault) → TextFault text line fault → IsSolveRefusal text names (Text line fault)
+  root : (graph : Supergraph) (refused : Refused) → IsGraphOfText text graph → FirstRootFault graph [] names refused
+      → IsSolveRefusal text names refused

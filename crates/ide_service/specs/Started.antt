@@ -1,0 +1,29 @@
+-- A core that is ready to be drained: a program with its roots, and no hand at work.
+use Rattle.std.specs.Prelude.{◌≡◌, ℕ, ◌<◌, List, [], Some, None}
+use Rattle.ide_graph.specs.Supergraph.{Supergraph}
+use Rattle.ide_lattice.specs.Algebra.{LatticeAlgebra, EdgeAlgebra}
+use Rattle.ide_problem.specs.Flow.{Targets}
+use Rattle.ide_theory.specs.Graphs.{frame_at, roots_at}
+use Rattle.ide_theory.specs.Image.{HasRoots}
+use Rattle.ide_theory.specs.Member.{IsIn}
+use Rattle.ide_theory.specs.Run.{Run}
+use Rattle.ide_theory.specs.Sites.{HaveEdgesOf}
+use Rattle.ide_worklist.specs.Worklist.{claim_at}
+use Rattle.ide_steps.specs.Core.{CoreData}
+use Rattle.ide_steps.specs.Going.{IsFit}
+use Rattle.ide_steps.specs.State.{state_of}
+use Rattle.ide_service.specs.Solve.{AreRootNames, IsGraphOfText}
+
+module _ {F L : Type 0} (A : LatticeAlgebra L) (B : EdgeAlgebra F L) (targets : Targets F) where
+  -- the core has the graph of the program that the text spells, and the procedures of the names as its
+  -- roots; a run came to its state, where the roots have their identities; and no hand has a claim
+  pub record IsStarted (text : List ℕ) (names : List (List ℕ)) (core : CoreData F) (graph : Supergraph) : Type 0 where
+    pub is : core.graph ≡ Some graph
+    pub spelled : IsGraphOfText text graph
+    pub named : AreRootNames graph [] names core.roots
+    pub within : (i : ℕ) → IsIn i core.roots → i < graph.procedures
+    pub fit : IsFit graph
+    pub all : HaveEdgesOf graph.facts graph.sites
+    pub run : Run (frame_at A B targets graph all) (state_of targets B core)
+    pub begun : HasRoots (frame_at A B targets graph all) (roots_at A B targets graph all core.roots) (state_of targets B core).get
+    pub unclaimed : (hand : ℕ) → claim_at core.pile hand ≡ None
