@@ -37,7 +37,7 @@ impl<P: Problem> Model for Values<P> {
 
     ghost Value = { ValuesData P.L };
 
-    ghost view = { λ v. record { graph = (arc_value {X = Loaded P P.L P.F} v.loaded).graph; roots = v.roots.items; values = v.values.items } };
+    ghost view = { λ v. record { program = (arc_value {X = Loaded P P.L P.F} v.loaded).program; graph = (arc_value {X = Loaded P P.L P.F} v.loaded).graph; roots = v.roots.items; values = v.values.items } };
 }
 
 /// The phase that turns a quiet image into values.
@@ -54,6 +54,7 @@ impl<P: Problem> ValuePhase<P> for Closed<P> {
     fn values(&self, alloc: Global, workers: usize) -> Result<Values<P>, Refused>
         ensures limit { (result ≡ Err Refused.Limit) ↔ ((workers ≡ 0) ⊎ (64 < workers)) }
         ensures refused { IfErr result (λ e. (e ≡ Refused.Limit) ⊎ (e ≡ Refused.NoMemory)) }
+        ensures program { IfOk result (λ values. values.program ≡ (arc_value {X = Loaded P P.L P.F} self.now.loaded).program) }
         ensures graph { IfOk result (λ values. values.graph ≡ (arc_value {X = Loaded P P.L P.F} self.now.loaded).graph) }
         ensures roots { IfOk result (λ values. values.roots ≡ self.now.roots.items) }
         ensures follow { IfOk result (λ values. FollowFrom P.L.algebra P.F.edge P.targets (arc_value {X = Loaded P P.L P.F} self.now.loaded).graph self.now.tables self.now.roots.items values.values) }
@@ -69,6 +70,7 @@ impl<P: Problem> ValuePhase<P> for Closed<P> {
 
 /// The values of an image.
 fn values_of<P: Problem>(alloc: Global, closed: &Closed<P>) -> Result<Values<P>, AllocError>
+    ensures program { IfOk result (λ values. values.program ≡ (arc_value {X = Loaded P P.L P.F} closed.now.loaded).program) }
     ensures graph { IfOk result (λ values. values.graph ≡ (arc_value {X = Loaded P P.L P.F} closed.now.loaded).graph) }
     ensures roots { IfOk result (λ values. values.roots ≡ closed.now.roots.items) }
     ensures follow { IfOk result (λ values. FollowFrom P.L.algebra P.F.edge P.targets (arc_value {X = Loaded P P.L P.F} closed.now.loaded).graph closed.now.tables closed.now.roots.items values.values) }
@@ -122,13 +124,16 @@ impl<P: Problem> Values<P> {
     }
 
     /// The program whose values they are.
-    pub fn program(&self) -> &Program {
+    pub fn program(&self) -> &Program
+        ensures { result.now ≡ self.now.program }
+    {
         &self.loaded.program
     }
 
     /// The program and its graph, by which nodes and facts are found.
     pub fn loaded(&self) -> &Loaded<P>
-        ensures { result.now.graph ≡ self.now.graph }
+        ensures program { result.now.program ≡ self.now.program }
+        ensures graph { result.now.graph ≡ self.now.graph }
     {
         &*self.loaded
     }
