@@ -1,14 +1,13 @@
 -- Roots that are begun one after the other.
-use Rattle.std.proofs.Common.{◌≡◌, ℕ, zero, suc, ◌+◌, ◌<◌, ◌≤◌, length, take, get_or, ◌⊎◌, inl, inr, Bool, true, false, cond, nat_lt, List, [], ◌∷◌, ◌++◌, map, Option, Some, None, IsTrue, refl, ap, sym, subst, ◌∙◌, arith}
+use Rattle.std.proofs.Common.{◌≡◌, ℕ, zero, suc, ◌+◌, ◌<◌, ◌≤◌, length, take, get_or, ◌⊎◌, inl, inr, Bool, true, false, cond, nat_lt, List, [], ◌∷◌, ◌++◌, map, Some, IsTrue, refl, ap, sym, subst, ◌∙◌, arith}
 use Rattle.std.specs.Prelude.{slice_index}
 use Rattle.std.proofs.lemmas.Option.{same_Some}
 use Rattle.ide_graph.specs.Joined.{AreJoined, start_at}
 use Rattle.ide_graph.specs.Supergraph.{Supergraph}
 use Rattle.ide_lattice.specs.Algebra.{LatticeAlgebra, EdgeAlgebra}
 use Rattle.ide_problem.specs.Flow.{Targets}
-use Rattle.ide_theory.specs.Frame.{Frame}
-use Rattle.ide_theory.specs.Graphs.{frame_at, roots_at}
-use Rattle.ide_theory.specs.Image.{HasRoots, IsMet}
+use Rattle.ide_theory.specs.Graphs.{frame_at}
+use Rattle.ide_theory.specs.Image.{IsMet}
 use Rattle.ide_theory.specs.Member.{IsIn}
 use Rattle.ide_theory.specs.Members.{in-either, in-map, in-one, of-map}
 use Rattle.ide_theory.specs.Reached.{DoRunsGoOn}

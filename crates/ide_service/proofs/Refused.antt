@@ -10,13 +10,9 @@ use Rattle.ide_graph.specs.Supergraph.{Supergraph}
 use Rattle.ide_lattice.specs.Algebra.{LatticeAlgebra, EdgeAlgebra}
 use Rattle.ide_problem.specs.Flow.{Targets}
 use Rattle.ide_steps.specs.Core.{CoreData, FindsNone, FindsParameters, FindsRoot, is_loaded}
-use Rattle.ide_steps.specs.Going.{GoesOn, IsFit}
-use Rattle.ide_steps.specs.State.{state_of}
+use Rattle.ide_steps.specs.Going.{GoesOn, IsOutside}
 use Rattle.ide_text.specs.Parsed.{IsParsed, IsRefusalOf}
 use Rattle.ide_text.specs.declared.program.Program.{Program}
-use Rattle.ide_theory.specs.Graphs.{frame_at}
-use Rattle.ide_theory.specs.Run.{Run}
-use Rattle.ide_theory.specs.Sites.{HaveEdgesOf}
 use Rattle.ide_worklist.specs.Worklist.{claim_at}
 use Rattle.ide_wire.specs.declared.refused.Refused.{Refused}
 use Rattle.ide_wire.specs.declared.refused.Refused.TheVariants.{NoMemory, Text, NoProgram, NoProcedure, HasParameters, Already, Unfinished, Busy, Limit, OutOfRange}
@@ -62,7 +58,7 @@ pub values-refused : {T : Type 0} (text : List ℕ) (names : List (List ℕ)) (w
 values-refused text names workers (Ok x) some few limit is = is
 values-refused text names workers (Err e) some few limit is =
     elim is [
-      | inl past ↦ elim (limit.0 (ap Err past)) [ | inl no_worker ↦ absurd (omega (arith, no_worker, some)) | inr many ↦ absurd (omega (arith, many, few)) ]
+      | inl past ↦ elim (limit.0 (ap Err past)) [ inl no_worker ↦ absurd (omega (arith, no_worker, some)) | inr many ↦ absurd (omega (arith, many, few)) ]
       | inr wanting ↦ subst (IsSolveRefusal text names) (sym wanting) memory
     ]
 
@@ -127,8 +123,7 @@ module _ {F L : Type 0} (A : LatticeAlgebra L) (B : EdgeAlgebra F L) (targets : 
       → (refused ≡ NoProgram) ⊎ (refused ≡ Busy) ⊎ (refused ≡ Unfinished) ⊎ (refused ≡ NoMemory) ⊎ (refused ≡ OutOfRange)
       → (refused ≡ NoProgram → is_loaded core ≡ false) → (refused ≡ Busy → IsSome (claim_at core.pile 0))
       → (refused ≡ Unfinished → (h : ℕ) × IsSome (claim_at core.pile h))
-      → (refused ≡ OutOfRange → (graph : Supergraph) → core.graph ≡ Some graph → (all : HaveEdgesOf graph.facts graph.sites) → IsFit graph
-      → Run (frame_at A B targets graph all) (state_of targets B core) → ⊥)
+      → (refused ≡ OutOfRange → IsOutside A B targets core)
       → refused ≡ NoMemory
   drain-refused text names core graph refused is either unloaded busy unfinished out =
       elim either [

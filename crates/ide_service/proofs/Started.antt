@@ -3,7 +3,8 @@ use Rattle.std.proofs.Common.{◌≡◌, ℕ, ◌<◌, List, [], Option, Some, N
 use Rattle.std.specs.Prelude.{slice_index, slice_index_or}
 use Rattle.std.specs.Option.{IsSomeAnd}
 use Rattle.ide_graph.specs.Closed.{GraphsOfProgramsAreClosed}
-use Rattle.ide_graph.specs.Exits.{AreExitsOwned}
+use Rattle.ide_graph.specs.Ends.{EndsOfProgramsAreNodes}
+use Rattle.ide_graph.specs.Exits.{ExitsOfProgramsAreOwned}
 use Rattle.ide_graph.specs.GraphOf.{IsNamed, IsGraphOf}
 use Rattle.ide_graph.specs.Joined.{AreJoined, SitesOfProgramsAreJoined, start_at}
 use Rattle.ide_graph.specs.ProgramEdges.{HasEdgesOf}
@@ -32,7 +33,8 @@ pub record Laws {F L : Type 0} (A : LatticeAlgebra L) (B : EdgeAlgebra F L) (tar
   pub supergraphs : GraphsAreSupergraphs A B targets
   pub joined : SitesOfProgramsAreJoined
   pub closed : GraphsOfProgramsAreClosed
-  pub exits : (p : Program) (graph : Supergraph) → IsNamed p → IsGraphOf p graph → HasEdgesOf p graph → AreExitsOwned graph
+  pub exits : ExitsOfProgramsAreOwned
+  pub ends : EndsOfProgramsAreNodes
   pub goes : (graph : Supergraph) (all : HaveEdgesOf graph.facts graph.sites) → AreJoined graph.sites (start_at graph) → DoRunsGoOn (frame_at A B targets graph all)
 
 held : {T : Type 0} (P : T → Type 0) (o : Option T) → IsSomeAnd o P → (x : T) × (o ≡ Some x)
@@ -51,7 +53,13 @@ module _ {F L : Type 0} (A : LatticeAlgebra L) (B : EdgeAlgebra F L) (targets : 
       spelled = record { program = p; parsed = parsed; counted = numbered; edges = edges };
       named = subst (λ rs. AreRootNames graph rs names rooted.roots) no_roots (begun.named graph at_load);
       within = begun.within graph at_load none_before;
-      fit = record { joined = joined; few = omega (arith, (numbered.few named).1); exits = laws.exits p graph named numbered edges };
+      fit = record {
+        sited = (laws.closed p graph named numbered edges).sited;
+        joined = joined;
+        few = omega (arith, (numbered.few named).1);
+        exits = laws.exits p graph named numbered edges;
+        ends = laws.ends p graph named numbered edges;
+      };
       all = all;
       run = goes_on.run (state_of targets B loaded) (state_of targets B rooted) run_load (begun.steps graph at_load all ready run_load);
       begun = begun.begun graph at_load all ready run_load has_none;

@@ -7,7 +7,8 @@ ghost use Rattle.ide_service.specs.Solve.{AreSolved, IsSolution};
 ghost use Rattle.ide_service.specs.Started.{IsStarted};
 
 use ide_graph::{
-    exits_of_programs_are_owned, graphs_of_programs_are_closed, sites_of_programs_are_joined,
+    ends_of_programs_are_nodes, exits_of_programs_are_owned, graphs_of_programs_are_closed,
+    sites_of_programs_are_joined,
 };
 use ide_problem::Problem;
 use ide_steps::Core;
@@ -67,6 +68,7 @@ fn started<P: Problem>(alloc: Global, text: &[u8], roots: &[&[u8]]) -> Result<Co
     sites_of_programs_are_joined();
     graphs_of_programs_are_closed();
     exits_of_programs_are_owned();
+    ends_of_programs_are_nodes();
     sites_make_a_graph::<P>();
     runs_go_on::<P>();
     let mut core: Core<P> = Core::new(alloc);

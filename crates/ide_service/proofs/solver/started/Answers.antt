@@ -18,6 +18,7 @@ returns-clause-started g c =
       joined = c.sites_of_programs_are_joined.ensures;
       closed = c.graphs_of_programs_are_closed.ensures;
       exits = c.exits_of_programs_are_owned.ensures;
+      ends = c.ends_of_programs_are_nodes.ensures;
       goes = λ graph all joined.
           c.runs_go_on.ensures (edges_of graph.facts graph.sites all (start_at graph)) (c.sites_make_a_graph.ensures graph.facts graph.sites all (start_at graph) joined).0;
     } in
