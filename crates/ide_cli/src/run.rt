@@ -1,4 +1,7 @@
 //! Commands: what each does, and what it prints.
+ghost use Rattle.std.specs.Prelude.{◌≡◌, ◌⊎◌, ◌++◌, ℕ, List, IsErr, IsOk, OnOk};
+ghost use Rattle.ide_cli.specs.Dump.{IsDump};
+
 use crate::words::{Instance, Words, read_words};
 use clap::error::ErrorKind;
 use ide_graph::Graph;
@@ -28,14 +31,24 @@ enum Failure<'a> {
     Refused(Refused),
 }
 
+impl<'a> From<Refused> for Failure<'a> {
+    fn from(refused: Refused) -> Failure<'a> {
+        Failure::Refused(refused)
+    }
+}
+
 /// Runs the command of a line, whose first word is the program's name, and answers the status.
 /// Nothing is written to `out` before the command has its whole answer.
-pub fn run<R: Files + AllocGlobal, S: AsStr, O: Write, E: Write>(
+pub(crate) fn run<R: Files + AllocGlobal, S: AsStr, O: Write, E: Write>(
     rt: &R,
     line: &[S],
     out: &mut O,
     err: &mut E,
-) -> u8 {
+) -> u8
+    ensures status { (result ≡ DONE) ⊎ (result ≡ REFUSED) ⊎ (result ≡ WRONG_WORDS) }
+    ensures done { result ≡ DONE → err.new ≡ err.old }
+    ensures wrong_words { result ≡ WRONG_WORDS → out.new ≡ out.old }
+{
     let words = match read_words(rt.alloc(), line) {
         Ok(words) => words,
         Err(error) => return refuse_words(&error, out, err),
@@ -49,7 +62,11 @@ pub fn run<R: Files + AllocGlobal, S: AsStr, O: Write, E: Write>(
 }
 
 /// Prints why the words are no command: help on the output, a mistake on the standard error.
-fn refuse_words<O: Write, E: Write>(error: &clap::Error, out: &mut O, err: &mut E) -> u8 {
+fn refuse_words<O: Write, E: Write>(error: &clap::Error, out: &mut O, err: &mut E) -> u8
+    ensures status { (result ≡ DONE) ⊎ (result ≡ REFUSED) ⊎ (result ≡ WRONG_WORDS) }
+    ensures done { result ≡ DONE → err.new ≡ err.old }
+    ensures wrong_words { result ≡ WRONG_WORDS → out.new ≡ out.old }
+{
     if error.kind() == ErrorKind::OutOfMemory {
         status_of(REFUSED, writeln!(err, "{}", Refused::NoMemory))
     } else if error.use_stderr() {
@@ -60,7 +77,10 @@ fn refuse_words<O: Write, E: Write>(error: &clap::Error, out: &mut O, err: &mut 
 }
 
 /// The status, or that of a refusal where the text could not be written.
-fn status_of(status: u8, written: io::Result<()>) -> u8 {
+fn status_of(status: u8, written: io::Result<()>) -> u8
+    ensures written { IsOk written → result ≡ status }
+    ensures failed { IsErr written → result ≡ REFUSED }
+{
     match written {
         Ok(()) => status,
         Err(_) => REFUSED,
@@ -86,19 +106,20 @@ fn answer<'a, R: Files + AllocGlobal>(
             procedure,
         } => {
             let text = read_file(rt, file)?;
-            answered(solve_by(
+            solve_by(
                 rt.alloc(),
                 instance,
                 text.as_slice(),
                 procedure.as_bytes(),
                 out,
-            ))
+            )?;
         }
         Words::Check { file } => {
             let text = read_file(rt, file)?;
-            answered(check(rt.alloc(), text.as_slice(), out))
+            check(rt.alloc(), text.as_slice(), out)?;
         }
     }
+    Ok(())
 }
 
 /// Appends the dump of the program that the text spells, by that analysis and with that root.
@@ -108,20 +129,14 @@ fn solve_by(
     text: &[u8],
     root: &[u8],
     out: &mut Vec<u8>,
-) -> Result<(), Refused> {
+) -> Result<(), Refused>
+    ensures { OnOk result ((dump : List ℕ) × (out.new.items ≡ out.old.items ++ dump) × IsDump instance text.now root.now dump) }
+{
     let roots = [root];
     match instance {
         Instance::Uninit => solve::<Uninit>(alloc, text, &roots, out),
         Instance::Copy => solve::<CopyConst>(alloc, text, &roots, out),
         Instance::Shift => solve::<ShiftConst>(alloc, text, &roots, out),
-    }
-}
-
-/// The answer of a call that may be refused.
-fn answered<'a>(answer: Result<(), Refused>) -> Result<(), Failure<'a>> {
-    match answer {
-        Ok(()) => Ok(()),
-        Err(refused) => Err(Failure::Refused(refused)),
     }
 }
 

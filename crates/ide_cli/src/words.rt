@@ -5,7 +5,7 @@ use std::convert::AsStr;
 
 /// A command with its words.
 #[derive(Clone, Copy, PartialEq, Eq, Debug)]
-pub enum Words<'a> {
+pub(crate) enum Words<'a> {
     /// `once INSTANCE FILE PROC`
     Once {
         instance: Instance,
@@ -20,7 +20,7 @@ pub enum Words<'a> {
 
 /// The analyses that a command line may name.
 #[derive(Clone, Copy, PartialEq, Eq, Debug)]
-pub enum Instance {
+pub(crate) enum Instance {
     /// `uninit`: variables that may be read before they are written.
     Uninit,
     /// `copy`: copy constants.
@@ -45,7 +45,7 @@ impl Instance {
 
 /// The command of a line whose first word is the program's name. Any other line is an error of
 /// `clap`, as is one that asks for help.
-pub fn read_words<'a, S: AsStr>(alloc: Global, line: &'a [S]) -> Result<Words<'a>, Error> {
+pub(crate) fn read_words<'a, S: AsStr>(alloc: Global, line: &'a [S]) -> Result<Words<'a>, Error> {
     let command = Command::new(alloc, "idesolve")
         .about("Solves interprocedural distributive environment problems")
         .subcommand_required(true)
