@@ -1,17 +1,16 @@
 -- Tasks that are paid for are few.
-use Rattle.std.proofs.Common.{◌≡◌, ℕ, ◌+◌, ◌*◌, ◌≤◌, Some, length, arith, ◌∙◌}
+use Rattle.std.proofs.Common.{ℕ, arith, ◌∙◌}
 use Rattle.std.specs.Prelude.{Result, Ok, Err, IfOk}
 use Rattle.std.specs.List.{IsDistinct}
 use Rattle.std.specs.Map.{keys_of}
 use Rattle.ide_lattice.specs.Algebra.{LatticeAlgebra, EdgeAlgebra}
 use Rattle.ide_problem.specs.Flow.{Targets}
-use Rattle.ide_tables.specs.Spent.{spent}
 use Rattle.ide_theory.specs.Graphs.{frame_at}
 use Rattle.ide_wire.specs.Key.{same_key}
 use Rattle.ide_steps.specs.Core.{CoreData}
 use Rattle.ide_steps.specs.Drain.{ArePaid}
 use Rattle.ide_steps.specs.Going.{GoesOn}
-use Rattle.ide_steps.specs.Room.{AreTasksFew, ImagesHaveRoom, key_space}
+use Rattle.ide_steps.specs.Room.{AreTasksFew, ImagesHaveRoom}
 use Rattle.ide_steps.proofs.Going.{run-goes}
 
 module _ {F L : Type 0} (A : LatticeAlgebra L) (B : EdgeAlgebra F L) (targets : Targets F) where

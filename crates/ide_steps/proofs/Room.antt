@@ -1,5 +1,5 @@
 -- The keys of a run are among those that its graph has room for.
-use Rattle.std.proofs.Common.{◌≡◌, ℕ, suc, ◌+◌, ◌*◌, ◌<◌, ◌≤◌, Bool, true, false, cond, List, [], ◌∷◌, ◌++◌, Option, None, Some, length, map, ◌||◌, ap, sym, ◌∙◌, refl, subst, arith}
+use Rattle.std.proofs.Common.{◌≡◌, ℕ, ◌+◌, ◌*◌, ◌<◌, ◌≤◌, Bool, true, false, cond, List, [], ◌∷◌, ◌++◌, Option, None, Some, length, map, ◌||◌, ap, sym, ◌∙◌, refl, subst, arith}
 use Rattle.std.specs.Prelude.{filter, slice_get}
 use Rattle.std.specs.List.{IsDistinct, flat_map, list_any, range_with_len}
 use Rattle.std.specs.Map.{keys_of, lookup}
@@ -8,7 +8,7 @@ use Rattle.std.specs.Set.{is_member}
 use Rattle.std.proofs.lemmas.List.{length-append, length-map}
 use Rattle.std.proofs.lemmas.List.FromFn.{length-range_with_len}
 use Rattle.std.proofs.lemmas.Map.Made.{is_some-lookup, length-le_from_is_member}
-use Rattle.std.proofs.lemmas.Option.{none-some, slice_get_within}
+use Rattle.std.proofs.lemmas.Option.{slice_get_within}
 use Rattle.ide_graph.specs.Supergraph.{Supergraph}
 use Rattle.ide_theory.specs.Member.{IsIn, first, later}
 use Rattle.ide_theory.specs.Members.{in-flat_map, in-left, in-map, in-range_below, in-right}

@@ -1,7 +1,7 @@
 -- Values that follow from start values are best, where a run came to the tables.
-use Rattle.std.proofs.Common.{◌≡◌, ℕ, ◌+◌, ◌*◌, ◌<◌, Bool, true, false, cond, List, [], ◌∷◌, inl, inr, map, ap, sym, subst, ◌∙◌}
-use Rattle.std.specs.Prelude.{IsTrue, nat_lt, slice_index, slice_index_or}
-use Rattle.ide_graph.specs.Closed.{GraphsOfProgramsAreClosed, IsClosed}
+use Rattle.std.proofs.Common.{◌≡◌, ℕ, Bool, true, false, cond, List, [], ◌∷◌, inl, inr, map, ap, sym, subst, ◌∙◌}
+use Rattle.std.specs.Prelude.{IsTrue, nat_lt, slice_index}
+use Rattle.ide_graph.specs.Closed.{GraphsOfProgramsAreClosed}
 use Rattle.ide_graph.specs.Joined.{AreJoined, SitesOfProgramsAreJoined, start_at}
 use Rattle.ide_graph.specs.Supergraph.{Supergraph}
 use Rattle.ide_lattice.specs.Algebra.{LatticeAlgebra, EdgeAlgebra}

@@ -1,6 +1,4 @@
-use Rattle.std.proofs.Common.{◌*◌, ◌≤◌, length, arith}
 use Rattle.ide_graph.specs.Joined.{start_at}
-use Rattle.ide_tables.specs.Spent.{spent}
 use Rattle.ide_theory.specs.Sites.{edges_of}
 use Rattle.ide_steps.specs.Room.{key_space}
 use Rattle.ide_steps.specs.State.{state_of}

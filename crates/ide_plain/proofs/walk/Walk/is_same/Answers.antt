@@ -1,4 +1,4 @@
-use Rattle.std.proofs.Common.{◌≡◌, ◌∙◌, IsTrue, sym}
+use Rattle.std.proofs.Common.{◌∙◌, sym}
 use Rattle.ide_wire.specs.Listing.{lists_exact}
 use Rattle.ide_plain.proofs.walk.Walk.is_same.Goals as goal
 
