@@ -53,9 +53,11 @@ lookup-cons_option x d (Some f) tail any there e h =
       | false ↦ λ e. h
     ] e
 
-pub cond-is_some : {F : Type 0} (o : Option F) → cond (is_some o) o None ≡ o
-cond-is_some None = refl
-cond-is_some (Some f) = refl
+-- what is present has its place, and what is absent is not found by one
+pub cond-placed : {F : Type 0} (has : Bool) (o : Option F) → (is_some o ≡ true → has ≡ true) → cond has o None ≡ o
+cond-placed true o placed = refl
+cond-placed false None placed = refl
+cond-placed false (Some f) placed = absurd (cc (placed refl))
 
 module _ {F : Type 0} (cmp : Key → Key → Ordering) (at : ℕ → Key) (test : Key → Bool) (picks : Picks cmp at test) (entries : List (Key × F)) where
   pub order : (x y : Key) → test x ≡ true → test y ≡ true → cmp x y ≡ nat_cmp (listed_fact x) (listed_fact y)
@@ -138,7 +140,7 @@ are_partners cmp at test picks table places s index noted reached = record {
   within = within cmp at test picks table.entries places;
   exact = λ d l.
       exact cmp at test picks table.entries places d (reached d l)
-      ∙ (ap (λ b. cond b (found table (at d)) None) (index (at d) (noted d)) ∙ cond-is_some (found table (at d)));
+      ∙ cond-placed (list_any (is_at (cmp (place_of (at d)))) places) (found table (at d)) (index (at d) (noted d));
 }
 
 pub key_cmp_exact : (x y : Key) → is_at (key_cmp x) y ≡ true → x ≡ y

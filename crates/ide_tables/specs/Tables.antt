@@ -1,5 +1,5 @@
 -- What a table says in contracts: the function of each present key, and which nodes it watches.
-use Rattle.std.specs.Prelude.{◌≡◌, ℕ, ◌<◌, ◌^◌, Bool, true, false, List, Option, None, Some, if◌then◌else◌}
+use Rattle.std.specs.Prelude.{◌≡◌, ℕ, ◌<◌, ◌^◌, Bool, true, false, List, [], ◌∷◌, Option, None, Some, if◌then◌else◌}
 use Rattle.std.specs.List.{AllByRecursion, list_any, slice_index_or}
 use Rattle.std.specs.List.Sorted.{IsStrictlySortedBy}
 use Rattle.std.specs.Map.{lookup, keys_of}
@@ -28,6 +28,16 @@ is_watched table node = slice_index_or table.watched node false
 -- the key's function is f, and every other entry stays
 pub record Sets {F : Type 0} (old new : Table F) (key : Key) (f : F) : Type 0 where
   pub entries : (q : Key) → found new q ≡ (if same_key key q then Some f else found old q)
+  pub watched : new.watched ≡ old.watched
+
+-- the last function that the entries have for the key, or f where they have none
+abbrev pub last_of : {F : Type 0} → List (Key × F) → Key → Option F → Option F
+last_of [] key f = f
+last_of (e ∷ es) key f = last_of es key (if same_key e.0 key then Some e.1 else f)
+
+-- the entries of the list are set one after the other, and every other entry stays
+pub record SetsAll {F : Type 0} (old new : Table F) (list : List (Key × F)) : Type 0 where
+  pub entries : (q : Key) → found new q ≡ last_of list q (found old q)
   pub watched : new.watched ≡ old.watched
 
 -- the keys are the present ones, ascending
@@ -82,10 +92,14 @@ is_noted watched (Summary n a b) = true
 abbrev pub has_place : (Key → Key → Ordering) → List Key → Key → Bool
 has_place cmp places key = list_any (is_at (cmp (place_of key))) places
 
--- the index has the places of the present keys that it notes
+-- the index has the place of each present key that it notes; the place of an absent key lists nothing
 abbrev pub IsIndex : {F : Type 0} → (Key → Key → Ordering) → Table F → List Key → Type 0
-IsIndex cmp table places = (key : Key) → is_noted table.watched key ≡ true → has_place cmp places key ≡ is_some (found table key)
+IsIndex cmp table places = (key : Key) → is_noted table.watched key ≡ true → is_some (found table key) ≡ true → has_place cmp places key ≡ true
 
--- the index gains the place of the key, if it notes the key
-abbrev pub Notes : (Key → Key → Ordering) → List Bool → List Key → List Key → Key → Type 0
-Notes cmp watched old new key = (q : Key) → is_noted watched q ≡ true → has_place cmp new q ≡ (if same_key key q then true else has_place cmp old q)
+-- the index keeps its places
+abbrev pub KeepsPlaces : (Key → Key → Ordering) → List Key → List Key → Type 0
+KeepsPlaces cmp old new = (q : Key) → has_place cmp old q ≡ true → has_place cmp new q ≡ true
+
+-- the index has the places of those of the keys that it notes
+abbrev pub NotesAll : (Key → Key → Ordering) → List Bool → List Key → List Key → Type 0
+NotesAll cmp watched places keys = (q : Key) → is_noted watched q ≡ true → list_any (same_key q) keys ≡ true → has_place cmp places q ≡ true

@@ -2,12 +2,13 @@
 //!
 //! A key's place is the key itself, but that a jump's facts change places: so the jumps to one
 //! fact at a node, and the summaries from one fact at a call, stand side by side.
-ghost use Rattle.std.specs.Prelude.{◌≡◌, false, filter, IfOk, OnOk, OnErr};
+ghost use Rattle.std.specs.Prelude.{◌≡◌, true, false, filter, IfOk, OnOk};
+ghost use Rattle.std.specs.Map.{keys_of};
 ghost use Rattle.std.specs.BTreeMap.Range.{IsLeBy, range_contains};
 ghost use Rattle.std.specs.List.{filter_map, slice_index_or};
 ghost use Rattle.std.specs.List.Sorted.{IsStrictlySortedBy};
 ghost use Rattle.std.specs.declared.ops.Bound.TheVariants.{Included};
-ghost use Rattle.ide_tables.specs.Tables.{place_of, listed_fact, partner_of, is_noted, Notes};
+ghost use Rattle.ide_tables.specs.Tables.{place_of, listed_fact, partner_of, is_noted, has_place, KeepsPlaces, NotesAll};
 
 use ide_lattice::EdgeFn;
 use ide_wire::{Fact, Key};
@@ -47,11 +48,27 @@ fn is_watched(watched: &[bool], node: usize) -> bool
 
 // Notes the key's place, if the index notes the key.
 pub(crate) fn note(places: &mut BTreeSet<Key>, watched: &[bool], key: Key) -> Result<(), AllocError>
-    ensures ok { OnOk result (Notes ⟦<Key as Ord>⟧.cmp watched.now places.old.keys places.new.keys key) }
-    ensures err { OnErr result (places.new.keys ≡ places.old.keys) }
+    ensures noted { OnOk result (is_noted watched.now key ≡ true → has_place ⟦<Key as Ord>⟧.cmp places.new.keys key ≡ true) }
+    ensures kept { KeepsPlaces ⟦<Key as Ord>⟧.cmp places.old.keys places.new.keys }
 {
     if is_noted(watched, key) {
         places.insert(place_of(key))?;
+    }
+    Ok(())
+}
+
+// Notes the places of those of the entries' keys that the index notes. Where memory is wanting it
+// may have noted some of them: a place whose key is absent lists nothing.
+pub(crate) fn note_all<F: EdgeFn>(
+    places: &mut BTreeSet<Key>,
+    watched: &[bool],
+    entries: &[(Key, F)],
+) -> Result<(), AllocError>
+    ensures noted { OnOk result (NotesAll ⟦<Key as Ord>⟧.cmp watched.now places.new.keys (keys_of entries.now)) }
+    ensures kept { KeepsPlaces ⟦<Key as Ord>⟧.cmp places.old.keys places.new.keys }
+{
+    for entry in entries {
+        note(places, watched, entry.0)?;
     }
     Ok(())
 }

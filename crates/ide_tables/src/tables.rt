@@ -1,14 +1,14 @@
 //! The map from keys to functions.
-ghost use Rattle.std.specs.Prelude.{◌≡◌, ℕ, ◌<◌, ◌≤◌, ◌^◌, [], true, false, length, slice_get, if◌then◌else◌, IfSome, IfOk, IfErr, OnOk, OnErr};
+ghost use Rattle.std.specs.Prelude.{◌≡◌, ℕ, ◌+◌, ◌<◌, ◌≤◌, ◌^◌, [], true, false, length, slice_get, if◌then◌else◌, IfSome, IfOk, IfErr, OnOk, OnErr};
 ghost use Rattle.std.specs.List.{IsDistinct};
 ghost use Rattle.std.specs.Map.{keys_of};
 ghost use Rattle.std.specs.Option.{option_copied};
 ghost use Rattle.ide_wire.specs.declared.refused.Refused.TheVariants.{NoMemory};
-ghost use Rattle.indexmap.specs.IndexMap.{insert_entry, spare, get};
+ghost use Rattle.indexmap.specs.IndexMap.{insert_all, insert_entry, spare, get};
 ghost use Rattle.ide_wire.specs.declared.key.Key.{Key};
 ghost use Rattle.ide_wire.specs.Key.{same_key};
 ghost use Rattle.ide_tables.specs.Spent.{spent};
-ghost use Rattle.ide_tables.specs.Tables.{Table, IsIndex, AreKeys, ArePartners, found, function_at, lowered_by, is_watched, Sets, Lowers};
+ghost use Rattle.ide_tables.specs.Tables.{Table, IsIndex, AreKeys, ArePartners, found, function_at, lowered_by, is_watched, Sets, SetsAll, Lowers};
 
 use crate::index;
 use ide_lattice::EdgeFn;
@@ -147,16 +147,6 @@ impl<F: EdgeFn> Tables<F> {
         })
     }
 
-    /// Makes room for so many more keys that the index does not note. `NoMemory` leaves the table as
-    /// it was.
-    pub fn reserve(&mut self, additional: usize) -> Result<(), Refused>
-        ensures same { self.new ≡ self.old }
-        ensures refused { IfErr result (λ e. e ≡ NoMemory) }
-    {
-        self.functions.reserve(additional)?;
-        Ok(())
-    }
-
     /// Meets the key's function with `f`, and says whether that changed it. `NoMemory` leaves the
     /// table as it was. One look-up, where nothing changes.
     pub fn lower(&mut self, key: Key, f: F) -> Result<Change, Refused>
@@ -190,6 +180,19 @@ impl<F: EdgeFn> Tables<F> {
         self.functions.reserve(1)?;
         index::note(&mut self.places, &self.watched, key)?;
         put(&mut self.functions, key, f);
+        Ok(())
+    }
+
+    /// Sets the entries, one after the other: all of them, or, where memory is wanting
+    /// (`NoMemory`), none.
+    pub fn set_all(&mut self, entries: &[(Key, F)]) -> Result<(), Refused>
+        ensures sets { OnOk result (SetsAll self.old self.new entries.now) }
+        ensures err { OnErr result (self.new ≡ self.old) }
+        ensures refused { IfErr result (λ e. e ≡ NoMemory) }
+    {
+        self.functions.reserve(entries.len())?;
+        index::note_all(&mut self.places, &self.watched, entries)?;
+        put_all(&mut self.functions, entries);
         Ok(())
     }
 }
@@ -234,9 +237,20 @@ fn copied_places(places: &BTreeSet<Key>) -> Result<BTreeSet<Key>, AllocError>
     places.clone()
 }
 
+// Sets the entries, for which there is room.
+fn put_all<F: EdgeFn>(functions: &mut IndexMap<Key, F>, entries: &[(Key, F)])
+    requires { length entries.now ≤ spare functions.old }
+    ensures entries { functions.new.entries ≡ insert_all same_key functions.old.entries entries.now }
+{
+    for entry in entries {
+        put(functions, entry.0, entry.1);
+    }
+}
+
 // Sets the key's function, for which there is room, and says how many keys are present then.
 fn put<F: EdgeFn>(functions: &mut IndexMap<Key, F>, key: Key, function: F) -> usize
     requires { 0 < spare functions.old }
+    ensures room { spare functions.old ≤ spare functions.new + 1 }
     ensures found { (q : Key) → get same_key functions.new q ≡ (if same_key key q then Some function else get same_key functions.old q) }
     ensures entries { functions.new.entries ≡ insert_entry same_key functions.old.entries key function }
     ensures count { result ≡ length functions.new.entries }

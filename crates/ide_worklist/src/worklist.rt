@@ -95,6 +95,7 @@ impl<T: Drop> Worklist<T> {
         // Each claimed key was pending, and no two hands had claimed one key.
         ensures held { IsWorklist self.old }
         ensures claims { (h : ℕ) → claim_at self.new h ≡ marked key (claim_at self.old h) }
+        ensures room { self.old.spare ≤ self.new.spare + 1 }
     {
         add(&mut self.pending, key);
         claims::mark(&mut self.claims, key);
@@ -226,6 +227,7 @@ fn add(pending: &mut IndexSet<Key>, key: Key)
     requires { 0 < spare pending.old }
     ensures keys { (q : Key) → list_any (same_key q) pending.new.keys ≡ (same_key key q || list_any (same_key q) pending.old.keys) }
     ensures count { length pending.new.keys ≡ length pending.old.keys + (if list_any (same_key key) pending.old.keys then 0 else 1) }
+    ensures room { spare pending.old ≤ spare pending.new + 1 }
 {
     let _ = pending.insert(key);
 }
