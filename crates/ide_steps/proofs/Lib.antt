@@ -8,3 +8,4 @@ pub mod Bounded
 pub mod Free
 pub mod Going
 pub mod Listed
+pub mod Entries

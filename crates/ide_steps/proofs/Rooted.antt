@@ -1,7 +1,7 @@
 -- Identities that the start of a procedure received in turn are steps, and each of them is met.
 use Rattle.std.proofs.Common.{◌≡◌, ℕ, ◌+◌, suc, ◌<◌, ◌≤◌, add-one, refl, sym, ap, ◌∙◌, subst, arith, List, [], ◌∷◌, ◌++◌, get_or, Option, Some, None, true, false, cond}
 use Rattle.std.proofs.lemmas.Bool.Decides.{nat_tests}
-use Rattle.std.specs.Prelude.{nat_eq, slice_index, option_map, unwrap_or}
+use Rattle.std.specs.Prelude.{nat_eq, slice_index, option_map, unwrap_or, Result, Err, IfErr}
 use Rattle.std.specs.List.{Contains}
 use Rattle.ide_graph.specs.Joined.{start_at}
 use Rattle.ide_graph.specs.Supergraph.{Supergraph, procedure_named}
@@ -20,9 +20,11 @@ use Rattle.ide_theory.specs.Run.{Steps, none, more, root}
 use Rattle.ide_theory.specs.State.{State, lowered_at, lowered_by}
 use Rattle.ide_wire.specs.declared.key.Key.TheVariants.{Jump}
 use Rattle.ide_wire.specs.Key.{same_key}
+use Rattle.ide_wire.specs.declared.refused.Refused.{Refused}
+use Rattle.ide_wire.specs.declared.refused.Refused.TheVariants.{Already, NoMemory}
 use Rattle.ide_worklist.specs.Worklist.{Pile, claim_at}
 use Rattle.ide_worklist.specs.declared.claim.Claim.{Claim as Held}
-use Rattle.ide_steps.specs.Core.{CoreData, FindsParameters}
+use Rattle.ide_steps.specs.Core.{CoreData, FindsParameters, FindsRoot}
 use Rattle.ide_steps.specs.State.{state_of}
 use Rattle.ide_steps.specs.Rooted.{AreEntered, IsBegun, begins, lowers, keeps}
 use Rattle.ide_steps.specs.Steps.{IsBelow, progress_at}
@@ -51,14 +53,14 @@ below-more {P = P} n below at d less =
 module _ (K : Frame) (r : ℕ) (s : State K.F) (starts : K.graph.start_of r ≡ r) where
   pub entered-steps : (n : ℕ) (t : State K.F) → n ≤ K.facts → AreEntered K.functions r s n t → Steps K s t
   entered-steps n t fits begins = none
-  entered-steps n t fits (lowers {t = u} d before) = more (entered-steps d u (omega (arith, fits)) before) (root r d starts (omega (arith, fits)))
+  entered-steps n t fits (lowers {t = u} d before falls) = more (entered-steps d u (omega (arith, fits)) before) (root r d starts (omega (arith, fits)))
   entered-steps n t fits (keeps d before below) = entered-steps d t (omega (arith, fits)) before
 
   -- what a lowering at the start meets stays met while other facts are lowered
   pub entered-met : ((u : State K.F) → Steps K s u → (d : ℕ) → IsMet K (lowered_at K u (Jump r d d) K.functions.id).get (Jump r d d) K.functions.id)
       → (n : ℕ) (t : State K.F) → n ≤ K.facts → AreEntered K.functions r s n t → (d : ℕ) → d < n → IsMet K t.get (Jump r d d) K.functions.id
   entered-met rooted n t fits begins d less = absurd (omega (arith, less))
-  entered-met rooted n t fits (lowers {t = u} m before) d less =
+  entered-met rooted n t fits (lowers {t = u} m before falls) d less =
       below-more {P = λ d. IsMet K (lowered_at K u (Jump r m m) K.functions.id).get (Jump r d d) K.functions.id} m
       (λ d less. kept-apart K r u m d less (entered-met rooted m u (omega (arith, fits)) before d less))
       (rooted u (entered-steps m u (omega (arith, fits)) before) m) d less
@@ -75,20 +77,6 @@ pub still-unclaimed : {F : Type 0} (old new : Pile (TaskData F)) → ((h : ℕ) 
 still-unclaimed {F = F} old new same free h =
     no-progress (claim_at new h) (same h ∙ ap (option_map {U = TaskData F × ℕ} (λ held. (held.task, held.done))) (free h))
 
-pub same-progress : {F : Type 0} (old new : Pile (TaskData F)) → new.claims ≡ old.claims → (h : ℕ) → progress_at new h ≡ progress_at old h
-same-progress {F = F} old new claims h = ap (λ (held : List (Option (Held (TaskData F)))). option_map {U = TaskData F × ℕ} (λ held. (held.task, held.done)) (get_or held h None)) claims
-
--- one fact more received the identity, whether that changed its jump or not
-pub entered-more : {F L : Type 0} (B : EdgeAlgebra F L) (r : ℕ) (s t u : State F) (n : ℕ) (g : F) → g ≡ B.id → (change : Change)
-    → (change ≡ Lowered → u ≡ lowered_by B t (Jump r n n) g) → (change ≡ Same → u ≡ t) → (change ≡ Same → IsBelow B t (Jump r n n) g)
-    → AreEntered B r s n t → AreEntered B r s (n + 1) u
-entered-more B r s t u n g is Lowered lowered same met before =
-    subst (λ m. AreEntered B r s m u) (sym (add-one n))
-    (subst (AreEntered B r s (suc n)) (sym (lowered refl ∙ ap (lowered_by B t (Jump r n n)) is)) (lowers n before))
-entered-more B r s t u n g is Same lowered same met before =
-    subst (λ m. AreEntered B r s m u) (sym (add-one n))
-    (subst (AreEntered B r s (suc n)) (sym (same refl)) (keeps n before (subst (IsBelow B t (Jump r n n)) is (met refl))))
-
 -- a name finds one procedure
 pub no-parameters : (found : Option Supergraph) (graph : Supergraph) (name : List ℕ) (procedure : ℕ) → found ≡ Some graph
     → procedure_named graph name ≡ Some procedure → slice_index graph.parameters procedure ≡ 0 → FindsParameters found name → ⊥
@@ -97,26 +85,35 @@ no-parameters found graph name procedure is named closed finds =
     let which : finds.procedure ≡ procedure = cc (ap (λ (g : Supergraph). procedure_named g name) same, named, finds.found.named) in
     finds.parameters (ap (λ (g : Supergraph). slice_index g.parameters finds.procedure) same ∙ (ap (slice_index graph.parameters) which ∙ closed))
 
+-- what was refused for want of memory was not refused as a root already
+pub other-refusal : {X : Type 0} (r : Result X Refused) (was e : Refused) → r ≡ Err e → e ≡ was → was ≡ NoMemory → r ≡ Err Already → ⊥
+other-refusal r was e is same memory already =
+    let bad : Already ≡ NoMemory =
+    subst (λ x. IfErr x (λ y. y ≡ NoMemory)) already (subst (λ x. IfErr x (λ y. y ≡ NoMemory)) (sym is) (same ∙ memory)) in
+    cc (bad)
+
+pub no-root : (found : Option Supergraph) (graph : Supergraph) (roots name : List ℕ) (procedure : ℕ) → found ≡ Some graph
+    → procedure_named graph name ≡ Some procedure → (Contains roots procedure → ⊥) → FindsRoot found roots name → ⊥
+no-root found graph roots name procedure is named fresh finds =
+    let same : finds.found.loaded ≡ graph = cc (is, finds.found.is) in
+    let which : finds.procedure ≡ procedure = cc (ap (λ (g : Supergraph). procedure_named g name) same, named, finds.found.named) in
+    fresh (subst (Contains roots) which finds.is_root)
+
 module _ {F L : Type 0} (A : LatticeAlgebra L) (B : EdgeAlgebra F L) (targets : Targets F) where
   -- a procedure whose start received the identities is begun
-  pub begun : (graph : Supergraph) (procedure start entries : ℕ) (old fin new : CoreData F) (s : State F) (name : List ℕ)
+  pub begun : (graph : Supergraph) (procedure start entries : ℕ) (old new : CoreData F) (name : List ℕ)
       → SitesMakeAGraph A B targets → RunsAreSound A B targets → RunsGoOn A B targets
       → old.graph ≡ Some graph → procedure_named graph name ≡ Some procedure → slice_index graph.parameters procedure ≡ 0
       → (Contains old.roots procedure → ⊥) → procedure < graph.procedures
-      → start ≡ slice_index graph.starts procedure → entries ≡ graph.entries
-      → s ≡ state_of targets B old → fin.graph ≡ old.graph
-      → ((h : ℕ) → progress_at fin.pile h ≡ progress_at old.pile h)
-      → AreEntered B start s entries (state_of targets B fin)
-      → new.graph ≡ fin.graph → new.table ≡ fin.table → new.pile ≡ fin.pile → new.roots ≡ old.roots ++ procedure ∷ []
+      → start ≡ slice_index graph.starts procedure → entries ≡ graph.entries → new.graph ≡ old.graph
+      → ((h : ℕ) → progress_at new.pile h ≡ progress_at old.pile h)
+      → AreEntered B start (state_of targets B old) entries (state_of targets B new)
+      → new.roots ≡ old.roots ++ procedure ∷ []
       → IsBegun A B targets old new name
-  begun graph procedure start entries old fin new s name make sound go is named closed fresh within starts counted same graph_is progress entered new_graph new_table new_pile roots =
-      let new_state : state_of targets B new ≡ state_of targets B fin =
-      same-state targets B fin new new_table (ap (λ (pile : Pile (TaskData F)). pile.pending) new_pile) (ap (λ (pile : Pile (TaskData F)). pile.claims) new_pile) in
+  begun graph procedure start entries old new name make sound go is named closed fresh within starts counted graph_is progress entered roots =
       let entered_by : AreEntered B (slice_index graph.starts procedure) (state_of targets B old) graph.entries (state_of targets B new) =
-      subst (λ t. AreEntered B (slice_index graph.starts procedure) (state_of targets B old) graph.entries t) (sym new_state)
-      (subst (λ n. AreEntered B (slice_index graph.starts procedure) (state_of targets B old) n (state_of targets B fin)) counted
-      (subst (λ r. AreEntered B r (state_of targets B old) entries (state_of targets B fin)) starts
-      (subst (λ t. AreEntered B start t entries (state_of targets B fin)) same entered))) in
+      subst (λ n. AreEntered B (slice_index graph.starts procedure) (state_of targets B old) n (state_of targets B new)) counted
+      (subst (λ r. AreEntered B r (state_of targets B old) entries (state_of targets B new)) starts entered) in
       record {
         graph = graph;
         is = is;
@@ -126,8 +123,9 @@ module _ {F L : Type 0} (A : LatticeAlgebra L) (B : EdgeAlgebra F L) (targets : 
         fresh = fresh;
         within = within;
         roots = roots;
-        same = new_graph ∙ graph_is;
-        unclaimed = still-unclaimed old.pile new.pile (λ h. ap (λ (pile : Pile (TaskData F)). progress_at pile h) new_pile ∙ progress h);
+        same = graph_is;
+        entered = entered_by;
+        unclaimed = still-unclaimed old.pile new.pile progress;
         steps = λ all joined at few run. entered-steps (frame_at A B targets graph all) (slice_index graph.starts procedure) (state_of targets B old) at graph.entries (state_of targets B new) few entered_by;
         met = λ all joined at few run.
             let whole : IsGraph (edges_of graph.facts graph.sites all (start_at graph)) = (make graph.facts graph.sites all (start_at graph) joined).0 in

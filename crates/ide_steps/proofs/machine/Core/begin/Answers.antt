@@ -1,22 +1,16 @@
-use Rattle.std.proofs.Common.{refl, ap, ◌∙◌}
-use Rattle.std.specs.Prelude.{Ok}
-use Rattle.ide_steps.specs.Rooted.{begins}
-use Rattle.ide_steps.specs.State.{state_of}
-use Rattle.ide_steps.proofs.Rooted.{entered-more}
+use Rattle.std.proofs.Common.{◌||◌, ap, ◌∙◌, get_or, None}
+use Rattle.std.specs.List.{list_any}
+use Rattle.std.specs.Map.{keys_of}
+use Rattle.ide_wire.specs.Key.{same_key}
+use Rattle.ide_steps.specs.Rooted.{marked_all}
+use Rattle.ide_steps.proofs.Entries.{state-with}
 use Rattle.ide_steps.proofs.machine.Core.begin.Goals as goal
 
-pub loop-fact-init : goal.loop-fact-init
-loop-fact-init g c = record { graph = refl; roots = refl; entered = begins; progress = λ h. refl }
-
-pub loop-fact-preserved : goal.loop-fact-preserved
-loop-fact-preserved g c = record {
-  graph = c.in_ok-lower.ensures.graph ∙ c.loop-fact.invariant.graph;
-  roots = c.in_ok-lower.ensures.roots ∙ c.loop-fact.invariant.roots;
-  entered =
-      entered-more g.P.F.EdgeFn.edge c.args.start (state_of g.P.Problem.targets g.P.F.EdgeFn.edge c.args.self.now)
-      (state_of g.P.Problem.targets g.P.F.EdgeFn.edge c.loop-fact.self) (state_of g.P.Problem.targets g.P.F.EdgeFn.edge c.lower.new.self)
-      c.loop-fact.fact c.id.result c.id.ensures c.in_ok-lower.field-0
-      (λ is. c.in_ok-lower.ensures.lowered (ap Ok is)) (λ is. c.in_ok-lower.ensures.same (ap Ok is)) (λ is. c.in_ok-lower.ensures.met (ap Ok is))
-      c.loop-fact.invariant.entered;
-  progress = λ h. c.in_ok-lower.ensures.progress h ∙ c.loop-fact.invariant.progress h;
-}
+pub returns-clause-state : goal.returns-clause-state
+returns-clause-state g c =
+    let keys = keys_of c.args.jumps.now in
+    rw (← c.self.view_is)
+    (state-with g.P.Problem.targets g.P.F.EdgeFn.edge c.self.inside.tables c.set_all.new.self c.self.inside.worklist c.push_each.new.worklist c.args.jumps.now
+    c.in_ok-set_all.ensures.sets
+    (λ q. c.push_each.ensures.pending q ∙ ap (λ pending. list_any (same_key q) keys || list_any (same_key q) pending) c.in_ok-reserve-2.ensures.pending)
+    (λ h. c.push_each.ensures.claims h ∙ ap (λ claims. marked_all keys (get_or claims h None)) c.in_ok-reserve-2.ensures.claims))

@@ -1,0 +1,153 @@
+-- Entries that the identity lowers, put into a state one after the other.
+use Rattle.std.proofs.Common.{◌≡◌, ℕ, ◌+◌, suc, ◌<◌, ◌≤◌, add-one, refl, sym, ap, ◌∙◌, subst, arith, List, [], ◌∷◌, ◌++◌, length, take, get_or, Option, Some, None, Bool, true, false, cond, ◌||◌}
+use Rattle.std.proofs.lemmas.Bool.Decides.{nat_tests}
+use Rattle.std.proofs.lemmas.List.{take_more}
+use Rattle.std.specs.Prelude.{option_map, unwrap_or}
+use Rattle.std.specs.List.{list_any}
+use Rattle.std.specs.Map.{keys_of}
+use Rattle.ide_lattice.specs.Algebra.{EdgeAlgebra}
+use Rattle.ide_problem.specs.Flow.{Targets}
+use Rattle.ide_tables.specs.Tables.{Table, SetsAll, last_of}
+use Rattle.ide_tasks.specs.Task.{TaskData}
+use Rattle.ide_theory.specs.State.{Claim, State, lowered_by, marked}
+use Rattle.ide_wire.specs.Key.{same_key, same_key_symm}
+use Rattle.ide_wire.specs.declared.key.Key.{Key}
+use Rattle.ide_wire.specs.declared.key.Key.TheVariants.{Jump}
+use Rattle.ide_worklist.specs.Worklist.{Pile, claim_at, is_pending, marked as marked_claim}
+use Rattle.ide_worklist.specs.declared.claim.Claim.{Claim as Held}
+use Rattle.ide_steps.specs.Rooted.{AreEntered, begins, keeps, lowers, marked_all, marked_by, with_entries}
+use Rattle.ide_steps.specs.State.{claim_of}
+use Rattle.ide_steps.specs.Steps.{IsBelow, progress_at}
+use Rattle.ide_steps.proofs.States.{or-cond, state-at}
+
+pub marked-none : {T : Type 0} (o : Option (Held T)) → marked_all [] o ≡ o
+marked-none None = refl
+marked-none (Some held) = refl
+
+module _ {F : Type 0} where
+  pub last_of-more : (es : List (Key × F)) (e : Key × F) (q : Key) (f : Option F) → last_of (es ++ e ∷ []) q f ≡ cond (same_key e.0 q) (Some e.1) (last_of es q f)
+  last_of-more [] e q f = refl
+  last_of-more (x ∷ es) e q f = last_of-more es e q (cond (same_key x.0 q) (Some x.1) f)
+
+  pub last_of-other : (es : List (Key × F)) (q : Key) (f : Option F) → list_any (same_key q) (keys_of es) ≡ false → last_of es q f ≡ f
+  last_of-other [] q f apart = refl
+  last_of-other (x ∷ es) q f apart =
+      let off : same_key q x.0 ≡ false = grind (arith, apart) in
+      let rest : list_any (same_key q) (keys_of es) ≡ false = grind (arith, apart) in
+      ap (λ b. last_of es q (cond b (Some x.1) f)) (same_key_symm x.0 q ∙ off) ∙ last_of-other es q f rest
+
+  pub any-more : (p : Key → Bool) (es : List (Key × F)) (e : Key × F) → list_any p (keys_of (es ++ e ∷ [])) ≡ (p e.0 || list_any p (keys_of es))
+  any-more p [] e = refl
+  any-more p (x ∷ es) e = ap (λ b. p x.0 || b) (any-more p es e) ∙ grind (arith)
+
+  -- the claim, marked by one key and then by those before
+  pub marked-more : {T : Type 0} (es : List (Key × F)) (e : Key × F) (o : Option (Held T))
+      → marked_claim e.0 (marked_all (keys_of es) o) ≡ marked_all (keys_of (es ++ e ∷ [])) o
+  marked-more es e None = refl
+  marked-more es e (Some held) =
+      elim (same_key held.key e.0) as (λ b. cond b (Some (record held { lowered = true })) (Some (record held { lowered = list_any (same_key held.key) (keys_of es) || held.lowered }))
+      ≡ Some (record held { lowered = (b || list_any (same_key held.key) (keys_of es)) || held.lowered })) [ true ↦ refl | false ↦ refl ]
+      ∙ ap (λ b. Some (record held { lowered = b || held.lowered })) (sym (any-more (same_key held.key) es e))
+
+  -- one key more is pushed
+  pub pushed-pending : {T : Type 0} (es : List (Key × F)) (index : ℕ) (e : Key × F) (old mid new : Pile T) → index < length es → e ≡ get_or es index e
+      → ((q : Key) → is_pending new q ≡ (same_key e.0 q || is_pending mid q))
+      → ((q : Key) → is_pending mid q ≡ (list_any (same_key q) (keys_of (take index es)) || is_pending old q))
+      → (q : Key) → is_pending new q ≡ (list_any (same_key q) (keys_of (take (index + 1) es)) || is_pending old q)
+  pushed-pending es index e old mid new within at now before q =
+      let first : is_pending new q ≡ (same_key q e.0 || (list_any (same_key q) (keys_of (take index es)) || is_pending old q)) =
+      now q ∙ ((λ i. same_key_symm e.0 q i || before q i)) in
+      let both : (same_key q e.0 || (list_any (same_key q) (keys_of (take index es)) || is_pending old q)) ≡ (list_any (same_key q) (keys_of (take index es ++ e ∷ [])) || is_pending old q) =
+      grind (arith) ∙ ap (λ b. b || is_pending old q) (sym (any-more (same_key q) (take index es) e)) in
+      first ∙ (both ∙ ap (λ xs. list_any (same_key q) (keys_of xs) || is_pending old q) (ap (λ x. take index es ++ x ∷ []) at ∙ sym (take_more es index e within)))
+
+  pub pushed-claims : {T : Type 0} (es : List (Key × F)) (index : ℕ) (e : Key × F) (old mid new : Pile T) → index < length es → e ≡ get_or es index e
+      → ((h : ℕ) → claim_at new h ≡ marked_claim e.0 (claim_at mid h))
+      → ((h : ℕ) → claim_at mid h ≡ marked_all (keys_of (take index es)) (claim_at old h))
+      → (h : ℕ) → claim_at new h ≡ marked_all (keys_of (take (index + 1) es)) (claim_at old h)
+  pushed-claims es index e old mid new within at now before h =
+      now h ∙ (ap (marked_claim e.0) (before h)
+      ∙ (marked-more (take index es) e (claim_at old h)
+      ∙ ap (λ xs. marked_all (keys_of xs) (claim_at old h)) (ap (λ x. take index es ++ x ∷ []) at ∙ sym (take_more es index e within))))
+
+  -- marks stay no progress
+  pub progress-marked : (keys : List Key) (o : Option (Held (TaskData F)))
+      → option_map {U = TaskData F × ℕ} (λ held. (held.task, held.done)) (marked_all keys o) ≡ option_map {U = TaskData F × ℕ} (λ held. (held.task, held.done)) o
+  progress-marked keys None = refl
+  progress-marked keys (Some held) = refl
+
+  -- no entry changes nothing
+  pub with-none : (s : State F) → with_entries s [] ≡ s
+  with-none s = λ i. record { get = s.get; pending = s.pending; claims = λ h. same (s.claims h) i }
+    where
+      same : (o : Option (Claim F)) → option_map (marked_by []) o ≡ o
+      same None = refl
+      same (Some claim) = refl
+
+module _ {F L : Type 0} (targets : Targets F) (B : EdgeAlgebra F L) where
+  -- one entry more lowers its key
+  pub with-more : (s : State F) (es : List (Key × F)) (key : Key) (g f : F) → f ≡ B.meet (unwrap_or ((with_entries s es).get key) B.all_top) g
+      → with_entries s (es ++ (key, f) ∷ []) ≡ lowered_by B (with_entries s es) key g
+  with-more s es key g f is =
+      let gets : (q : Key) → last_of (es ++ (key, f) ∷ []) q (s.get q) ≡ cond (same_key key q) (Some (B.meet (unwrap_or (last_of es key (s.get key)) B.all_top) g)) (last_of es q (s.get q)) =
+      λ q. last_of-more es (key, f) q (s.get q) ∙ ap (λ v. cond (same_key key q) (Some v) (last_of es q (s.get q))) is in
+      let waits : (q : Key) → (list_any (same_key q) (keys_of (es ++ (key, f) ∷ [])) || s.pending q) ≡ cond (same_key key q) true (list_any (same_key q) (keys_of es) || s.pending q) =
+      λ q. ap (λ b. b || s.pending q) (any-more (same_key q) es (key, f) ∙ ap (λ b. b || list_any (same_key q) (keys_of es)) (same_key_symm q key))
+      ∙ (grind (arith) ∙ or-cond (same_key key q) (list_any (same_key q) (keys_of es) || s.pending q)) in
+      λ i. record { get = λ q. gets q i; pending = λ q. waits q i; claims = λ h. marks (s.claims h) i }
+    where
+      marks : (o : Option (Claim F)) → option_map (marked_by (keys_of (es ++ (key, f) ∷ []))) o
+          ≡ option_map (marked key) (option_map (marked_by (keys_of es)) o)
+      marks None = refl
+      marks (Some claim) = ap (λ b. Some (record claim { lowered = b })) (ap (λ b. b || claim.lowered) (any-more (same_key claim.key) es (key, f)) ∙ grind (arith))
+
+  -- the state of tables with these entries set, and their keys pushed
+  pub state-with : (table new_table : Table F) (pile new_pile : Pile (TaskData F)) (es : List (Key × F)) → SetsAll table new_table es
+      → ((q : Key) → is_pending new_pile q ≡ (list_any (same_key q) (keys_of es) || is_pending pile q))
+      → ((h : ℕ) → claim_at new_pile h ≡ marked_all (keys_of es) (claim_at pile h))
+      → state-at targets B new_table new_pile ≡ with_entries (state-at targets B table pile) es
+  state-with table new_table pile new_pile es sets pending claims =
+      let hands : (h : ℕ) → option_map (claim_of targets B) (claim_at new_pile h)
+      ≡ option_map (marked_by (keys_of es)) (option_map (claim_of targets B) (claim_at pile h)) =
+      λ h. ap (option_map (claim_of targets B)) (claims h) ∙ marks (claim_at pile h) in
+      λ i. record { get = λ q. sets.entries q i; pending = λ q. pending q i; claims = λ h. hands h i }
+    where
+      marks : (o : Option (Held (TaskData F))) → option_map (claim_of targets B) (marked_all (keys_of es) o)
+          ≡ option_map (marked_by (keys_of es)) (option_map (claim_of targets B) o)
+      marks None = refl
+      marks (Some held) = refl
+
+-- no key of the entries is the jump of the fact n or of one after it
+abbrev pub AreBefore : {F : Type 0} → ℕ → ℕ → List (Key × F) → Type 0
+AreBefore r n es = (d : ℕ) → n ≤ d → list_any (same_key (Jump r d d)) (keys_of es) ≡ false
+
+-- a fact's jump is no other fact's
+jump-apart : (r d n : ℕ) → suc n ≤ d → same_key (Jump r d d) (Jump r n n) ≡ false
+jump-apart r d n less = grind (arith, nat_tests, less)
+
+pub before-more : {F : Type 0} (r n : ℕ) (es : List (Key × F)) (f : F) → AreBefore r n es → AreBefore r (n + 1) (es ++ (Jump r n n, f) ∷ [])
+before-more r n es f before d less =
+    any-more (same_key (Jump r d d)) es (Jump r n n, f)
+    ∙ ((λ i. jump-apart r d n (omega (arith, less)) i || before d (omega (arith, less)) i))
+
+pub before-later : {F : Type 0} (r n : ℕ) (es : List (Key × F)) → AreBefore r n es → AreBefore r (n + 1) es
+before-later r n es before d less = before d (omega (arith, less))
+
+module _ {F L : Type 0} (B : EdgeAlgebra F L) (targets : Targets F) (r n : ℕ) (s : State F) (es : List (Key × F)) (before : AreBefore r n es) where
+  -- the entries before leave the fact's own
+  own : (with_entries s es).get (Jump r n n) ≡ s.get (Jump r n n)
+  own = last_of-other es (Jump r n n) (s.get (Jump r n n)) (before n (omega arith))
+
+  -- one fact more is lowered
+  pub entered-lowers : (f : F) → f ≡ B.meet (unwrap_or (s.get (Jump r n n)) B.all_top) B.id → (IsBelow B s (Jump r n n) B.id → ⊥)
+      → AreEntered B r s n (with_entries s es) → AreEntered B r s (n + 1) (with_entries s (es ++ (Jump r n n, f) ∷ []))
+  entered-lowers f is falls entered =
+      subst (λ m. AreEntered B r s m (with_entries s (es ++ (Jump r n n, f) ∷ []))) (sym (add-one n))
+      (subst (AreEntered B r s (suc n)) (sym (with-more targets B s es (Jump r n n) B.id f (is ∙ ap (λ o. B.meet (unwrap_or o B.all_top) B.id) (sym own))))
+      (lowers n entered (λ below. falls (subst (λ o. B.meet (unwrap_or o B.all_top) B.id ≡ unwrap_or o B.all_top) own below))))
+
+  -- one fact more is below the identity already
+  pub entered-keeps : IsBelow B s (Jump r n n) B.id → AreEntered B r s n (with_entries s es) → AreEntered B r s (n + 1) (with_entries s es)
+  entered-keeps below entered =
+      subst (λ m. AreEntered B r s m (with_entries s es)) (sym (add-one n))
+      (keeps n entered (subst (λ o. B.meet (unwrap_or o B.all_top) B.id ≡ unwrap_or o B.all_top) (sym own) below))
