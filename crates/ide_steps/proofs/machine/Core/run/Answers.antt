@@ -83,7 +83,7 @@ returns-in_err-next_part-clause-goes g c =
       λ working.
           goes-then A B targets c.args.self.now c.loop-work.self c.next_part.new.self (c.loop-work.invariant.2 working).1
           (goes-unchanged A B targets c.loop-work.self c.next_part.new.self c.in_err-next_part.ensures.unchanged.0),
-      tt,
+      search rules,
     )
 
 pub loop-work-init : goal.loop-work-init
