@@ -1,7 +1,7 @@
 -- What a core does to its state is steps of a tabulation.
 use Rattle.std.proofs.Common.{◌≡◌, ◌≢◌, ℕ, zero, suc, ◌+◌, ◌⊎◌, inl, inr, Bool, true, cond, List, [], ◌∷◌, Option, Some, None, option_map, slice_get, drop, length, ap, sym, subst, ◌∙◌, refl, arith}
 use Rattle.std.specs.List.{list_any}
-use Rattle.std.specs.Prelude.{Result, Ok, Err, IfOk}
+use Rattle.std.specs.Prelude.{Result, Ok, Err, IfOk, OnOk}
 use Rattle.std.proofs.lemmas.List.{drop_all}
 use Rattle.std.proofs.lemmas.Option.{same_Some}
 use Rattle.ide_graph.specs.Supergraph.{Supergraph}
@@ -12,9 +12,10 @@ use Rattle.ide_tasks.specs.Task.{TaskData}
 use Rattle.ide_tasks.specs.Work.{WorkData}
 use Rattle.ide_theory.specs.Frame.{Frame}
 use Rattle.ide_theory.specs.Graphs.{frame_at}
-use Rattle.ide_theory.specs.Run.{ArePartsOf, Run, goes_on, Step, Steps, claim, skip, lower, finish, release, none, more, claims_of, claims_in}
+use Rattle.ide_theory.specs.Run.{ArePartsOf, Run, goes_on, Step, Steps, claim, skip, lower, finish, release, none, more, claims_of, claims_in, lowerings_of, lowerings_in}
 use Rattle.ide_theory.specs.Sites.{HaveEdgesOf}
 use Rattle.ide_theory.specs.State.{Claim, State, finished, with_claim}
+use Rattle.ide_tables.specs.Spent.{spent}
 use Rattle.ide_tables.specs.Tables.{found}
 use Rattle.ide_wire.specs.Key.{same_key}
 use Rattle.ide_worklist.specs.Worklist.{claim_at}
@@ -22,6 +23,7 @@ use Rattle.ide_worklist.specs.declared.claim.Claim.{Claim as Held}
 use Rattle.ide_steps.specs.declared.part.Parted.{Parted}
 use Rattle.ide_steps.specs.declared.part.Parted.TheVariants.{Lowered, Same, NoPart}
 use Rattle.ide_steps.specs.Core.{CoreData, IsUnchanged}
+use Rattle.ide_steps.specs.Drain.{ArePaid, GoesOnPaid}
 use Rattle.ide_steps.specs.Going.{GoesOn, GoesOnBy, IsFit, IsOutside, IsWorking}
 use Rattle.ide_steps.specs.State.{state_of, claim_of}
 use Rattle.ide_steps.specs.Steps.{IsLowered, IsOneMore, IsSkipped, IsTaken, progress_at}
@@ -32,9 +34,9 @@ drop-at [] i x at = let no : None ≡ Some x = at in cc
 drop-at (y ∷ xs) zero x at = ap (λ z. z ∷ xs) (same_Some y x at)
 drop-at (y ∷ xs) (suc i) x at = drop-at xs i x at
 
--- one step, which is so many claims
-abbrev pub StepBy : (K : Frame) → ℕ → State K.F → State K.F → Type 0
-StepBy K n s t = (step : Step K s t) × (claims_of step ≡ n)
+-- one step, which is so many claims and lowerings
+abbrev pub StepBy : (K : Frame) → ℕ → ℕ → State K.F → State K.F → Type 0
+StepBy K m n s t = (step : Step K s t) × (claims_of step ≡ m) × (lowerings_of step ≡ n)
 
 module _ {F L : Type 0} (A : LatticeAlgebra L) (B : EdgeAlgebra F L) (targets : Targets F) (graph : Supergraph) (all : HaveEdgesOf graph.facts graph.sites) where
   -- the claim of a hand that works on the task and has done so many parts
@@ -65,44 +67,46 @@ module _ {F L : Type 0} (A : LatticeAlgebra L) (B : EdgeAlgebra F L) (targets : 
 
   pub lowers : (old new : CoreData F) (hand : ℕ) (work after : WorkData F) (task : TaskData F) → progress_at old.pile hand ≡ Some (task, work.done)
       → work.parts ≡ owed targets B task → IsLowered B (state_of targets B old) (state_of targets B new) hand work after
-      → StepBy (frame_at A B targets graph all) 0 (state_of targets B old) (state_of targets B new)
+      → StepBy (frame_at A B targets graph all) 0 1 (state_of targets B old) (state_of targets B new)
   lowers old new hand work after task progress parts is =
       let h = held_by old hand task work.done progress in
       let at : slice_get (owed targets B task) work.done ≡ Some is.part = subst (λ ps. slice_get ps work.done ≡ Some is.part) parts is.next in
-      subst (StepBy (frame_at A B targets graph all) 0 (state_of targets B old)) (sym is.state) (
+      subst (StepBy (frame_at A B targets graph all) 0 1 (state_of targets B old)) (sym is.state) (
         lower hand (claim_of targets B h.held) is.part.0 is.part.1 (drop (suc work.done) (owed targets B task))
             (claim_has old hand task work.done h) (parts_left old hand task work.done h ∙ drop-at (owed targets B task) work.done is.part at),
+        refl,
         refl,
       )
 
   pub skips : (old new : CoreData F) (hand : ℕ) (work after : WorkData F) (task : TaskData F) → progress_at old.pile hand ≡ Some (task, work.done)
       → work.parts ≡ owed targets B task → IsSkipped B (state_of targets B old) (state_of targets B new) hand work after
-      → StepBy (frame_at A B targets graph all) 0 (state_of targets B old) (state_of targets B new)
+      → StepBy (frame_at A B targets graph all) 0 0 (state_of targets B old) (state_of targets B new)
   skips old new hand work after task progress parts is =
       let h = held_by old hand task work.done progress in
       let at : slice_get (owed targets B task) work.done ≡ Some is.part = subst (λ ps. slice_get ps work.done ≡ Some is.part) parts is.next in
-      subst (StepBy (frame_at A B targets graph all) 0 (state_of targets B old)) (sym is.state) (
+      subst (StepBy (frame_at A B targets graph all) 0 0 (state_of targets B old)) (sym is.state) (
         skip hand (claim_of targets B h.held) is.part.0 is.part.1 (drop (suc work.done) (owed targets B task))
             (claim_has old hand task work.done h) (parts_left old hand task work.done h ∙ drop-at (owed targets B task) work.done is.part at) is.met,
+        refl,
         refl,
       )
 
   pub finishes : (old new : CoreData F) (hand : ℕ) (work : WorkData F) (task : TaskData F) → progress_at old.pile hand ≡ Some (task, work.done)
       → work.parts ≡ owed targets B task → work.done ≡ length work.parts
       → ((held : Held (TaskData F)) → claim_at old.pile hand ≡ Some held → state_of targets B new ≡ finished (state_of targets B old) hand (claim_of targets B held))
-      → StepBy (frame_at A B targets graph all) 0 (state_of targets B old) (state_of targets B new)
+      → StepBy (frame_at A B targets graph all) 0 0 (state_of targets B old) (state_of targets B new)
   finishes old new hand work task progress parts over state =
       let h = held_by old hand task work.done progress in
       let nothing : drop work.done (owed targets B task) ≡ [] = drop_all work.done (owed targets B task) (let same = ap length parts in omega (arith, over, same)) in
-      subst (StepBy (frame_at A B targets graph all) 0 (state_of targets B old)) (sym (state h.held h.has))
-      (finish hand (claim_of targets B h.held) (claim_has old hand task work.done h) (parts_left old hand task work.done h ∙ nothing), refl)
+      subst (StepBy (frame_at A B targets graph all) 0 0 (state_of targets B old)) (sym (state h.held h.has))
+      (finish hand (claim_of targets B h.held) (claim_has old hand task work.done h) (parts_left old hand task work.done h ∙ nothing), refl, refl)
 
   pub claims : (old new : CoreData F) (hand : ℕ) (task : TaskData F) → IsTaken targets B hand old new task
       → ArePartsOf (frame_at A B targets graph all) (state_of targets B old).get task.key (owed targets B task)
-      → StepBy (frame_at A B targets graph all) 1 (state_of targets B old) (state_of targets B new)
+      → StepBy (frame_at A B targets graph all) 1 0 (state_of targets B old) (state_of targets B new)
   claims old new hand task is parts =
-      subst (StepBy (frame_at A B targets graph all) 1 (state_of targets B old)) (sym is.state)
-      (claim hand task.key (owed targets B task) (ap (option_map (claim_of targets B)) is.free) is.pending alone parts, refl)
+      subst (StepBy (frame_at A B targets graph all) 1 0 (state_of targets B old)) (sym is.state)
+      (claim hand task.key (owed targets B task) (ap (option_map (claim_of targets B)) is.free) is.pending alone parts, refl, refl)
     where
       apart : (j : ℕ) (c : Claim F) (claimed : Option (Held (TaskData F))) → claim_at old.pile j ≡ claimed
           → option_map (claim_of targets B) claimed ≡ Some c → c.key ≢ task.key
@@ -128,43 +132,55 @@ module _ {F L : Type 0} (A : LatticeAlgebra L) (B : EdgeAlgebra F L) (targets : 
       let sum : claims_in (steps-join K first steps) + claims_of step ≡ claims_in first + (claims_in steps + claims_of step) = omega (arith, rest) in
       sum
 
+  joined-lowerings : (K : Frame) {s t u : State K.F} (first : Steps K s t) (next : Steps K t u) → lowerings_in (steps-join K first next) ≡ lowerings_in first + lowerings_in next
+  joined-lowerings K first none = let same : lowerings_in first ≡ lowerings_in first + 0 = omega arith in same
+  joined-lowerings K first (more steps step) =
+      let rest = joined-lowerings K first steps in
+      let sum : lowerings_in (steps-join K first steps) + lowerings_of step ≡ lowerings_in first + (lowerings_in steps + lowerings_of step) = omega (arith, rest) in
+      sum
+
   -- nothing happens to the state
   pub goes-nowhere : (old new : CoreData F) → new.graph ≡ old.graph → new.roots ≡ old.roots
-      → state_of targets B new ≡ state_of targets B old → GoesOnBy A B targets 0 old new
+      → state_of targets B new ≡ state_of targets B old → GoesOnBy A B targets 0 0 old new
   goes-nowhere old new graph roots state = record {
     graph = graph;
     roots = roots;
     steps = λ g is all fit run.
-        subst (λ t. (way : Steps (frame_at A B targets g all) (state_of targets B old) t) × (claims_in way ≡ 0)) (sym state) (none, refl);
+        subst (λ t. (way : Steps (frame_at A B targets g all) (state_of targets B old) t) × (claims_in way ≡ 0) × (lowerings_in way ≡ 0)) (sym state) (none, refl, refl);
   }
 
-  pub goes-step : (count : ℕ) (old new : CoreData F) → new.graph ≡ old.graph → new.roots ≡ old.roots
+  pub goes-step : (m k : ℕ) (old new : CoreData F) → new.graph ≡ old.graph → new.roots ≡ old.roots
       → ((graph : Supergraph) → old.graph ≡ Some graph → (all : HaveEdgesOf graph.facts graph.sites) → IsFit graph
       → Run (frame_at A B targets graph all) (state_of targets B old)
-      → StepBy (frame_at A B targets graph all) count (state_of targets B old) (state_of targets B new))
-      → GoesOnBy A B targets count old new
-  goes-step count old new graph roots step = record {
+      → StepBy (frame_at A B targets graph all) m k (state_of targets B old) (state_of targets B new))
+      → GoesOnBy A B targets m k old new
+  goes-step m k old new graph roots step = record {
     graph = graph;
     roots = roots;
     steps = λ g is all fit run. let one = step g is all fit run in
-        let total : 0 + claims_of one.0 ≡ count = omega (arith, one.1) in
-        (more none one.0, total);
+        let claimed : 0 + claims_of one.0 ≡ m = omega (arith, one.1) in
+        let lowered : 0 + lowerings_of one.0 ≡ k = omega (arith, one.2) in
+        (more none one.0, claimed, lowered);
   }
 
-  pub goes-then : (m n : ℕ) (old mid new : CoreData F) → GoesOnBy A B targets m old mid → GoesOnBy A B targets n mid new → GoesOnBy A B targets (m + n) old new
-  goes-then m n old mid new first next = record {
+  pub goes-then : {m n k l : ℕ} (old mid new : CoreData F) → GoesOnBy A B targets m k old mid → GoesOnBy A B targets n l mid new
+      → GoesOnBy A B targets (m + n) (k + l) old new
+  goes-then old mid new first next = record {
     graph = next.graph ∙ first.graph;
     roots = next.roots ∙ first.roots;
     steps = λ g is all fit run.
         let K = frame_at A B targets g all in
         let way = first.steps g is all fit run in
-        let rest = next.steps g (first.graph ∙ is) all fit (run-goes K run way.0) in
-        (steps-join K way.0 rest.0, joined-claims K way.0 rest.0 ∙ (λ i. way.1 i + rest.1 i));
+        let rest = next.steps g (first.graph ∙ is) all fit (run-goes K run way.0) in (
+          steps-join K way.0 rest.0,
+          joined-claims K way.0 rest.0 ∙ (λ i. way.1 i + rest.1 i),
+          joined-lowerings K way.0 rest.0 ∙ (λ i. way.2 i + rest.2 i),
+        );
   }
 
-  -- the claims need not be counted
-  pub goes-on : (count : ℕ) (old new : CoreData F) → GoesOnBy A B targets count old new → GoesOn A B targets old new
-  goes-on count old new goes = record { graph = goes.graph; roots = goes.roots; steps = λ g is all fit run. (goes.steps g is all fit run).0 }
+  -- claims and lowerings need not be counted
+  pub goes-on : {m k : ℕ} (old new : CoreData F) → GoesOnBy A B targets m k old new → GoesOn A B targets old new
+  goes-on old new goes = record { graph = goes.graph; roots = goes.roots; steps = λ g is all fit run. (goes.steps g is all fit run).0 }
 
   pub goes-on-then : (old mid new : CoreData F) → GoesOn A B targets old mid → GoesOn A B targets mid new → GoesOn A B targets old new
   goes-on-then old mid new first next = record {
@@ -176,10 +192,42 @@ module _ {F L : Type 0} (A : LatticeAlgebra L) (B : EdgeAlgebra F L) (targets : 
         steps-join K way (next.steps g (first.graph ∙ is) all fit (run-goes K run way));
   }
 
+  -- what happens to nothing is paid for, and so is what is done one after the other
+  pub paid-same : (old new : CoreData F) → new ≡ old → GoesOnPaid A B targets 0 old new
+  paid-same old new same = subst (GoesOnPaid A B targets 0 old) (sym same) (record {
+    lowerings = 0;
+    goes = goes-nowhere old old refl refl refl;
+    paid = record { keys = omega arith; ranks = omega arith };
+  })
+
+  pub paid-then : {m n : ℕ} (old mid new : CoreData F) → GoesOnPaid A B targets m old mid → GoesOnPaid A B targets n mid new
+      → GoesOnPaid A B targets (m + n) old new
+  paid-then old mid new first next = record {
+    lowerings = first.lowerings + next.lowerings;
+    goes = goes-then old mid new first.goes next.goes;
+    paid = record {
+      keys = let before = first.paid.keys in let here = next.paid.keys in omega (arith, before, here);
+      ranks = let before = first.paid.ranks in let here = next.paid.ranks in omega (arith, before, here);
+    };
+  }
+
+  -- a claim changes neither tables nor pending keys: the parts after it pay for it
+  pub paid-task : {E : Type 0} {k : ℕ} (r : Result Bool E) (old mid new : CoreData F) → mid.table ≡ old.table → mid.pile.pending ≡ old.pile.pending
+      → GoesOnBy A B targets 1 0 old mid → GoesOnBy A B targets 0 k mid new → OnOk r (ArePaid B 1 k mid new) → OnOk r (GoesOnPaid A B targets 1 old new)
+  paid-task {k} (Ok flag) old mid new table pending first next paid = record {
+    lowerings = 0 + k;
+    goes = goes-then old mid new first next;
+    paid = record {
+      keys = let before = paid.keys in let same = ap length pending in omega (arith, before, same);
+      ranks = let before = paid.ranks in let same = ap (λ t. spent B t.entries) table in omega (arith, before, same);
+    };
+  }
+  paid-task (Err e) old mid new table pending first next paid = tt
+
   -- a task that was run is one claim
-  pub goes-more : {E : Type 0} (r : Result Bool E) (old new : CoreData F) → IfOk r (λ more. more ≡ true) → GoesOnBy A B targets 1 old new
-      → IfOk r (λ more. GoesOnBy A B targets (cond more 1 0) old new)
-  goes-more (Ok flag) old new is goes = subst (λ b. GoesOnBy A B targets (cond b 1 0) old new) (sym is) goes
+  pub goes-more : {E : Type 0} (r : Result Bool E) (old new : CoreData F) → IfOk r (λ more. more ≡ true) → OnOk r (GoesOnPaid A B targets 1 old new)
+      → IfOk r (λ more. GoesOnPaid A B targets (cond more 1 0) old new)
+  goes-more (Ok flag) old new is goes = subst (λ b. GoesOnPaid A B targets (cond b 1 0) old new) (sym is) goes
   goes-more (Err e) old new is goes = tt
 
   -- no run came to a core's state, where none comes to the state after its steps
@@ -195,19 +243,23 @@ module _ {F L : Type 0} (A : LatticeAlgebra L) (B : EdgeAlgebra F L) (targets : 
     claims = λ h. option_map (claim_of targets B) (is.claims h i);
   }
 
-  pub goes-unchanged : (old new : CoreData F) → IsUnchanged old new → GoesOnBy A B targets 0 old new
+  pub goes-unchanged : (old new : CoreData F) → IsUnchanged old new → GoesOnBy A B targets 0 0 old new
   goes-unchanged old new is = goes-nowhere old new is.graph is.roots (state-unchanged old new is)
 
-  -- a part is a step, and the hand goes on working
-  pub goes-part : (old new : CoreData F) (hand : ℕ) (work after : WorkData F) → new.graph ≡ old.graph → new.roots ≡ old.roots
-      → IsWorking A B targets old hand work
-      → IsLowered B (state_of targets B old) (state_of targets B new) hand work after ⊎ IsSkipped B (state_of targets B old) (state_of targets B new) hand work after
-      → GoesOnBy A B targets 0 old new
-  goes-part old new hand work after graph roots working (inl is) =
-      goes-step 0 old new graph roots (λ g same all fit run. lowers A B targets g all old new hand work after work.task working.progress working.parts is)
-  goes-part old new hand work after graph roots working (inr is) =
-      goes-step 0 old new graph roots (λ g same all fit run. skips A B targets g all old new hand work after work.task working.progress working.parts is)
+  -- a part is a step, which lowers a key or finds it met
+  pub goes-lowered : (old new : CoreData F) (hand : ℕ) (work after : WorkData F) → new.graph ≡ old.graph → new.roots ≡ old.roots
+      → IsWorking A B targets old hand work → IsLowered B (state_of targets B old) (state_of targets B new) hand work after
+      → GoesOnBy A B targets 0 1 old new
+  goes-lowered old new hand work after graph roots working is =
+      goes-step 0 1 old new graph roots (λ g same all fit run. lowers A B targets g all old new hand work after work.task working.progress working.parts is)
 
+  pub goes-skipped : (old new : CoreData F) (hand : ℕ) (work after : WorkData F) → new.graph ≡ old.graph → new.roots ≡ old.roots
+      → IsWorking A B targets old hand work → IsSkipped B (state_of targets B old) (state_of targets B new) hand work after
+      → GoesOnBy A B targets 0 0 old new
+  goes-skipped old new hand work after graph roots working is =
+      goes-step 0 0 old new graph roots (λ g same all fit run. skips A B targets g all old new hand work after work.task working.progress working.parts is)
+
+  -- the hand goes on working
   pub works-on : (new : CoreData F) (hand : ℕ) (old work : WorkData F) → IsOneMore old work → old.parts ≡ owed targets B old.task
       → progress_at new.pile hand ≡ Some (old.task, work.done) → IsWorking A B targets new hand work
   works-on new hand old work is parts progress = record {
@@ -216,19 +268,19 @@ module _ {F L : Type 0} (A : LatticeAlgebra L) (B : EdgeAlgebra F L) (targets : 
   }
 
   pub goes-back : (old new : CoreData F) (hand : ℕ) → new.graph ≡ old.graph → new.roots ≡ old.roots
-      → state_of targets B new ≡ with_claim (state_of targets B old) hand None → GoesOnBy A B targets 0 old new
+      → state_of targets B new ≡ with_claim (state_of targets B old) hand None → GoesOnBy A B targets 0 0 old new
   goes-back old new hand graph roots state =
-      goes-step 0 old new graph roots (λ g same all fit run. subst (StepBy (frame_at A B targets g all) 0 (state_of targets B old)) (sym state) (release hand, refl))
+      goes-step 0 0 old new graph roots (λ g same all fit run. subst (StepBy (frame_at A B targets g all) 0 0 (state_of targets B old)) (sym state) (release hand, refl, refl))
 
-  pub goes-same : (old new : CoreData F) → new ≡ old → GoesOnBy A B targets 0 old new
+  pub goes-same : (old new : CoreData F) → new ≡ old → GoesOnBy A B targets 0 0 old new
   goes-same old new same = goes-nowhere old new (ap (λ c. c.graph) same) (ap (λ c. c.roots) same) (ap (state_of targets B) same)
 
   pub goes-finish : (old new : CoreData F) (hand : ℕ) (work : WorkData F) → new.graph ≡ old.graph → new.roots ≡ old.roots
       → IsWorking A B targets old hand work → work.done ≡ length work.parts
       → ((held : Held (TaskData F)) → claim_at old.pile hand ≡ Some held → state_of targets B new ≡ finished (state_of targets B old) hand (claim_of targets B held))
-      → GoesOnBy A B targets 0 old new
+      → GoesOnBy A B targets 0 0 old new
   goes-finish old new hand work graph roots working over state =
-      goes-step 0 old new graph roots (λ g same all fit run. finishes A B targets g all old new hand work work.task working.progress working.parts over state)
+      goes-step 0 0 old new graph roots (λ g same all fit run. finishes A B targets g all old new hand work work.task working.progress working.parts over state)
 
 -- what a part did
 pub parted-is : (parted : Parted) → (parted ≡ Lowered) ⊎ ((parted ≡ Same) ⊎ (parted ≡ NoPart))

@@ -1,10 +1,14 @@
 -- What falls with each task, and what pays for it.
 use Rattle.std.specs.Prelude.{◌≡◌, ℕ, ◌+◌, ◌-◌, ◌*◌, ◌^◌, ◌≤◌, Option, None, if◌then◌else◌, length}
-use Rattle.ide_lattice.specs.Algebra.{EdgeAlgebra}
+use Rattle.ide_lattice.specs.Algebra.{LatticeAlgebra, EdgeAlgebra}
+use Rattle.ide_problem.specs.Flow.{Targets}
 use Rattle.ide_tables.specs.Spent.{spent}
 use Rattle.ide_worklist.specs.Worklist.{Pile, claim_at, ends_key}
 use Rattle.ide_worklist.specs.declared.claim.Claim.{Claim}
+use Rattle.ide_steps.specs.declared.part.Parted.{Parted}
+use Rattle.ide_steps.specs.declared.part.Parted.TheVariants.{Lowered, Same, NoPart}
 use Rattle.ide_steps.specs.Core.{CoreData}
+use Rattle.ide_steps.specs.Going.{GoesOnBy}
 
 -- no hand has a claim
 abbrev pub IsFree : {T : Type 0} → Pile T → Type 0
@@ -20,12 +24,26 @@ module _ {F L : Type 0} (B : EdgeAlgebra F L) where
   abbrev pub potential : CoreData F → ℕ
   potential core = 2 * (2 ^ 64 * B.height - spent B core.table.entries) + length core.pile.pending
 
-  -- so many tasks are paid for: each by a key that is no longer pending, or by a rank that a function lost
-  abbrev pub ArePaid : ℕ → CoreData F → CoreData F → Type 0
-  ArePaid tasks old new = tasks + spent B old.table.entries + length new.pile.pending ≤ length old.pile.pending + spent B new.table.entries
+  -- so many claims and lowerings of keys are paid for: each claim by a key that is no longer pending, or
+  -- by a lowering; and each lowering by a rank that a function lost
+  pub record ArePaid (claims lowerings : ℕ) (old new : CoreData F) : Type 0 where
+    pub keys : claims + length new.pile.pending ≤ length old.pile.pending + lowerings
+    pub ranks : lowerings + spent B old.table.entries ≤ spent B new.table.entries
 
-  -- a hand that goes on with its claim may have to pay for its key once more
-  abbrev pub IsPaidBy : ℕ → CoreData F → CoreData F → Type 0
-  IsPaidBy hand old new =
-      spent B old.table.entries + length new.pile.pending + left_by (claim_at new.pile hand)
-      ≤ length old.pile.pending + left_by (claim_at old.pile hand) + spent B new.table.entries
+  -- the same with no claim; a hand that goes on with its own may have to pay for its key once more
+  pub record IsPaidBy (hand lowerings : ℕ) (old new : CoreData F) : Type 0 where
+    pub keys : length new.pile.pending + left_by (claim_at new.pile hand) ≤ length old.pile.pending + left_by (claim_at old.pile hand) + lowerings
+    pub ranks : lowerings + spent B old.table.entries ≤ spent B new.table.entries
+
+-- a part that lowered its key is one lowering
+abbrev pub lowerings_by : Parted → ℕ
+lowerings_by Lowered = 1
+lowerings_by Same = 0
+lowerings_by NoPart = 0
+
+module _ {F L : Type 0} (A : LatticeAlgebra L) (B : EdgeAlgebra F L) (targets : Targets F) where
+  -- so many claims, and some number of lowerings, lead from the one core's state to the other's, and are paid for
+  pub record GoesOnPaid (claims : ℕ) (old new : CoreData F) : Type 0 where
+    pub lowerings : ℕ
+    pub goes : GoesOnBy A B targets claims lowerings old new
+    pub paid : ArePaid B claims lowerings old new

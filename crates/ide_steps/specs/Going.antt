@@ -9,7 +9,7 @@ use Rattle.ide_problem.specs.Flow.{Targets}
 use Rattle.ide_tasks.specs.Parts.{owed}
 use Rattle.ide_tasks.specs.Work.{WorkData}
 use Rattle.ide_theory.specs.Graphs.{frame_at}
-use Rattle.ide_theory.specs.Run.{Run, Steps, claims_in}
+use Rattle.ide_theory.specs.Run.{Run, Steps, claims_in, lowerings_in}
 use Rattle.ide_theory.specs.Sites.{HaveEdgesOf}
 use Rattle.ide_steps.specs.Core.{CoreData}
 use Rattle.ide_steps.specs.State.{state_of}
@@ -26,15 +26,17 @@ pub record IsFit (graph : Supergraph) : Type 0 where
 
 module _ {F L : Type 0} (A : LatticeAlgebra L) (B : EdgeAlgebra F L) (targets : Targets F) where
   -- over a graph that is fit, steps lead from the one core's state to the other's, where a run came to
-  -- that, and so many of them are claims; program and roots stay
-  pub record GoesOnBy (claims : ℕ) (old new : CoreData F) : Type 0 where
+  -- that, so many of them are claims, and so many parts that lower a key; program and roots stay
+  pub record GoesOnBy (claims lowerings : ℕ) (old new : CoreData F) : Type 0 where
     pub graph : new.graph ≡ old.graph
     pub roots : new.roots ≡ old.roots
     pub steps : (graph : Supergraph) → old.graph ≡ Some graph → (all : HaveEdgesOf graph.facts graph.sites) → IsFit graph
         → Run (frame_at A B targets graph all) (state_of targets B old)
-        → (way : Steps (frame_at A B targets graph all) (state_of targets B old) (state_of targets B new)) × (claims_in way ≡ claims)
+        → (way : Steps (frame_at A B targets graph all) (state_of targets B old) (state_of targets B new))
+        × (claims_in way ≡ claims)
+        × (lowerings_in way ≡ lowerings)
 
-  -- the same, with any number of claims
+  -- the same, with any number of claims and lowerings
   pub record GoesOn (old new : CoreData F) : Type 0 where
     pub graph : new.graph ≡ old.graph
     pub roots : new.roots ≡ old.roots

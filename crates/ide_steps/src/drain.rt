@@ -1,10 +1,10 @@
 //! All steps that are left, by one hand.
-ghost use Rattle.std.specs.Prelude.{◌≡◌, ℕ, ◌-◌, ◌^◌, ◌<◌, ◌↔◌, ◌⊎◌, [], true, false, nat_eq, min, if◌then◌else◌, Ok, Err, Some, None, IsSome, IfErr, IfOk, OnErr, OnOk};
+ghost use Rattle.std.specs.Prelude.{◌≡◌, ℕ, ◌-◌, ◌^◌, ◌<◌, ◌↔◌, ◌⊎◌, [], true, false, nat_eq, min, if◌then◌else◌, Ok, Err, Some, None, IsSome, IfErr, IfOk, OnOk};
 ghost use Rattle.std.specs.List.{IsDistinct};
 ghost use Rattle.std.specs.Map.{keys_of};
 ghost use Rattle.std.specs.Option.{is_some};
 ghost use Rattle.ide_steps.specs.Core.{is_loaded};
-ghost use Rattle.ide_steps.specs.Drain.{ArePaid, IsFree, potential};
+ghost use Rattle.ide_steps.specs.Drain.{ArePaid, GoesOnPaid, IsFree, potential};
 ghost use Rattle.ide_steps.specs.Going.{GoesOn, GoesOnBy, IsOutside, IsWorking};
 ghost use Rattle.ide_steps.specs.Room.{AreTasksFew};
 ghost use Rattle.ide_steps.specs.Steps.{progress_at};
@@ -26,9 +26,10 @@ const DRAINING: usize = 0;
 
 impl<P: Problem> Core<P> {
     /// Claims and finishes tasks as hand 0 until no key is pending, and answers how many, up to the
-    /// largest number of 64 bits. Each is paid for by a key that was pending, or by a rank that an
-    /// entry lost: in a run over the graph of a text there are at most as many as keys were pending,
-    /// and `HEIGHT` for each jump of a node and two facts and each summary of a call and two facts.
+    /// largest number of 64 bits. Each is paid for by a key that was pending, or by a part that
+    /// lowered an entry, and each of those by a rank that an entry lost: in a run over the graph of a
+    /// text there are at most as many as keys were pending, and `HEIGHT` for each jump of a node and
+    /// two facts and each summary of a call and two facts.
     ///
     /// Refusals: `NoProgram`; `Busy` where hand 0 has a claim; `Unfinished` where another hand has
     /// one; all tested first, in this order. `NoMemory` keeps the steps done before it and releases
@@ -42,8 +43,7 @@ impl<P: Problem> Core<P> {
         ensures within { result ≡ Err Refused.OutOfRange → IsOutside P.L.algebra P.F.edge P.targets self.old }
         ensures quiet { OnOk result (self.new.pile.pending ≡ []) }
         ensures free { IsFree self.old.pile → IsFree self.new.pile }
-        ensures claims { IfOk result (λ tasks. (claims : ℕ) × (tasks ≡ min claims (2 ^ 64 - 1)) × GoesOnBy P.L.algebra P.F.edge P.targets claims self.old self.new) }
-        ensures paid { IfOk result (λ tasks. ArePaid P.F.edge tasks self.old self.new) }
+        ensures claims { IfOk result (λ tasks. (claims : ℕ) × (tasks ≡ min claims (2 ^ 64 - 1)) × GoesOnPaid P.L.algebra P.F.edge P.targets claims self.old self.new) }
         ensures few { IfOk result (λ tasks. AreTasksFew P.L.algebra P.F.edge P.targets tasks self.old) }
         ensures goes { GoesOn P.L.algebra P.F.edge P.targets self.old self.new }
         ensures unchanged { IfErr result (λ e. (e ≡ Refused.NoMemory) ⊎ (e ≡ Refused.OutOfRange) ⊎ (self.new ≡ self.old)) }
@@ -82,8 +82,7 @@ impl<P: Problem> Core<P> {
         ensures quiet { OnOk result (self.new.pile.pending ≡ []) }
         ensures free { OnOk result (IsFree self.new.pile) }
         ensures others { (h : ℕ) → nat_eq 0 h ≡ false → claim_at self.new.pile h ≡ None }
-        ensures claims { IfOk result (λ tasks. (claims : ℕ) × (tasks ≡ min claims (2 ^ 64 - 1)) × GoesOnBy P.L.algebra P.F.edge P.targets claims self.old self.new) }
-        ensures paid { IfOk result (λ tasks. ArePaid P.F.edge tasks self.old self.new) }
+        ensures claims { IfOk result (λ tasks. (claims : ℕ) × (tasks ≡ min claims (2 ^ 64 - 1)) × GoesOnPaid P.L.algebra P.F.edge P.targets claims self.old self.new) }
         ensures goes { GoesOn P.L.algebra P.F.edge P.targets self.old self.new }
     {
         let mut tasks = 0_u64;
@@ -103,8 +102,7 @@ impl<P: Problem> Core<P> {
         ensures falls { result ≡ Ok true → potential P.F.edge self.new < potential P.F.edge self.old }
         ensures free { OnOk result (IsFree self.new.pile) }
         ensures others { (h : ℕ) → nat_eq 0 h ≡ false → claim_at self.new.pile h ≡ None }
-        ensures claims { IfOk result (λ more. GoesOnBy P.L.algebra P.F.edge P.targets (if more then 1 else 0) self.old self.new) }
-        ensures paid { IfOk result (λ more. ArePaid P.F.edge (if more then 1 else 0) self.old self.new) }
+        ensures claims { IfOk result (λ more. GoesOnPaid P.L.algebra P.F.edge P.targets (if more then 1 else 0) self.old self.new) }
         ensures goes { GoesOn P.L.algebra P.F.edge P.targets self.old self.new }
     {
         let Some(task) = self.take_next()? else {
@@ -129,7 +127,7 @@ impl<P: Problem> Core<P> {
         ensures progress { (task : TaskData P.F) → result ≡ Ok (Some task) → progress_at self.new.pile 0 ≡ Some (task, 0) }
         ensures others { (h : ℕ) → nat_eq 0 h ≡ false → claim_at self.new.pile h ≡ None }
         ensures none { result ≡ Ok None → IsFree self.new.pile }
-        ensures claims { IfOk result (λ task. GoesOnBy P.L.algebra P.F.edge P.targets (if is_some task then 1 else 0) self.old self.new) }
+        ensures claims { IfOk result (λ task. GoesOnBy P.L.algebra P.F.edge P.targets (if is_some task then 1 else 0) 0 self.old self.new) }
         ensures goes { GoesOn P.L.algebra P.F.edge P.targets self.old self.new }
     {
         runs_are_sound::<P>();
@@ -149,10 +147,9 @@ impl<P: Problem> Core<P> {
         ensures refused { IfErr result (λ e. e ≡ Refused.NoMemory) }
         ensures more { IfOk result (λ more. more ≡ true) }
         ensures falls { OnOk result (potential P.F.edge self.new < potential P.F.edge self.old) }
-        ensures paid { OnOk result (ArePaid P.F.edge 1 self.old self.new) }
         ensures done { OnOk result (claim_at self.new.pile 0 ≡ None) }
         ensures others { (h : ℕ) → nat_eq 0 h ≡ false → claim_at self.old.pile h ≡ None → claim_at self.new.pile h ≡ None }
-        ensures goes { IsWorking P.L.algebra P.F.edge P.targets self.old 0 work → GoesOnBy P.L.algebra P.F.edge P.targets 0 self.old self.new }
+        ensures goes { (lowerings : ℕ) × (IsWorking P.L.algebra P.F.edge P.targets self.old 0 work → GoesOnBy P.L.algebra P.F.edge P.targets 0 lowerings self.old self.new) × OnOk result (ArePaid P.F.edge 1 lowerings self.old self.new) }
     {
         while self.next_part(DRAINING, &mut work)? != Parted::NoPart {}
         self.end_claim(DRAINING);

@@ -125,7 +125,7 @@ impl<P: Problem> Core<P> {
         ensures graph { self.new.graph ≡ self.old.graph }
         ensures roots { self.new.roots ≡ self.old.roots }
         ensures falls { result ≡ Ok Change.Lowered → potential P.F.edge self.new < potential P.F.edge self.old }
-        ensures paid { result ≡ Ok Change.Lowered → (h : ℕ) → IsPaidBy P.F.edge h self.old self.new }
+        ensures paid { result ≡ Ok Change.Lowered → (h : ℕ) → IsPaidBy P.F.edge h 1 self.old self.new }
         ensures still { result ≡ Ok Change.Same → IsUnchanged self.old self.new }
         ensures lowered { result ≡ Ok Change.Lowered → state_of P.targets P.F.edge self.new ≡ lowered_by P.F.edge (state_of P.targets P.F.edge self.old) key function }
         ensures same { result ≡ Ok Change.Same → state_of P.targets P.F.edge self.new ≡ state_of P.targets P.F.edge self.old }

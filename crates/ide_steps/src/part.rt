@@ -1,7 +1,7 @@
 //! Parts: a hand gives what its task owes to the tables, one part a call.
 ghost use Rattle.ide_worklist.specs.Worklist.{claim_at, ends_key};
-ghost use Rattle.ide_steps.specs.Drain.{IsPaidBy, potential};
-ghost use Rattle.std.specs.Prelude.{◌≡◌, ℕ, ◌<◌, ◌+◌, ◌↔◌, ◌⊎◌, true, false, None, Ok, Err, Some, IfErr, OnErr, OnOk, length, IsTrue};
+ghost use Rattle.ide_steps.specs.Drain.{IsPaidBy, lowerings_by, potential};
+ghost use Rattle.std.specs.Prelude.{◌≡◌, ℕ, ◌<◌, ◌+◌, ◌↔◌, ◌⊎◌, true, false, None, Ok, Err, Some, IfErr, IfOk, OnErr, OnOk, length, IsTrue};
 ghost use Rattle.std.specs.Option.{IsSomeAnd};
 ghost use Rattle.ide_tasks.specs.Parts.{owed};
 ghost use Rattle.ide_tasks.specs.Task.{TaskData};
@@ -62,7 +62,7 @@ impl<P: Problem> Core<P> {
     pub(crate) fn next_part(&mut self, hand: usize, work: &mut Work<P>) -> Result<Parted, Refused>
         ensures falls { result ≡ Ok Parted.Lowered → potential P.F.edge self.new < potential P.F.edge self.old }
         ensures still { result ≡ Ok Parted.Same → (potential P.F.edge self.new ≡ potential P.F.edge self.old) × (ends_key (claim_at self.new.pile hand) ≡ ends_key (claim_at self.old.pile hand)) }
-        ensures paid { OnOk result (IsPaidBy P.F.edge hand self.old self.new) }
+        ensures paid { IfOk result (λ parted. IsPaidBy P.F.edge hand (lowerings_by parted) self.old self.new) }
         ensures free { (h : ℕ) → claim_at self.old.pile h ≡ None → claim_at self.new.pile h ≡ None }
         ensures next { (result ≡ Ok Parted.Lowered) ⊎ (result ≡ Ok Parted.Same) → (work.old.done < length work.old.parts) × (work.new ≡ record work.old { done = work.old.done + 1 }) }
         ensures refused { IfErr result (λ e. e ≡ Refused.NoMemory) }

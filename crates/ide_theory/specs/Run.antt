@@ -49,6 +49,19 @@ abbrev pub claims_in : {K : Frame} {s t : State K.F} → Steps K s t → ℕ
 claims_in none = 0
 claims_in (more steps step) = claims_in steps + claims_of step
 
+-- how many of the steps are parts that lower a key
+abbrev pub lowerings_of : {K : Frame} {s t : State K.F} → Step K s t → ℕ
+lowerings_of (claim h q parts free waits alone owes) = 0
+lowerings_of (skip h c t g rest mine parts met) = 0
+lowerings_of (lower h c t g rest mine parts) = 1
+lowerings_of (release h) = 0
+lowerings_of (finish h c mine over) = 0
+lowerings_of (root r d is_start in_range) = 0
+
+abbrev pub lowerings_in : {K : Frame} {s t : State K.F} → Steps K s t → ℕ
+lowerings_in none = 0
+lowerings_in (more steps step) = lowerings_in steps + lowerings_of step
+
 -- no key is pending
 abbrev pub IsQuiet : {F : Type 0} → State F → Type 0
 IsQuiet s = (key : Key) → s.pending key ≡ false

@@ -7,19 +7,19 @@ use Rattle.ide_steps.proofs.machine.Core.drain.Goals as goal
 
 pub returns-then-is_some-clause-goes : goal.returns-then-is_some-clause-goes
 returns-then-is_some-clause-goes g c =
-    goes-on g.P.L.Lattice.algebra g.P.F.EdgeFn.edge g.P.Problem.targets 0 c.args.self.now c.args.self.now
+    goes-on g.P.L.Lattice.algebra g.P.F.EdgeFn.edge g.P.Problem.targets c.args.self.now c.args.self.now
     (goes-same g.P.L.Lattice.algebra g.P.F.EdgeFn.edge g.P.Problem.targets c.args.self.now c.args.self.now refl)
 
 pub returns-then-claimed_elsewhere-clause-goes : goal.returns-then-claimed_elsewhere-clause-goes
 returns-then-claimed_elsewhere-clause-goes g c =
-    goes-on g.P.L.Lattice.algebra g.P.F.EdgeFn.edge g.P.Problem.targets 0 c.args.self.now c.args.self.now
+    goes-on g.P.L.Lattice.algebra g.P.F.EdgeFn.edge g.P.Problem.targets c.args.self.now c.args.self.now
     (goes-same g.P.L.Lattice.algebra g.P.F.EdgeFn.edge g.P.Problem.targets c.args.self.now c.args.self.now refl)
 
 pub returns-then-is_err-clause-goes : goal.returns-then-is_err-clause-goes
 returns-then-is_err-clause-goes g c =
     goes-on-then g.P.L.Lattice.algebra g.P.F.EdgeFn.edge g.P.Problem.targets c.args.self.now c.run_all-drained.new.self c.release.new.self
     c.run_all-drained.ensures.goes
-    (goes-on g.P.L.Lattice.algebra g.P.F.EdgeFn.edge g.P.Problem.targets 0 c.run_all-drained.new.self c.release.new.self
+    (goes-on g.P.L.Lattice.algebra g.P.F.EdgeFn.edge g.P.Problem.targets c.run_all-drained.new.self c.release.new.self
     (goes-back g.P.L.Lattice.algebra g.P.F.EdgeFn.edge g.P.Problem.targets c.run_all-drained.new.self c.release.new.self 0
     c.release.ensures.stays.0 c.release.ensures.stays.1 c.release.ensures.released))
 
@@ -30,8 +30,5 @@ returns-then-is_err-clause-free g c = λ free.
 
 pub returns-else-is_err-clause-few : goal.returns-else-is_err-clause-few
 returns-else-is_err-clause-few g c =
-    let A = g.P.L.Lattice.algebra in
-    let B = g.P.F.EdgeFn.edge in
-    let targets = g.P.Problem.targets in
-    few-of A B targets (c.images_have_room.ensures) c.run_all-drained.result c.args.self.now c.run_all-drained.new.self
-    c.keys_are_distinct.ensures c.run_all-drained.ensures.goes c.run_all-drained.ensures.paid
+    few-of g.P.L.Lattice.algebra g.P.F.EdgeFn.edge g.P.Problem.targets (c.images_have_room.ensures) c.run_all-drained.result c.args.self.now c.run_all-drained.new.self
+    c.keys_are_distinct.ensures c.run_all-drained.ensures.claims

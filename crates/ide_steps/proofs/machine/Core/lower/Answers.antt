@@ -41,4 +41,7 @@ returns-then-eq-clause-paid g c = λ is h.
     let after : left_by (claim_at c.push.new.self h) ≡ left_by (marked c.args.key (claim_at c.reserve.new.self h)) = ap left_by claims in
     let before : left_by (claim_at c.reserve.new.self h) ≡ left_by (claim_at c.self.inside.worklist h) = ap (λ claims. left_by (get_or claims h None)) c.in_ok-reserve.ensures.claims in
     let keys : length c.reserve.new.self.pending ≡ length c.self.inside.worklist.pending = ap length c.in_ok-reserve.ensures.pending in
-    rw (← c.self.view_is) (omega (arith, pays, c.push.ensures.count, less, after, before, keys))
+    rw (← c.self.view_is) (record {
+      keys = omega (arith, pays, c.push.ensures.count, after, before, keys);
+      ranks = omega (arith, less);
+    })

@@ -5,16 +5,17 @@ use Rattle.ide_steps.specs.Drain.{IsPaidBy, potential}
 use Rattle.ide_steps.specs.Going.{GoesOnBy, IsWorking}
 use Rattle.ide_steps.proofs.machine.Core.run.Given as goal
 
--- an entry was lowered, or the end of the claim takes its key out; the parts done are steps, and paid
--- for; and no other hand has made a claim
+-- an entry was lowered, or the end of the claim takes its key out; the parts done are steps with some
+-- number of lowerings, and paid for by as many; and no other hand has made a claim
 abbrev pub invariant-loop-work : goal.invariant-loop-work
 invariant-loop-work g l =
-    ((potential g.P.F.EdgeFn.edge l.self < potential g.P.F.EdgeFn.edge l.initial.self)
+    (lowerings : ℕ)
+    × ((potential g.P.F.EdgeFn.edge l.self < potential g.P.F.EdgeFn.edge l.initial.self)
     ⊎ ((potential g.P.F.EdgeFn.edge l.self ≡ potential g.P.F.EdgeFn.edge l.initial.self) × (ends_key (claim_at l.self.pile 0) ≡ true)))
     × (IsWorking g.P.L.Lattice.algebra g.P.F.EdgeFn.edge g.P.Problem.targets l.initial.self 0 l.initial.work
     → IsWorking g.P.L.Lattice.algebra g.P.F.EdgeFn.edge g.P.Problem.targets l.self 0 l.work
-    × GoesOnBy g.P.L.Lattice.algebra g.P.F.EdgeFn.edge g.P.Problem.targets 0 l.initial.self l.self)
-    × IsPaidBy g.P.F.EdgeFn.edge 0 l.initial.self l.self
+    × GoesOnBy g.P.L.Lattice.algebra g.P.F.EdgeFn.edge g.P.Problem.targets 0 lowerings l.initial.self l.self)
+    × IsPaidBy g.P.F.EdgeFn.edge 0 lowerings l.initial.self l.self
     × ((h : ℕ) → nat_eq 0 h ≡ false → claim_at l.initial.self.pile h ≡ None → claim_at l.self.pile h ≡ None)
 
 abbrev pub decreases-loop-work : goal.decreases-loop-work

@@ -1,15 +1,13 @@
 use Rattle.std.proofs.Common.{◌≡◌, ◌-◌, ◌^◌, ℕ}
 use Rattle.std.specs.Prelude.{min}
-use Rattle.ide_steps.specs.Drain.{ArePaid, IsFree, potential}
-use Rattle.ide_steps.specs.Going.{GoesOnBy}
+use Rattle.ide_steps.specs.Drain.{GoesOnPaid, IsFree, potential}
 use Rattle.ide_steps.proofs.machine.Core.run_all.Given as goal
 
--- so many tasks are counted as there were claims, as far as can be counted; they are paid for; and no
+-- so many tasks are counted as there were claims, as far as can be counted, which are paid for; and no
 -- hand has a claim
 abbrev pub invariant-loop-tasks : goal.invariant-loop-tasks
 invariant-loop-tasks g l =
-    ((claims : ℕ) × (l.tasks ≡ min claims (2 ^ 64 - 1)) × GoesOnBy g.P.L.Lattice.algebra g.P.F.EdgeFn.edge g.P.Problem.targets claims l.initial.self l.self)
-    × ArePaid g.P.F.EdgeFn.edge l.tasks l.initial.self l.self
+    ((claims : ℕ) × (l.tasks ≡ min claims (2 ^ 64 - 1)) × GoesOnPaid g.P.L.Lattice.algebra g.P.F.EdgeFn.edge g.P.Problem.targets claims l.initial.self l.self)
     × IsFree l.self.pile
 
 abbrev pub decreases-loop-tasks : goal.decreases-loop-tasks

@@ -3,7 +3,7 @@ use Rattle.std.specs.Option.{is_some}
 use Rattle.ide_tasks.specs.Parts.{owed}
 use Rattle.ide_steps.specs.Going.{GoesOnBy}
 use Rattle.ide_steps.proofs.Free.{free-after}
-use Rattle.ide_steps.proofs.Going.{goes-more, goes-on, goes-on-then, goes-then}
+use Rattle.ide_steps.proofs.Going.{goes-more, goes-on, goes-on-then, paid-task}
 use Rattle.ide_steps.proofs.machine.Core.run_next.Goals as goal
 
 pub returns-in-Ok-clause-free : goal.returns-in-Ok-clause-free
@@ -20,13 +20,15 @@ returns-in-Ok-clause-claims g c =
     let targets = g.P.Problem.targets in
     let task = c.in-Ok.ensures.task in
     let progress = c.in_ok-task.ensures.progress c.in-Some.task (ap Ok c.in-Some.is) in
+    let ran = c.run.ensures.goes in
     goes-more A B targets c.run.result c.args.self.now c.run.new.self c.run.ensures.more
-    (goes-then A B targets 1 0 c.args.self.now c.take_next.new.self c.run.new.self
-    (subst (λ o. GoesOnBy A B targets (cond (is_some o) 1 0) c.args.self.now c.take_next.new.self) c.in-Some.is c.in_ok-task.ensures.claims)
-    (c.run.ensures.goes (record {
+    (paid-task A B targets c.run.result c.args.self.now c.take_next.new.self c.run.new.self c.in_ok-task.ensures.same.0 c.in_ok-task.ensures.same.1
+    (subst (λ o. GoesOnBy A B targets (cond (is_some o) 1 0) 0 c.args.self.now c.take_next.new.self) c.in-Some.is c.in_ok-task.ensures.claims)
+    (ran.1 (record {
       progress = progress ∙ (λ i. Some (sym task i, sym c.in-Ok.ensures.none_done i));
       parts = c.in-Ok.ensures.parts ∙ ap (owed targets B) (sym task);
-    })))
+    }))
+    ran.2)
 
 pub returns-in-Ok-clause-goes : goal.returns-in-Ok-clause-goes
 returns-in-Ok-clause-goes g c =
@@ -36,7 +38,7 @@ returns-in-Ok-clause-goes g c =
     let task = c.in-Ok.ensures.task in
     let progress = c.in_ok-task.ensures.progress c.in-Some.task (ap Ok c.in-Some.is) in
     goes-on-then A B targets c.args.self.now c.take_next.new.self c.run.new.self c.take_next.ensures.goes
-    (goes-on A B targets 0 c.take_next.new.self c.run.new.self (c.run.ensures.goes (record {
+    (goes-on A B targets c.take_next.new.self c.run.new.self (c.run.ensures.goes.1 (record {
       progress = progress ∙ (λ i. Some (sym task i, sym c.in-Ok.ensures.none_done i));
       parts = c.in-Ok.ensures.parts ∙ ap (owed targets B) (sym task);
     })))

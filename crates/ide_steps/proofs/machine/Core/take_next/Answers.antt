@@ -12,7 +12,7 @@ use Rattle.ide_steps.proofs.machine.Core.take_next.Goals as goal
 
 pub returns-in_err-task-clause-goes : goal.returns-in_err-task-clause-goes
 returns-in_err-task-clause-goes g c =
-    goes-on g.P.L.Lattice.algebra g.P.F.EdgeFn.edge g.P.Problem.targets 0 c.args.self.now c.claim.new.self
+    goes-on g.P.L.Lattice.algebra g.P.F.EdgeFn.edge g.P.Problem.targets c.args.self.now c.claim.new.self
     (goes-unchanged g.P.L.Lattice.algebra g.P.F.EdgeFn.edge g.P.Problem.targets c.args.self.now c.claim.new.self c.in_err-task.ensures.unchanged)
 
 -- each pending key of a run is present, and each present one stands at a node
@@ -39,7 +39,7 @@ returns-in-Task-clause-claims g c =
     let task = c.in-Task.task in
     let is = ap Ok c.in-Task.is in
     let taken = c.in_ok-task.ensures.task task is in
-    goes-step A B targets 1 old new c.in_ok-task.ensures.image.0 c.in_ok-task.ensures.image.1 (λ graph same all fit run.
+    goes-step A B targets 1 0 old new c.in_ok-task.ensures.image.0 c.in_ok-task.ensures.image.1 (λ graph same all fit run.
     let made = c.sites_make_a_graph.ensures graph.facts graph.sites all (start_at graph) fit.joined in
     let sound = c.runs_are_sound.ensures (edges_of graph.facts graph.sites all (start_at graph)) made.0 (state_of targets B old) run in
     let present = sound.present task.key taken.pending in
@@ -49,7 +49,7 @@ returns-in-Task-clause-claims g c =
 
 pub returns-in-Task-clause-goes : goal.returns-in-Task-clause-goes
 returns-in-Task-clause-goes g c =
-    goes-on g.P.L.Lattice.algebra g.P.F.EdgeFn.edge g.P.Problem.targets 1 c.args.self.now c.claim.new.self (returns-in-Task-clause-claims g c)
+    goes-on g.P.L.Lattice.algebra g.P.F.EdgeFn.edge g.P.Problem.targets c.args.self.now c.claim.new.self (returns-in-Task-clause-claims g c)
 
 pub returns-in-Idle-clause-refused : goal.returns-in-Idle-clause-refused
 returns-in-Idle-clause-refused g c =
@@ -58,7 +58,7 @@ returns-in-Idle-clause-refused g c =
 
 pub returns-in-Idle-clause-goes : goal.returns-in-Idle-clause-goes
 returns-in-Idle-clause-goes g c =
-    goes-on g.P.L.Lattice.algebra g.P.F.EdgeFn.edge g.P.Problem.targets 0 c.args.self.now c.claim.new.self
+    goes-on g.P.L.Lattice.algebra g.P.F.EdgeFn.edge g.P.Problem.targets c.args.self.now c.claim.new.self
     (goes-same g.P.L.Lattice.algebra g.P.F.EdgeFn.edge g.P.Problem.targets c.args.self.now c.claim.new.self (c.in_ok-task.ensures.waits (ap Ok c.in-Idle.is)))
 
 pub returns-in-Quiet-clause-claims : goal.returns-in-Quiet-clause-claims
@@ -67,4 +67,4 @@ returns-in-Quiet-clause-claims g c =
 
 pub returns-in-Quiet-clause-goes : goal.returns-in-Quiet-clause-goes
 returns-in-Quiet-clause-goes g c =
-    goes-on g.P.L.Lattice.algebra g.P.F.EdgeFn.edge g.P.Problem.targets 0 c.args.self.now c.claim.new.self (returns-in-Quiet-clause-claims g c)
+    goes-on g.P.L.Lattice.algebra g.P.F.EdgeFn.edge g.P.Problem.targets c.args.self.now c.claim.new.self (returns-in-Quiet-clause-claims g c)
