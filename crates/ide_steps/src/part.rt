@@ -109,13 +109,9 @@ impl<P: Problem> Core<P> {
             Change::Same => Ok(Parted::Same),
         }
     }
+
     /// Does up to `most` of the next parts of work that is the hand's claim, and counts them.
-    fn next_parts(
-        &mut self,
-        hand: usize,
-        work: &mut Work<P>,
-        most: usize,
-    ) -> Result<usize, Refused>
+    fn next_parts(&mut self, hand: usize, work: &mut Work<P>, most: usize) -> Result<usize, Refused>
         ensures refused { IfErr result (λ e. e ≡ Refused.NoMemory) }
         ensures count { IfOk result (λ n. n ≡ min most (length work.old.parts - work.old.done)) }
         ensures done { IfOk result (λ n. work.new ≡ record work.old { done = work.old.done + n }) }
