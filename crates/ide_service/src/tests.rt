@@ -459,6 +459,53 @@ fn no_part_follows_the_last(rt: HostRuntime) -> Result<(), Fail> {
     Ok(())
 }
 
+/// Does the work by calls of `parts`, up to `most` parts a call, and finishes it.
+fn finish_by_parts(
+    core: &mut Core<CopyConst>,
+    work: &mut Work<CopyConst>,
+    most: usize,
+) -> Result<(), Fail> {
+    for _ in 0..100 {
+        if core.parts(0, work, most)? < most {
+            break;
+        }
+    }
+    core.finish(0, work)?;
+    Ok(())
+}
+
+/// Asserts that the program with two calls is tabulated by calls of `parts`, up to `most` parts a call.
+fn expect_two_calls_by_parts(rt: &(impl Abort + AllocGlobal), most: usize) -> Result<(), Fail> {
+    let mut core = begun(rt.alloc(), TWO_CALLS)?;
+    for _ in 0..500 {
+        if core.is_quiet() {
+            break;
+        }
+        let mut work = claimed_work(rt.alloc(), &mut core, 0)?;
+        finish_by_parts(&mut core, &mut work, most)?;
+    }
+    expect_two_calls(rt, &core);
+    Ok(())
+}
+
+#[test]
+fn one_part_two_or_all_with_each_call(rt: HostRuntime) -> Result<(), Fail> {
+    expect_two_calls_by_parts(&rt, 1)?;
+    expect_two_calls_by_parts(&rt, 2)?;
+    expect_two_calls_by_parts(&rt, usize::MAX)
+}
+
+#[test]
+fn parts_of_before_a_release_are_stale(rt: HostRuntime) -> Result<(), Fail> {
+    let mut core = begun(rt.alloc(), NUMBER)?;
+    let mut work = claimed_work(rt.alloc(), &mut core, 0)?;
+    assert_eq!(rt; core.parts(0, &mut work, 1), Ok(1));
+    core.release(0)?;
+    claimed_work(rt.alloc(), &mut core, 0)?;
+    assert_eq!(rt; core.parts(0, &mut work, 1), Err(Refused::Stale));
+    Ok(())
+}
+
 #[test]
 fn nothing_is_claimed_without_a_root(rt: HostRuntime) -> Result<(), Fail> {
     let mut core: Core<CopyConst> = Core::new(rt.alloc());

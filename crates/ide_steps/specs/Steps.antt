@@ -43,6 +43,15 @@ module _ {F : Type 0} where
       pub state : t ≡ part_done s hand
       pub counted : IsOneMore old new
 
+-- some of the work's next parts are done, one after the other: each lowered its key, or its key had
+-- received it already
+pub data ArePartsDone {F L : Type 0} (B : EdgeAlgebra F L) (hand : ℕ) (s : State F) (work : WorkData F) : State F → WorkData F → Type 0 where
+  none_yet : ArePartsDone B hand s work s work
+  then_lowered : {t u : State F} {before after : WorkData F} → ArePartsDone B hand s work t before → IsLowered B t u hand before after
+      → ArePartsDone B hand s work u after
+  then_skipped : {t u : State F} {before after : WorkData F} → ArePartsDone B hand s work t before → IsSkipped B t u hand before after
+      → ArePartsDone B hand s work u after
+
 module _ {F L : Type 0} (targets : Targets F) (B : EdgeAlgebra F L) where
   -- the hand, which had no claim, claims the task's key, which was pending and no hand's, and owes its parts
   pub record IsTaken (hand : ℕ) (old new : CoreData F) (task : TaskData F) : Type 0 where

@@ -1,12 +1,12 @@
 //! Parts: a hand gives what its task owes to the tables, one part a call.
 ghost use Rattle.ide_worklist.specs.Worklist.{claim_at, ends_key};
 ghost use Rattle.ide_steps.specs.Drain.{IsPaidBy, lowerings_by, potential};
-ghost use Rattle.std.specs.Prelude.{◌≡◌, ℕ, ◌<◌, ◌+◌, ◌↔◌, ◌⊎◌, true, false, None, Ok, Err, Some, IfErr, IfOk, OnErr, OnOk, length, IsTrue};
+ghost use Rattle.std.specs.Prelude.{◌≡◌, ℕ, ◌<◌, ◌+◌, ◌-◌, ◌↔◌, ◌⊎◌, true, false, None, Ok, Err, Some, IfErr, IfOk, OnErr, OnOk, length, min, IsTrue};
 ghost use Rattle.std.specs.Option.{IsSomeAnd};
 ghost use Rattle.ide_tasks.specs.Parts.{owed};
 ghost use Rattle.ide_tasks.specs.Task.{TaskData};
 ghost use Rattle.ide_steps.specs.State.{state_of};
-ghost use Rattle.ide_steps.specs.Steps.{IsLowered, IsSkipped, progress_at};
+ghost use Rattle.ide_steps.specs.Steps.{ArePartsDone, IsLowered, IsSkipped, progress_at};
 ghost use Rattle.ide_steps.specs.Core.{IsUnchanged, is_claim_of_work};
 
 use crate::machine::Core;
@@ -47,6 +47,30 @@ impl<P: Problem> Core<P> {
         self.next_part(hand, work)
     }
 
+    /// Does up to `most` of the next parts of the hand's work, one after the other, and answers how
+    /// many: fewer than `most` only where no part is left then.
+    ///
+    /// Refusals: as of [`Core::part`]; `NoMemory` keeps the parts before the one that wanted memory,
+    /// and the work counts them. Whether the work is the claim's is told once for all of these parts:
+    /// that takes time in proportion to its site and partners once, and then that of each part.
+    pub fn parts(&mut self, hand: usize, work: &mut Work<P>, most: usize) -> Result<usize, Refused>
+        ensures stale { (result ≡ Err Refused.Stale) ↔ (is_claim_of_work P.F.eq ⟦<Partners<P::F> as PartialEq>⟧.eq work.old (claim_at self.old.pile hand) ≡ false) }
+        ensures refused { IfErr result (λ e. (e ≡ Refused.Stale) ⊎ (e ≡ Refused.NoMemory)) }
+        ensures count { IfOk result (λ n. n ≡ min most (length work.old.parts - work.old.done)) }
+        ensures done { IfOk result (λ n. work.new ≡ record work.old { done = work.old.done + n }) }
+        ensures parts { ArePartsDone P.F.edge hand (state_of P.targets P.F.edge self.old) work.old (state_of P.targets P.F.edge self.new) work.new }
+        ensures kept { (work.new.task ≡ work.old.task) × (work.new.parts ≡ work.old.parts) }
+        ensures stays { (self.new.graph ≡ self.old.graph) × (self.new.roots ≡ self.old.roots) }
+        ensures free { (h : ℕ) → claim_at self.old.pile h ≡ None → claim_at self.new.pile h ≡ None }
+        ensures unchanged { result ≡ Err Refused.Stale → (self.new ≡ self.old) × (work.new ≡ work.old) }
+    {
+        if self.is_current(hand, work) {
+            self.next_parts(hand, work, most)
+        } else {
+            Err(Refused::Stale)
+        }
+    }
+
     /// Whether the work is the hand's claim as it stands.
     pub(crate) fn is_current(&self, hand: usize, work: &Work<P>) -> bool
         ensures current { result ≡ is_claim_of_work P.F.eq ⟦<Partners<P::F> as PartialEq>⟧.eq work.now (claim_at self.now.pile hand) }
@@ -84,5 +108,23 @@ impl<P: Problem> Core<P> {
             Change::Lowered => Ok(Parted::Lowered),
             Change::Same => Ok(Parted::Same),
         }
+    }
+
+    /// Does up to `most` of the next parts of work that is the hand's claim, and counts them.
+    fn next_parts(&mut self, hand: usize, work: &mut Work<P>, most: usize) -> Result<usize, Refused>
+        ensures refused { IfErr result (λ e. e ≡ Refused.NoMemory) }
+        ensures count { IfOk result (λ n. n ≡ min most (length work.old.parts - work.old.done)) }
+        ensures done { IfOk result (λ n. work.new ≡ record work.old { done = work.old.done + n }) }
+        ensures parts { (task : TaskData P.F) → progress_at self.old.pile hand ≡ Some (task, work.old.done) → ArePartsDone P.F.edge hand (state_of P.targets P.F.edge self.old) work.old (state_of P.targets P.F.edge self.new) work.new }
+        ensures kept { (work.new.task ≡ work.old.task) × (work.new.parts ≡ work.old.parts) }
+        ensures stays { (self.new.graph ≡ self.old.graph) × (self.new.roots ≡ self.old.roots) }
+        ensures free { (h : ℕ) → claim_at self.old.pile h ≡ None → claim_at self.new.pile h ≡ None }
+    {
+        for count in 0..most {
+            if self.next_part(hand, work)? == Parted::NoPart {
+                return Ok(count);
+            }
+        }
+        Ok(most)
     }
 }

@@ -1,0 +1,87 @@
+use Rattle.std.proofs.Common.{◌≡◌, ◌+◌, ◌<◌, ◌⊎◌, inl, inr, ℕ, sym, ap, ◌∙◌, refl, subst, arith, rules, length, Result, Ok}
+use Rattle.ide_lattice.specs.Algebra.{EdgeAlgebra}
+use Rattle.ide_tasks.specs.Work.{WorkData}
+use Rattle.ide_theory.specs.State.{State}
+use Rattle.ide_steps.specs.declared.part.Parted.{Parted}
+use Rattle.ide_steps.specs.declared.part.Parted.TheVariants.{Lowered, Same, NoPart}
+use Rattle.ide_steps.specs.State.{state_of}
+use Rattle.ide_steps.specs.Steps.{ArePartsDone, IsLowered, IsSkipped, none_yet, then_lowered, then_skipped}
+use Rattle.ide_steps.proofs.Going.{state-unchanged}
+use Rattle.ide_steps.proofs.machine.Core.next_parts.Goals as goal
+
+-- work with no part more, and with one more than those counted
+as-counted : {F : Type 0} (start : WorkData F) → start ≡ record start { done = start.done + 0 }
+as-counted start = let same : start.done ≡ start.done + 0 = omega arith in ap (λ n. record start { done = n }) same
+
+one-counted : {F : Type 0} (start work after : WorkData F) (count : ℕ) → work ≡ record start { done = start.done + count }
+    → after ≡ record work { done = work.done + 1 } → after ≡ record start { done = start.done + (count + 1) }
+one-counted {F = F} start work after count is one =
+    let sum : start.done + count + 1 ≡ start.done + (count + 1) = omega arith in
+    let more : record work { done = work.done + 1 } ≡ record start { done = start.done + count + 1 } = ap (λ (w : WorkData F). record w { done = w.done + 1 }) is in
+    let last : record start { done = start.done + count + 1 } ≡ record start { done = start.done + (count + 1) } = ap (λ n. record start { done = n }) sum in
+    one ∙ more ∙ last
+
+-- a part that was done goes to the end of those before
+parts-more : {F L : Type 0} (B : EdgeAlgebra F L) (hand : ℕ) (s t u : State F) (work before after : WorkData F) (parted : Parted)
+    → (parted ≡ Lowered → IsLowered B t u hand before after) → (parted ≡ Same → IsSkipped B t u hand before after) → (parted ≡ NoPart → ⊥)
+    → ArePartsDone B hand s work t before → ArePartsDone B hand s work u after
+parts-more B hand s t u work before after Lowered lowered same some done = then_lowered done (lowered refl)
+parts-more B hand s t u work before after Same lowered same some done = then_skipped done (same refl)
+parts-more B hand s t u work before after NoPart lowered same some done = absurd (some refl)
+
+-- what did not answer that no part is left has done one
+some-part : {E : Type 0} (r : Result Parted E) (parted : Parted) → r ≡ Ok parted → (parted ≡ NoPart → ⊥) → (r ≡ Ok Lowered) ⊎ (r ≡ Ok Same)
+some-part r Lowered is some = inl is
+some-part r Same is some = inr is
+some-part r NoPart is some = absurd (some refl)
+
+pub loop-count-init : goal.loop-count-init
+loop-count-init g c = record {
+  within = omega arith;
+  done = as-counted c.args.work.now;
+  progress = λ task at. at;
+  parts = λ task at. none_yet;
+  graph = refl;
+  roots = refl;
+  free = λ h free. free;
+}
+
+pub loop-count-preserved : goal.loop-count-preserved
+loop-count-preserved g c =
+    let B = g.P.F.EdgeFn.edge in
+    let targets = g.P.Problem.targets in
+    let start = c.args.work.now in
+    let before = c.loop-count.work in
+    let ensures = c.in_ok-next_part.ensures in
+    let parted = c.in_ok-next_part.field-0 in
+    let some : parted ≡ NoPart → ⊥ = λ nothing. search rules in
+    let next = ensures.next (some-part (Ok parted) parted refl some) in
+    let counted = c.loop-count.invariant.done in
+    let done : before.done ≡ start.done + c.loop-count.count = ap (λ (w : WorkData g.row.P-F.Denot). w.done) counted in
+    let same : length before.parts ≡ length start.parts = ap (λ (w : WorkData g.row.P-F.Denot). length w.parts) counted in
+    let left : before.done < length before.parts = next.0 in
+    record {
+      within = omega (arith, done, same, left);
+      done = one-counted start before c.next_part.new.work c.loop-count.count counted next.1;
+      progress = λ task at. ensures.progress task (c.loop-count.invariant.progress task at);
+      parts = λ task at.
+          let now = c.loop-count.invariant.progress task at in
+          parts-more B c.args.hand (state_of targets B c.args.self.now) (state_of targets B c.loop-count.self) (state_of targets B c.next_part.new.self)
+          start before c.next_part.new.work parted (λ is. ensures.lowered (ap Ok is) task now) (λ is. ensures.same (ap Ok is) task now) some
+          (c.loop-count.invariant.parts task at);
+      graph = ensures.stays.0 ∙ c.loop-count.invariant.graph;
+      roots = ensures.stays.1 ∙ c.loop-count.invariant.roots;
+      free = λ h free. ensures.free h (c.loop-count.invariant.free h free);
+    }
+
+-- the part that wanted memory changed nothing
+pub returns-in_err-next_part-clause-parts : goal.returns-in_err-next_part-clause-parts
+returns-in_err-next_part-clause-parts g c = λ task at.
+    let A = g.P.L.Lattice.algebra in
+    let B = g.P.F.EdgeFn.edge in
+    let targets = g.P.Problem.targets in
+    let unchanged = c.in_err-next_part.ensures.unchanged in
+    let same = state-unchanged A B targets c.loop-count.self c.next_part.new.self unchanged.0 in
+    subst (λ t. ArePartsDone B c.args.hand (state_of targets B c.args.self.now) c.args.work.now t c.next_part.new.work) (sym same)
+    (subst (ArePartsDone B c.args.hand (state_of targets B c.args.self.now) c.args.work.now (state_of targets B c.loop-count.self)) (sym unchanged.1)
+    (c.loop-count.invariant.parts task at))
