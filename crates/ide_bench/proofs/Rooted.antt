@@ -2,6 +2,7 @@
 use Rattle.std.proofs.Common.{◌≡◌, ◌∷◌, [], ◌++◌, ℕ, List, Some, ap, codes, sym, subst, ◌∙◌}
 use Rattle.std.specs.Option.{IsSomeAnd, unwrap_or}
 use Rattle.ide_graph.specs.GraphOf.{IsGraphOf}
+use Rattle.ide_graph.specs.ProgramEdges.{HasEdgesOf}
 use Rattle.ide_graph.specs.Supergraph.{Supergraph, procedure_named}
 use Rattle.ide_instances.specs.ConstFn.{const_edge}
 use Rattle.ide_instances.specs.ConstValue.{const_algebra}
@@ -16,13 +17,13 @@ use Rattle.ide_bench.specs.Phases.{IsRootedAtMain}
 
 pub rooted_at_main : (text : List ℕ) (p : Program) → IsParsed text p
     → (loaded rooted drained : CoreData ConstFn) (graph : Supergraph) (roots : List ℕ)
-    → IsSomeAnd loaded.graph (IsGraphOf p) → loaded.roots ≡ []
+    → IsSomeAnd loaded.graph (IsGraphOf p) → IsSomeAnd loaded.graph (HasEdgesOf p) → loaded.roots ≡ []
     → IsBegun const_algebra const_edge copy_targets loaded rooted (codes "main") → GoesOn const_algebra const_edge copy_targets rooted drained
     → drained.graph ≡ Some graph → roots ≡ drained.roots
     → IsRootedAtMain text graph roots
-rooted_at_main text p parsed loaded rooted drained graph roots has_graph no_roots begun goes at_end roots_end =
+rooted_at_main text p parsed loaded rooted drained graph roots has_graph has_edges no_roots begun goes at_end roots_end =
     record {
-      spelled = record { program = p; parsed = parsed; numbered = subst (λ o. IsSomeAnd o (IsGraphOf p)) at_load has_graph };
+      spelled = record { program = p; parsed = parsed; counted = subst (λ o. IsSomeAnd o (IsGraphOf p)) at_load has_graph; edges = subst (λ o. IsSomeAnd o (HasEdgesOf p)) at_load has_edges };
       main = begun.root;
       named = subst (λ g. procedure_named g (codes "main") ≡ Some begun.root) same begun.named;
       alone = roots_end ∙ goes.roots ∙ begun.roots ∙ ap (λ xs. xs ++ begun.root ∷ []) no_roots;

@@ -1,6 +1,6 @@
 -- What the phases of a solve make of a text.
 use Rattle.std.specs.Prelude.{◌≡◌, ℕ, List, [], ◌∷◌, Some, codes, length}
-use Rattle.ide_graph.specs.GraphOf.{IsGraphOf}
+use Rattle.ide_graph.specs.GraphOfText.{IsGraphOfText}
 use Rattle.ide_graph.specs.Supergraph.{Supergraph, procedure_named}
 use Rattle.ide_instances.specs.ConstValue.{const_algebra, shown_value}
 use Rattle.ide_instances.specs.declared.const_value.ConstValue.{ConstValue}
@@ -17,13 +17,7 @@ pub record HasProcedures (text : List ℕ) (count : ℕ) : Type 0 where
   pub parsed : IsParsed text program
   pub counted : count ≡ length (procedures_of program)
 
--- the text spells a program with that graph
-pub record IsGraphOfText (text : List ℕ) (graph : Supergraph) : Type 0 where
-  pub program : Program
-  pub parsed : IsParsed text program
-  pub numbered : IsGraphOf program graph
-
--- and `main` is the one root
+-- the text spells a program with that graph, and `main` is the one root
 pub record IsRootedAtMain (text : List ℕ) (graph : Supergraph) (roots : List ℕ) : Type 0 where
   pub spelled : IsGraphOfText text graph
   pub main : ℕ

@@ -1,7 +1,8 @@
 //! The phases of a solve by copy constants, each with those before it.
 ghost use Rattle.std.specs.Prelude.{IfOk};
 ghost use Rattle.std.specs.Arc.{arc_value};
-ghost use Rattle.ide_bench.specs.Phases.{AreCountsOf, HasProcedures, IsDumpLength, IsGraphOfText, IsRootedAtMain};
+ghost use Rattle.ide_bench.specs.Phases.{AreCountsOf, HasProcedures, IsDumpLength, IsRootedAtMain};
+ghost use Rattle.ide_graph.specs.GraphOfText.{IsGraphOfText};
 
 use crate::counts::Counts;
 use anyhow::Result;

@@ -4,6 +4,7 @@ pub mod Edges
 pub mod Ends
 pub mod Exits
 pub mod GraphOf
+pub mod GraphOfText
 pub mod Closed
 pub mod Joined
 pub mod Lawful

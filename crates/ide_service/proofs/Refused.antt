@@ -6,6 +6,7 @@ use Rattle.std.proofs.Math.Seq.{split_at}
 use Rattle.std.proofs.lemmas.List.{map-append}
 use Rattle.ide_graph.specs.GraphOf.{IsGraphOf}
 use Rattle.ide_graph.specs.ProgramEdges.{HasEdgesOf}
+use Rattle.ide_graph.specs.GraphOfText.{IsGraphOfText}
 use Rattle.ide_graph.specs.Supergraph.{Supergraph}
 use Rattle.ide_lattice.specs.Algebra.{LatticeAlgebra, EdgeAlgebra}
 use Rattle.ide_problem.specs.Flow.{Targets}
@@ -18,7 +19,7 @@ use Rattle.ide_wire.specs.declared.refused.Refused.{Refused}
 use Rattle.ide_wire.specs.declared.refused.Refused.TheVariants.{NoMemory, Text, NoProgram, NoProcedure, HasParameters, Already, Unfinished, Busy, Limit, OutOfRange}
 use Rattle.ide_service.specs.Begun.{AreBegun}
 use Rattle.ide_service.specs.Refusal.{FirstRootFault, IsRootsRefusal, IsSolveRefusal, already, fault, here, later, memory, no_memory, no_program, no_root, parameters, root, unnamed}
-use Rattle.ide_service.specs.Solve.{AreRootNames, IsGraphOfText, none, then}
+use Rattle.ide_service.specs.Solve.{AreRootNames, none, then}
 use Rattle.ide_service.specs.Started.{IsStarted}
 
 -- the text's refusal is one of the text and names

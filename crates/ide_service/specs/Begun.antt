@@ -9,7 +9,7 @@ use Rattle.ide_theory.specs.Image.{HasRoots}
 use Rattle.ide_theory.specs.Member.{IsIn}
 use Rattle.ide_theory.specs.Run.{Run, Steps}
 use Rattle.ide_theory.specs.Sites.{HaveEdgesOf}
-use Rattle.ide_worklist.specs.Worklist.{claim_at}
+use Rattle.ide_worklist.specs.Worklist.{IsFree}
 use Rattle.ide_steps.specs.Core.{CoreData}
 use Rattle.ide_steps.specs.State.{state_of}
 use Rattle.ide_service.specs.Solve.{AreRootNames}
@@ -24,7 +24,7 @@ module _ {F L : Type 0} (A : LatticeAlgebra L) (B : EdgeAlgebra F L) (targets : 
   -- over a graph that is ready, steps make the procedures of the names roots, and these have their identities
   pub record AreBegun (old new : CoreData F) (names : List (List ℕ)) : Type 0 where
     pub same : new.graph ≡ old.graph
-    pub unclaimed : ((h : ℕ) → claim_at old.pile h ≡ None) → (h : ℕ) → claim_at new.pile h ≡ None
+    pub unclaimed : IsFree old.pile → IsFree new.pile
     pub named : (graph : Supergraph) → old.graph ≡ Some graph → AreRootNames graph old.roots names new.roots
     pub within : (graph : Supergraph) → old.graph ≡ Some graph → ((i : ℕ) → IsIn i old.roots → i < graph.procedures)
         → (i : ℕ) → IsIn i new.roots → i < graph.procedures

@@ -1,12 +1,13 @@
 -- Why a text and the names of roots are refused.
 use Rattle.std.specs.Prelude.{◌≡◌, ◌≢◌, ℕ, List, [], ◌∷◌, ◌++◌, Option, Some, None, slice_index}
 use Rattle.std.specs.List.{Contains}
+use Rattle.ide_graph.specs.GraphOfText.{IsGraphOfText}
 use Rattle.ide_graph.specs.Supergraph.{Supergraph, procedure_named}
 use Rattle.ide_text.specs.Parsed.{TextFault}
 use Rattle.ide_wire.specs.declared.refused.Fault.{Fault}
 use Rattle.ide_wire.specs.declared.refused.Refused.{Refused}
 use Rattle.ide_wire.specs.declared.refused.Refused.TheVariants.{NoMemory, Text, NoProgram, NoProcedure, HasParameters, Already}
-use Rattle.ide_service.specs.Solve.{IsGraphOfText, IsRootName}
+use Rattle.ide_service.specs.Solve.{IsRootName}
 
 -- why a name cannot be a root beside these
 pub data RootFault (graph : Supergraph) (roots : List ℕ) (name : List ℕ) : Refused → Type 0 where

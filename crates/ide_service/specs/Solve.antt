@@ -1,25 +1,15 @@
 -- What is answered of a text and the names of roots: the dump of the best values.
 use Rattle.std.specs.Prelude.{◌≡◌, ℕ, ◌<◌, List, [], ◌∷◌, ◌++◌, Some, slice_index}
 use Rattle.std.specs.List.{Contains}
-use Rattle.ide_graph.specs.GraphOf.{IsGraphOf}
-use Rattle.ide_graph.specs.ProgramEdges.{HasEdgesOf}
+use Rattle.ide_graph.specs.GraphOfText.{IsGraphOfText}
 use Rattle.ide_graph.specs.Supergraph.{Supergraph, procedure_named}
 use Rattle.ide_lattice.specs.Algebra.{LatticeAlgebra, EdgeAlgebra}
 use Rattle.ide_problem.specs.Flow.{Targets}
-use Rattle.ide_text.specs.Parsed.{IsParsed}
-use Rattle.ide_text.specs.declared.program.Program.{Program}
 use Rattle.ide_theory.specs.Best.{IsBest}
 use Rattle.ide_theory.specs.Graphs.{frame_at, roots_at}
 use Rattle.ide_theory.specs.Sites.{HaveEdgesOf}
 use Rattle.ide_values.specs.BestDump.{IsBestDump}
 use Rattle.ide_values.specs.Values.{ValuesData, value_of}
-
--- the text spells a program with that graph
-pub record IsGraphOfText (text : List ℕ) (graph : Supergraph) : Type 0 where
-  pub program : Program
-  pub parsed : IsParsed text program
-  pub counted : IsGraphOf program graph
-  pub edges : HasEdgesOf program graph
 
 -- a name may be a root beside these: its procedure has no parameters and is none of them
 pub record IsRootName (graph : Supergraph) (roots : List ℕ) (name : List ℕ) (root : ℕ) : Type 0 where

@@ -1,5 +1,6 @@
 -- A core that is ready to be drained: a program with its roots, and no hand at work.
 use Rattle.std.specs.Prelude.{◌≡◌, ℕ, ◌<◌, List, [], Some, None}
+use Rattle.ide_graph.specs.GraphOfText.{IsGraphOfText}
 use Rattle.ide_graph.specs.Supergraph.{Supergraph}
 use Rattle.ide_lattice.specs.Algebra.{LatticeAlgebra, EdgeAlgebra}
 use Rattle.ide_problem.specs.Flow.{Targets}
@@ -8,11 +9,11 @@ use Rattle.ide_theory.specs.Image.{HasRoots}
 use Rattle.ide_theory.specs.Member.{IsIn}
 use Rattle.ide_theory.specs.Run.{Run}
 use Rattle.ide_theory.specs.Sites.{HaveEdgesOf}
-use Rattle.ide_worklist.specs.Worklist.{claim_at}
+use Rattle.ide_worklist.specs.Worklist.{IsFree}
 use Rattle.ide_steps.specs.Core.{CoreData}
 use Rattle.ide_steps.specs.Going.{IsFit}
 use Rattle.ide_steps.specs.State.{state_of}
-use Rattle.ide_service.specs.Solve.{AreRootNames, IsGraphOfText}
+use Rattle.ide_service.specs.Solve.{AreRootNames}
 
 module _ {F L : Type 0} (A : LatticeAlgebra L) (B : EdgeAlgebra F L) (targets : Targets F) where
   -- the core has the graph of the program that the text spells, and the procedures of the names as its
@@ -26,4 +27,4 @@ module _ {F L : Type 0} (A : LatticeAlgebra L) (B : EdgeAlgebra F L) (targets : 
     pub all : HaveEdgesOf graph.facts graph.sites
     pub run : Run (frame_at A B targets graph all) (state_of targets B core)
     pub begun : HasRoots (frame_at A B targets graph all) (roots_at A B targets graph all core.roots) (state_of targets B core).get
-    pub unclaimed : (hand : ℕ) → claim_at core.pile hand ≡ None
+    pub unclaimed : IsFree core.pile

@@ -5,9 +5,8 @@ use Rattle.std.specs.List.{list_any}
 use Rattle.std.proofs.lemmas.Bool.{eqb-true}
 use Rattle.ide_wire.specs.Key.{same_key, same_key_refl}
 use Rattle.ide_wire.specs.declared.key.Key.{Key}
-use Rattle.ide_worklist.specs.Worklist.{Pile, claim_at, is_claim_of, is_claimed, is_pending}
+use Rattle.ide_worklist.specs.Worklist.{Pile, claim_at, is_claim_of, is_claimed, is_pending, IsFree}
 use Rattle.ide_worklist.specs.declared.claim.Claim.{Claim}
-use Rattle.ide_steps.specs.Drain.{IsFree}
 
 first-waits : (key : Key) (keys : List Key) → list_any (same_key key) (key ∷ keys) ≡ true
 first-waits key keys = ap (λ b. b || list_any (same_key key) keys) (same_key_refl key)

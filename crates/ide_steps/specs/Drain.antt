@@ -1,18 +1,14 @@
 -- What falls with each task, and what pays for it.
-use Rattle.std.specs.Prelude.{◌≡◌, ℕ, ◌+◌, ◌-◌, ◌*◌, ◌^◌, ◌≤◌, Option, None, if◌then◌else◌, length}
+use Rattle.std.specs.Prelude.{◌≡◌, ℕ, ◌+◌, ◌-◌, ◌*◌, ◌^◌, ◌≤◌, Option, if◌then◌else◌, length}
 use Rattle.ide_lattice.specs.Algebra.{LatticeAlgebra, EdgeAlgebra}
 use Rattle.ide_problem.specs.Flow.{Targets}
 use Rattle.ide_tables.specs.Spent.{spent}
-use Rattle.ide_worklist.specs.Worklist.{Pile, claim_at, ends_key}
+use Rattle.ide_worklist.specs.Worklist.{claim_at, ends_key}
 use Rattle.ide_worklist.specs.declared.claim.Claim.{Claim}
 use Rattle.ide_steps.specs.declared.part.Parted.{Parted}
 use Rattle.ide_steps.specs.declared.part.Parted.TheVariants.{Lowered, Same, NoPart}
 use Rattle.ide_steps.specs.Core.{CoreData}
 use Rattle.ide_steps.specs.Going.{GoesOnBy}
-
--- no hand has a claim
-abbrev pub IsFree : {T : Type 0} → Pile T → Type 0
-IsFree pile = (h : ℕ) → claim_at pile h ≡ None
 
 -- a claim whose key was lowered leaves the key pending at its end
 abbrev pub left_by : {T : Type 0} → Option (Claim T) → ℕ

@@ -15,7 +15,7 @@ use Rattle.ide_wire.specs.Key.{same_key}
 use Rattle.ide_wire.specs.declared.key.Key.{Key}
 use Rattle.ide_wire.specs.declared.key.Key.TheVariants.{Jump}
 use Rattle.ide_worklist.specs.declared.claim.Claim.{Claim as Held}
-use Rattle.ide_worklist.specs.Worklist.{claim_at}
+use Rattle.ide_worklist.specs.Worklist.{IsFree}
 use Rattle.ide_steps.specs.Core.{CoreData}
 use Rattle.ide_steps.specs.State.{state_of}
 use Rattle.ide_steps.specs.Steps.{IsBelow}
@@ -56,7 +56,7 @@ pub record IsBegun {F L : Type 0} (A : LatticeAlgebra L) (B : EdgeAlgebra F L) (
   pub roots : new.roots ≡ old.roots ++ root ∷ []
   pub same : new.graph ≡ old.graph
   pub entered : AreEntered B (slice_index graph.starts root) (state_of targets B old) graph.entries (state_of targets B new)
-  pub unclaimed : ((h : ℕ) → claim_at old.pile h ≡ None) → (h : ℕ) → claim_at new.pile h ≡ None
+  pub unclaimed : IsFree old.pile → IsFree new.pile
   pub steps : (all : HaveEdgesOf graph.facts graph.sites) → AreJoined graph.sites (start_at graph)
       → start_at graph (slice_index graph.starts root) ≡ slice_index graph.starts root → graph.entries ≤ graph.facts
       → Run (frame_at A B targets graph all) (state_of targets B old)

@@ -4,13 +4,13 @@ ghost use Rattle.std.specs.List.{IsDistinct};
 ghost use Rattle.std.specs.Map.{keys_of};
 ghost use Rattle.std.specs.Option.{is_some};
 ghost use Rattle.ide_steps.specs.Core.{is_loaded};
-ghost use Rattle.ide_steps.specs.Drain.{ArePaid, GoesOnPaid, IsFree, potential};
+ghost use Rattle.ide_steps.specs.Drain.{ArePaid, GoesOnPaid, potential};
 ghost use Rattle.ide_steps.specs.Going.{GoesOn, GoesOnBy, IsOutside, IsWorking};
 ghost use Rattle.ide_steps.specs.Room.{AreTasksFew};
 ghost use Rattle.ide_steps.specs.Steps.{progress_at};
 ghost use Rattle.ide_tasks.specs.Task.{TaskData};
 ghost use Rattle.ide_wire.specs.Key.{same_key};
-ghost use Rattle.ide_worklist.specs.Worklist.{claim_at, ends_key};
+ghost use Rattle.ide_worklist.specs.Worklist.{claim_at, ends_key, IsFree};
 
 use crate::claim::Claimed;
 use crate::laws::{images_have_room, tasks_owe_their_parts};

@@ -1,10 +1,10 @@
 //! The image as a list, and an image made from one.
-ghost use Rattle.std.specs.Prelude.{◌≡◌, ℕ, ◌↔◌, None, false, IfErr, IfOk, IsTrue, OnErr, OnOk, map, if◌then◌else◌};
+ghost use Rattle.std.specs.Prelude.{◌≡◌, ℕ, ◌↔◌, false, IfErr, IfOk, IsTrue, OnErr, OnOk, map, if◌then◌else◌};
 ghost use Rattle.std.specs.Option.{IsSomeAnd};
 ghost use Rattle.ide_tables.specs.Tables.{Sets};
 ghost use Rattle.ide_wire.specs.Key.{same_key};
 ghost use Rattle.ide_wire.specs.declared.key.Key.{Key};
-ghost use Rattle.ide_worklist.specs.Worklist.{claim_at, is_pending};
+ghost use Rattle.ide_worklist.specs.Worklist.{claim_at, is_pending, IsFree};
 ghost use Rattle.ide_steps.specs.Core.{IsUnchanged};
 ghost use Rattle.ide_steps.specs.Items.{AreItems, IsKeyOf, item_of};
 
@@ -57,7 +57,7 @@ impl<P: Problem> Core<P> {
     ///
     /// Refusal: `NoMemory`.
     pub fn set(&mut self, key: Key, function: P::F, pending: bool) -> Result<(), Refused>
-        requires unclaimed { (h : ℕ) → claim_at self.old.pile h ≡ None }
+        requires unclaimed { IsFree self.old.pile }
         requires place { IsSomeAnd self.old.graph (λ graph. IsKeyOf graph key) }
         requires present { P.F.eq function P.F.edge.all_top ≡ false }
         ensures sets { OnOk result (Sets self.old.table self.new.table key function) }

@@ -28,6 +28,10 @@ is_claimed pile key = list_any (is_claim_of key) pile.claims
 abbrev pub claim_at : {T : Type 0} → Pile T → ℕ → Option (Claim T)
 claim_at pile hand = slice_index_or pile.claims hand None
 
+-- no hand has a claim
+abbrev pub IsFree : {T : Type 0} → Pile T → Type 0
+IsFree pile = (hand : ℕ) → claim_at pile hand ≡ None
+
 -- the claims, with that of one hand replaced
 abbrev pub put_hand : {T : Type 0} → (ℕ → Option (Claim T)) → ℕ → Option (Claim T) → ℕ → Option (Claim T)
 put_hand claims hand claim h = if nat_eq hand h then claim else claims h

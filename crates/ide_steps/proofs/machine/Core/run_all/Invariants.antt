@@ -1,6 +1,7 @@
 use Rattle.std.proofs.Common.{◌≡◌, ◌-◌, ◌^◌, ℕ}
 use Rattle.std.specs.Prelude.{min}
-use Rattle.ide_steps.specs.Drain.{GoesOnPaid, IsFree, potential}
+use Rattle.ide_worklist.specs.Worklist.{IsFree}
+use Rattle.ide_steps.specs.Drain.{GoesOnPaid, potential}
 use Rattle.ide_steps.proofs.machine.Core.run_all.Given as goal
 
 -- so many tasks are counted as there were claims, as far as can be counted, which are paid for; and no
