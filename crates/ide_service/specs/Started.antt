@@ -1,5 +1,5 @@
 -- A core that is ready to be drained: a program with its roots, and no hand at work.
-use Rattle.std.specs.Prelude.{◌≡◌, ℕ, ◌<◌, List, [], Some, None}
+use Rattle.std.specs.Prelude.{◌≡◌, ℕ, ◌<◌, List, [], Some}
 use Rattle.ide_graph.specs.GraphOfText.{IsGraphOfText}
 use Rattle.ide_graph.specs.Supergraph.{Supergraph}
 use Rattle.ide_lattice.specs.Algebra.{LatticeAlgebra, EdgeAlgebra}

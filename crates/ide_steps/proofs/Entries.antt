@@ -15,9 +15,9 @@ use Rattle.ide_wire.specs.declared.key.Key.{Key}
 use Rattle.ide_wire.specs.declared.key.Key.TheVariants.{Jump}
 use Rattle.ide_worklist.specs.Worklist.{Pile, claim_at, is_pending, marked as marked_claim}
 use Rattle.ide_worklist.specs.declared.claim.Claim.{Claim as Held}
-use Rattle.ide_steps.specs.Rooted.{AreEntered, begins, keeps, lowers, marked_all, marked_by, with_entries}
+use Rattle.ide_steps.specs.Rooted.{AreEntered, keeps, lowers, marked_all, marked_by, with_entries}
 use Rattle.ide_steps.specs.State.{claim_of}
-use Rattle.ide_steps.specs.Steps.{IsBelow, progress_at}
+use Rattle.ide_steps.specs.Steps.{IsBelow}
 use Rattle.ide_steps.proofs.States.{or-cond, state-at}
 
 pub marked-none : {T : Type 0} (o : Option (Held T)) → marked_all [] o ≡ o

@@ -1,5 +1,5 @@
 -- Identities that the start of a procedure received in turn are steps, and each of them is met.
-use Rattle.std.proofs.Common.{◌≡◌, ℕ, ◌+◌, suc, ◌<◌, ◌≤◌, add-one, refl, sym, ap, ◌∙◌, subst, arith, List, [], ◌∷◌, ◌++◌, get_or, Option, Some, None, true, false, cond}
+use Rattle.std.proofs.Common.{◌≡◌, ℕ, suc, ◌<◌, ◌≤◌, refl, sym, ap, ◌∙◌, subst, arith, List, [], ◌∷◌, ◌++◌, Option, Some, None, true, false, cond}
 use Rattle.std.proofs.lemmas.Bool.Decides.{nat_tests}
 use Rattle.std.specs.Prelude.{nat_eq, slice_index, option_map, unwrap_or, Result, Err, IfErr}
 use Rattle.std.specs.List.{Contains}
@@ -7,8 +7,6 @@ use Rattle.ide_graph.specs.Joined.{start_at}
 use Rattle.ide_graph.specs.Supergraph.{Supergraph, procedure_named}
 use Rattle.ide_lattice.specs.Algebra.{LatticeAlgebra, EdgeAlgebra}
 use Rattle.ide_problem.specs.Flow.{Targets}
-use Rattle.ide_tables.specs.declared.tables.Change.{Change}
-use Rattle.ide_tables.specs.declared.tables.Change.TheVariants.{Lowered, Same}
 use Rattle.ide_tasks.specs.Task.{TaskData}
 use Rattle.ide_theory.specs.Given.{IsGraph}
 use Rattle.ide_theory.specs.Graphs.{frame_at}
@@ -17,7 +15,7 @@ use Rattle.ide_theory.specs.Theorem.{SitesMakeAGraph, RunsAreSound, RunsGoOn}
 use Rattle.ide_theory.specs.Frame.{Frame}
 use Rattle.ide_theory.specs.Image.{IsMet}
 use Rattle.ide_theory.specs.Run.{Steps, none, more, root}
-use Rattle.ide_theory.specs.State.{State, lowered_at, lowered_by}
+use Rattle.ide_theory.specs.State.{State, lowered_at}
 use Rattle.ide_wire.specs.declared.key.Key.TheVariants.{Jump}
 use Rattle.ide_wire.specs.Key.{same_key}
 use Rattle.ide_wire.specs.declared.refused.Refused.{Refused}
@@ -27,8 +25,7 @@ use Rattle.ide_worklist.specs.declared.claim.Claim.{Claim as Held}
 use Rattle.ide_steps.specs.Core.{CoreData, FindsParameters, FindsRoot}
 use Rattle.ide_steps.specs.State.{state_of}
 use Rattle.ide_steps.specs.Rooted.{AreEntered, IsBegun, begins, lowers, keeps}
-use Rattle.ide_steps.specs.Steps.{IsBelow, progress_at}
-use Rattle.ide_steps.proofs.States.{same-state}
+use Rattle.ide_steps.specs.Steps.{progress_at}
 
 -- jumps to different facts are different keys
 pub jumps-apart : (r n d : ℕ) → d < n → same_key (Jump r n n) (Jump r d d) ≡ false

@@ -1,6 +1,6 @@
 use Rattle.std.proofs.Common.{ap, length, arith}
 use Rattle.std.proofs.lemmas.List.{drop_more}
-use Rattle.ide_steps.proofs.Entries.{marked-none, pushed-claims, pushed-pending}
+use Rattle.ide_steps.proofs.Entries.{pushed-claims, pushed-pending}
 use Rattle.ide_steps.proofs.root.push_each.Goals as goal
 
 pub loop-entry-preserved : goal.loop-entry-preserved
