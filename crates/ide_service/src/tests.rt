@@ -606,25 +606,38 @@ fn finish_by_parts<P: Problem>(
     finish(core, 0, work)
 }
 
-/// A core with all tasks of the text done by calls of `parts`, up to `most` parts a call.
-fn drained_by_parts<P: Problem>(alloc: Global, text: &str, most: usize) -> Result<Core<P>, Fail> {
-    let mut core = begun::<P>(alloc, text)?;
+/// Claims a key for hand 0, and does its work so.
+fn run_by_parts<P: Problem>(alloc: Global, core: &mut Core<P>, most: usize) -> Result<(), Fail> {
+    let mut work = claimed_work(alloc, core, 0)?;
+    finish_by_parts(core, &mut work, most)?;
+    Ok(())
+}
+
+/// Does all tasks so.
+fn drain_by_parts<P: Problem>(alloc: Global, core: &mut Core<P>, most: usize) -> Result<(), Fail> {
     for _ in 0..500 {
         if core.is_quiet() {
             break;
         }
-        let mut work = claimed_work(alloc, &mut core, 0)?;
-        finish_by_parts(&mut core, &mut work, most)?;
+        run_by_parts(alloc, core, most)?;
     }
-    Ok(core)
+    Ok(())
+}
+
+/// Asserts that the program with two calls is tabulated by calls of `parts`, up to `most` parts a
+/// call.
+fn expect_two_calls_by_parts(rt: &(impl Abort + AllocGlobal), most: usize) -> Result<(), Fail> {
+    let mut core = begun::<CopyConst>(rt.alloc(), TWO_CALLS)?;
+    drain_by_parts(rt.alloc(), &mut core, most)?;
+    expect_two_calls(rt, &core);
+    Ok(())
 }
 
 #[test]
 fn one_part_two_or_all_with_each_call(rt: HostRuntime) -> Result<(), Fail> {
-    expect_two_calls(&rt, &drained_by_parts(rt.alloc(), TWO_CALLS, 1)?);
-    expect_two_calls(&rt, &drained_by_parts(rt.alloc(), TWO_CALLS, 2)?);
-    expect_two_calls(&rt, &drained_by_parts(rt.alloc(), TWO_CALLS, usize::MAX)?);
-    Ok(())
+    expect_two_calls_by_parts(&rt, 1)?;
+    expect_two_calls_by_parts(&rt, 2)?;
+    expect_two_calls_by_parts(&rt, usize::MAX)
 }
 
 #[test]
