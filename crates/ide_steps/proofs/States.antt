@@ -7,6 +7,8 @@ use Rattle.std.specs.Option.{IsSomeAnd}
 use Rattle.ide_lattice.specs.Algebra.{EdgeAlgebra}
 use Rattle.ide_problem.specs.Flow.{Targets}
 use Rattle.ide_tables.specs.Tables.{Table, Lowers, found, or_top}
+use Rattle.ide_tables.specs.declared.tables.Change.{Change}
+use Rattle.ide_tables.specs.declared.tables.Change.TheVariants.{Lowered, Same}
 use Rattle.ide_tasks.specs.Parts.{owed}
 use Rattle.ide_tasks.specs.Task.{TaskData}
 use Rattle.ide_theory.specs.State.{State, nothing_done, put, rest_of, without_first, marked, with_claim, part_done, lowered_by, finished}
@@ -56,6 +58,14 @@ module _ {F L : Type 0} (targets : Targets F) (B : EdgeAlgebra F L) where
       let hands : (h : ℕ) → option_map (claim_of targets B) (claim_at new_pile h) ≡ option_map (marked key) (option_map (claim_of targets B) (claim_at pile h)) =
       λ h. ap (option_map (claim_of targets B)) (claims h) ∙ claim-marked key (claim_at pile h) in
       λ i. record { get = λ q. gets q i; pending = λ q. waits q i; claims = λ h. hands h i }
+
+  -- a table that is lowered, or stays as it was, watches the nodes that it watched
+  pub watched-kept : {E : Type 0} (table new_table : Table F) (key : Key) (g : F) (change : Change)
+      → (◌≡◌ {A = Result Change E} (Ok change) (Ok Lowered) → Lowers B table new_table key g)
+      → (◌≡◌ {A = Result Change E} (Ok change) (Ok Same) → new_table ≡ table)
+      → new_table.watched ≡ table.watched
+  watched-kept table new_table key g Lowered lowers same = (lowers refl).watched
+  watched-kept table new_table key g Same lowers same = ap (λ (t : Table F). t.watched) (same refl)
 
   -- empty tables with nothing pending or claimed
   pub state-nothing : (table : Table F) (pile : Pile (TaskData F)) → table.entries ≡ [] → pile.pending ≡ [] → pile.claims ≡ []
