@@ -1,11 +1,11 @@
 //! Claims: a hand takes a pending key with its task.
-ghost use Rattle.std.specs.Prelude.{◌≡◌, ◌≢◌, ℕ, nat_eq, ◌<◌, ◌≤◌, ◌↔◌, ◌⊎◌, [], true, false, Some, Ok, Err, slice_get, slice_index, IsSome, IfErr, IfOk, OnErr, OnOk};
+ghost use Rattle.std.specs.Prelude.{◌≡◌, ◌≢◌, ℕ, nat_eq, ◌<◌, ◌≤◌, ◌↔◌, ◌⊎◌, [], true, false, None, Some, Ok, Err, slice_get, slice_index, IsSome, IfErr, IfOk, OnErr, OnOk};
 ghost use Rattle.ide_graph.specs.Exits.{AreExitsOwned};
 ghost use Rattle.ide_graph.specs.Supergraph.{Supergraph};
 ghost use Rattle.ide_tables.specs.Tables.{found};
 ghost use Rattle.ide_wire.specs.Key.{node_of};
 ghost use Rattle.ide_wire.specs.declared.key.Key.{Key};
-ghost use Rattle.ide_worklist.specs.Worklist.{claim_at, ends_key, is_pending, is_claimed};
+ghost use Rattle.ide_worklist.specs.Worklist.{claim_at, ends_key, is_pending, is_claimed, put_hand};
 ghost use Rattle.ide_tasks.specs.Task.{TaskData};
 ghost use Rattle.ide_steps.specs.Core.{is_loaded, HasKeyOutside, IsProgramKept, IsUnchanged};
 ghost use Rattle.ide_steps.specs.State.{ArePartnersOf, IsTaskOf};
@@ -18,6 +18,7 @@ use ide_problem::Problem;
 use ide_tables::Tables;
 use ide_tasks::{Partners, Task};
 use ide_wire::{Key, Listing, Refused};
+use ide_worklist::Worklist;
 use std::alloc::Global;
 
 /// What a claim gives.
@@ -72,10 +73,34 @@ impl<P: Problem> Core<P> {
         let Some(key) = self.worklist.unclaimed() else {
             return Ok(Claimed::Idle);
         };
-        let task = task_of(self.alloc, loaded, &self.tables, key)?;
-        self.worklist.take(hand, key, task.copy(self.alloc)?)?;
+        let task = take_task(self.alloc, loaded, &self.tables, &mut self.worklist, hand, key)?;
         Ok(Claimed::Task(task))
     }
+}
+
+/// Takes the pending key for the hand, with its task, which the claim keeps too.
+fn take_task<P: Problem>(
+    alloc: Global,
+    loaded: &Loaded<P>,
+    tables: &Tables<P::F>,
+    worklist: &mut Worklist<Task<P>>,
+    hand: usize,
+    key: Key,
+) -> Result<Task<P>, Refused>
+    requires hand_in { hand < 64 }
+    requires free { claim_at worklist.old hand ≡ None }
+    requires pending { is_pending worklist.old key ≡ true }
+    requires unclaimed { is_claimed worklist.old key ≡ false }
+    ensures key { IfOk result (λ task. task.key ≡ key) }
+    ensures is_task { IsProgramKept P.targets loaded.now.graph loaded.now.sources tables.now → AreExitsOwned loaded.now.graph → IsSome (found tables.now key) → IfOk result (IsTaskOf P.targets P.F.edge loaded.now.graph tables.now) }
+    ensures refused { IfErr result (λ e. (e ≡ Refused.NoMemory) ⊎ ((e ≡ Refused.OutOfRange) × (loaded.now.graph.nodes ≤ node_of key))) }
+    ensures pending { worklist.new.pending ≡ worklist.old.pending }
+    ensures claims { IfOk result (λ task. (h : ℕ) → claim_at worklist.new h ≡ put_hand (claim_at worklist.old) hand (Some (record { key = key; task = task; done = 0; lowered = false })) h) }
+    ensures err { OnErr result ((h : ℕ) → claim_at worklist.new h ≡ claim_at worklist.old h) }
+{
+    let task = task_of(alloc, loaded, tables, key)?;
+    worklist.take(hand, key, task.copy(alloc)?)?;
+    Ok(task)
 }
 
 /// The task of a key, with the partners that are present now.

@@ -8,23 +8,21 @@ pub returns-clause-task : goal.returns-clause-task
 returns-clause-task g c = λ task is.
     let same : c.in_ok-task.task ≡ task = cc (is) in
     let key : c.in_ok-task.task.key ≡ c.in-Some-unclaimed.key = c.in_ok-task.ensures.key in
-    let copy : c.in_ok-copy.field-0 ≡ c.in_ok-task.task = c.in_ok-copy.ensures in
     let before = state-at g.P.Problem.targets g.P.F.EdgeFn.edge c.self.inside.tables c.self.inside.worklist in
     rw (← same, ← c.self.view_is) (record {
       free = search rules;
       pending = rw key c.in-Some-unclaimed.ensures.pending;
       unclaimed = rw key c.in-Some-unclaimed.ensures.free;
       state =
-          state-claimed g.P.Problem.targets g.P.F.EdgeFn.edge c.self.inside.tables c.self.inside.worklist c.take.new.self c.args.hand
-          (Some (record { key = c.in-Some-unclaimed.key; task = c.in_ok-copy.field-0; done = 0; lowered = false }))
-          c.in_ok-take.ensures.pending c.in_ok-take.ensures.claims
-          ∙ (ap (λ t. with_claim before c.args.hand (Some (new_claim c.in-Some-unclaimed.key (owed g.P.Problem.targets g.P.F.EdgeFn.edge t)))) copy
-          ∙ ap (λ k. with_claim before c.args.hand (Some (new_claim k (owed g.P.Problem.targets g.P.F.EdgeFn.edge c.in_ok-task.task)))) (sym key));
+          state-claimed g.P.Problem.targets g.P.F.EdgeFn.edge c.self.inside.tables c.self.inside.worklist c.take_task.new.worklist c.args.hand
+          (Some (record { key = c.in-Some-unclaimed.key; task = c.in_ok-task.task; done = 0; lowered = false }))
+          c.take_task.ensures.pending c.in_ok-task.ensures.claims
+          ∙ ap (λ k. with_claim before c.args.hand (Some (new_claim k (owed g.P.Problem.targets g.P.F.EdgeFn.edge c.in_ok-task.task)))) (sym key);
     })
 
-pub returns-in_err-take-clause-unchanged : goal.returns-in_err-take-clause-unchanged
-returns-in_err-take-clause-unchanged g c =
-    unchanged-err {F = g.row.P-F.Denot} c.from_residual-in_err-take.result _ c.args.self.now c.take.new.self c.self.view_is c.take.ensures.pending c.in_err-take.ensures.err
+pub returns-in_err-task-clause-unchanged : goal.returns-in_err-task-clause-unchanged
+returns-in_err-task-clause-unchanged g c =
+    unchanged-err {F = g.row.P-F.Denot} c.from_residual.result _ c.args.self.now c.take_task.new.worklist c.self.view_is c.take_task.ensures.pending c.in_err-task.ensures.err
 
 pub returns-in_err-task-clause-out_of_range : goal.returns-in_err-task-clause-out_of_range
 returns-in_err-task-clause-out_of_range g c = λ is.
