@@ -45,3 +45,22 @@ returns-clause-same g c = λ is task at.
           ∙ ap (λ s. part_done s c.args.hand) (rw (← c.self.view_is) at (c.in_ok-change.ensures.same (ap Ok change)));
       counted = record { task = c.advance.ensures.task; parts = c.advance.ensures.parts; done = done };
     }
+
+pub returns-clause-next : goal.returns-clause-next
+returns-clause-next g c = λ _.
+    let next : slice_get c.args.work.now.parts c.args.work.now.done ≡ Some c.in-Some.part = sym c.in-Some.ensures.next in
+    let within : c.args.work.now.done < length c.args.work.now.parts = slice_get_within c.args.work.now.parts c.args.work.now.done c.in-Some.part next in
+    let done : c.advance.new.self.done ≡ c.args.work.now.done + 1 = omega (arith, c.advance.ensures.done, within) in
+    (within, λ i. record { task = c.advance.ensures.task i; parts = c.advance.ensures.parts i; done = done i })
+
+pub returns-clause-all_done : goal.returns-clause-all_done
+returns-clause-all_done g c = λ is.
+    let next : slice_get c.args.work.now.parts c.args.work.now.done ≡ Some c.in-Some.part = sym c.in-Some.ensures.next in
+    let within : c.args.work.now.done < length c.args.work.now.parts = slice_get_within c.args.work.now.parts c.args.work.now.done c.in-Some.part next in
+    absurd (omega (arith, within, is))
+
+pub returns-in_err-change-clause-all_done : goal.returns-in_err-change-clause-all_done
+returns-in_err-change-clause-all_done g c = λ is.
+    let next : slice_get c.args.work.now.parts c.args.work.now.done ≡ Some c.in-Some.part = sym c.in-Some.ensures.next in
+    let within : c.args.work.now.done < length c.args.work.now.parts = slice_get_within c.args.work.now.parts c.args.work.now.done c.in-Some.part next in
+    absurd (omega (arith, within, is))
