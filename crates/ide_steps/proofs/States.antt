@@ -11,13 +11,15 @@ use Rattle.ide_tables.specs.declared.tables.Change.{Change}
 use Rattle.ide_tables.specs.declared.tables.Change.TheVariants.{Lowered, Same}
 use Rattle.ide_tasks.specs.Parts.{owed}
 use Rattle.ide_tasks.specs.Task.{TaskData}
+use Rattle.ide_theory.proofs.Laws.Targets.{nat_eq-refl}
 use Rattle.ide_theory.specs.State.{State, nothing_done, put, rest_of, without_first, marked, with_claim, part_done, lowered_by, finished}
 use Rattle.ide_wire.specs.declared.key.Key.{Key}
 use Rattle.ide_wire.specs.Key.{same_key, same_key_exact}
-use Rattle.ide_worklist.specs.Worklist.{Pile, IsWorklist, is_pending, claim_at, put_hand, with_done, ends, marked as marked_claim}
+use Rattle.ide_worklist.specs.Worklist.{Pile, IsWorklist, is_pending, claim_at, put_hand, with_done, ends, ends_key, marked as marked_claim}
 use Rattle.ide_worklist.specs.declared.claim.Claim.{Claim as Held}
 use Rattle.ide_steps.specs.Core.{CoreData, IsUnchanged}
 use Rattle.ide_steps.specs.State.{claim_of, state_of}
+use Rattle.ide_steps.specs.Steps.{progress_at}
 
 pub or-cond : (a b : Bool) → (a || b) ≡ cond a true b
 or-cond true b = refl
@@ -182,3 +184,15 @@ module _ {F : Type 0} where
     pending = pending ∙ ap (λ (c : CoreData F). c.pile.pending) same;
     claims = λ h. claims h ∙ ap (λ (c : CoreData F). claim_at c.pile h) same;
   }
+
+  module _ (pile new_pile : Pile (TaskData F)) (hand : ℕ) (held : Held (TaskData F))
+      (claims : (h : ℕ) → claim_at new_pile h ≡ put_hand (claim_at pile) hand (Some held) h) where
+    -- a claim that is put for a hand is the hand's
+    pub taken-there : claim_at new_pile hand ≡ Some held
+    taken-there = claims hand ∙ ap (λ b. cond b (Some held) (claim_at pile hand)) (nat_eq-refl hand)
+
+    pub taken-ends : ends_key (claim_at new_pile hand) ≡ not held.lowered
+    taken-ends = ap ends_key taken-there
+
+    pub taken-progress : progress_at new_pile hand ≡ Some (held.task, held.done)
+    taken-progress = ap (option_map {U = TaskData F × ℕ} (λ held. (held.task, held.done))) taken-there

@@ -1,7 +1,8 @@
-use Rattle.std.proofs.Common.{◌≡◌, Some, false, sym, ap, ◌∙◌, inl, inr, rules}
+use Rattle.std.proofs.Common.{◌≡◌, ℕ, Option, Some, false, sym, ap, ◌∙◌, inl, inr, rules}
 use Rattle.ide_tasks.specs.Parts.{owed}
+use Rattle.ide_tasks.specs.Task.{TaskData}
 use Rattle.ide_theory.specs.State.{new_claim, with_claim}
-use Rattle.ide_steps.proofs.States.{state-at, state-claimed, unchanged-err}
+use Rattle.ide_steps.proofs.States.{state-at, state-claimed, taken-ends, taken-progress, unchanged-err}
 use Rattle.ide_steps.proofs.machine.Core.claim.Goals as goal
 
 pub returns-clause-task : goal.returns-clause-task
@@ -36,3 +37,16 @@ returns-in_err-task-clause-out_of_range g c = λ is.
         outside = out.1;
       })
     ]
+
+pub returns-clause-fresh : goal.returns-clause-fresh
+returns-clause-fresh g c = λ task is.
+    taken-ends {F = g.row.P-F.Denot} c.self.inside.worklist c.take_task.new.worklist c.args.hand
+    (record { key = c.in-Some-unclaimed.key; task = c.in_ok-task.task; done = 0; lowered = false }) c.in_ok-task.ensures.claims
+
+pub returns-clause-progress : goal.returns-clause-progress
+returns-clause-progress g c = λ task is.
+    let same : c.in_ok-task.task ≡ task = cc (is) in
+    let there : TaskData g.row.P-F.Denot → Option (TaskData g.row.P-F.Denot × ℕ) = λ t. Some (t, 0) in
+    taken-progress {F = g.row.P-F.Denot} c.self.inside.worklist c.take_task.new.worklist c.args.hand
+    (record { key = c.in-Some-unclaimed.key; task = c.in_ok-task.task; done = 0; lowered = false }) c.in_ok-task.ensures.claims
+    ∙ ap there same
