@@ -18,6 +18,3 @@ fn main(rt: HostRuntime) -> io::Result<ExitCode> {
     let status = run::run(&rt, words.as_slice(), &mut out, &mut err);
     Ok(ExitCode::from(status))
 }
-
-#[cfg(test)]
-mod tests;

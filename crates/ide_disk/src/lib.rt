@@ -19,6 +19,3 @@ pub use disk::Disk;
 pub use fault::DeviceFault;
 pub use leave::Leave;
 pub use memory::MemDisk;
-
-#[cfg(test)]
-mod tests;

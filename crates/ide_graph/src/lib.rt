@@ -30,6 +30,3 @@ pub use laws::{
     sites_of_programs_are_joined,
 };
 pub use site::{Caller, Site};
-
-#[cfg(test)]
-mod tests;

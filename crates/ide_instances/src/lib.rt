@@ -14,8 +14,6 @@ mod const_value;
 mod copy_const;
 mod reach;
 mod shift_const;
-#[cfg(test)]
-mod tests;
 mod uninit;
 mod uninit_fn;
 mod uninit_value;

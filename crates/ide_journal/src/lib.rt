@@ -13,6 +13,3 @@ pub use journal::Journal;
 pub use opening::tag;
 pub use record::RawRecord;
 pub use stage::Phase;
-
-#[cfg(test)]
-mod tests;

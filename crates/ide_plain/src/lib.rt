@@ -14,8 +14,3 @@ mod walks;
 pub use agreement::agrees;
 pub use effect::{environment_after, value_after};
 pub use walks::values_of_paths;
-
-#[cfg(test)]
-mod generated;
-#[cfg(test)]
-mod tests;

@@ -9,6 +9,3 @@
 mod solver;
 
 pub use solver::{solve, values_of};
-
-#[cfg(test)]
-mod tests;

@@ -73,7 +73,14 @@ impl<P: Problem> Core<P> {
         let Some(key) = self.worklist.unclaimed() else {
             return Ok(Claimed::Idle);
         };
-        let task = take_task(self.alloc, loaded, &self.tables, &mut self.worklist, hand, key)?;
+        let task = take_task(
+            self.alloc,
+            loaded,
+            &self.tables,
+            &mut self.worklist,
+            hand,
+            key,
+        )?;
         Ok(Claimed::Task(task))
     }
 }

@@ -28,6 +28,3 @@ pub use name::Name;
 pub use parser::{MAX_TEXT, parse};
 pub use printer::print;
 pub use program::{Expression, Procedure, Program, Statement};
-
-#[cfg(test)]
-mod tests;

@@ -7,8 +7,6 @@
 
 mod claim;
 mod claims;
-#[cfg(test)]
-mod tests;
 mod worklist;
 
 pub use claim::Claim;

@@ -1,6 +1,6 @@
-//! Each public call, at a task that is a number.
-use crate::Worklist;
+//! Each public call of a work list, at a task that is a number.
 use ide_wire::Key;
+use ide_worklist::Worklist;
 use std::alloc::Global;
 use std::test::Fail;
 

@@ -1,7 +1,7 @@
 //! A disk in memory: its calls, its faults, and what each kind of crash leaves.
 ghost use Rattle.std.specs.Prelude.{◌≡◌, IfOk};
 
-use crate::{Disk, Leave, MemDisk};
+use ide_disk::{Disk, Leave, MemDisk};
 use std::alloc::Global;
 use std::process::Abort;
 use std::test::Fail;
@@ -21,7 +21,7 @@ enum Deed {
     FailedSync,
 }
 
-// A disk on which the bytes 1, 2, 3, 4 are synced, by two calls.
+/// A disk on which the bytes 1, 2, 3, 4 are synced, by two calls.
 fn synced_disk(alloc: Global) -> Result<MemDisk, Fail>
     ensures { IfOk result (λ disk. ⟦<MemDisk as Disk>⟧.size disk ≡ 4) }
 {
@@ -31,7 +31,7 @@ fn synced_disk(alloc: Global) -> Result<MemDisk, Fail>
     Ok(disk)
 }
 
-// Writes over two of the bytes.
+/// Writes over two of the bytes.
 fn overwrite(disk: &mut MemDisk) -> Result<(), Fail>
     requires { ⟦<MemDisk as Disk>⟧.size disk.old ≡ 4 }
 {
@@ -39,7 +39,7 @@ fn overwrite(disk: &mut MemDisk) -> Result<(), Fail>
     Ok(())
 }
 
-// Cuts to one byte, and may write two behind it.
+/// Cuts to one byte, and may write two behind it.
 fn cut(disk: &mut MemDisk, and_write: bool) -> Result<(), Fail>
     requires { ⟦<MemDisk as Disk>⟧.size disk.old ≡ 4 }
 {
@@ -50,7 +50,7 @@ fn cut(disk: &mut MemDisk, and_write: bool) -> Result<(), Fail>
     Ok(())
 }
 
-// The same with the last call failed.
+/// The same with the last call failed.
 fn failed(rt: &impl Abort, disk: &mut MemDisk, deed: Deed) -> Result<(), Fail>
     requires { ⟦<MemDisk as Disk>⟧.size disk.old ≡ 4 }
 {
@@ -72,54 +72,71 @@ fn failed(rt: &impl Abort, disk: &mut MemDisk, deed: Deed) -> Result<(), Fail>
     Ok(())
 }
 
-// A disk to which that was done.
-fn changed(rt: &impl Abort, alloc: Global, deed: Deed) -> Result<MemDisk, Fail> {
-    let mut disk = synced_disk(alloc)?;
+/// That is done to the disk.
+fn change(rt: &impl Abort, disk: &mut MemDisk, deed: Deed) -> Result<(), Fail>
+    requires { ⟦<MemDisk as Disk>⟧.size disk.old ≡ 4 }
+{
     match deed {
-        Deed::Overwrite => overwrite(&mut disk)?,
+        Deed::Overwrite => overwrite(disk)?,
         Deed::Append => disk.write(4, &[7, 8, 9])?,
         Deed::WriteAcross => disk.write(2, &[7, 8, 9])?,
-        Deed::Cut => cut(&mut disk, false)?,
-        Deed::CutAndWrite => cut(&mut disk, true)?,
+        Deed::Cut => cut(disk, false)?,
+        Deed::CutAndWrite => cut(disk, true)?,
         Deed::WriteAndSync => {
-            overwrite(&mut disk)?;
+            overwrite(disk)?;
             disk.sync()?;
         }
         Deed::CutAndSync => {
-            cut(&mut disk, false)?;
+            cut(disk, false)?;
             disk.sync()?;
         }
-        Deed::FailedWrite | Deed::FailedCut | Deed::FailedSync => failed(rt, &mut disk, deed)?,
+        Deed::FailedWrite | Deed::FailedCut | Deed::FailedSync => failed(rt, disk, deed)?,
     }
-    Ok(disk)
+    Ok(())
 }
 
-// The disk has just these bytes.
+/// That the disk has just these bytes.
 fn holds(rt: &impl Abort, disk: &mut MemDisk, expected: &[u8]) -> Result<(), Fail> {
     let len = disk.len()?;
-    assert_eq!(rt; len, expected.len() as u64, "the length of {expected:?}");
+    assert!(rt; len == expected.len() as u64, "{len} bytes");
     assert!(rt; expected.len() <= 8);
     let mut buffer = [0; 8];
     let out = &mut buffer[..expected.len()];
     disk.read(0, out)?;
-    assert_eq!(rt; &*out, expected);
+    assert!(rt; &*out == expected, "{len} bytes");
     Ok(())
 }
 
-// What a crash of that kind leaves after the deed.
+/// What the disk holds after the deed, and a crash of that kind, if there is one.
+fn holds_after(
+    rt: &impl Abort,
+    disk: &mut MemDisk,
+    deed: Deed,
+    crash: Option<Leave>,
+    expected: &[u8],
+) -> Result<(), Fail>
+    requires { ⟦<MemDisk as Disk>⟧.size disk.old ≡ 4 }
+{
+    change(rt, disk, deed)?;
+    if let Some(leave) = crash {
+        disk.crash(leave);
+    }
+    holds(rt, disk, expected)
+}
+
+/// The same of a disk on which the bytes 1, 2, 3, 4 are synced.
 fn row(
     rt: &impl Abort,
     alloc: Global,
     deed: Deed,
-    leave: Leave,
+    crash: Option<Leave>,
     expected: &[u8],
 ) -> Result<(), Fail> {
-    let mut disk = changed(rt, alloc, deed)?;
-    disk.crash(leave);
-    holds(rt, &mut disk, expected)
+    let mut disk = synced_disk(alloc)?;
+    holds_after(rt, &mut disk, deed, crash, expected)
 }
 
-// What the four kinds of crash leave after the deed. `Fill` fills with 9.
+/// What the four kinds of crash leave after the deed. `Fill` fills with 9.
 fn rows(
     rt: &impl Abort,
     alloc: Global,
@@ -129,16 +146,15 @@ fn rows(
     half: &[u8],
     filled: &[u8],
 ) -> Result<(), Fail> {
-    row(rt, alloc, deed, Leave::Old, old)?;
-    row(rt, alloc, deed, Leave::New, new)?;
-    row(rt, alloc, deed, Leave::Half, half)?;
-    row(rt, alloc, deed, Leave::Fill(9), filled)
+    row(rt, alloc, deed, Some(Leave::Old), old)?;
+    row(rt, alloc, deed, Some(Leave::New), new)?;
+    row(rt, alloc, deed, Some(Leave::Half), half)?;
+    row(rt, alloc, deed, Some(Leave::Fill(9)), filled)
 }
 
-// What is read after the deed.
+/// What is read after the deed.
 fn reads(rt: &impl Abort, alloc: Global, deed: Deed, expected: &[u8]) -> Result<(), Fail> {
-    let mut disk = changed(rt, alloc, deed)?;
-    holds(rt, &mut disk, expected)
+    row(rt, alloc, deed, None, expected)
 }
 
 #[test]
@@ -236,57 +252,87 @@ fn leaves_what_was_synced(rt: HostRuntime) -> Result<(), Fail> {
     rows(&rt, alloc, Deed::CutAndSync, &[1], &[1], &[1], &[1])
 }
 
-#[test]
-fn fails_at_one_call(rt: HostRuntime) -> Result<(), Fail> {
-    let mut disk = synced_disk(rt.alloc())?;
+/// That the fourth call fails, and no other.
+fn fails_once(rt: &impl Abort, disk: &mut MemDisk) {
     disk.fail_at(4);
-    assert_eq!(rt; disk.len()?, 4);
+    assert!(rt; disk.len() == Ok(4));
     assert!(rt; disk.len().is_err());
-    assert_eq!(rt; disk.len()?, 4);
-    assert_eq!(rt; disk.calls(), 5);
-    assert_eq!(rt; disk.failures(), 1);
-    Ok(())
+    assert!(rt; disk.len() == Ok(4));
+    assert!(rt; disk.calls() == 5);
+    assert!(rt; disk.failures() == 1);
 }
 
 #[test]
-fn stops_at_a_call(rt: HostRuntime) -> Result<(), Fail> {
+fn fails_at_one_call(rt: HostRuntime) -> Result<(), Fail> {
     let mut disk = synced_disk(rt.alloc())?;
+    fails_once(&rt, &mut disk);
+    Ok(())
+}
+
+/// That no call is done from the fourth on.
+fn stops(rt: &impl Abort, disk: &mut MemDisk)
+    requires { ⟦<MemDisk as Disk>⟧.size disk.old ≡ 4 }
+{
     disk.stop_at(4);
-    assert_eq!(rt; disk.len()?, 4);
+    assert!(rt; disk.len() == Ok(4));
     assert!(rt; disk.len().is_err());
     assert!(rt; disk.read(0, &mut [0; 4]).is_err());
     assert!(rt; disk.write(0, &[9]).is_err());
     assert!(rt; disk.cut(0).is_err());
     assert!(rt; disk.sync().is_err());
-    assert_eq!(rt; disk.calls(), 8);
-    assert_eq!(rt; disk.failures(), 5);
-    disk.crash(Leave::Old);
-    holds(&rt, &mut disk, &[1, 2, 3, 4])
+    assert!(rt; disk.calls() == 8);
+    assert!(rt; disk.failures() == 5);
+}
+
+/// That the disk has just these bytes after a crash.
+fn holds_after_crash(
+    rt: &impl Abort,
+    disk: &mut MemDisk,
+    leave: Leave,
+    expected: &[u8],
+) -> Result<(), Fail> {
+    disk.crash(leave);
+    holds(rt, disk, expected)
+}
+
+#[test]
+fn stops_at_a_call(rt: HostRuntime) -> Result<(), Fail> {
+    let mut disk = synced_disk(rt.alloc())?;
+    stops(&rt, &mut disk);
+    holds_after_crash(&rt, &mut disk, Leave::Old, &[1, 2, 3, 4])
+}
+
+/// That a write past the room of an empty disk for four bytes fails, and the others do not.
+fn has_room_for_four(rt: &impl Abort, disk: &mut MemDisk) -> Result<(), Fail> {
+    assert!(rt; disk.write(0, &[1, 2, 3, 4, 5]).is_err());
+    disk.write(0, &[1, 2, 3])?;
+    assert!(rt; disk.write(2, &[8, 9, 10]).is_err());
+    disk.write(2, &[8, 9])?;
+    assert!(rt; disk.failures() == 2);
+    holds(rt, disk, &[1, 2, 8, 9])
 }
 
 #[test]
 fn faults_past_its_room(rt: HostRuntime) -> Result<(), Fail> {
     let mut disk = MemDisk::new(rt.alloc(), 4, 40)?;
-    assert!(rt; disk.write(0, &[1, 2, 3, 4, 5]).is_err());
-    disk.write(0, &[1, 2, 3])?;
-    assert!(rt; disk.write(2, &[8, 9, 10]).is_err());
-    disk.write(2, &[8, 9])?;
-    assert_eq!(rt; disk.failures(), 2);
-    holds(&rt, &mut disk, &[1, 2, 8, 9])
+    has_room_for_four(&rt, &mut disk)
 }
 
-// Three calls and two written bytes are recorded; one more is not.
-#[test]
-fn faults_past_its_record(rt: HostRuntime) -> Result<(), Fail> {
-    let mut disk = MemDisk::new(rt.alloc(), 4, 5)?;
+/// That three calls and two written bytes are recorded, and one more is not.
+fn records_five(rt: &impl Abort, disk: &mut MemDisk) -> Result<(), Fail> {
     disk.write(0, &[1, 2])?;
     disk.sync()?;
     assert!(rt; disk.write(0, &[7]).is_err());
-    assert_eq!(rt; disk.len()?, 2);
+    assert!(rt; disk.len() == Ok(2));
     assert!(rt; disk.len().is_err());
     assert!(rt; disk.sync().is_err());
-    assert_eq!(rt; disk.calls(), 6);
-    assert_eq!(rt; disk.failures(), 3);
-    disk.crash(Leave::New);
-    holds(&rt, &mut disk, &[1, 2])
+    assert!(rt; disk.calls() == 6);
+    assert!(rt; disk.failures() == 3);
+    holds_after_crash(rt, disk, Leave::New, &[1, 2])
+}
+
+#[test]
+fn faults_past_its_record(rt: HostRuntime) -> Result<(), Fail> {
+    let mut disk = MemDisk::new(rt.alloc(), 4, 5)?;
+    records_five(&rt, &mut disk)
 }

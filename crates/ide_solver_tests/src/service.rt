@@ -1,0 +1,168 @@
+//! From text to answer: what rows of `examples/rows.txt` cannot say, since the program has one root
+//! and prints names.
+use crate::texts::{COPIES, EMPTY, NUMBER, RECURSION, TWO_CALLS, UNREACHABLE};
+use ide_graph::Graph;
+use ide_instances::{CopyConst, Reach, Uninit};
+use ide_lattice::Lattice;
+use ide_problem::Problem;
+use ide_service::{solve, values_of};
+use ide_text::parse;
+use ide_values::Values;
+use ide_wire::{Fact, Node, Refused};
+use std::alloc::Global;
+use std::process::Abort;
+use std::test::Fail;
+
+/// The values of a text, for these roots.
+fn values<P: Problem>(alloc: Global, text: &str, roots: &[&[u8]]) -> Result<Values<P>, Refused> {
+    let values = values_of::<P>(alloc, text.as_bytes(), roots)?;
+    Ok(values)
+}
+
+/// The value of a fact at a position of `main`.
+fn value_at<P: Problem>(values: &Values<P>, position: u32, fact: &str) -> Result<P::L, Refused> {
+    let (node, fact) = values
+        .loaded()
+        .graph
+        .find(b"main", position, fact.as_bytes())?;
+    values.at(node, fact)
+}
+
+/// Asserts the value of `@zero` at a position of `main`, for these roots.
+fn expect_zero<P: Problem>(
+    rt: &(impl Abort + AllocGlobal),
+    text: &str,
+    roots: &[&[u8]],
+    position: u32,
+    want: P::L,
+) -> Result<(), Fail> {
+    let values = values::<P>(rt.alloc(), text, roots)?;
+    assert!(rt;
+        value_at(&values, position, "@zero") == Ok(want),
+        "at {position} in {text}"
+    );
+    Ok(())
+}
+
+#[test]
+fn reached_statements(rt: HostRuntime) -> Result<(), Fail> {
+    let main = b"main".as_slice();
+    expect_zero::<Reach>(&rt, UNREACHABLE, &[main], 3, Lattice::top())?;
+    expect_zero::<Reach>(&rt, UNREACHABLE, &[main], 5, Lattice::bottom())
+}
+
+#[test]
+fn values_without_a_root(rt: HostRuntime) -> Result<(), Fail> {
+    expect_zero::<CopyConst>(&rt, NUMBER, &[], 0, Lattice::top())
+}
+
+/// Asserts that the empty main has no value there.
+fn expect_out_of_range<P: Problem>(
+    rt: &(impl Abort + AllocGlobal),
+    node: Node,
+    fact: Fact,
+) -> Result<(), Fail> {
+    let values = values::<P>(rt.alloc(), EMPTY, &[b"main".as_slice()])?;
+    assert!(rt;
+        values.at(node, fact) == Err(Refused::OutOfRange),
+        "at {node} and {fact}"
+    );
+    Ok(())
+}
+
+#[test]
+fn places_past_the_empty_main(rt: HostRuntime) -> Result<(), Fail> {
+    expect_out_of_range::<CopyConst>(&rt, 2, 0)?;
+    expect_out_of_range::<CopyConst>(&rt, 0, 2)
+}
+
+/// Appends the dump of a text, with these roots.
+fn dump<P: Problem>(
+    alloc: Global,
+    text: &str,
+    roots: &[&[u8]],
+    out: &mut Vec<u8>,
+) -> Result<(), Refused> {
+    solve::<P>(alloc, text.as_bytes(), roots, out)?;
+    Ok(())
+}
+
+/// Asserts how many bytes the dump of a text has, which is appended to what was there.
+fn expect_dump<P: Problem>(
+    rt: &(impl Abort + AllocGlobal),
+    text: &str,
+    roots: &[&[u8]],
+    bytes: usize,
+) -> Result<(), Fail> {
+    let mut out = Vec::from_slice(rt.alloc(), b"kept")?;
+    dump::<P>(rt.alloc(), text, roots, &mut out)?;
+    assert!(rt; out.as_slice().starts_with(b"kept"), "{text}");
+    assert!(rt; out.len().checked_sub(4) == Some(bytes), "{text}");
+    Ok(())
+}
+
+#[test]
+fn dumps_are_appended(rt: HostRuntime) -> Result<(), Fail> {
+    expect_dump::<CopyConst>(&rt, COPIES, &[b"main".as_slice()], 810)
+}
+
+#[test]
+fn a_dump_without_a_root(rt: HostRuntime) -> Result<(), Fail> {
+    expect_dump::<Uninit>(&rt, EMPTY, &[], 192)
+}
+
+/// Asserts that a solve is refused so, and leaves its vector.
+fn expect_refusal<P: Problem>(
+    rt: &(impl Abort + AllocGlobal),
+    text: &str,
+    roots: &[&[u8]],
+    want: Refused,
+) -> Result<(), Fail> {
+    let mut out = Vec::from_slice(rt.alloc(), b"kept")?;
+    assert!(rt;
+        dump::<P>(rt.alloc(), text, roots, &mut out) == Err(want),
+        "{want} of {text}"
+    );
+    assert!(rt; out.as_slice() == b"kept".as_slice(), "{text}");
+    Ok(())
+}
+
+#[test]
+fn roots_that_are_refused(rt: HostRuntime) -> Result<(), Fail> {
+    let main = b"main".as_slice();
+    let none = b"none".as_slice();
+    let id = b"id".as_slice();
+    expect_refusal::<CopyConst>(&rt, COPIES, &[none], Refused::NoProcedure)?;
+    expect_refusal::<CopyConst>(&rt, TWO_CALLS, &[id], Refused::HasParameters)?;
+    expect_refusal::<CopyConst>(&rt, TWO_CALLS, &[main, main], Refused::Already)?;
+    expect_refusal::<CopyConst>(&rt, TWO_CALLS, &[main, none], Refused::NoProcedure)
+}
+
+/// The graph of a text.
+fn graph_of(alloc: Global, text: &str) -> Result<Graph, Refused> {
+    let program = parse(alloc, text.as_bytes())?;
+    let graph = Graph::of(alloc, &program)?;
+    Ok(graph)
+}
+
+/// Asserts the counts of procedures, nodes and facts.
+fn expect_counts(
+    rt: &(impl Abort + AllocGlobal),
+    text: &str,
+    procedures: usize,
+    nodes: usize,
+    facts: usize,
+) -> Result<(), Fail> {
+    let graph = graph_of(rt.alloc(), text)?;
+    assert!(rt; graph.procedure_count() == procedures, "{text}");
+    assert!(rt; graph.node_count() == nodes, "{text}");
+    assert!(rt; graph.fact_count() == facts, "{text}");
+    Ok(())
+}
+
+#[test]
+fn graphs_of_the_worked_programs(rt: HostRuntime) -> Result<(), Fail> {
+    expect_counts(&rt, EMPTY, 1, 2, 2)?;
+    expect_counts(&rt, TWO_CALLS, 2, 11, 6)?;
+    expect_counts(&rt, RECURSION, 2, 12, 3)
+}

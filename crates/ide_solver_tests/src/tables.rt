@@ -1,0 +1,144 @@
+//! The tables of the worked programs: how many tasks they take, and what is in them then.
+use crate::texts::{COPIES, EMPTY, TWO_CALLS, begin, load};
+use ide_instances::{CopyConst, Uninit};
+use ide_lattice::EdgeFn;
+use ide_problem::Problem;
+use ide_steps::Core;
+use ide_wire::{Fact, Key, Node, Refused};
+use std::process::Abort;
+use std::test::Fail;
+
+/// Does all tasks, and answers how many.
+fn drain<P: Problem>(core: &mut Core<P>) -> Result<u64, Refused> {
+    let tasks = core.drain()?;
+    Ok(tasks)
+}
+
+/// Asserts how many tasks a text has, with `main` as the root.
+fn expect_tasks<P: Problem>(
+    rt: &(impl Abort + AllocGlobal),
+    core: &mut Core<P>,
+    text: &str,
+    tasks: u64,
+) -> Result<(), Fail> {
+    begin(rt.alloc(), core, text)?;
+    let found = drain(core)?;
+    assert!(rt; found == tasks, "{found} tasks");
+    Ok(())
+}
+
+#[test]
+fn tasks_of_the_empty_main(rt: HostRuntime) -> Result<(), Fail> {
+    let mut core: Core<Uninit> = Core::new(rt.alloc());
+    expect_tasks(&rt, &mut core, EMPTY, 3)
+}
+
+#[test]
+fn tasks_of_the_two_assignments(rt: HostRuntime) -> Result<(), Fail> {
+    let mut core: Core<CopyConst> = Core::new(rt.alloc());
+    expect_tasks(&rt, &mut core, COPIES, 13)
+}
+
+/// Asserts that a summary is the identity, and not pending.
+fn expect_summary<P: Problem>(rt: &impl Abort, core: &Core<P>, call: Node, from: Fact, to: Fact) {
+    let key = Key::Summary(call, from, to);
+    assert!(rt;
+        core.get(key).copied() == Some(P::F::id()),
+        "at {call} from {from} to {to}"
+    );
+    assert!(rt; !core.is_pending(key), "at {call} from {from} to {to}");
+}
+
+/// Asserts that the program with two calls is tabulated, and that no key is pending.
+pub(crate) fn expect_two_calls<P: Problem>(rt: &impl Abort, core: &Core<P>) {
+    assert!(rt; core.is_quiet());
+    assert!(rt; core.key_count() == 51 + 4);
+    expect_summary(rt, core, 6, 0, 0);
+    expect_summary(rt, core, 6, 2, 4);
+    expect_summary(rt, core, 8, 0, 0);
+    expect_summary(rt, core, 8, 3, 5);
+}
+
+/// Drains the program with two calls.
+fn drain_two_calls<P: Problem>(
+    rt: &(impl Abort + AllocGlobal),
+    core: &mut Core<P>,
+) -> Result<(), Fail> {
+    begin(rt.alloc(), core, TWO_CALLS)?;
+    drain(core)?;
+    expect_two_calls(rt, core);
+    Ok(())
+}
+
+#[test]
+fn quiescent_tables(rt: HostRuntime) -> Result<(), Fail> {
+    let mut core: Core<CopyConst> = Core::new(rt.alloc());
+    drain_two_calls(&rt, &mut core)
+}
+
+/// The items of a core.
+fn items_of<P: Problem>(core: &Core<P>) -> Result<Vec<(Key, P::F, bool)>, Refused> {
+    let items = core.items()?;
+    Ok(items)
+}
+
+/// Sets an item in a core, which takes every claim back first.
+fn set_item<P: Problem>(core: &mut Core<P>, item: (Key, P::F, bool)) -> Result<(), Fail> {
+    let (key, function, pending) = item;
+    core.release_all();
+    if !core.may_have(key) || function == P::F::all_top() {
+        return Err("no such item".into());
+    }
+    core.set(key, function, pending)?;
+    Ok(())
+}
+
+/// Sets these items in a core.
+fn set_items<P: Problem>(core: &mut Core<P>, items: &[(Key, P::F, bool)]) -> Result<(), Fail> {
+    for item in items {
+        set_item(core, *item)?;
+    }
+    Ok(())
+}
+
+/// Asserts how many items are jumps, how many there are, that their keys ascend, and that none is
+/// pending.
+fn expect_items<F: Copy>(rt: &impl Abort, items: &[(Key, F, bool)], jumps: usize, all: usize) {
+    let found = items.iter().filter(|item| matches!(item.0, Key::Jump(..)));
+    assert!(rt; found.count() == jumps);
+    assert!(rt; items.len() == all);
+    assert!(rt; items.iter().map(|item| item.0).is_sorted());
+    assert!(rt; !items.iter().any(|item| item.2));
+}
+
+/// Asserts that a core with these items has them as its items.
+fn expect_image_of<P: Problem>(
+    rt: &impl Abort,
+    core: &mut Core<P>,
+    items: &[(Key, P::F, bool)],
+) -> Result<(), Fail> {
+    set_items(core, items)?;
+    let found = items_of(core)?;
+    assert!(rt; found.as_slice() == items);
+    Ok(())
+}
+
+/// Asserts that the items of the program with two calls, in another core, make its image again.
+fn expect_image_again<P: Problem>(
+    rt: &(impl Abort + AllocGlobal),
+    core: &mut Core<P>,
+    again: &mut Core<P>,
+) -> Result<(), Fail> {
+    drain_two_calls(rt, core)?;
+    load(rt.alloc(), again, TWO_CALLS)?;
+    let items = items_of(core)?;
+    expect_items(rt, items.as_slice(), 51, 51 + 4);
+    expect_image_of(rt, again, items.as_slice())
+}
+
+#[test]
+fn items_make_their_image_again(rt: HostRuntime) -> Result<(), Fail> {
+    let mut core: Core<CopyConst> = Core::new(rt.alloc());
+    let mut again = Core::new(rt.alloc());
+    expect_image_again(&rt, &mut core, &mut again)
+}

@@ -1,0 +1,66 @@
+//! Stores on disks in memory, and the records that are put on them.
+use ide_disk::{Disk, MemDisk};
+use ide_journal::{Journal, Phase, RawRecord};
+use ide_wire::Refused;
+use std::alloc::Global;
+use std::process::Abort;
+
+/// A store with this tag, on that disk.
+pub fn create(alloc: Global, disk: MemDisk, tag: u8) -> Result<Journal<MemDisk>, Refused> {
+    match Journal::create(alloc, disk, tag.max(1)) {
+        Ok(journal) => Ok(journal),
+        Err((refused, _)) => Err(refused),
+    }
+}
+
+/// The record is put under way.
+fn begin(rt: &impl Abort, journal: &mut Journal<MemDisk>, raw: &RawRecord) -> Result<(), Refused> {
+    assert!(rt; raw.kind >= 1 && raw.kind <= 3);
+    assert!(rt; raw.body.len() <= 4194304);
+    assert!(rt; journal.is_idle());
+    assert!(rt; journal.count() < 4294967295);
+    journal.begin(raw)?;
+    Ok(())
+}
+
+/// A record of that kind and body is put under way.
+pub fn begin_record(
+    rt: &(impl Abort + AllocGlobal),
+    journal: &mut Journal<MemDisk>,
+    kind: u8,
+    body: &[u8],
+) -> Result<(), Refused> {
+    let body = body.to_vec(rt.alloc())?;
+    let raw = RawRecord { kind, body };
+    begin(rt, journal, &raw)?;
+    Ok(())
+}
+
+/// The next disk call of the record under way.
+fn advances(rt: &impl Abort, journal: &mut Journal<MemDisk>, expected: Phase) {
+    assert!(rt; !journal.is_idle());
+    assert!(rt; journal.advance() == Ok(expected));
+}
+
+/// A record of that kind and body is stored.
+pub fn store(
+    rt: &(impl Abort + AllocGlobal),
+    journal: &mut Journal<MemDisk>,
+    kind: u8,
+    body: &[u8],
+) -> Result<(), Refused> {
+    begin_record(rt, journal, kind, body)?;
+    advances(rt, journal, Phase::Written);
+    advances(rt, journal, Phase::BodySynced);
+    advances(rt, journal, Phase::GateWritten);
+    advances(rt, journal, Phase::Stored);
+    Ok(())
+}
+
+/// Whether the disk has so many bytes.
+pub fn has_length(disk: &mut MemDisk, expected: u64) -> bool {
+    match disk.len() {
+        Ok(len) => len == expected,
+        Err(_) => false,
+    }
+}

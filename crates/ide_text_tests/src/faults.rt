@@ -1,0 +1,220 @@
+//! What texts that are no programs are refused for, and the limits of those that are.
+use crate::texts::{is_answered, numbered, repeated};
+use ide_wire::Fault;
+use std::process::Abort;
+use std::test::Fail;
+
+/// That the text is refused for that fault of that line.
+fn expect_fault(rt: &(impl Abort + AllocGlobal), text: &str, line: u32, fault: Fault) {
+    let expected = Some((line, fault));
+    assert!(rt;
+        is_answered(rt.alloc(), text.as_bytes(), expected),
+        "at {text}"
+    );
+}
+
+#[test]
+fn finds_lines_that_are_none_or_out_of_place(rt: HostRuntime) {
+    expect_fault(&rt, "", 1, Fault::OutOfPlace);
+    expect_fault(&rt, "proc main\nend", 2, Fault::NoSuchLine);
+    expect_fault(&rt, "skip", 1, Fault::NoSuchLine);
+    expect_fault(&rt, "proc main\nx = 5\nskip \nend\n", 3, Fault::NoSuchLine);
+    expect_fault(&rt, "global g\n", 2, Fault::OutOfPlace);
+    expect_fault(&rt, "proc main\n", 2, Fault::OutOfPlace);
+    expect_fault(&rt, "proc main\nend\nglobal g\n", 3, Fault::OutOfPlace);
+    expect_fault(&rt, "proc main\nglobal g\nend\n", 2, Fault::OutOfPlace);
+    expect_fault(&rt, "proc main\nproc p\nend\n", 2, Fault::OutOfPlace);
+    expect_fault(&rt, "proc main\nskip\nvar x\nend\n", 3, Fault::OutOfPlace);
+    expect_fault(&rt, "skip\n", 1, Fault::OutOfPlace);
+    expect_fault(&rt, "var x\n", 1, Fault::OutOfPlace);
+    expect_fault(&rt, "end\n", 1, Fault::OutOfPlace);
+    expect_fault(&rt, "proc main\nend\nend\n", 3, Fault::OutOfPlace);
+    expect_fault(&rt, "proc main\nend\nskip\n", 3, Fault::OutOfPlace);
+}
+
+#[test]
+fn finds_names_declared_twice(rt: HostRuntime) {
+    expect_fault(
+        &rt,
+        "proc main\nvar x\nvar x\nend\n",
+        3,
+        Fault::DeclaredTwice,
+    );
+    expect_fault(
+        &rt,
+        "global g\nglobal g\nproc main\nend\n",
+        2,
+        Fault::DeclaredTwice,
+    );
+    expect_fault(&rt, "global g\nproc main g\nend\n", 2, Fault::DeclaredTwice);
+    expect_fault(
+        &rt,
+        "global g\nproc main\nvar g\nend\n",
+        3,
+        Fault::DeclaredTwice,
+    );
+    expect_fault(&rt, "proc main a a\nend\n", 1, Fault::DeclaredTwice);
+    expect_fault(&rt, "proc main a\nvar a\nend\n", 2, Fault::DeclaredTwice);
+    expect_fault(
+        &rt,
+        "proc main\nend\nproc main\nend\n",
+        3,
+        Fault::DeclaredTwice,
+    );
+    expect_fault(&rt, "proc main\nat L\nat L\nend\n", 3, Fault::DeclaredTwice);
+}
+
+#[test]
+fn finds_names_that_nothing_declares(rt: HostRuntime) {
+    expect_fault(&rt, "proc main\ngoto L\nend\n", 2, Fault::NoSuchLabel);
+    expect_fault(&rt, "proc main\nbranch L\nend\n", 2, Fault::NoSuchLabel);
+    expect_fault(
+        &rt,
+        "proc p\nat L\nend\nproc main\ngoto L\nend\n",
+        5,
+        Fault::NoSuchLabel,
+    );
+    expect_fault(
+        &rt,
+        "proc main\nx = call q\nend\n",
+        2,
+        Fault::NoSuchVariable,
+    );
+    expect_fault(&rt, "proc main\ncall q x\nend\n", 2, Fault::NoSuchVariable);
+    expect_fault(&rt, "proc main\nx = 5\nend\n", 2, Fault::NoSuchVariable);
+    expect_fault(&rt, "proc main x\nx = y\nend\n", 2, Fault::NoSuchVariable);
+    expect_fault(
+        &rt,
+        "proc main x\nx = mix x y\nend\n",
+        2,
+        Fault::NoSuchVariable,
+    );
+    expect_fault(
+        &rt,
+        "proc main x\nx = y - 1\nend\n",
+        2,
+        Fault::NoSuchVariable,
+    );
+    expect_fault(&rt, "proc main\nreturn x\nend\n", 2, Fault::NoSuchVariable);
+    expect_fault(
+        &rt,
+        "proc p x\nend\nproc main\nx = 5\nend\n",
+        4,
+        Fault::NoSuchVariable,
+    );
+    expect_fault(&rt, "proc main\ncall q\nend\n", 2, Fault::NoSuchProcedure);
+    expect_fault(
+        &rt,
+        "proc p a\nend\nproc main\nvar x\ncall p x x\nend\n",
+        5,
+        Fault::WrongArguments,
+    );
+    expect_fault(
+        &rt,
+        "proc p a\nend\nproc main\ncall p\nend\nproc p\nend\n",
+        4,
+        Fault::WrongArguments,
+    );
+}
+
+#[test]
+fn finds_the_least_fault(rt: HostRuntime) {
+    expect_fault(
+        &rt,
+        "proc p a b c d e f g h i j k l m n o q r\nend\n",
+        1,
+        Fault::TooMany,
+    );
+    expect_fault(
+        &rt,
+        "proc p\nproc p a b c d e f g h i j k l m n o q r\nend\n",
+        2,
+        Fault::OutOfPlace,
+    );
+    // A fault of a line goes before each of the names.
+    expect_fault(&rt, "proc main\nx = 5\nend\nskip\n", 4, Fault::OutOfPlace);
+    expect_fault(&rt, "proc main\nx = 5\nend", 3, Fault::NoSuchLine);
+    expect_fault(
+        &rt,
+        "proc p\ncall p\ncall q\nend\nproc p a\ngoto L\nend\n",
+        3,
+        Fault::NoSuchProcedure,
+    );
+    expect_fault(
+        &rt,
+        "proc p\ncall q\nx = 5\nend\nproc p\nend\n",
+        2,
+        Fault::NoSuchProcedure,
+    );
+}
+
+/// That the text of many lines is answered so.
+fn expect_repeated(
+    rt: &(impl Abort + AllocGlobal),
+    head: &str,
+    part: &str,
+    count: usize,
+    tail: &str,
+    expected: Option<(u32, Fault)>,
+) -> Result<(), Fail> {
+    let text = repeated(rt.alloc(), head, part, count, tail)?;
+    assert!(rt;
+        is_answered(rt.alloc(), text.as_slice(), expected),
+        "{count} of {part}"
+    );
+    Ok(())
+}
+
+/// That the text of numbered lines is answered so.
+fn expect_numbered(
+    rt: &(impl Abort + AllocGlobal),
+    head: &str,
+    parts: (&str, &str),
+    count: u32,
+    tail: &str,
+    expected: Option<(u32, Fault)>,
+) -> Result<(), Fail> {
+    let text = numbered(rt.alloc(), head, parts, count, tail)?;
+    assert!(rt;
+        is_answered(rt.alloc(), text.as_slice(), expected),
+        "{count} of {}",
+        parts.0
+    );
+    Ok(())
+}
+
+#[test]
+fn takes_texts_at_the_limits(rt: HostRuntime) -> Result<(), Fail> {
+    expect_repeated(&rt, "proc main\n", "skip\n", 65_534, "end\n", None)?;
+    expect_numbered(&rt, "proc main\n", ("var x", "\n"), 4_094, "end\n", None)?;
+    expect_numbered(&rt, "", ("global x", "\n"), 4_094, "proc main\nend\n", None)?;
+    expect_numbered(&rt, "", ("proc p", "\nend\n"), 1_000, "", None)?;
+    expect_repeated(
+        &rt,
+        "proc p a b c d e f g h i j k l m n o",
+        " p",
+        1,
+        "\nend\n",
+        None,
+    )
+}
+
+#[test]
+fn refuses_too_many_of_a_kind(rt: HostRuntime) -> Result<(), Fail> {
+    let statements = Some((65_536, Fault::TooMany));
+    expect_repeated(&rt, "proc main\n", "skip\n", 65_535, "end\n", statements)?;
+    let calls = Some((32_769, Fault::TooMany));
+    expect_repeated(&rt, "proc p\n", "call p\n", 32_768, "end\n", calls)?;
+    let locals = Some((4_096, Fault::TooMany));
+    expect_numbered(&rt, "proc main\n", ("var x", "\n"), 4_095, "end\n", locals)?;
+    let globals = Some((4_095, Fault::TooMany));
+    expect_numbered(&rt, "", ("global x", "\n"), 4_095, "", globals)?;
+    let procedures = Some((2_001, Fault::TooMany));
+    expect_numbered(&rt, "", ("proc p", "\nend\n"), 1_001, "", procedures)
+}
+
+#[test]
+fn refuses_a_text_too_long(rt: HostRuntime) -> Result<(), Fail> {
+    expect_repeated(&rt, "", "a", 1_048_577, "", Some((0, Fault::TextTooLong)))?;
+    expect_repeated(&rt, "", "a", 1_048_576, "", Some((1, Fault::NoSuchLine)))
+}

@@ -1,0 +1,373 @@
+//! Counts, sites and names of the graphs of small programs.
+use crate::examples::{
+    ADDS_IN_CALLEE, BRANCH, CALLS, COPIES, COUNTING, EMPTY, NUMBER, RECURSION, STATEMENTS,
+    SUM_OR_NUMBER, UNINITIALISED, UNREACHABLE, WRAPPING_SUM, on_graph_of,
+};
+use crate::sites::{Call, expect_call, expect_exit, expect_fork, expect_shared_step, expect_step};
+use ide_graph::{Effect, Graph};
+use ide_wire::{Fact, Node, Refused};
+use std::process::Abort;
+use std::test::Fail;
+
+/// That the graph has these counts of procedures, nodes, facts and entry facts.
+fn expect_counts(rt: &impl Abort, graph: &Graph, counts: (usize, usize, usize, usize)) {
+    assert!(rt; graph.procedure_count() == counts.0);
+    assert!(rt; graph.node_count() == counts.1);
+    assert!(rt; graph.fact_count() == counts.2);
+    assert!(rt; graph.entry_count() == counts.3);
+}
+
+/// That the graph of a text has these counts.
+fn expect_counts_of(
+    rt: &(impl Abort + AllocGlobal),
+    text: &str,
+    counts: (usize, usize, usize, usize),
+) -> Result<(), Fail> {
+    on_graph_of(rt.alloc(), text, |graph| expect_counts(rt, graph, counts))
+}
+
+#[test]
+fn examples_have_their_counts(rt: HostRuntime) -> Result<(), Fail> {
+    expect_counts_of(&rt, EMPTY, (1, 2, 2, 1))?;
+    expect_counts_of(&rt, NUMBER, (1, 3, 3, 1))?;
+    expect_counts_of(&rt, COPIES, (1, 4, 4, 1))?;
+    expect_counts_of(&rt, BRANCH, (1, 8, 3, 1))?;
+    expect_counts_of(&rt, UNREACHABLE, (1, 6, 3, 1))?;
+    expect_counts_of(&rt, UNINITIALISED, (1, 4, 4, 1))?;
+    expect_counts_of(&rt, WRAPPING_SUM, (1, 4, 4, 1))?;
+    expect_counts_of(&rt, COUNTING, (2, 12, 3, 2))?;
+    expect_counts_of(&rt, ADDS_IN_CALLEE, (2, 12, 4, 1))?;
+    expect_counts_of(&rt, SUM_OR_NUMBER, (2, 17, 6, 1))
+}
+
+/// That these are the sites of `BRANCH`.
+fn expect_both_ways(rt: &impl Abort, graph: &Graph) {
+    let five = Effect::Number {
+        target: 2,
+        number: 5,
+    };
+    expect_counts(rt, graph, (1, 8, 3, 1));
+    expect_step(rt, graph, 0, 1, Effect::Enter { first: 2, end: 3 });
+    expect_fork(rt, graph, 1, 2, 4);
+    expect_step(rt, graph, 2, 3, five);
+    expect_step(rt, graph, 3, 6, Effect::Nothing);
+    expect_step(rt, graph, 4, 5, Effect::Nothing);
+    expect_step(rt, graph, 5, 6, five);
+    expect_step(rt, graph, 6, 7, Effect::Nothing);
+    expect_exit(rt, graph, 7, 0, &[]);
+}
+
+#[test]
+fn branches_have_both_ways(rt: HostRuntime) -> Result<(), Fail> {
+    on_graph_of(rt.alloc(), BRANCH, |graph| expect_both_ways(&rt, graph))
+}
+
+/// The effect of an assignment of a number.
+fn number(target: Fact, number: u64) -> Effect {
+    Effect::Number { target, number }
+}
+
+/// That these are the sites of `UNREACHABLE`.
+fn expect_unreachable_node(rt: &impl Abort, graph: &Graph) {
+    expect_counts(rt, graph, (1, 6, 3, 1));
+    expect_step(rt, graph, 0, 1, Effect::Enter { first: 2, end: 3 });
+    expect_step(rt, graph, 1, 2, number(2, 1));
+    expect_step(rt, graph, 2, 4, Effect::Nothing);
+    expect_step(rt, graph, 3, 4, number(2, 2));
+    expect_step(rt, graph, 4, 5, Effect::Nothing);
+    expect_exit(rt, graph, 5, 0, &[]);
+}
+
+#[test]
+fn a_node_may_be_unreachable(rt: HostRuntime) -> Result<(), Fail> {
+    on_graph_of(
+        rt.alloc(),
+        UNREACHABLE,
+        |graph| expect_unreachable_node(&rt, graph),
+    )
+}
+
+/// That these are the sites of `COUNTING`.
+fn expect_counted_global(rt: &impl Abort, graph: &Graph) {
+    let again = Call {
+        node: 3,
+        start: 0,
+        passed: None,
+        back: 4,
+        target: None,
+    };
+    let first = Call {
+        node: 9,
+        start: 0,
+        passed: None,
+        back: 10,
+        target: None,
+    };
+    let sum = Effect::Sum {
+        target: 1,
+        source: 1,
+        number: 1,
+    };
+    expect_counts(rt, graph, (2, 12, 3, 2));
+    expect_step(rt, graph, 0, 1, Effect::Enter { first: 3, end: 3 });
+    expect_fork(rt, graph, 1, 2, 5);
+    expect_step(rt, graph, 2, 3, sum);
+    expect_call(rt, graph, again);
+    expect_step(rt, graph, 4, 5, Effect::Nothing);
+    expect_step(rt, graph, 5, 6, Effect::Nothing);
+    expect_exit(rt, graph, 6, 0, &[again, first]);
+    expect_step(rt, graph, 7, 8, Effect::Enter { first: 3, end: 3 });
+    expect_step(rt, graph, 8, 9, number(1, 0));
+    expect_call(rt, graph, first);
+    expect_step(rt, graph, 10, 11, Effect::Nothing);
+    expect_exit(rt, graph, 11, 7, &[]);
+}
+
+#[test]
+fn a_global_is_counted_in_recursion(rt: HostRuntime) -> Result<(), Fail> {
+    on_graph_of(
+        rt.alloc(),
+        COUNTING,
+        |graph| expect_counted_global(&rt, graph),
+    )
+}
+
+/// That these are the sites of `CALLS`.
+fn expect_both_calls(rt: &impl Abort, graph: &Graph) {
+    let first = Call {
+        node: 6,
+        start: 0,
+        passed: Some((2, 2)),
+        back: 7,
+        target: Some(4),
+    };
+    let second = Call {
+        node: 8,
+        start: 0,
+        passed: Some((3, 2)),
+        back: 9,
+        target: Some(5),
+    };
+    let copy = Effect::Copy {
+        target: 1,
+        source: 2,
+    };
+    expect_counts(rt, graph, (2, 11, 6, 1));
+    expect_step(rt, graph, 0, 1, Effect::Enter { first: 3, end: 3 });
+    expect_step(rt, graph, 1, 2, copy);
+    expect_exit(rt, graph, 2, 0, &[first, second]);
+    expect_step(rt, graph, 3, 4, Effect::Enter { first: 2, end: 6 });
+    expect_step(rt, graph, 4, 5, number(2, 5));
+    expect_step(rt, graph, 5, 6, number(3, 6));
+    expect_call(rt, graph, first);
+    expect_step(rt, graph, 7, 8, Effect::Nothing);
+    expect_call(rt, graph, second);
+    expect_step(rt, graph, 9, 10, Effect::Nothing);
+    expect_exit(rt, graph, 10, 3, &[]);
+}
+
+#[test]
+fn calls_go_to_starts_and_come_back(rt: HostRuntime) -> Result<(), Fail> {
+    on_graph_of(rt.alloc(), CALLS, |graph| expect_both_calls(&rt, graph))
+}
+
+/// That these are the sites of `STATEMENTS` whose statements assign.
+fn expect_assignments(rt: &impl Abort, graph: &Graph) {
+    let sum = Effect::Sum {
+        target: 3,
+        source: 1,
+        number: 3,
+    };
+    let mix = Effect::Mix {
+        target: 3,
+        first: 1,
+        second: 3,
+    };
+    let copy = Effect::Copy {
+        target: 3,
+        source: 1,
+    };
+    let difference = Effect::Difference {
+        target: 1,
+        source: 3,
+        number: 1,
+    };
+    expect_step(rt, graph, 3, 4, sum);
+    expect_step(rt, graph, 5, 6, mix);
+    expect_step(rt, graph, 6, 7, Effect::Unknown { target: 3 });
+    expect_step(rt, graph, 10, 11, copy);
+    expect_step(rt, graph, 11, 12, difference);
+}
+
+/// That these are the sites of the others.
+fn expect_ways(rt: &impl Abort, graph: &Graph) {
+    expect_step(rt, graph, 0, 1, Effect::Enter { first: 3, end: 4 });
+    expect_step(rt, graph, 1, 2, Effect::Nothing);
+    expect_fork(rt, graph, 2, 1, 3);
+    expect_step(rt, graph, 4, 1, Effect::Nothing);
+    expect_step(rt, graph, 7, 8, Effect::Nothing);
+    expect_step(rt, graph, 8, 9, Effect::Nothing);
+    expect_step(rt, graph, 9, 10, Effect::Nothing);
+    expect_step(rt, graph, 12, 13, Effect::Nothing);
+    expect_exit(rt, graph, 13, 0, &[]);
+}
+
+/// That these are the sites of `STATEMENTS`.
+fn expect_statements(rt: &impl Abort, graph: &Graph) {
+    expect_counts(rt, graph, (1, 14, 4, 2));
+    expect_assignments(rt, graph);
+    expect_ways(rt, graph);
+}
+
+#[test]
+fn statements_have_their_effects_and_targets(rt: HostRuntime) -> Result<(), Fail> {
+    on_graph_of(
+        rt.alloc(),
+        STATEMENTS,
+        |graph| expect_statements(&rt, graph),
+    )
+}
+
+/// That these are the sites of `RECURSION`.
+fn expect_recursion(rt: &impl Abort, graph: &Graph) {
+    let again = Call {
+        node: 2,
+        start: 0,
+        passed: Some((3, 3)),
+        back: 3,
+        target: None,
+    };
+    let first = Call {
+        node: 8,
+        start: 0,
+        passed: Some((1, 3)),
+        back: 9,
+        target: None,
+    };
+    let copy = Effect::Copy {
+        target: 2,
+        source: 1,
+    };
+    expect_counts(rt, graph, (2, 11, 4, 2));
+    expect_step(rt, graph, 0, 1, Effect::Enter { first: 4, end: 4 });
+    expect_fork(rt, graph, 1, 2, 4);
+    expect_call(rt, graph, again);
+    expect_step(rt, graph, 3, 4, Effect::Nothing);
+    expect_step(rt, graph, 4, 5, Effect::Nothing);
+    expect_step(rt, graph, 5, 6, copy);
+    expect_exit(rt, graph, 6, 0, &[again, first]);
+    expect_step(rt, graph, 7, 8, Effect::Enter { first: 3, end: 3 });
+    expect_call(rt, graph, first);
+    expect_step(rt, graph, 9, 10, Effect::Nothing);
+    expect_exit(rt, graph, 10, 7, &[]);
+}
+
+#[test]
+fn a_procedure_may_call_itself(rt: HostRuntime) -> Result<(), Fail> {
+    on_graph_of(rt.alloc(), RECURSION, |graph| expect_recursion(&rt, graph))
+}
+
+/// That the graph answers so for these names.
+fn expect_place(
+    rt: &impl Abort,
+    graph: &Graph,
+    procedure: &str,
+    position: u32,
+    fact: &str,
+    expected: Result<(Node, Fact), Refused>,
+) {
+    let place = graph.find(procedure.as_bytes(), position, fact.as_bytes());
+    assert!(rt; place == expected, "at {procedure} {position} {fact}");
+}
+
+/// That these names of `CALLS` are found.
+fn expect_names(rt: &impl Abort, graph: &Graph) {
+    expect_place(rt, graph, "main", 7, "x", Ok((10, 4)));
+    expect_place(rt, graph, "main", 0, "@zero", Ok((3, 0)));
+    expect_place(rt, graph, "id", 2, "p", Ok((2, 2)));
+    expect_place(rt, graph, "id", 0, "@result", Ok((0, 1)));
+}
+
+#[test]
+fn names_are_found(rt: HostRuntime) -> Result<(), Fail> {
+    on_graph_of(rt.alloc(), CALLS, |graph| expect_names(&rt, graph))
+}
+
+/// That these names of `CALLS` are refused.
+fn expect_no_names(rt: &impl Abort, graph: &Graph) {
+    expect_place(rt, graph, "nobody", 99, "x", Err(Refused::NoProcedure));
+    expect_place(rt, graph, "main", 8, "x", Err(Refused::OutOfRange));
+    expect_place(rt, graph, "main", u32::MAX, "x", Err(Refused::OutOfRange));
+    expect_place(rt, graph, "id", 0, "x", Err(Refused::OutOfRange));
+    expect_place(rt, graph, "main", 0, "p", Err(Refused::OutOfRange));
+}
+
+#[test]
+fn names_are_refused(rt: HostRuntime) -> Result<(), Fail> {
+    on_graph_of(rt.alloc(), CALLS, |graph| expect_no_names(&rt, graph))
+}
+
+/// That the fact has that name at the node; the empty name stands for none.
+fn expect_name(rt: &impl Abort, graph: &Graph, node: Node, fact: Fact, name: &[u8]) {
+    let answer = graph.fact_name(node, fact).unwrap_or(b"");
+    assert!(rt; answer == name, "at node {node} fact {fact}");
+}
+
+/// That the facts of `RECURSION` have these names.
+fn expect_fact_names(rt: &impl Abort, graph: &Graph) {
+    expect_name(rt, graph, 0, 0, b"@zero");
+    expect_name(rt, graph, 0, 1, b"g");
+    expect_name(rt, graph, 10, 2, b"@result");
+    expect_name(rt, graph, 6, 3, b"n");
+    expect_name(rt, graph, 7, 3, b"");
+    expect_name(rt, graph, 0, 4, b"");
+    expect_name(rt, graph, 11, 0, b"");
+}
+
+#[test]
+fn facts_have_their_procedure_s_names(rt: HostRuntime) -> Result<(), Fail> {
+    on_graph_of(rt.alloc(), RECURSION, |graph| expect_fact_names(&rt, graph))
+}
+
+/// That the procedure has this start, exit and count of parameters, and owns both nodes.
+fn expect_procedure(
+    rt: &impl Abort,
+    graph: &Graph,
+    procedure: usize,
+    start: Node,
+    exit: Node,
+    parameters: usize,
+) {
+    assert!(rt;
+        procedure < graph.procedure_count(),
+        "procedure {procedure}"
+    );
+    assert!(rt; graph.start_of(procedure) == start, "procedure {procedure}");
+    assert!(rt; graph.exit_of(procedure) == exit, "procedure {procedure}");
+    assert!(rt;
+        graph.parameter_count(procedure) == parameters,
+        "procedure {procedure}"
+    );
+}
+
+/// That the node belongs to that procedure.
+fn expect_owner(rt: &impl Abort, graph: &Graph, node: Node, procedure: usize) {
+    assert!(rt; (node as usize) < graph.node_count(), "at node {node}");
+    assert!(rt; graph.procedure_of(node) == procedure, "at node {node}");
+}
+
+/// That these are the procedures of `RECURSION`.
+fn expect_procedures(rt: &impl Abort, graph: &Graph) {
+    assert!(rt; graph.procedure_named(b"main") == Some(1));
+    assert!(rt; graph.procedure_named(b"n") == None);
+    expect_procedure(rt, graph, 0, 0, 6, 1);
+    expect_procedure(rt, graph, 1, 7, 10, 0);
+    expect_owner(rt, graph, 6, 0);
+    expect_owner(rt, graph, 7, 1);
+    expect_shared_step(rt, graph, 9, 10, Effect::Nothing);
+}
+
+#[test]
+fn procedures_have_their_nodes(rt: HostRuntime) -> Result<(), Fail> {
+    on_graph_of(rt.alloc(), RECURSION, |graph| expect_procedures(&rt, graph))
+}

@@ -1,0 +1,22 @@
+//! Tests of program texts, of the graphs of programs, and of the analyses' values and functions.
+//!
+//! They stand apart from `ide_text`, `ide_graph` and `ide_instances`, since a crate that has tests is
+//! proved twice.
+#![tactic(auto)]
+
+#[cfg(test)]
+mod examples;
+#[cfg(test)]
+mod faults;
+#[cfg(test)]
+mod graph;
+#[cfg(test)]
+mod instances;
+#[cfg(test)]
+mod refusals;
+#[cfg(test)]
+mod sites;
+#[cfg(test)]
+mod text;
+#[cfg(test)]
+mod texts;

@@ -1,0 +1,162 @@
+//! What stands at the nodes of a graph, against what a test expects there.
+use ide_graph::{Caller, EdgeData, EdgeKind, Effect, Graph, Site};
+use ide_wire::{Fact, Node};
+use std::process::Abort;
+
+/// A call, as its call node and the exit of its callee have to show it.
+#[derive(Clone, Copy)]
+pub struct Call {
+    pub node: Node,
+    /// The start of the callee.
+    pub start: Node,
+    /// The argument and its parameter, if there is one.
+    pub passed: Option<(Fact, Fact)>,
+    /// The return site.
+    pub back: Node,
+    /// The fact that the call assigns, if any.
+    pub target: Option<Fact>,
+}
+
+impl Call {
+    /// Whether the edge is the call edge of the call.
+    fn is_entered_by(self, edge: &EdgeData) -> bool {
+        match &edge.kind {
+            EdgeKind::Call(passed) => {
+                edge.end == self.start && are_passed(passed.as_slice(), self.passed)
+            }
+            _ => false,
+        }
+    }
+
+    /// Whether the edge is the return edge of the call.
+    fn is_left_by(self, edge: &EdgeData) -> bool {
+        match edge.kind {
+            EdgeKind::Return(target) => edge.end == self.back && target == self.target,
+            _ => false,
+        }
+    }
+
+    /// Whether the edge is the call-to-return edge of the call.
+    fn is_passed_by(self, edge: &EdgeData) -> bool {
+        match edge.kind {
+            EdgeKind::CallToReturn(target) => edge.end == self.back && target == self.target,
+            _ => false,
+        }
+    }
+
+    /// Whether the caller is that of the call.
+    fn is_of(self, caller: &Caller) -> bool {
+        caller.call_node == self.node
+            && self.is_entered_by(&caller.call)
+            && self.is_left_by(&caller.back)
+    }
+
+    /// Whether the site is the call node of the call.
+    fn stands_at(self, site: &Site) -> bool {
+        match site {
+            Site::Call { calls, along } => {
+                calls.len() == 1 && self.is_entered_by(&calls[0]) && self.is_passed_by(along)
+            }
+            _ => false,
+        }
+    }
+}
+
+/// Whether these are all the facts that a call passes.
+fn are_passed(pairs: &[(Fact, Fact)], passed: Option<(Fact, Fact)>) -> bool {
+    match passed {
+        Some(pair) => pairs.len() == 1 && pairs[0] == pair,
+        None => pairs.is_empty(),
+    }
+}
+
+/// Whether the edge is a normal one to that end, with that effect.
+fn is_normal(edge: &EdgeData, end: Node, effect: Effect) -> bool {
+    match edge.kind {
+        EdgeKind::Normal(own) => edge.end == end && own == effect,
+        _ => false,
+    }
+}
+
+/// Whether the site has one edge, a normal one to that end with that effect.
+fn is_step(site: &Site, end: Node, effect: Effect) -> bool {
+    match site {
+        Site::Normal(edges) => edges.len() == 1 && is_normal(&edges[0], end, effect),
+        _ => false,
+    }
+}
+
+/// Whether the site has two edges, normal ones to these ends that change nothing.
+fn is_fork(site: &Site, first: Node, second: Node) -> bool {
+    match site {
+        Site::Normal(edges) => {
+            edges.len() == 2
+                && is_normal(&edges[0], first, Effect::Nothing)
+                && is_normal(&edges[1], second, Effect::Nothing)
+        }
+        _ => false,
+    }
+}
+
+/// Whether the site is the exit of the procedure that begins there, with these callers alone.
+fn is_exit(site: &Site, start: Node, calls: &[Call]) -> bool {
+    match site {
+        Site::Exit {
+            start: own,
+            callers,
+        } => {
+            *own == start
+                && callers.len() == calls.len()
+                && callers
+                    .iter()
+                    .zip(calls)
+                    .all(|(caller, call)| call.is_of(caller))
+        }
+        _ => false,
+    }
+}
+
+/// What stands at a node that is there.
+fn site_at<'a>(rt: &impl Abort, graph: &'a Graph, node: Node) -> &'a Site {
+    assert!(rt; (node as usize) < graph.node_count(), "at node {node}");
+    graph.site(node)
+}
+
+/// That one edge leaves the node, a normal one to that end with that effect.
+pub fn expect_step(rt: &impl Abort, graph: &Graph, node: Node, end: Node, effect: Effect) {
+    assert!(rt;
+        is_step(site_at(rt, graph, node), end, effect),
+        "at node {node}"
+    );
+}
+
+/// That two edges leave the node, normal ones to these ends that change nothing.
+pub fn expect_fork(rt: &impl Abort, graph: &Graph, node: Node, first: Node, second: Node) {
+    assert!(rt;
+        is_fork(site_at(rt, graph, node), first, second),
+        "at node {node}"
+    );
+}
+
+/// That the call stands at its node.
+pub fn expect_call(rt: &impl Abort, graph: &Graph, call: Call) {
+    let node = call.node;
+    assert!(rt; call.stands_at(site_at(rt, graph, node)), "at node {node}");
+}
+
+/// That the node is the exit of the procedure that begins there, with these callers alone.
+pub fn expect_exit(rt: &impl Abort, graph: &Graph, node: Node, start: Node, calls: &[Call]) {
+    assert!(rt;
+        is_exit(site_at(rt, graph, node), start, calls),
+        "at node {node}"
+    );
+}
+
+/// That the site of the node, once it is carried away, is one step.
+pub fn expect_shared_step(rt: &impl Abort, graph: &Graph, node: Node, end: Node, effect: Effect) {
+    assert!(rt; (node as usize) < graph.node_count(), "at node {node}");
+    match graph.shared_site(node) {
+        Ok(site) => assert!(rt; is_step(&site, end, effect), "at node {node}"),
+        Err(refused) => panic!(rt; "{refused} at node {node}"),
+    }
+}

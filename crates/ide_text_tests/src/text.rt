@@ -1,0 +1,186 @@
+//! How programs are printed, and that each text is spelled in one way.
+use crate::texts::{is_answered, repeated};
+use ide_text::{Program, parse, print};
+use ide_wire::{Fault, Refused};
+use std::alloc::{AllocError, Global};
+use std::process::Abort;
+use std::test::Fail;
+
+/// A copy of the program that the text spells.
+fn copy_of(alloc: Global, text: &[u8]) -> Result<Program, Refused> {
+    let program = parse(alloc, text)?;
+    let copy = program.copy(alloc)?;
+    Ok(copy)
+}
+
+/// The text of the program, behind what was there before.
+fn printed(alloc: Global, program: &Program) -> Result<Vec<u8>, Refused> {
+    let mut out = Vec::from_slice(alloc, b"before ")?;
+    print(program, &mut out)?;
+    Ok(out)
+}
+
+/// Whether that is the text, behind what was there before.
+fn is_printed(printed: &[u8], text: &[u8]) -> bool {
+    printed.len() >= 7 && &printed[..7] == b"before ".as_slice() && &printed[7..] == text
+}
+
+/// Whether the program is printed as that text.
+fn is_spelled(alloc: Global, program: &Program, text: &[u8]) -> Result<bool, Refused> {
+    let printed = printed(alloc, program)?;
+    Ok(is_printed(printed.as_slice(), text))
+}
+
+/// That a copy of the program that the text spells is printed as the text stands.
+fn expect_printed(rt: &(impl Abort + AllocGlobal), text: &str) -> Result<(), Fail> {
+    let program = copy_of(rt.alloc(), text.as_bytes())?;
+    let spelled = is_spelled(rt.alloc(), &program, text.as_bytes())?;
+    assert!(rt; spelled, "at {text}");
+    Ok(())
+}
+
+#[test]
+fn prints_what_it_parsed(rt: HostRuntime) -> Result<(), Fail> {
+    expect_printed(&rt, "proc main\nvar x\nx = 5\nend\n")?;
+    expect_printed(&rt, "proc main\nend\n")?;
+    expect_printed(&rt, "proc main\nvar x\nvar y\nx = 5\ny = x\nend\n")?;
+    expect_printed(
+        &rt,
+        "proc main\nvar x\nbranch other\nx = 5\ngoto done\nat other\nx = 5\nat done\nend\n",
+    )?;
+    expect_printed(
+        &rt,
+        "proc id p\nreturn p\nend\nproc main\nvar a\nvar b\nvar x\nvar y\na = 5\nb = 6\nx = call id a\ny = call id b\nend\n",
+    )?;
+    expect_printed(
+        &rt,
+        "proc f y\nvar x\nbranch other\nx = y + 1\ngoto done\nat other\nx = 7\nat done\nreturn x\nend\nproc main\nvar a\nvar b\nvar u\nvar v\na = 6\nb = 5\nu = call f a\nv = call f b\nend\n",
+    )?;
+    expect_printed(
+        &rt,
+        "proc main\nvar x\nvar y\nx = 18446744073709551615\ny = x + 1\nend\n",
+    )?;
+    expect_printed(
+        &rt,
+        "global g\nproc rec\nbranch done\ng = g + 1\ncall rec\nat done\nend\nproc main\ng = 0\ncall rec\nend\n",
+    )?;
+    expect_printed(
+        &rt,
+        "proc main\nvar x\nx = 1\ngoto done\nx = 2\nat done\nend\n",
+    )?;
+    expect_printed(&rt, "proc main\nvar x\nvar y\ny = x\nx = 1\nend\n")?;
+    expect_printed(
+        &rt,
+        "global g\nglobal h_1\nproc p a b\nskip\na = ?\nb = mix a g\na = b - 0\nreturn\nend\n",
+    )?;
+    expect_printed(&rt, "proc _\nvar a234567890123456789012345678901\nend\n")
+}
+
+/// Whether the text, if it is a program, is printed as it stands.
+fn is_told(alloc: Global, text: &[u8]) -> Result<bool, Refused> {
+    match parse(alloc, text) {
+        Ok(program) => {
+            let spelled = is_spelled(alloc, &program, text)?;
+            Ok(spelled)
+        }
+        Err(_) => Ok(true),
+    }
+}
+
+/// The text with that byte at that place.
+fn changed(alloc: Global, text: &[u8], place: usize, byte: u8) -> Result<Vec<u8>, AllocError> {
+    let mut changed = Vec::from_slice(alloc, text)?;
+    if let Some(old) = changed.get_mut(place) {
+        *old = byte;
+    }
+    Ok(changed)
+}
+
+/// That the text with that byte at that place, if it is a program, is printed as it stands.
+fn expect_told(
+    rt: &(impl Abort + AllocGlobal),
+    text: &[u8],
+    place: usize,
+    byte: u8,
+) -> Result<(), Fail> {
+    let changed = changed(rt.alloc(), text, place, byte)?;
+    let told = is_told(rt.alloc(), changed.as_slice())?;
+    assert!(rt; told, "with {byte} at {place}");
+    Ok(())
+}
+
+#[test]
+fn each_byte_tells(rt: HostRuntime) -> Result<(), Fail> {
+    let text = b"global g\nproc f y\nvar x\nbranch b\nx = y + 10\nat b\ng = call f x\nend\n";
+    for place in 0..text.len() {
+        expect_told(&rt, text, place, b' ')?;
+        expect_told(&rt, text, place, b'\n')?;
+        expect_told(&rt, text, place, b'0')?;
+        expect_told(&rt, text, place, b'g')?;
+    }
+    Ok(())
+}
+
+/// Whether no line of the grammar has that spelling, in the one procedure of a text.
+fn is_no_line(alloc: Global, line: &str) -> Result<bool, AllocError> {
+    let text = repeated(alloc, "proc main\n", line, 1, "\nend\n")?;
+    Ok(is_answered(alloc, text.as_slice(), Some((2, Fault::NoSuchLine))))
+}
+
+/// That no line of the grammar has that spelling.
+fn expect_no_such_line(rt: &(impl Abort + AllocGlobal), line: &str) {
+    assert!(rt; is_no_line(rt.alloc(), line) == Ok(true), "at {line}");
+}
+
+#[test]
+fn spells_spaces_and_numbers_in_one_way(rt: HostRuntime) {
+    expect_no_such_line(&rt, "skip ");
+    expect_no_such_line(&rt, " skip");
+    expect_no_such_line(&rt, "skip  ");
+    expect_no_such_line(&rt, "");
+    expect_no_such_line(&rt, "x  = 5");
+    expect_no_such_line(&rt, "x = 05");
+    expect_no_such_line(&rt, "x = 00");
+    expect_no_such_line(&rt, "x = 18446744073709551616");
+    expect_no_such_line(&rt, "x = 99999999999999999999999999");
+    expect_no_such_line(&rt, "x = -5");
+    expect_no_such_line(&rt, "x = +5");
+    expect_no_such_line(&rt, "x\t=\t5");
+}
+
+#[test]
+fn spells_each_statement_in_one_way(rt: HostRuntime) {
+    expect_no_such_line(&rt, "x = 5 + x");
+    expect_no_such_line(&rt, "x = x + x");
+    expect_no_such_line(&rt, "x = x * 2");
+    expect_no_such_line(&rt, "x =");
+    expect_no_such_line(&rt, "x");
+    expect_no_such_line(&rt, "x = ? ?");
+    expect_no_such_line(&rt, "x = mix x");
+    expect_no_such_line(&rt, "x = mix x x x");
+    expect_no_such_line(&rt, "x = call");
+    expect_no_such_line(&rt, "call");
+    expect_no_such_line(&rt, "return 5");
+    expect_no_such_line(&rt, "return x x");
+    expect_no_such_line(&rt, "at");
+    expect_no_such_line(&rt, "at 5");
+    expect_no_such_line(&rt, "goto L L");
+    expect_no_such_line(&rt, "end end");
+    expect_no_such_line(&rt, "proc");
+    expect_no_such_line(&rt, "proc p 5");
+    expect_no_such_line(&rt, "global");
+    expect_no_such_line(&rt, "global g g");
+    expect_no_such_line(&rt, "# comment");
+}
+
+#[test]
+fn spells_each_name_in_one_way(rt: HostRuntime) {
+    expect_no_such_line(&rt, "call mix");
+    expect_no_such_line(&rt, "mix = 5");
+    expect_no_such_line(&rt, "x = skip");
+    expect_no_such_line(&rt, "skip\r");
+    expect_no_such_line(&rt, "skip\0");
+    expect_no_such_line(&rt, "\0");
+    expect_no_such_line(&rt, "X = \u{e4}");
+    expect_no_such_line(&rt, "var a2345678901234567890123456789012");
+}
