@@ -18,9 +18,9 @@ idesolve: $(SOURCES)
 run: idesolve
 	./idesolve once copy examples/copies.ide main
 
-# The gate: every proof from nothing, the must-fail edits, the tests, and the program's stored run.
+# The gate: every proof from nothing, the wrong bodies, the tests, and the program's rows and stored run.
 test:
-	rt ci
+	scripts/gate
 
 # Runs the program with no proof, in seconds: make try ARGS='once copy examples/copies.ide main'
 try:
