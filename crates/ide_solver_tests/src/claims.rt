@@ -17,7 +17,7 @@ fn expect_claim<P: Problem>(
     want: Result<Given, Refused>,
 ) {
     let found = Hand::new(number).claim(rt.alloc(), core);
-    assert!(rt; found == want, "{found:?} for hand {number}");
+    assert!(rt; found == want, "hand {number}");
 }
 
 /// Asserts what the next part of the hand's work does.
@@ -71,7 +71,7 @@ fn begin_work<P: Problem>(
     claim_task(alloc, core, hand)
 }
 
-/// Claims of several hands.
+/// Asserts what claims of several hands give, and that nothing is claimed without a root.
 fn expect_claims<P: Problem>(
     rt: &(impl Abort + AllocGlobal),
     core: &mut Core<P>,
@@ -85,6 +85,8 @@ fn expect_claims<P: Problem>(
     assert!(rt; refused_freeze(core) == Some(Refused::Unfinished));
     assert!(rt; release(core, 0) == Ok(()));
     assert!(rt; release(core, 0) == Err(Refused::Stale));
+    load(rt.alloc(), core, EMPTY)?;
+    expect_claim(rt, core, 0, Ok(Given::Quiet));
     Ok(())
 }
 
@@ -92,22 +94,6 @@ fn expect_claims<P: Problem>(
 fn claims_of_several_hands(rt: HostRuntime) -> Result<(), Fail> {
     let mut core: Core<CopyConst> = Core::new(rt.alloc());
     expect_claims(&rt, &mut core)
-}
-
-/// Asserts that nothing is claimed without a root.
-fn expect_nothing_without_a_root<P: Problem>(
-    rt: &(impl Abort + AllocGlobal),
-    core: &mut Core<P>,
-) -> Result<(), Fail> {
-    load(rt.alloc(), core, EMPTY)?;
-    expect_claim(rt, core, 0, Ok(Given::Quiet));
-    Ok(())
-}
-
-#[test]
-fn nothing_is_claimed_without_a_root(rt: HostRuntime) -> Result<(), Fail> {
-    let mut core: Core<CopyConst> = Core::new(rt.alloc());
-    expect_nothing_without_a_root(&rt, &mut core)
 }
 
 /// Asserts that work of before a load is stale.
@@ -124,13 +110,6 @@ fn expect_stale_after_load<P: Problem>(
     Ok(())
 }
 
-#[test]
-fn work_of_before_a_load_is_stale(rt: HostRuntime) -> Result<(), Fail> {
-    let mut core: Core<CopyConst> = Core::new(rt.alloc());
-    let mut hand = Hand::new(0);
-    expect_stale_after_load(&rt, &mut core, &mut hand)
-}
-
 /// Asserts that work of before a load goes on where the same key is claimed again.
 fn expect_work_that_goes_on<P: Problem>(
     rt: &(impl Abort + AllocGlobal),
@@ -142,13 +121,6 @@ fn expect_work_that_goes_on<P: Problem>(
     claim_again(rt.alloc(), core)?;
     expect_part(rt, core, hand, Ok(Parted::Lowered));
     Ok(())
-}
-
-#[test]
-fn work_of_the_same_claim_goes_on(rt: HostRuntime) -> Result<(), Fail> {
-    let mut core: Core<CopyConst> = Core::new(rt.alloc());
-    let mut hand = Hand::new(0);
-    expect_work_that_goes_on(&rt, &mut core, &mut hand)
 }
 
 /// Asserts that work of before a release is stale, of which a part was done.
@@ -165,13 +137,6 @@ fn expect_stale_after_release<P: Problem>(
     Ok(())
 }
 
-#[test]
-fn work_of_before_a_release_is_stale(rt: HostRuntime) -> Result<(), Fail> {
-    let mut core: Core<CopyConst> = Core::new(rt.alloc());
-    let mut hand = Hand::new(0);
-    expect_stale_after_release(&rt, &mut core, &mut hand)
-}
-
 /// Asserts that parts of before a release are stale.
 fn expect_stale_parts<P: Problem>(
     rt: &(impl Abort + AllocGlobal),
@@ -186,13 +151,6 @@ fn expect_stale_parts<P: Problem>(
     Ok(())
 }
 
-#[test]
-fn parts_of_before_a_release_are_stale(rt: HostRuntime) -> Result<(), Fail> {
-    let mut core: Core<CopyConst> = Core::new(rt.alloc());
-    let mut hand = Hand::new(0);
-    expect_stale_parts(&rt, &mut core, &mut hand)
-}
-
 /// Asserts that all claims are released by one call.
 fn expect_all_released<P: Problem>(
     rt: &(impl Abort + AllocGlobal),
@@ -205,13 +163,6 @@ fn expect_all_released<P: Problem>(
     expect_stale(rt, core, hand);
     assert!(rt; release(core, 0) == Err(Refused::Stale));
     Ok(())
-}
-
-#[test]
-fn all_claims_are_released(rt: HostRuntime) -> Result<(), Fail> {
-    let mut core: Core<CopyConst> = Core::new(rt.alloc());
-    let mut hand = Hand::new(0);
-    expect_all_released(&rt, &mut core, &mut hand)
 }
 
 /// Does so many parts of the hand's work.
@@ -241,9 +192,23 @@ fn expect_four_parts<P: Problem>(
     Ok(())
 }
 
+/// Asserts what work of a claim still does after it: each part begins with the program loaded anew.
+fn expect_work_of_claims<P: Problem>(
+    rt: &(impl Abort + AllocGlobal),
+    core: &mut Core<P>,
+    hand: &mut Hand<P>,
+) -> Result<(), Fail> {
+    expect_stale_after_load(rt, core, hand)?;
+    expect_work_that_goes_on(rt, core, hand)?;
+    expect_stale_after_release(rt, core, hand)?;
+    expect_stale_parts(rt, core, hand)?;
+    expect_all_released(rt, core, hand)?;
+    expect_four_parts(rt, core, hand)
+}
+
 #[test]
-fn no_part_follows_the_last(rt: HostRuntime) -> Result<(), Fail> {
+fn work_and_its_claim(rt: HostRuntime) -> Result<(), Fail> {
     let mut core: Core<CopyConst> = Core::new(rt.alloc());
     let mut hand = Hand::new(0);
-    expect_four_parts(&rt, &mut core, &mut hand)
+    expect_work_of_claims(&rt, &mut core, &mut hand)
 }

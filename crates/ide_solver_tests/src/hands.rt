@@ -11,7 +11,7 @@ use std::process::Abort;
 use std::test::Fail;
 
 /// What a claim gave, without its task.
-#[derive(Clone, Copy, PartialEq, Eq, Debug)]
+#[derive(Clone, Copy, PartialEq, Eq)]
 pub(crate) enum Given {
     Task,
     Idle,
@@ -38,6 +38,33 @@ fn work_of<P: Problem>(alloc: Global, task: Task<P>) -> Result<Work<P>, Refused>
 fn claim<P: Problem>(core: &mut Core<P>, number: usize) -> Result<Claimed<P>, Refused> {
     let claimed = core.claim(number)?;
     Ok(claimed)
+}
+
+/// Does the next part of the work, with the hand of that number.
+fn part<P: Problem>(
+    core: &mut Core<P>,
+    number: usize,
+    work: &mut Work<P>,
+) -> Result<Parted, Refused> {
+    let parted = core.part(number, work)?;
+    Ok(parted)
+}
+
+/// Does up to `most` of the next parts of the work, and answers how many.
+fn parts<P: Problem>(
+    core: &mut Core<P>,
+    number: usize,
+    work: &mut Work<P>,
+    most: usize,
+) -> Result<usize, Refused> {
+    let count = core.parts(number, work, most)?;
+    Ok(count)
+}
+
+/// Ends the claim of the hand of that number.
+fn finish<P: Problem>(core: &mut Core<P>, number: usize, work: &Work<P>) -> Result<(), Refused> {
+    core.finish(number, work)?;
+    Ok(())
 }
 
 /// Gives the claim of the hand of that number back.
@@ -71,28 +98,26 @@ impl<P: Problem> Hand<P> {
 
     /// Does the next part of its work.
     pub(crate) fn part(&mut self, core: &mut Core<P>) -> Result<Parted, Refused> {
-        let Some(work) = &mut self.work else {
-            return Err(Refused::Stale);
-        };
-        let parted = core.part(self.number, work)?;
-        Ok(parted)
+        match &mut self.work {
+            Some(work) => part(core, self.number, work),
+            None => Err(Refused::Stale),
+        }
     }
 
     /// Does up to `most` of the next parts of its work, and answers how many.
     pub(crate) fn parts(&mut self, core: &mut Core<P>, most: usize) -> Result<usize, Refused> {
-        let Some(work) = &mut self.work else {
-            return Err(Refused::Stale);
-        };
-        let count = core.parts(self.number, work, most)?;
-        Ok(count)
+        match &mut self.work {
+            Some(work) => parts(core, self.number, work, most),
+            None => Err(Refused::Stale),
+        }
     }
 
     /// Ends its claim, with all parts done.
     pub(crate) fn finish(&mut self, core: &mut Core<P>) -> Result<(), Refused> {
-        let Some(work) = &self.work else {
-            return Err(Refused::Stale);
-        };
-        core.finish(self.number, work)?;
+        match &self.work {
+            Some(work) => finish(core, self.number, work)?,
+            None => return Err(Refused::Stale),
+        }
         self.work = None;
         Ok(())
     }

@@ -1,12 +1,11 @@
 //! From text to answer: what rows of `examples/rows.txt` cannot say, since the program has one root
 //! and prints names.
-use crate::texts::{COPIES, EMPTY, NUMBER, RECURSION, TWO_CALLS, UNREACHABLE};
+use crate::texts::{COPIES, EMPTY, NUMBER, RECURSION, TWO_CALLS, UNREACHABLE, program_of};
 use ide_graph::Graph;
 use ide_instances::{CopyConst, Reach, Uninit};
 use ide_lattice::Lattice;
 use ide_problem::Problem;
 use ide_service::{solve, values_of};
-use ide_text::parse;
 use ide_values::Values;
 use ide_wire::{Fact, Node, Refused};
 use std::alloc::Global;
@@ -19,13 +18,17 @@ fn values<P: Problem>(alloc: Global, text: &str, roots: &[&[u8]]) -> Result<Valu
     Ok(values)
 }
 
-/// The value of a fact at a position of `main`.
-fn value_at<P: Problem>(values: &Values<P>, position: u32, fact: &str) -> Result<P::L, Refused> {
-    let (node, fact) = values
-        .loaded()
-        .graph
-        .find(b"main", position, fact.as_bytes())?;
-    values.at(node, fact)
+/// The node at a position of `main`, and the number of `@zero` there.
+fn place_of(graph: &Graph, position: u32) -> Result<(Node, Fact), Refused> {
+    let place = graph.find(b"main", position, b"@zero")?;
+    Ok(place)
+}
+
+/// The value of `@zero` at a position of `main`.
+fn value_at<P: Problem>(values: &Values<P>, position: u32) -> Result<P::L, Refused> {
+    let (node, fact) = place_of(&values.loaded().graph, position)?;
+    let value = values.at(node, fact)?;
+    Ok(value)
 }
 
 /// Asserts the value of `@zero` at a position of `main`, for these roots.
@@ -38,7 +41,7 @@ fn expect_zero<P: Problem>(
 ) -> Result<(), Fail> {
     let values = values::<P>(rt.alloc(), text, roots)?;
     assert!(rt;
-        value_at(&values, position, "@zero") == Ok(want),
+        value_at(&values, position) == Ok(want),
         "at {position} in {text}"
     );
     Ok(())
@@ -140,7 +143,7 @@ fn roots_that_are_refused(rt: HostRuntime) -> Result<(), Fail> {
 
 /// The graph of a text.
 fn graph_of(alloc: Global, text: &str) -> Result<Graph, Refused> {
-    let program = parse(alloc, text.as_bytes())?;
+    let program = program_of(alloc, text)?;
     let graph = Graph::of(alloc, &program)?;
     Ok(graph)
 }

@@ -33,20 +33,19 @@ fn tasks_of_the_empty_main(rt: HostRuntime) -> Result<(), Fail> {
     expect_tasks(&rt, &mut core, EMPTY, 3)
 }
 
-#[test]
-fn tasks_of_the_two_assignments(rt: HostRuntime) -> Result<(), Fail> {
-    let mut core: Core<CopyConst> = Core::new(rt.alloc());
-    expect_tasks(&rt, &mut core, COPIES, 13)
+/// Whether the function at a key is the identity.
+fn is_identity<P: Problem>(core: &Core<P>, key: Key) -> bool {
+    match core.get(key) {
+        Some(function) => *function == P::F::id(),
+        None => false,
+    }
 }
 
 /// Asserts that a summary is the identity, and not pending.
 fn expect_summary<P: Problem>(rt: &impl Abort, core: &Core<P>, call: Node, from: Fact, to: Fact) {
     let key = Key::Summary(call, from, to);
-    assert!(rt;
-        core.get(key).copied() == Some(P::F::id()),
-        "at {call} from {from} to {to}"
-    );
-    assert!(rt; !core.is_pending(key), "at {call} from {from} to {to}");
+    assert!(rt; is_identity(core, key));
+    assert!(rt; !core.is_pending(key));
 }
 
 /// Asserts that the program with two calls is tabulated, and that no key is pending.
@@ -68,12 +67,6 @@ fn drain_two_calls<P: Problem>(
     drain(core)?;
     expect_two_calls(rt, core);
     Ok(())
-}
-
-#[test]
-fn quiescent_tables(rt: HostRuntime) -> Result<(), Fail> {
-    let mut core: Core<CopyConst> = Core::new(rt.alloc());
-    drain_two_calls(&rt, &mut core)
 }
 
 /// The items of a core.
@@ -123,12 +116,14 @@ fn expect_image_of<P: Problem>(
     Ok(())
 }
 
-/// Asserts that the items of the program with two calls, in another core, make its image again.
-fn expect_image_again<P: Problem>(
+/// Asserts how many tasks the two assignments have, that the program with two calls is tabulated,
+/// and that its items, in another core, make its image again.
+fn expect_tables<P: Problem>(
     rt: &(impl Abort + AllocGlobal),
     core: &mut Core<P>,
     again: &mut Core<P>,
 ) -> Result<(), Fail> {
+    expect_tasks(rt, core, COPIES, 13)?;
     drain_two_calls(rt, core)?;
     load(rt.alloc(), again, TWO_CALLS)?;
     let items = items_of(core)?;
@@ -137,8 +132,8 @@ fn expect_image_again<P: Problem>(
 }
 
 #[test]
-fn items_make_their_image_again(rt: HostRuntime) -> Result<(), Fail> {
+fn tasks_and_quiescent_tables(rt: HostRuntime) -> Result<(), Fail> {
     let mut core: Core<CopyConst> = Core::new(rt.alloc());
     let mut again = Core::new(rt.alloc());
-    expect_image_again(&rt, &mut core, &mut again)
+    expect_tables(&rt, &mut core, &mut again)
 }

@@ -1,7 +1,7 @@
 //! The worked programs, and cores that have one loaded.
 use ide_problem::Problem;
 use ide_steps::Core;
-use ide_text::parse;
+use ide_text::{Program, parse};
 use ide_wire::Refused;
 use std::alloc::Global;
 
@@ -30,14 +30,19 @@ pub(crate) const RECURSION: &str =
 pub(crate) const ADDS_IN_CALLEE: &str =
     "proc f p\nvar q\nq = p + 1\nbranch done\ncall f q\nat done\nend\nproc main\nvar a\na = 1\ncall f a\nend\n";
 
+/// The program of a text.
+pub(crate) fn program_of(alloc: Global, text: &str) -> Result<Program, Refused> {
+    let program = parse(alloc, text.as_bytes())?;
+    Ok(program)
+}
+
 /// Loads a text.
 pub(crate) fn load<P: Problem>(
     alloc: Global,
     core: &mut Core<P>,
     text: &str,
 ) -> Result<(), Refused> {
-    let program = parse(alloc, text.as_bytes())?;
-    core.load(program)?;
+    core.load(program_of(alloc, text)?)?;
     Ok(())
 }
 
