@@ -6,7 +6,7 @@ use std::alloc::Global;
 use std::process::Abort;
 
 /// A store with this tag, on that disk.
-pub fn create(alloc: Global, disk: MemDisk, tag: u8) -> Result<Journal<MemDisk>, Refused> {
+pub(crate) fn create(alloc: Global, disk: MemDisk, tag: u8) -> Result<Journal<MemDisk>, Refused> {
     match Journal::create(alloc, disk, tag.max(1)) {
         Ok(journal) => Ok(journal),
         Err((refused, _)) => Err(refused),
@@ -24,7 +24,7 @@ fn begin(rt: &impl Abort, journal: &mut Journal<MemDisk>, raw: &RawRecord) -> Re
 }
 
 /// A record of that kind and body is put under way.
-pub fn begin_record(
+pub(crate) fn begin_record(
     rt: &(impl Abort + AllocGlobal),
     journal: &mut Journal<MemDisk>,
     kind: u8,
@@ -43,7 +43,7 @@ fn advances(rt: &impl Abort, journal: &mut Journal<MemDisk>, expected: Phase) {
 }
 
 /// A record of that kind and body is stored.
-pub fn store(
+pub(crate) fn store(
     rt: &(impl Abort + AllocGlobal),
     journal: &mut Journal<MemDisk>,
     kind: u8,
@@ -58,7 +58,7 @@ pub fn store(
 }
 
 /// Whether the disk has so many bytes.
-pub fn has_length(disk: &mut MemDisk, expected: u64) -> bool {
+pub(crate) fn has_length(disk: &mut MemDisk, expected: u64) -> bool {
     match disk.len() {
         Ok(len) => len == expected,
         Err(_) => false,

@@ -102,6 +102,10 @@ fn finds_names_that_nothing_declares(rt: HostRuntime) {
         4,
         Fault::NoSuchVariable,
     );
+}
+
+#[test]
+fn finds_wrong_calls(rt: HostRuntime) {
     expect_fault(&rt, "proc main\ncall q\nend\n", 2, Fault::NoSuchProcedure);
     expect_fault(
         &rt,

@@ -5,7 +5,7 @@ use std::process::Abort;
 
 /// A call, as its call node and the exit of its callee have to show it.
 #[derive(Clone, Copy)]
-pub struct Call {
+pub(crate) struct Call {
     pub node: Node,
     /// The start of the callee.
     pub start: Node,
@@ -123,7 +123,7 @@ fn site_at<'a>(rt: &impl Abort, graph: &'a Graph, node: Node) -> &'a Site {
 }
 
 /// That one edge leaves the node, a normal one to that end with that effect.
-pub fn expect_step(rt: &impl Abort, graph: &Graph, node: Node, end: Node, effect: Effect) {
+pub(crate) fn expect_step(rt: &impl Abort, graph: &Graph, node: Node, end: Node, effect: Effect) {
     assert!(rt;
         is_step(site_at(rt, graph, node), end, effect),
         "at node {node}"
@@ -131,7 +131,7 @@ pub fn expect_step(rt: &impl Abort, graph: &Graph, node: Node, end: Node, effect
 }
 
 /// That two edges leave the node, normal ones to these ends that change nothing.
-pub fn expect_fork(rt: &impl Abort, graph: &Graph, node: Node, first: Node, second: Node) {
+pub(crate) fn expect_fork(rt: &impl Abort, graph: &Graph, node: Node, first: Node, second: Node) {
     assert!(rt;
         is_fork(site_at(rt, graph, node), first, second),
         "at node {node}"
@@ -139,13 +139,13 @@ pub fn expect_fork(rt: &impl Abort, graph: &Graph, node: Node, first: Node, seco
 }
 
 /// That the call stands at its node.
-pub fn expect_call(rt: &impl Abort, graph: &Graph, call: Call) {
+pub(crate) fn expect_call(rt: &impl Abort, graph: &Graph, call: Call) {
     let node = call.node;
     assert!(rt; call.stands_at(site_at(rt, graph, node)), "at node {node}");
 }
 
 /// That the node is the exit of the procedure that begins there, with these callers alone.
-pub fn expect_exit(rt: &impl Abort, graph: &Graph, node: Node, start: Node, calls: &[Call]) {
+pub(crate) fn expect_exit(rt: &impl Abort, graph: &Graph, node: Node, start: Node, calls: &[Call]) {
     assert!(rt;
         is_exit(site_at(rt, graph, node), start, calls),
         "at node {node}"
@@ -153,7 +153,13 @@ pub fn expect_exit(rt: &impl Abort, graph: &Graph, node: Node, start: Node, call
 }
 
 /// That the site of the node, once it is carried away, is one step.
-pub fn expect_shared_step(rt: &impl Abort, graph: &Graph, node: Node, end: Node, effect: Effect) {
+pub(crate) fn expect_shared_step(
+    rt: &impl Abort,
+    graph: &Graph,
+    node: Node,
+    end: Node,
+    effect: Effect,
+) {
     assert!(rt; (node as usize) < graph.node_count(), "at node {node}");
     match graph.shared_site(node) {
         Ok(site) => assert!(rt; is_step(&site, end, effect), "at node {node}"),

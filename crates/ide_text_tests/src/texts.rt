@@ -5,7 +5,7 @@ use itoa::Buffer;
 use std::alloc::{AllocError, Global};
 
 /// Whether the text is refused for that fault of that line, or is a program where none is given.
-pub fn is_answered(alloc: Global, text: &[u8], expected: Option<(u32, Fault)>) -> bool {
+pub(crate) fn is_answered(alloc: Global, text: &[u8], expected: Option<(u32, Fault)>) -> bool {
     match (parse(alloc, text), expected) {
         (Ok(_), None) => true,
         (Err(refused), Some((line, fault))) => refused == Refused::Text { line, fault },
@@ -14,7 +14,7 @@ pub fn is_answered(alloc: Global, text: &[u8], expected: Option<(u32, Fault)>) -
 }
 
 /// The text, that many copies of a part of it, and the rest.
-pub fn repeated(
+pub(crate) fn repeated(
     alloc: Global,
     head: &str,
     part: &str,
@@ -31,7 +31,7 @@ pub fn repeated(
 
 /// The text, a line for each number below that count, with the number between both parts, and the
 /// rest.
-pub fn numbered(
+pub(crate) fn numbered(
     alloc: Global,
     head: &str,
     parts: (&str, &str),
