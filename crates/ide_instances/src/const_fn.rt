@@ -1,7 +1,7 @@
 //! Functions over constants that are closed under composition and meet.
 ghost use Rattle.std.specs.Prelude.{◌≡◌, ◌++◌, ◌∷◌, OnOk, OnErr};
 ghost use Rattle.std.specs.Int.{w64, to_le_bytes};
-ghost use Rattle.std.proofs.Common.{refl};
+ghost use Rattle.std.proofs.Common.{refl, lit≤};
 
 use crate::const_value::ConstValue;
 use ide_lattice::EdgeFn;
@@ -227,4 +227,8 @@ impl EdgeFn for ConstFn {
     ghost exact = { const_fn_exact };
 
     ghost proper_as_coded = { λ f. refl };
+
+    ghost few_bytes = { lit≤ tt };
+
+    ghost default_is_all_top = { λ f is. is };
 }

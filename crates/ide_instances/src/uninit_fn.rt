@@ -1,6 +1,6 @@
 //! The functions over the lattice of two values.
 ghost use Rattle.std.specs.Prelude.{◌≡◌, ◌++◌, true};
-ghost use Rattle.std.proofs.Common.{refl};
+ghost use Rattle.std.proofs.Common.{refl, lit≤};
 
 use crate::uninit_value::UninitValue;
 use ide_lattice::EdgeFn;
@@ -111,4 +111,8 @@ impl EdgeFn for UninitFn {
     ghost exact = { uninit_fn_exact };
 
     ghost proper_as_coded = { λ f. refl };
+
+    ghost few_bytes = { lit≤ tt };
+
+    ghost default_is_all_top = { λ f is. is };
 }

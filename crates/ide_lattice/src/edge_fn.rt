@@ -1,5 +1,5 @@
 //! Edge functions: the coded functions over a lattice that edges, jumps and summaries carry.
-ghost use Rattle.std.specs.Prelude.{◌≡◌, ℕ, IsTrue, true};
+ghost use Rattle.std.specs.Prelude.{◌≡◌, ◌≤◌, ℕ, IsTrue, true};
 ghost use Rattle.ide_lattice.specs.Algebra.{EdgeAlgebra};
 ghost use Rattle.ide_lattice.specs.Laws.{IsEdgeAlgebra};
 
@@ -7,8 +7,8 @@ use crate::lattice::Lattice;
 use ide_wire::Wire;
 
 /// A class of functions over a lattice that is closed under composition and meet, each in one
-/// coded form: equality of forms is equality of functions. Every function maps top to top, and
-/// the default is the function that always gives top.
+/// coded form of at most 32 bytes: equality of forms is equality of functions. Every function maps
+/// top to top, and the default is the function that always gives top.
 pub trait EdgeFn: Wire + Copy + Eq + Default {
     /// The values that the functions map.
     type L: Lattice;
@@ -56,4 +56,8 @@ pub trait EdgeFn: Wire + Copy + Eq + Default {
     ghost exact: { (f g : Self) → Self.eq f g ≡ true → f ≡ g };
 
     ghost proper_as_coded: { (f : Self) → Self.proper f ≡ edge.proper f };
+
+    ghost few_bytes: { Self.MAX ≤ 32 };
+
+    ghost default_is_all_top: { (f : Self) → Self.is_default f → f ≡ edge.all_top };
 }

@@ -1,4 +1,5 @@
 pub mod Form
 pub mod Key
+pub mod KeyOrder
 pub mod Listing
 pub mod Numbers

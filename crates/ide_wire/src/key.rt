@@ -1,8 +1,11 @@
 //! Nodes, facts and keys.
 ghost use Rattle.std.specs.Prelude.{◌≡◌};
+ghost use Rattle.std.proofs.Common.{refl};
+ghost use Rattle.std.specs.Ordering.{as_partial_cmp};
 
 use crate::wire::Wire;
 use std::alloc::AllocError;
+use std::cmp::Ordering;
 
 /// A node of the supergraph, numbered from 0, procedure by procedure.
 pub type Node = u32;
@@ -10,8 +13,9 @@ pub type Node = u32;
 /// A dataflow fact, numbered from 0. Fact 0 is the zero fact, printed `@zero`.
 pub type Fact = u16;
 
-/// What an entry of the tables is about: a jump function or a summary.
-#[derive(Clone, Copy, PartialEq, Eq, PartialOrd, Ord, Hash, Debug)]
+/// What an entry of the tables is about: a jump function or a summary. Each jump stands before each
+/// summary; then keys go by node, then by the first fact, then by the second.
+#[derive(Clone, Copy, PartialEq, Eq, Hash, Debug)]
 pub enum Key {
     /// `Jump(n, d1, d2)`: the function from fact `d1` at the start of `n`'s procedure to `d2` at
     /// node `n`.
@@ -32,6 +36,46 @@ impl Key {
             Key::Summary(call, _, _) => call,
         }
     }
+}
+
+impl Ord for Key {
+    ghost use Rattle.ide_wire.specs.KeyOrder.{key_cmp, key_cmp_total, key_cmp_equal};
+
+    ghost cmp = { key_cmp };
+
+    // The first numbers that differ decide. `then` would compare the later ones too.
+    fn cmp(&self, other: &Key) -> Ordering {
+        match (*self, *other) {
+            (Key::Jump(_, _, _), Key::Summary(_, _, _)) => Ordering::Less,
+            (Key::Summary(_, _, _), Key::Jump(_, _, _)) => Ordering::Greater,
+            (Key::Jump(n, a, b), Key::Jump(m, c, d))
+            | (Key::Summary(n, a, b), Key::Summary(m, c, d)) => match n.cmp(&m) {
+                Ordering::Equal => match a.cmp(&c) {
+                    Ordering::Equal => b.cmp(&d),
+                    order => order,
+                },
+                order => order,
+            },
+        }
+    }
+
+    ghost total = { key_cmp_total };
+
+    ghost matches_partial_cmp = { λ x y. refl };
+
+    ghost matches_eq = { key_cmp_equal };
+}
+
+impl PartialOrd for Key {
+    ghost use Rattle.ide_wire.specs.KeyOrder.{key_cmp, key_cmp_partial};
+
+    ghost partial_cmp = { as_partial_cmp key_cmp };
+
+    fn partial_cmp(&self, other: &Key) -> Option<Ordering> {
+        Some(self.cmp(other))
+    }
+
+    ghost laws = { key_cmp_partial };
 }
 
 impl Wire for Key {
