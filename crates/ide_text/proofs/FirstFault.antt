@@ -2,7 +2,7 @@
 use Rattle.std.proofs.Common.{◌≡◌, ℕ, ◌≤◌, ◌==◌, cond, subst, sym, ap, refl, ◌∙◌, arith}
 use Rattle.ide_wire.specs.declared.refused.Fault.{Fault}
 use Rattle.ide_wire.specs.declared.refused.Fault.TheVariants.{TextTooLong, NoSuchLine, OutOfPlace, TooMany, DeclaredTwice, NoSuchVariable, NoSuchLabel, NoSuchProcedure, WrongArguments}
-use Rattle.ide_text.specs.declared.program.Program.{Program}
+use Rattle.ide_text.specs.declared.program.Draft.{Draft}
 use Rattle.ide_text.specs.First.{IsFirst, number_of}
 use Rattle.ide_text.specs.NameFault.{NameFault, IsFirstNameFault, IsWellNamed}
 
@@ -36,8 +36,8 @@ IsFirst-unique faults l k f g a b =
     let most : number_of g ≤ number_of f = b.least_number f (subst (λ (m : ℕ). faults m f) same a.found) in
     (same, number_of-injective f g (omega arith))
 
-pub IsFirstNameFault-unique : (p : Program) (l k : ℕ) (f g : Fault) → IsFirstNameFault p l f → IsFirstNameFault p k g → (l ≡ k) × (f ≡ g)
+pub IsFirstNameFault-unique : (p : Draft) (l k : ℕ) (f g : Fault) → IsFirstNameFault p l f → IsFirstNameFault p k g → (l ≡ k) × (f ≡ g)
 IsFirstNameFault-unique p l k f g a b = IsFirst-unique (NameFault p) l k f g a b
 
-pub IsFirstNameFault-not_well_named : (p : Program) (l : ℕ) (f : Fault) → IsFirstNameFault p l f → ¬ IsWellNamed p
+pub IsFirstNameFault-not_well_named : (p : Draft) (l : ℕ) (f : Fault) → IsFirstNameFault p l f → ¬ IsWellNamed p
 IsFirstNameFault-not_well_named p l f first well = well l f first.found

@@ -1,5 +1,6 @@
 pub mod Extends
 pub mod FirstFault
+pub mod LimitsSame
 pub mod LineLemmas
 pub mod Lines
 pub mod NameLists
@@ -11,6 +12,7 @@ pub mod PlaceLemmas
 pub mod ProgramLemmas
 pub mod Refusal
 pub mod Repeated
+pub mod RoundTrip
 pub mod Shapes
 pub mod Standing
 pub mod StatementLemmas

@@ -11,7 +11,7 @@ use Rattle.ide_text.specs.declared.program.Statement.{Statement}
 use Rattle.ide_text.specs.Names.{IsRepeated}
 use Rattle.ide_text.specs.First.{IsLeast, IsFirst, TellsFirst, Checked, number_of}
 use Rattle.ide_text.specs.NameFault.{StatementFault, StatementsFault, ProcedureFault, Parameter_again, Local_again, In_statement, variables_in}
-use Rattle.ide_text.specs.Program.{lines_of_procedure}
+use Rattle.ide_text.specs.Draft.{lines_of_procedure}
 use Rattle.ide_text.proofs.StatementLemmas.{number_from}
 
 -- none of these faults stands on a line below that one

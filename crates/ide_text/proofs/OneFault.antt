@@ -1,6 +1,7 @@
 -- A text has one fault at most, and none where it is parsed.
 use Rattle.std.proofs.Common.{◌≡◌, ℕ, List, refl, arith}
 use Rattle.ide_wire.specs.declared.refused.Fault.{Fault}
+use Rattle.ide_text.specs.declared.program.Draft.{Draft}
 use Rattle.ide_text.specs.declared.program.Program.{Program}
 use Rattle.ide_text.specs.Grammar.{Spells}
 use Rattle.ide_text.specs.NameFault.{IsFirstNameFault}
@@ -10,8 +11,8 @@ use Rattle.ide_text.proofs.OneProgram.{one_program}
 use Rattle.ide_text.proofs.Unique.{FirstFault-one, spelled_has_none}
 use Rattle.ide_text.proofs.Value.{IsFirstNameFault-same}
 
--- two programs that one text spells have one first fault of their names
-names_one : (text : List ℕ) (p q : Program) → Spells text p → Spells text q → (m n : ℕ) (f g : Fault)
+-- two drafts that one text spells have one first fault of their names
+names_one : (text : List ℕ) (p q : Draft) → Spells text p → Spells text q → (m n : ℕ) (f g : Fault)
     → IsFirstNameFault p m f → IsFirstNameFault q n g → (m ≡ n) × (f ≡ g)
 names_one text p q sp sq m n f g first other =
     IsFirstNameFault-unique q m n f g (IsFirstNameFault-same p q (one_program text p q sp sq) m f first) other
@@ -32,6 +33,6 @@ one_fault text m n f g (In_names short p sp wl l h a) (In_names short2 q sq wm k
 
 pub parsed_has_none : (text : List ℕ) (p : Program) (n : ℕ) (f : Fault) → IsParsed text p → ¬ (TextFault text n f)
 parsed_has_none text p n f parsed (Too_long long) = omega (arith, long, parsed.short)
-parsed_has_none text p n f parsed (In_lines short l h a) = spelled_has_none text l h (p, parsed.spelled, parsed.limits) a
+parsed_has_none text p n f parsed (In_lines short l h a) = spelled_has_none text l h (p.draft, parsed.spelled, p.limits) a
 parsed_has_none text p n f parsed (In_names short q sq wl l h a) =
-    parsed.named l h (IsFirstNameFault-same q p (one_program text q p sq parsed.spelled) l h a).found
+    p.named l h (IsFirstNameFault-same q p.draft (one_program text q p.draft sq parsed.spelled) l h a).found

@@ -7,37 +7,37 @@ use Rattle.ide_text.specs.declared.token.Token.{Token}
 use Rattle.ide_text.specs.declared.token.Token.TheVariants as token
 use Rattle.ide_text.specs.declared.line.Line.{Line}
 use Rattle.ide_text.specs.declared.line.Line.TheVariants.{Global, Procedure as Begin, Local, End, Statement as Step}
-use Rattle.ide_text.specs.declared.program.Program.{Program}
+use Rattle.ide_text.specs.declared.program.Draft.{Draft}
 use Rattle.ide_text.specs.declared.program.Procedure.{Procedure}
 use Rattle.ide_text.specs.declared.program.Statement.TheVariants.{Assign, Skip, At, Goto, Branch, Call, Return}
 use Rattle.ide_text.specs.declared.program.Expression.{Expression}
 use Rattle.ide_text.specs.declared.program.Expression.TheVariants.{Number, Copy, Sum, Difference, Unknown, Mix}
 use Rattle.ide_text.specs.FirstFault.{lines_text}
 use Rattle.ide_text.specs.Grammar.{IsLine, IsProcedure, IsProgram, Spells}
-use Rattle.ide_text.specs.Lines.{ended_lines, global_lines, open_lines, program_lines}
-use Rattle.ide_text.specs.Program.{globals_of, procedures_of}
+use Rattle.ide_text.specs.Lines.{ended_lines, global_lines, open_lines, draft_lines}
+use Rattle.ide_text.specs.Draft.{globals_of, procedures_of}
 use Rattle.ide_text.specs.Text.{line_text}
 use Rattle.ide_text.specs.Token.{line_tokens, name_tokens}
-use Rattle.ide_text.specs.Value.{ProcedureValue, ProgramValue, StatementValue, calling, other, value_of, value_of_procedure, value_of_statement}
+use Rattle.ide_text.specs.Value.{ProcedureValue, ProgramValue, StatementValue, calling, other, draft_value, value_of_procedure, value_of_statement}
 use Rattle.ide_text.proofs.Shapes.{same_line_tokens}
 use Rattle.ide_text.proofs.Texts.{line_lacks, program_text_is}
 use Rattle.ide_text.proofs.Unique.{same_lines}
 
 -- the value of a line
-data LineValue : Type 0 where
+pub data LineValue : Type 0 where
   at_global at_local : List ℕ → LineValue
   at_procedure : List ℕ → List (List ℕ) → LineValue
   at_end : LineValue
   at_statement : StatementValue → LineValue
 
-abbrev line_value : Line → LineValue
+abbrev pub line_value : Line → LineValue
 line_value (Global g) = at_global g
 line_value (Begin p parameters) = at_procedure p parameters.items
 line_value (Local x) = at_local x
 line_value End = at_end
 line_value (Step s) = at_statement (value_of_statement s)
 
-abbrev values : List Line → List LineValue
+abbrev pub values : List Line → List LineValue
 values ls = map line_value ls
 
 -- ---- the tokens of a line tell its value
@@ -128,7 +128,7 @@ program_from (at_statement s ∷ vs) globals locals statements procedures = prog
 program_from (at_procedure p parameters ∷ vs) globals locals statements procedures =
     program_from vs globals [] [] (record { name = p; parameters = parameters; locals = locals; statements = statements } ∷ procedures)
 
-reversed : {X : Type 0} (f : X → Line) (x : X) (xs : List X) (rest : List Line) → reverse (map f (x ∷ xs)) ++ rest ≡ reverse (map f xs) ++ (f x ∷ rest)
+pub reversed : {X : Type 0} (f : X → Line) (x : X) (xs : List X) (rest : List Line) → reverse (map f (x ∷ xs)) ++ rest ≡ reverse (map f xs) ++ (f x ∷ rest)
 reversed f x xs rest = ap (λ ls. ls ++ rest) (reverse-append (f x ∷ []) (map f xs)) ∙ append_assoc (reverse (map f xs)) (f x ∷ []) rest
 
 -- lines of one kind
@@ -144,7 +144,7 @@ from_whole : {X : Type 0} (f : X → Line) (P : List LineValue → List X → Pr
     (xs : List X) (rest : List Line) → P (values (reverse (map f xs) ++ rest)) [] ≡ P (values rest) xs
 from_whole f P step xs rest = from_kind f P step xs [] rest ∙ ap (P (values rest)) (append-nil xs)
 
-open_apart : (p : Procedure) (rest : List Line) → open_lines p ++ rest ≡ reverse (map (λ s. Step s) p.statements.items) ++ (reverse (map (λ x. Local x) p.locals.items) ++ (Begin p.name p.parameters ∷ rest))
+pub open_apart : (p : Procedure) (rest : List Line) → open_lines p ++ rest ≡ reverse (map (λ s. Step s) p.statements.items) ++ (reverse (map (λ x. Local x) p.locals.items) ++ (Begin p.name p.parameters ∷ rest))
 open_apart p rest = simp append_assoc
 
 from_open : (p : Procedure) (rest : List Line) (globals : List (List ℕ)) (procedures : List ProcedureValue) →
@@ -167,7 +167,7 @@ from_globals globals procedures =
     ap (λ ls. program_from (values ls) [] [] [] procedures) (sym (append-nil (global_lines globals)))
     ∙ from_whole (λ g. Global g) (λ vs gs. program_from vs gs [] [] procedures) (λ vs g gs. refl) globals []
 
-program_from-lines : (p : Program) → program_from (values (program_lines p)) [] [] [] [] ≡ value_of p
+program_from-lines : (p : Draft) → program_from (values (draft_lines p)) [] [] [] [] ≡ draft_value p
 program_from-lines p =
     from_ended (procedures_of p) (global_lines (globals_of p)) [] []
     ∙ ap (λ ps. program_from (values (global_lines (globals_of p))) [] [] [] ps) (append-nil (map value_of_procedure (procedures_of p)))
@@ -193,7 +193,7 @@ ended_are_lines : (ps : List Procedure) → AllByRecursion IsProcedure ps → Al
 ended_are_lines [] h = tt
 ended_are_lines (p ∷ ps) h = all_joined (ended_lines ps) (End ∷ open_lines p) (ended_are_lines ps h.1) (tt, open_are_lines p h.0)
 
-program_are_lines : (p : Program) → IsProgram p → AllByRecursion IsLine (program_lines p)
+program_are_lines : (p : Draft) → IsProgram p → AllByRecursion IsLine (draft_lines p)
 program_are_lines p h = all_joined (ended_lines (procedures_of p)) (global_lines (globals_of p)) (ended_are_lines (procedures_of p) h.procedures) (all_reversed (λ g. Global g) (globals_of p) h.globals)
 
 -- ---- a text has as many lines as it has LF
@@ -217,7 +217,7 @@ lines_one ls ms h k e =
     let many : length ls ≡ length ms = sym (feeds_are_lines ls h) ∙ ap (count_by (λ b. b == 10)) e ∙ feeds_are_lines ms k in
     (same_lines line_value same_value ls ms [] [] many h k (ap (λ t. t ++ []) e)).0
 
-pub one_program : (text : List ℕ) (p q : Program) → Spells text p → Spells text q → value_of p ≡ value_of q
+pub one_program : (text : List ℕ) (p q : Draft) → Spells text p → Spells text q → draft_value p ≡ draft_value q
 one_program text p q a b =
-    let same = lines_one (program_lines p) (program_lines q) (program_are_lines p a.proper) (program_are_lines q b.proper) (program_text_is p ∙ a.same ∙ sym b.same ∙ sym (program_text_is q)) in
+    let same = lines_one (draft_lines p) (draft_lines q) (program_are_lines p a.proper) (program_are_lines q b.proper) (program_text_is p ∙ a.same ∙ sym b.same ∙ sym (program_text_is q)) in
     sym (program_from-lines p) ∙ ap (λ vs. program_from vs [] [] [] []) same ∙ program_from-lines q

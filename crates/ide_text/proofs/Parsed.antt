@@ -3,8 +3,7 @@ use Rattle.std.proofs.Common.{◌≡◌, ◌≤◌, ℕ, List, length, sym, subs
 use Rattle.std.specs.Prelude.{IfErr}
 use Rattle.ide_wire.specs.declared.refused.Refused.{Refused}
 use Rattle.ide_wire.specs.declared.refused.Refused.TheVariants.{NoMemory, Text}
-use Rattle.ide_text.specs.declared.parser.TheConstants.{MAX_TEXT}
-use Rattle.ide_text.specs.declared.program.Program.{Program}
+use Rattle.ide_text.specs.declared.program.Draft.{Draft}
 use Rattle.ide_text.specs.First.{TellsFirst}
 use Rattle.ide_text.specs.Grammar.{Spells}
 use Rattle.ide_text.specs.Lines.{IsWithinLimits}
@@ -12,12 +11,12 @@ use Rattle.ide_text.specs.NameFault.{NameFault}
 use Rattle.ide_text.specs.Parsed.{IsRefusalOf, In_lines, In_names}
 use Rattle.ide_text.specs.Refusal.{IsFirstFault}
 
-pub refused_lines : (text : List ℕ) (refused : Refused) → length text ≤ MAX_TEXT → IsFirstFault text refused → IsRefusalOf text refused
+pub refused_lines : (text : List ℕ) (refused : Refused) → length text ≤ 1048576 → IsFirstFault text refused → IsRefusalOf text refused
 refused_lines text NoMemory short h = tt
 refused_lines text (Text line fault) short h = In_lines short line fault h
 refused_lines text _ short h = h
 
-pub refused_names : (text : List ℕ) (p : Program) (refused : Refused) → length text ≤ MAX_TEXT → Spells text p → IsWithinLimits p
+pub refused_names : (text : List ℕ) (p : Draft) (refused : Refused) → length text ≤ 1048576 → Spells text p → IsWithinLimits p
     → TellsFirst (NameFault p) refused → IsRefusalOf text refused
 refused_names text p NoMemory short spelled limits h = tt
 refused_names text p (Text line fault) short spelled limits h = In_names short p spelled limits line fault h

@@ -9,12 +9,12 @@ use Rattle.ide_wire.specs.declared.refused.Fault.{Fault}
 use Rattle.ide_wire.specs.declared.refused.Fault.TheVariants.{DeclaredTwice}
 use Rattle.ide_wire.specs.declared.refused.Refused.{Refused}
 use Rattle.ide_wire.specs.declared.refused.Refused.TheVariants.{NoMemory, Text}
-use Rattle.ide_text.specs.declared.program.Program.{Program}
+use Rattle.ide_text.specs.declared.program.Draft.{Draft}
 use Rattle.ide_text.specs.declared.program.Procedure.{Procedure}
 use Rattle.ide_text.specs.Names.{IsRepeated, is_named}
 use Rattle.ide_text.specs.First.{IsFirst, TellsFirst, Checked, number_of}
 use Rattle.ide_text.specs.NameFault.{ProcedureFault, NameFault, Global_again, Procedure_again, In_procedure, line_of_procedure}
-use Rattle.ide_text.specs.Program.{globals_of, procedures_of, lines_of, lines_of_procedure}
+use Rattle.ide_text.specs.Draft.{globals_of, procedures_of, lines_of, lines_of_procedure}
 use Rattle.ide_text.specs.Refusal.{IsTextRefusal}
 use Rattle.ide_text.proofs.LineLemmas.{NoneBelow, some_same, procedure_lines, procedure_number}
 
@@ -33,7 +33,7 @@ sum_before f (y ∷ ys) (suc j) (suc k) x at less =
     let whole : sum_by f (y ∷ take k ys) ≡ f y + sum_by f (take k ys) = sum_by-cons f y (take k ys) in
     omega arith
 
-module _ (p : Program) where
+module _ (p : Draft) where
   -- the faults of the j-th procedure, but of its name
   abbrev pub InThe : ℕ → Procedure → ℕ → Fault → Type 0
   InThe j q = ProcedureFault (globals_of p) (procedures_of p) q (line_of_procedure p j)

@@ -11,17 +11,17 @@ use Rattle.ide_text.specs.declared.token.Token.{Token}
 use Rattle.ide_text.specs.declared.line.Line.{Line}
 use Rattle.ide_text.specs.declared.line.Line.TheVariants.{Global, Procedure as Begin, Local, End, Statement as Step}
 use Rattle.ide_text.specs.declared.program.Procedure.{Procedure}
-use Rattle.ide_text.specs.declared.program.Program.{Program}
+use Rattle.ide_text.specs.declared.program.Draft.{Draft}
 use Rattle.ide_text.specs.FirstFault.{AreTaken, BeginsNoLine, FirstFault, MayEnd, lines_text}
 use Rattle.ide_text.specs.Grammar.{IsLine, IsProcedure, IsProgram, Spells}
-use Rattle.ide_text.specs.Lines.{ended_lines, global_lines, open_lines, program_lines}
-use Rattle.ide_text.specs.Program.{globals_of, lines_of, lines_of_procedure, procedures_of}
+use Rattle.ide_text.specs.Lines.{ended_lines, global_lines, open_lines, draft_lines}
+use Rattle.ide_text.specs.Draft.{globals_of, lines_of, lines_of_procedure, procedures_of}
 use Rattle.ide_text.specs.declared.flaw.Flaw.{Flaw}
 use Rattle.ide_text.specs.declared.flaw.Flaw.TheVariants as flaw
 use Rattle.ide_text.specs.Flaw.{IfFaulty}
 use Rattle.ide_text.specs.Reader.{RefusesLine}
 use Rattle.ide_text.specs.Refusal.{IsFirstFault, refusal_on}
-use Rattle.ide_text.specs.Text.{globals_text, line_text, locals_text, names_text, procedures_text, program_text, statements_text}
+use Rattle.ide_text.specs.Text.{globals_text, line_text, locals_text, names_text, procedures_text, draft_text, statements_text}
 use Rattle.ide_text.specs.Token.{IsToken, Lacks, token_text, line_tokens}
 use Rattle.ide_text.proofs.Words.{and_parts, and_from, is_token_byte, list_all_weaker, line_proper, line_spelled, not_byte_from, or_left, token_bytes, tokens_text}
 
@@ -60,7 +60,7 @@ ended_text (p ∷ ps) =
     ∙ ap (λ t. t ++ procedures_text ps) (append_assoc (codes "proc " ++ p.name ++ names_text p.parameters.items ++ codes "\n" ++ locals_text p.locals.items ++ statements_text p.statements.items) (codes "end") (codes "\n"))
 
 -- the text of a program is that of its lines
-pub program_text_is : (p : Program) → lines_text (program_lines p) ≡ program_text p
+pub program_text_is : (p : Draft) → lines_text (draft_lines p) ≡ draft_text p
 program_text_is p =
     lines_text-append (ended_lines (procedures_of p)) (global_lines (globals_of p))
     ∙ ap (λ t. t ++ lines_text (ended_lines (procedures_of p))) (lines_text_kind (λ g. Global g) (globals_of p))
@@ -80,7 +80,7 @@ length_ended : (ps : List Procedure) → length (ended_lines ps) ≡ sum_by line
 length_ended [] = refl
 length_ended (p ∷ ps) = omega (arith, length-append (ended_lines ps) (End ∷ open_lines p), length_ended ps, length_open p, sum_by-cons lines_of_procedure p ps)
 
-pub length_program_lines : (p : Program) → length (program_lines p) ≡ lines_of p
+pub length_program_lines : (p : Draft) → length (draft_lines p) ≡ lines_of p
 length_program_lines p = omega (arith, length-append (ended_lines (procedures_of p)) (global_lines (globals_of p)), length_ended (procedures_of p), length_kind (λ g. Global g) (globals_of p))
 
 -- ---- a program whose lines were taken is of the grammar
@@ -115,13 +115,13 @@ ended_proper : (ps : List Procedure) → AllByRecursion IsLine (ended_lines ps) 
 ended_proper [] h = tt
 ended_proper (p ∷ ps) h = let parts = all_parts (ended_lines ps) (End ∷ open_lines p) h in (open_proper p parts.1.1, ended_proper ps parts.0)
 
-pub program_proper : (p : Program) → AllByRecursion IsLine (program_lines p) → IsProgram p
+pub program_proper : (p : Draft) → AllByRecursion IsLine (draft_lines p) → IsProgram p
 program_proper p h =
     let parts = all_parts (ended_lines (procedures_of p)) (global_lines (globals_of p)) h in
     record { globals = all_kind (λ g. Global g) (globals_of p) parts.1; procedures = ended_proper (procedures_of p) parts.0 }
 
-pub Spells-from_lines : (p : Program) (text : List ℕ) → AreTaken (program_lines p) → lines_text (program_lines p) ≡ text → Spells text p
-Spells-from_lines p text taken e = record { same = sym (program_text_is p) ∙ e; proper = program_proper p (AreTaken-lines (program_lines p) taken) }
+pub Spells-from_lines : (p : Draft) (text : List ℕ) → AreTaken (draft_lines p) → lines_text (draft_lines p) ≡ text → Spells text p
+Spells-from_lines p text taken e = record { same = sym (program_text_is p) ∙ e; proper = program_proper p (AreTaken-lines (draft_lines p) taken) }
 
 -- ---- a line of the grammar has no LF
 abbrev is_line_byte : ℕ → Bool
@@ -228,9 +228,9 @@ FirstFault-ended text before rest line f taken at none no_end is on = subst (Fir
 pub lines_fit : (text : List ℕ) (before : List Line) (rest : List ℕ) → text ≡ lines_text before ++ rest → length before ≤ length text
 lines_fit text before rest at = omega (arith, ap length at, length-append (lines_text before) rest, length_lines_le before)
 
-pub program_fits : (text : List ℕ) (before : List Line) (rest : List ℕ) (p : Program) → text ≡ lines_text before ++ rest → program_lines p ≡ before → lines_of p ≤ length text
+pub program_fits : (text : List ℕ) (before : List Line) (rest : List ℕ) (p : Draft) → text ≡ lines_text before ++ rest → draft_lines p ≡ before → lines_of p ≤ length text
 program_fits text before rest p at e = omega (arith, lines_fit text before rest at, length_program_lines p, ap length e)
 
-pub Spells-at_end : (text : List ℕ) (before : List Line) (rest : List ℕ) (p : Program) → AreTaken before → text ≡ lines_text before ++ rest → rest ≡ [] → program_lines p ≡ before → Spells text p
+pub Spells-at_end : (text : List ℕ) (before : List Line) (rest : List ℕ) (p : Draft) → AreTaken before → text ≡ lines_text before ++ rest → rest ≡ [] → draft_lines p ≡ before → Spells text p
 Spells-at_end text before rest p taken at none e = Spells-from_lines p text (subst AreTaken (sym e) taken)
     (ap lines_text e ∙ sym (append-nil (lines_text before)) ∙ ap (λ t. lines_text before ++ t) (sym none) ∙ sym at)

@@ -8,7 +8,7 @@ use Rattle.ide_wire.specs.declared.refused.Fault.TheVariants as fault
 use Rattle.ide_text.specs.declared.line.Line.{Line}
 use Rattle.ide_text.specs.FirstFault.{AreTaken, BeginsNoLine, FaultAfter, FirstFault, Fits, MayEnd, MayFollow, lines_text}
 use Rattle.ide_text.specs.Grammar.{IsLine}
-use Rattle.ide_text.specs.Lines.{program_lines}
+use Rattle.ide_text.specs.Lines.{draft_lines}
 use Rattle.ide_text.specs.Refusal.{IsSpelled}
 use Rattle.ide_text.specs.Text.{line_text}
 use Rattle.ide_text.proofs.Shapes.{Fits-same, MayEnd-same, MayFollow-same, same_shape, shape, shapes}
@@ -173,13 +173,13 @@ longer_is_none text ls ms rest tl tm at to long =
 
 pub spelled_has_none : (text : List ℕ) (n : ℕ) (f : Fault) → IsSpelled text → ¬ (FirstFault text n f)
 spelled_has_none text n f (p, spells, limits) a =
-    let to : text ≡ lines_text (program_lines p) = sym (program_text_is p ∙ spells.same) in
+    let to : text ≡ lines_text (draft_lines p) = sym (program_text_is p ∙ spells.same) in
     let why = cause text a.before f a.has in
     let from = begun_by text a.before f why in
-    elim (cases_lt (length a.before) (length (program_lines p))) [
-      | inl short ↦ shorter_has_none text a.before (program_lines p) f [] a.taken limits.taken (at_end text (program_lines p) to) short why
-      | inr long ↦ elim (cases_lt (length (program_lines p)) (length a.before)) [
-        | inl short ↦ longer_is_none text a.before (program_lines p) from.0 a.taken limits.taken from.1 to short
-        | inr equal ↦ ended_has_none text a.before (program_lines p) f a.taken limits.taken (omega arith) to limits.ended why
+    elim (cases_lt (length a.before) (length (draft_lines p))) [
+      | inl short ↦ shorter_has_none text a.before (draft_lines p) f [] a.taken limits.taken (at_end text (draft_lines p) to) short why
+      | inr long ↦ elim (cases_lt (length (draft_lines p)) (length a.before)) [
+        | inl short ↦ longer_is_none text a.before (draft_lines p) from.0 a.taken limits.taken from.1 to short
+        | inr equal ↦ ended_has_none text a.before (draft_lines p) f a.taken limits.taken (omega arith) to limits.ended why
       ]
     ]

@@ -1,21 +1,22 @@
 -- Programs of one value have the same faults of their names.
-use Rattle.std.proofs.Common.{ℕ, zero, suc, ◌+◌, ◌≡◌, Bool, true, false, cond, ◌||◌, List, [], ◌∷◌, ◌++◌, Option, Some, None, option_map, length, map, take, slice_get, sum_by, vec_len, ap, sym, refl, ◌∙◌, subst, arith}
+use Rattle.std.proofs.Common.{codes, ℕ, zero, suc, ◌+◌, ◌≤◌, ◌≡◌, Bool, true, false, cond, ◌||◌, List, [], ◌∷◌, ◌++◌, Option, Some, None, option_map, length, map, take, slice_get, sum_by, vec_len, ap, sym, refl, ◌∙◌, subst, arith}
 use Rattle.std.specs.Global.{Vec}
-use Rattle.std.specs.List.{Contains, find, list_any}
+use Rattle.std.specs.List.{Contains, find, flat_map, list_any}
 use Rattle.std.specs.Option.{option_to_list}
 use Rattle.std.specs.Str.{bytes_eq}
 use Rattle.std.proofs.lemmas.List.{length-map}
 use Rattle.std.proofs.lemmas.List.Sums.{sum_by-cons}
 use Rattle.ide_wire.specs.declared.refused.Fault.{Fault}
 use Rattle.ide_wire.specs.declared.refused.Fault.TheVariants.{DeclaredTwice}
-use Rattle.ide_text.specs.declared.program.Program.{Program}
+use Rattle.ide_text.specs.declared.program.Draft.{Draft}
 use Rattle.ide_text.specs.declared.program.Procedure.{Procedure}
 use Rattle.ide_text.specs.declared.program.Statement.{Statement}
 use Rattle.ide_text.specs.declared.program.Statement.TheVariants.{Assign, Skip, At, Goto, Branch, Call, Return}
 use Rattle.ide_text.specs.NameFault.{IsFirstNameFault, IsWellNamed, NameFault, ProcedureFault, StatementFault, StatementsFault, Global_again, Procedure_again, In_procedure, Parameter_again, Local_again, In_statement, Label_again, No_variable, No_label, No_procedure, Wrong_count, arguments_passed, callees_of, labels_used, line_of_procedure, variables_in, variables_used}
 use Rattle.ide_text.specs.Names.{IsRepeated, declares, first_named, is_label, is_named}
-use Rattle.ide_text.specs.Program.{globals_of, lines_of_procedure, procedures_of}
-use Rattle.ide_text.specs.Value.{ProcedureValue, ProgramValue, calling, other, value_of, value_of_procedure, value_of_statement}
+use Rattle.ide_text.specs.Draft.{globals_of, lines_of_procedure, procedures_of}
+use Rattle.ide_text.specs.Text.{draft_text, globals_text, locals_text, names_text, procedure_text, procedures_text, statement_text, statements_text, target_text}
+use Rattle.ide_text.specs.Value.{ProcedureValue, ProgramValue, calling, other, draft_value, value_of_procedure, value_of_statement}
 
 -- ---- lists that a function maps to one list
 heads : {X Y : Type 0} (f : X → Y) (x y : X) (xs ys : List X) → map f (x ∷ xs) ≡ map f (y ∷ ys) → f x ≡ f y
@@ -208,20 +209,20 @@ ProcedureFault-same globals ps qs procedures p q e start line fault h =
     ]
 
 -- ---- programs
-globals_same : (p q : Program) → value_of p ≡ value_of q → globals_of p ≡ globals_of q
+globals_same : (p q : Draft) → draft_value p ≡ draft_value q → globals_of p ≡ globals_of q
 globals_same p q e = ap (λ (v : ProgramValue). v.globals) e
 
-procedures_same : (p q : Program) → value_of p ≡ value_of q → AreSame (procedures_of p) (procedures_of q)
+procedures_same : (p q : Draft) → draft_value p ≡ draft_value q → AreSame (procedures_of p) (procedures_of q)
 procedures_same p q e = ap (λ (v : ProgramValue). v.procedures) e
 
-line_same : (p q : Program) → value_of p ≡ value_of q → (j : ℕ) → line_of_procedure p j ≡ line_of_procedure q j
+line_same : (p q : Draft) → draft_value p ≡ draft_value q → (j : ℕ) → line_of_procedure p j ≡ line_of_procedure q j
 line_same p q e j = omega (
   arith,
   ap length (globals_same p q e),
   sum_same value_of_procedure lines_of_procedure lines_same (take j (procedures_of p)) (take j (procedures_of q)) (take_same value_of_procedure j (procedures_of p) (procedures_of q) (procedures_same p q e)),
 )
 
-pub NameFault-same : (p q : Program) → value_of p ≡ value_of q → (line : ℕ) (fault : Fault) → NameFault p line fault → NameFault q line fault
+pub NameFault-same : (p q : Draft) → draft_value p ≡ draft_value q → (line : ℕ) (fault : Fault) → NameFault p line fault → NameFault q line fault
 NameFault-same p q e line fault h =
     let globals = globals_same p q e in
     let procedures = procedures_same p q e in
@@ -241,12 +242,60 @@ NameFault-same p q e line fault h =
           (subst (λ names. ProcedureFault names (procedures_of q) found.0 (line_of_procedure p j) l f) globals moved))
     ]
 
-pub IsFirstNameFault-same : (p q : Program) → value_of p ≡ value_of q → (line : ℕ) (fault : Fault) → IsFirstNameFault p line fault → IsFirstNameFault q line fault
+pub IsFirstNameFault-same : (p q : Draft) → draft_value p ≡ draft_value q → (line : ℕ) (fault : Fault) → IsFirstNameFault p line fault → IsFirstNameFault q line fault
 IsFirstNameFault-same p q e line fault h = record {
   found = NameFault-same p q e line fault h.found;
   least_line = λ l f other_fault. h.least_line l f (NameFault-same q p (sym e) l f other_fault);
   least_number = λ f other_fault. h.least_number f (NameFault-same q p (sym e) line f other_fault);
 }
 
-pub IsWellNamed-same : (p q : Program) → value_of p ≡ value_of q → IsWellNamed p → IsWellNamed q
+pub IsWellNamed-same : (p q : Draft) → draft_value p ≡ draft_value q → IsWellNamed p → IsWellNamed q
 IsWellNamed-same p q e well line fault h = well line fault (NameFault-same q p (sym e) line fault h)
+
+-- ---- texts
+flat_same : {X Y : Type 0} (f : X → Y) (text : X → List ℕ) → ((x y : X) → f x ≡ f y → text x ≡ text y) → (xs ys : List X) → map f xs ≡ map f ys → flat_map text xs ≡ flat_map text ys
+flat_same f text told [] [] e = refl
+flat_same f text told [] (b ∷ ys) e = absurd (cc)
+flat_same f text told (a ∷ xs) [] e = absurd (cc)
+flat_same f text told (a ∷ xs) (b ∷ ys) e =
+    ap (λ t. t ++ flat_map text xs) (told a b (heads f a b xs ys e)) ∙ ap (λ t. text b ++ t) (flat_same f text told xs ys (tails f a b xs ys e))
+
+statement_text_same : (s t : Statement) → value_of_statement s ≡ value_of_statement t → statement_text s ++ codes "\n" ≡ statement_text t ++ codes "\n"
+statement_text_same s t e =
+    ap (λ text. text ++ codes "\n")
+    (statement_same statement_text
+    (λ x c a d b callees arguments.
+    ap (λ names. target_text x ++ codes "call" ++ names_text names ++ names_text a.items) callees
+    ∙ ap (λ names. target_text x ++ codes "call" ++ names_text d.items ++ names_text names) arguments)
+    s t e)
+
+abbrev text_by : List ℕ → List (List ℕ) → List (List ℕ) → List ℕ → List ℕ
+text_by name parameters locals statements = codes "proc " ++ name ++ names_text parameters ++ codes "\n" ++ locals_text locals ++ statements ++ codes "end\n"
+
+procedure_text_same : (p q : Procedure) → value_of_procedure p ≡ value_of_procedure q → procedure_text p ≡ procedure_text q
+procedure_text_same p q e =
+    let lines = statements_text p.statements.items in
+    let statements = flat_same value_of_statement (λ s. statement_text s ++ codes "\n") statement_text_same p.statements.items q.statements.items (statements_same p q e) in
+    ap (λ (v : ProcedureValue). text_by v.name p.parameters.items p.locals.items lines) e
+    ∙ ap (λ names. text_by q.name names p.locals.items lines) (parameters_same p q e)
+    ∙ ap (λ names. text_by q.name q.parameters.items names lines) (locals_same p q e)
+    ∙ ap (λ text. text_by q.name q.parameters.items q.locals.items text) statements
+
+-- drafts of one value have one text
+pub draft_text-same : (p q : Draft) → draft_value p ≡ draft_value q → draft_text p ≡ draft_text q
+draft_text-same p q e =
+    ap (λ names. globals_text names ++ procedures_text (procedures_of p)) (globals_same p q e)
+    ∙ ap (λ text. globals_text (globals_of q) ++ text) (flat_same value_of_procedure procedure_text procedure_text_same (procedures_of p) (procedures_of q) (procedures_same p q e))
+
+abbrev value_by : List (List ℕ) → List ProcedureValue → ProgramValue
+value_by names values = record { globals = names; procedures = values }
+
+-- a draft of the same globals, and of procedures of the same values
+pub copied_value : (d copy : Draft) → globals_of copy ≡ globals_of d → AreSame (procedures_of copy) (procedures_of d) → draft_value d ≡ draft_value copy
+copied_value d copy globals procedures =
+    ap (λ (names : List (List ℕ)). value_by names (map value_of_procedure (procedures_of d))) (sym globals)
+    ∙ ap (value_by (globals_of copy)) (sym procedures)
+
+-- and its text is no longer
+pub short_copy : (d copy : Draft) → draft_value d ≡ draft_value copy → length (draft_text d) ≤ 1048576 → length (draft_text copy) ≤ 1048576
+short_copy d copy same short = omega (arith, ap length (draft_text-same d copy same), short)

@@ -4,14 +4,14 @@ use Rattle.std.specs.Char.{is_ascii_alphabetic, is_ascii_alphanumeric}
 use Rattle.std.specs.List.{AllByRecursion, list_all}
 use Rattle.ide_text.specs.declared.line.Line.{Line}
 use Rattle.ide_text.specs.declared.line.Line.TheVariants.{Global, Procedure as Begin, Local, End, Statement as Step}
-use Rattle.ide_text.specs.declared.program.Program.{Program}
+use Rattle.ide_text.specs.declared.program.Draft.{Draft}
 use Rattle.ide_text.specs.declared.program.Procedure.{Procedure}
 use Rattle.ide_text.specs.declared.program.Statement.{Statement}
 use Rattle.ide_text.specs.declared.program.Statement.TheVariants.{Assign, Skip, At, Goto, Branch, Call, Return}
 use Rattle.ide_text.specs.declared.program.Expression.{Expression}
 use Rattle.ide_text.specs.declared.program.Expression.TheVariants.{Number, Copy, Sum, Difference, Unknown, Mix}
-use Rattle.ide_text.specs.Program.{globals_of, procedures_of}
-use Rattle.ide_text.specs.Text.{program_text}
+use Rattle.ide_text.specs.Draft.{globals_of, procedures_of}
+use Rattle.ide_text.specs.Text.{draft_text}
 
 -- a byte that a name may begin with: an ASCII letter or `_`
 abbrev pub begins_name : ℕ → Bool
@@ -75,12 +75,12 @@ pub record IsProcedure (p : Procedure) : Type 0 where
   pub locals : AllByRecursion IsName p.locals.items
   pub statements : AllByRecursion IsStatement p.statements.items
 
--- a program, each line of it of the grammar
-pub record IsProgram (p : Program) : Type 0 where
+-- a draft, each line of it of the grammar
+pub record IsProgram (p : Draft) : Type 0 where
   pub globals : AllByRecursion IsName (globals_of p)
   pub procedures : AllByRecursion IsProcedure (procedures_of p)
 
--- the text is that of the program, which is of the grammar
-pub record Spells (text : List ℕ) (p : Program) : Type 0 where
-  pub same : program_text p ≡ text
+-- the text is that of the draft, which is of the grammar
+pub record Spells (text : List ℕ) (p : Draft) : Type 0 where
+  pub same : draft_text p ≡ text
   pub proper : IsProgram p

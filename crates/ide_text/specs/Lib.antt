@@ -1,9 +1,11 @@
+pub mod Draft
 pub mod First
 pub mod FirstFault
 pub mod Flaw
 pub mod Grammar
 pub mod Laws
 pub mod Limits
+pub mod LimitsProp
 pub mod Lines
 pub mod NameFault
 pub mod Names

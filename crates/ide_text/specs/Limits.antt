@@ -1,4 +1,4 @@
--- What the limits say of a program's parts: how many nodes and facts it has, and that it is of the
+-- What the limits say of a draft's parts: how many nodes and facts it has, and that it is of the
 -- grammar.
 use Rattle.std.specs.Prelude.{◌≡◌, ℕ, ◌+◌, ◌≤◌, List, [], ◌∷◌, ◌++◌, length, map, reverse, slice_get, Some, None, sum_by, count_by, refl}
 use Rattle.std.specs.List.{AllByRecursion}
@@ -7,14 +7,14 @@ use Rattle.std.proofs.lemmas.List.{reverse-append}
 use Rattle.std.proofs.lemmas.List.Sums.{sum_by-append, sum_by-cons}
 use Rattle.ide_text.specs.declared.line.Line.{Line}
 use Rattle.ide_text.specs.declared.line.Line.TheVariants.{Global, Procedure as Begin, Local, End, Statement as Step}
-use Rattle.ide_text.specs.declared.program.Program.{Program}
+use Rattle.ide_text.specs.declared.program.Draft.{Draft}
 use Rattle.ide_text.specs.declared.program.Procedure.{Procedure}
 use Rattle.ide_text.specs.declared.program.Statement.{Statement}
 use Rattle.ide_text.specs.declared.program.Statement.TheVariants.{Assign, Skip, At, Goto, Branch, Call, Return}
 use Rattle.ide_text.specs.FirstFault.{AreTaken, Fits, MayEnd, is_global, last_variables, most_variables, nodes_on}
 use Rattle.ide_text.specs.Grammar.{IsLine, IsProcedure, IsProgram}
-use Rattle.ide_text.specs.Lines.{open_lines, ended_lines, global_lines, program_lines, IsWithinLimits}
-use Rattle.ide_text.specs.Program.{globals_of, procedures_of}
+use Rattle.ide_text.specs.Lines.{open_lines, ended_lines, global_lines, draft_lines, IsWithinLimits}
+use Rattle.ide_text.specs.Draft.{globals_of, procedures_of}
 
 -- how many nodes a statement has
 abbrev pub statement_nodes : Statement → ℕ
@@ -64,8 +64,8 @@ ended_some : (globals : List (List ℕ)) (procedures : List Procedure) → MayEn
 ended_some globals [] ended = absurd (globals_open globals ended)
 ended_some globals (q ∷ procedures) ended = omega arith
 
--- a program within the limits has a procedure
-pub limits_procedures : (p : Program) → IsWithinLimits p → 1 ≤ length (procedures_of p)
+-- a draft within the limits has a procedure
+pub limits_procedures : (p : Draft) → IsWithinLimits p → 1 ≤ length (procedures_of p)
 limits_procedures p within = ended_some (globals_of p) (procedures_of p) within.ended
 
 -- ---- sums
@@ -120,10 +120,10 @@ ended_nodes (q ∷ ps) =
     let more : sum_by procedure_nodes (q ∷ ps) ≡ procedure_nodes q + sum_by procedure_nodes ps = sum_by-cons procedure_nodes q ps in
     omega (arith, ended_nodes ps, open_nodes q))
 
--- a program has at most 65,536 nodes
-pub limits_nodes : (p : Program) → IsWithinLimits p → sum_by procedure_nodes (procedures_of p) ≤ 65536
+-- a draft has at most 65,536 nodes
+pub limits_nodes : (p : Draft) → IsWithinLimits p → sum_by procedure_nodes (procedures_of p) ≤ 65536
 limits_nodes p limits =
-    let fits = taken_fit (program_lines p) limits.taken limits.ended in
+    let fits = taken_fit (draft_lines p) limits.taken limits.ended in
     let all = sum_by-append nodes_on (ended_lines (procedures_of p)) (global_lines (globals_of p)) in
     let globals : sum_by nodes_on (global_lines (globals_of p)) ≡ 0 = sum_map nodes_on (λ g. Global g) (globals_of p) ∙ sum_none (globals_of p) in
     omega (arith, fits.nodes, ended_nodes (procedures_of p))
@@ -178,16 +178,16 @@ most_ended (r ∷ ps) rest zero q at =
 most_ended (r ∷ ps) rest (suc i) q at =
     subst (λ lines. own_count q ≤ most_variables lines) (sym (append_assoc (ended_lines ps) (End ∷ open_lines r) rest)) (most_ended ps ((End ∷ open_lines r) ++ rest) i q at)
 
--- a program has at most 4,096 facts: so many for each of its procedures
-pub limits_facts : (p : Program) → IsWithinLimits p → (i : ℕ) (q : Procedure) → slice_get (procedures_of p) i ≡ Some q → length (globals_of p) + 2 + own_count q ≤ 4096
+-- a draft has at most 4,096 facts: so many for each of its procedures
+pub limits_facts : (p : Draft) → IsWithinLimits p → (i : ℕ) (q : Procedure) → slice_get (procedures_of p) i ≡ Some q → length (globals_of p) + 2 + own_count q ≤ 4096
 limits_facts p limits i q at =
-    let fits = taken_fit (program_lines p) limits.taken limits.ended in
+    let fits = taken_fit (draft_lines p) limits.taken limits.ended in
     omega (arith, fits.facts, globals_below (ended_lines (procedures_of p)) (globals_of p), most_ended (procedures_of p) (global_lines (globals_of p)) i q at)
 
 -- and where it has no procedure
-pub limits_shared_facts : (p : Program) → IsWithinLimits p → length (globals_of p) + 2 ≤ 4096
+pub limits_shared_facts : (p : Draft) → IsWithinLimits p → length (globals_of p) + 2 ≤ 4096
 limits_shared_facts p limits =
-    let fits = taken_fit (program_lines p) limits.taken limits.ended in
+    let fits = taken_fit (draft_lines p) limits.taken limits.ended in
     omega (arith, fits.facts, globals_below (ended_lines (procedures_of p)) (globals_of p))
 
 -- ---- the grammar
@@ -224,10 +224,10 @@ ended_procedures [] all = tt
 ended_procedures (q ∷ ps) all =
     (open_procedure q (all_right IsLine (ended_lines ps) (End ∷ open_lines q) all).1, ended_procedures ps (all_left IsLine (ended_lines ps) (End ∷ open_lines q) all))
 
--- a program within the limits is of the grammar
-pub limits_program : (p : Program) → IsWithinLimits p → IsProgram p
+-- a draft within the limits is of the grammar
+pub limits_program : (p : Draft) → IsWithinLimits p → IsProgram p
 limits_program p limits =
-    let lines = taken_lines (program_lines p) limits.taken in
+    let lines = taken_lines (draft_lines p) limits.taken in
     record {
       globals = all_map IsLine (λ g. Global g) (globals_of p) (all_right IsLine (ended_lines (procedures_of p)) (global_lines (globals_of p)) lines);
       procedures = ended_procedures (procedures_of p) (all_left IsLine (ended_lines (procedures_of p)) (global_lines (globals_of p)) lines);

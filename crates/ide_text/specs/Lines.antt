@@ -1,11 +1,11 @@
--- Programs as lists of lines, which have the latest line first.
+-- Drafts as lists of lines, which have the latest line first.
 use Rattle.std.specs.Prelude.{ℕ, List, [], ◌∷◌, ◌++◌, Option, Some, None, map, reverse}
 use Rattle.ide_text.specs.declared.line.Line.{Line}
 use Rattle.ide_text.specs.declared.line.Line.TheVariants.{Global, Procedure as Begin, Local, End, Statement as Step}
 use Rattle.ide_text.specs.declared.program.Procedure.{Procedure}
-use Rattle.ide_text.specs.declared.program.Program.{Program}
+use Rattle.ide_text.specs.declared.program.Draft.{Draft}
 use Rattle.ide_text.specs.FirstFault.{AreTaken, MayEnd}
-use Rattle.ide_text.specs.Program.{globals_of, procedures_of}
+use Rattle.ide_text.specs.Draft.{globals_of, procedures_of}
 
 -- the lines of a procedure before its `end`
 abbrev pub open_lines : Procedure → List Line
@@ -26,11 +26,11 @@ abbrev pub lines_in : List (List ℕ) → List Procedure → Option Procedure �
 lines_in globals procedures None = ended_lines procedures ++ global_lines globals
 lines_in globals procedures (Some p) = open_lines p ++ (ended_lines procedures ++ global_lines globals)
 
--- the lines of a program
-abbrev pub program_lines : Program → List Line
-program_lines p = lines_in (globals_of p) (procedures_of p) None
+-- the lines of a draft
+abbrev pub draft_lines : Draft → List Line
+draft_lines p = lines_in (globals_of p) (procedures_of p) None
 
--- each line of the program is of the grammar, in its place and within the limits
-pub record IsWithinLimits (p : Program) : Type 0 where
-  pub taken : AreTaken (program_lines p)
-  pub ended : MayEnd (program_lines p)
+-- each line of the draft is of the grammar, in its place and within the limits
+pub record IsWithinLimits (p : Draft) : Type 0 where
+  pub taken : AreTaken (draft_lines p)
+  pub ended : MayEnd (draft_lines p)

@@ -1,10 +1,10 @@
--- The faults of a program's names: one is declared again, or is used and not declared.
+-- The faults of a draft's names: one is declared again, or is used and not declared.
 use Rattle.std.specs.Prelude.{ℕ, ◌+◌, ◌≡◌, ◌≢◌, true, false, List, [], ◌∷◌, ◌++◌, None, Some, take, length, slice_get, sum_by, vec_len}
 use Rattle.std.specs.List.{list_any, Contains}
 use Rattle.std.specs.Option.{option_to_list}
 use Rattle.ide_wire.specs.declared.refused.Fault.{Fault}
 use Rattle.ide_wire.specs.declared.refused.Fault.TheVariants.{DeclaredTwice, NoSuchVariable, NoSuchLabel, NoSuchProcedure, WrongArguments}
-use Rattle.ide_text.specs.declared.program.Program.{Program}
+use Rattle.ide_text.specs.declared.program.Draft.{Draft}
 use Rattle.ide_text.specs.declared.program.Procedure.{Procedure}
 use Rattle.ide_text.specs.declared.program.Expression.{Expression}
 use Rattle.ide_text.specs.declared.program.Expression.TheVariants.{Number, Copy, Sum, Difference, Unknown, Mix}
@@ -12,7 +12,7 @@ use Rattle.ide_text.specs.declared.program.Statement.{Statement}
 use Rattle.ide_text.specs.declared.program.Statement.TheVariants.{Assign, Skip, At, Goto, Branch, Call, Return}
 use Rattle.ide_text.specs.First.{IsFirst}
 use Rattle.ide_text.specs.Names.{is_among, IsRepeated, is_label, is_named, first_named}
-use Rattle.ide_text.specs.Program.{globals_of, procedures_of, lines_of_procedure}
+use Rattle.ide_text.specs.Draft.{globals_of, procedures_of, lines_of_procedure}
 
 -- the variables that an expression uses
 abbrev pub variables_of : Expression → List (List ℕ)
@@ -98,11 +98,11 @@ pub data ProcedureFault (globals : List (List ℕ)) (procedures : List Procedure
   In_statement : (line : ℕ) (fault : Fault) → StatementsFault (variables_in globals q) procedures q.statements.items (start + 1 + vec_len q.locals) line fault → ProcedureFault globals procedures q start line fault
 
 -- the line of the j-th procedure's `proc`
-abbrev pub line_of_procedure : Program → ℕ → ℕ
+abbrev pub line_of_procedure : Draft → ℕ → ℕ
 line_of_procedure p j = 1 + length (globals_of p) + sum_by lines_of_procedure (take j (procedures_of p))
 
--- a fault of a program's names, on that line
-pub data NameFault (p : Program) : ℕ → Fault → Type 0 where
+-- a fault of a draft's names, on that line
+pub data NameFault (p : Draft) : ℕ → Fault → Type 0 where
   -- a global stands among those before it
   Global_again : (i : ℕ) → IsRepeated [] (globals_of p) i → NameFault p (i + 1) DeclaredTwice
   -- a procedure before has the name
@@ -111,9 +111,9 @@ pub data NameFault (p : Program) : ℕ → Fault → Type 0 where
   In_procedure : (j : ℕ) (q : Procedure) → slice_get (procedures_of p) j ≡ Some q → (line : ℕ) (fault : Fault) → ProcedureFault (globals_of p) (procedures_of p) q (line_of_procedure p j) line fault → NameFault p line fault
 
 -- the first fault of the names
-abbrev pub IsFirstNameFault : Program → ℕ → Fault → Type 0
+abbrev pub IsFirstNameFault : Draft → ℕ → Fault → Type 0
 IsFirstNameFault p line fault = IsFirst (NameFault p) line fault
 
 -- the names have no fault
-abbrev pub IsWellNamed : Program → Type 0
+abbrev pub IsWellNamed : Draft → Type 0
 IsWellNamed p = (line : ℕ) (fault : Fault) → ¬ NameFault p line fault

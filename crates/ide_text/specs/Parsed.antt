@@ -4,27 +4,25 @@ use Rattle.ide_wire.specs.declared.refused.Fault.{Fault}
 use Rattle.ide_wire.specs.declared.refused.Fault.TheVariants.{TextTooLong}
 use Rattle.ide_wire.specs.declared.refused.Refused.{Refused}
 use Rattle.ide_wire.specs.declared.refused.Refused.TheVariants.{NoMemory, Text}
-use Rattle.ide_text.specs.declared.parser.TheConstants.{MAX_TEXT}
+use Rattle.ide_text.specs.declared.program.Draft.{Draft}
 use Rattle.ide_text.specs.declared.program.Program.{Program}
 use Rattle.ide_text.specs.FirstFault.{FirstFault}
 use Rattle.ide_text.specs.Grammar.{Spells}
 use Rattle.ide_text.specs.Lines.{IsWithinLimits}
-use Rattle.ide_text.specs.NameFault.{IsFirstNameFault, IsWellNamed}
+use Rattle.ide_text.specs.NameFault.{IsFirstNameFault}
 
--- the text spells the program, which is within the limits and whose names have no fault
+-- the text, of at most 1,048,576 bytes, spells the program
 pub record IsParsed (text : List ℕ) (p : Program) : Type 0 where
-  pub short : length text ≤ MAX_TEXT
-  pub spelled : Spells text p
-  pub limits : IsWithinLimits p
-  pub named : IsWellNamed p
+  pub short : length text ≤ 1048576
+  pub spelled : Spells text p.draft
 
 -- the text has that fault on that line: it is too long; else the least line with a fault of F2 to
--- F4 has it; else, where the text spells a program, its first fault of F5 to F9 is that
+-- F4 has it; else, where the text spells a draft, its first fault of F5 to F9 is that
 pub data TextFault (text : List ℕ) : ℕ → Fault → Type 0 where
-  Too_long : MAX_TEXT < length text → TextFault text 0 TextTooLong
-  In_lines : length text ≤ MAX_TEXT → (line : ℕ) (fault : Fault) → FirstFault text line fault → TextFault text line fault
-  In_names : length text ≤ MAX_TEXT → (p : Program) → Spells text p → IsWithinLimits p
-      → (line : ℕ) (fault : Fault) → IsFirstNameFault p line fault → TextFault text line fault
+  Too_long : 1048576 < length text → TextFault text 0 TextTooLong
+  In_lines : length text ≤ 1048576 → (line : ℕ) (fault : Fault) → FirstFault text line fault → TextFault text line fault
+  In_names : length text ≤ 1048576 → (d : Draft) → Spells text d → IsWithinLimits d
+      → (line : ℕ) (fault : Fault) → IsFirstNameFault d line fault → TextFault text line fault
 
 -- a refusal of the text: for want of memory, or for its fault
 abbrev pub IsRefusalOf : List ℕ → Refused → Type 0

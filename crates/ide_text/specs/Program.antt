@@ -1,20 +1,27 @@
--- Programs, as the lines of their texts.
-use Rattle.std.specs.Prelude.{ℕ, ◌+◌, List, length, vec_len, sum_by}
-use Rattle.ide_text.specs.declared.program.Program.{Program}
+-- Programs, as clauses see them: what their drafts say.
+use Rattle.std.specs.Prelude.{ℕ, List}
 use Rattle.ide_text.specs.declared.program.Procedure.{Procedure}
+use Rattle.ide_text.specs.declared.program.Program.{Program}
+use Rattle.ide_text.specs.Draft as drafts
+use Rattle.ide_text.specs.Text.{draft_text}
+use Rattle.ide_text.specs.Value.{ProgramValue, draft_value}
 
 -- the globals, each as the list of its bytes
 abbrev pub globals_of : Program → List (List ℕ)
-globals_of p = p.globals.items
+globals_of p = drafts.globals_of p.draft
 
 -- the procedures
 abbrev pub procedures_of : Program → List Procedure
-procedures_of p = p.procedures.items
+procedures_of p = drafts.procedures_of p.draft
 
--- how many lines the text of a procedure has
-abbrev pub lines_of_procedure : Procedure → ℕ
-lines_of_procedure p = 2 + vec_len p.locals + vec_len p.statements
-
--- how many lines the text of a program has
+-- how many lines the text has
 abbrev pub lines_of : Program → ℕ
-lines_of p = length (globals_of p) + sum_by lines_of_procedure (procedures_of p)
+lines_of p = drafts.lines_of p.draft
+
+-- the text
+abbrev pub text_of : Program → List ℕ
+text_of p = draft_text p.draft
+
+-- what the program says
+abbrev pub value_of : Program → ProgramValue
+value_of p = draft_value p.draft

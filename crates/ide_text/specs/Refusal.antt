@@ -4,7 +4,7 @@ use Rattle.ide_wire.specs.declared.refused.Refused.{Refused}
 use Rattle.ide_wire.specs.declared.refused.Refused.TheVariants.{NoMemory, Text}
 use Rattle.ide_text.specs.declared.flaw.Flaw.{Flaw}
 use Rattle.ide_text.specs.declared.flaw.Flaw.TheVariants as flaw
-use Rattle.ide_text.specs.declared.program.Program.{Program}
+use Rattle.ide_text.specs.declared.program.Draft.{Draft}
 use Rattle.ide_text.specs.FirstFault.{FirstFault}
 use Rattle.ide_text.specs.Grammar.{Spells}
 use Rattle.ide_text.specs.Lines.{IsWithinLimits}
@@ -26,6 +26,6 @@ IsFirstFault text NoMemory = Unit {0}
 IsFirstFault text (Text line fault) = FirstFault text line fault
 IsFirstFault text _ = ⊥
 
--- the text spells a program within the limits
+-- the text spells a draft within the limits
 abbrev pub IsSpelled : List ℕ → Type 0
-IsSpelled text = (p : Program) × Spells text p × IsWithinLimits p
+IsSpelled text = (p : Draft) × Spells text p × IsWithinLimits p

@@ -1,15 +1,15 @@
--- The one text of a program.
+-- The one text of a draft.
 use Rattle.std.specs.Prelude.{ℕ, List, [], ◌++◌, Option, Some, None, codes, decimal, ◌≡◌}
 use Rattle.std.specs.List.{flat_map}
 use Rattle.ide_text.specs.declared.line.Line.{Line}
 use Rattle.ide_text.specs.declared.line.Line.TheVariants.{Global, Procedure as Begin, Local, End, Statement as Step}
-use Rattle.ide_text.specs.declared.program.Program.{Program}
+use Rattle.ide_text.specs.declared.program.Draft.{Draft}
 use Rattle.ide_text.specs.declared.program.Procedure.{Procedure}
 use Rattle.ide_text.specs.declared.program.Statement.{Statement}
 use Rattle.ide_text.specs.declared.program.Statement.TheVariants.{Assign, Skip, At, Goto, Branch, Call, Return}
 use Rattle.ide_text.specs.declared.program.Expression.{Expression}
 use Rattle.ide_text.specs.declared.program.Expression.TheVariants.{Number, Copy, Sum, Difference, Unknown, Mix}
-use Rattle.ide_text.specs.Program.{globals_of, procedures_of}
+use Rattle.ide_text.specs.Draft.{globals_of, procedures_of}
 
 -- names, each after a space
 abbrev pub names_text : List (List ℕ) → List ℕ
@@ -66,9 +66,9 @@ procedures_text procedures = flat_map procedure_text procedures
 abbrev pub globals_text : List (List ℕ) → List ℕ
 globals_text globals = flat_map (λ g. codes "global " ++ g ++ codes "\n") globals
 
--- the lines of a program
-abbrev pub program_text : Program → List ℕ
-program_text p = globals_text (globals_of p) ++ procedures_text (procedures_of p)
+-- the lines of a draft
+abbrev pub draft_text : Draft → List ℕ
+draft_text p = globals_text (globals_of p) ++ procedures_text (procedures_of p)
 
 -- what stood there stands there still, before some more
 abbrev pub Extends : List ℕ → List ℕ → Type 0

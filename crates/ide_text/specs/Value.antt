@@ -1,10 +1,10 @@
 -- The values of programs: pure lists, without the room that vectors have for more.
 use Rattle.std.specs.Prelude.{ℕ, List, Option, map}
-use Rattle.ide_text.specs.declared.program.Program.{Program}
+use Rattle.ide_text.specs.declared.program.Draft.{Draft}
 use Rattle.ide_text.specs.declared.program.Procedure.{Procedure}
 use Rattle.ide_text.specs.declared.program.Statement.{Statement}
 use Rattle.ide_text.specs.declared.program.Statement.TheVariants.{Assign, Skip, At, Goto, Branch, Call, Return}
-use Rattle.ide_text.specs.Program.{globals_of, procedures_of}
+use Rattle.ide_text.specs.Draft.{globals_of, procedures_of}
 
 -- what a statement says: a call by its target, its callees and its arguments, any other one by itself, as it has no vectors
 pub data StatementValue : Type 0 where
@@ -42,6 +42,6 @@ pub record ProgramValue : Type 0 where
   pub globals : List (List ℕ)
   pub procedures : List ProcedureValue
 
--- the value of a program
-abbrev pub value_of : Program → ProgramValue
-value_of p = record { globals = globals_of p; procedures = map value_of_procedure (procedures_of p) }
+-- the value of a draft
+abbrev pub draft_value : Draft → ProgramValue
+draft_value p = record { globals = globals_of p; procedures = map value_of_procedure (procedures_of p) }

@@ -1,57 +1,57 @@
-//! The check: that each name of a program is declared once, and each use has its declaration.
+//! The check: that each name of a draft is declared once, and each use has its declaration.
 //!
-//! The lines of a program are walked in the order of its text, so that the first fault that is
+//! The lines of a draft are walked in the order of its text, so that the first fault that is
 //! found stands on the least line.
 ghost use Rattle.std.specs.Prelude.{◌≡◌, ◌+◌, ◌<◌, ◌^◌, ℕ, [], vec_len, length, IfErr};
 ghost use Rattle.ide_text.specs.First.{Checked};
 ghost use Rattle.ide_text.specs.NameFault.{NameFault, ProcedureFault, StatementsFault};
 ghost use Rattle.ide_text.specs.Names.{IsRepeated};
-ghost use Rattle.ide_text.specs.Program.{globals_of, procedures_of, lines_of, lines_of_procedure};
+ghost use Rattle.ide_text.specs.Draft.{globals_of, procedures_of, lines_of, lines_of_procedure};
 ghost use Rattle.ide_text.specs.Refusal.{IsTextRefusal};
 ghost use Rattle.ide_text.specs.Scope.{variables_of_scope};
 
 use crate::names::Names;
-use crate::program::{Procedure, Program};
+use crate::program::{Draft, Procedure};
 use crate::scope::Scope;
 use crate::tables::Procedures;
 use ide_wire::{Fault, Refused};
 use std::alloc::Global;
 
-/// Checks the names of a program. Refused is the first of the faults F5 to F9 that stands on the
+/// Checks the names of a draft. Refused is the first of the faults F5 to F9 that stands on the
 /// least line.
-pub(crate) fn check(alloc: Global, program: &Program) -> Result<(), Refused>
-    requires { lines_of program.now + 1 < 2 ^ 32 }
-    ensures names { Checked (NameFault program.now) result }
-    ensures lines { IfErr result (IsTextRefusal 1 (lines_of program.now)) }
+pub(crate) fn check(alloc: Global, draft: &Draft) -> Result<(), Refused>
+    requires { lines_of draft.now + 1 < 2 ^ 32 }
+    ensures names { Checked (NameFault draft.now) result }
+    ensures lines { IfErr result (IsTextRefusal 1 (lines_of draft.now)) }
 {
     // before the globals no name is taken
     let none = Names::new(alloc);
     let mut globals = Names::new(alloc);
-    if let Some(place) = globals.declare(&none, program.globals())? {
+    if let Some(place) = globals.declare(&none, draft.globals())? {
         return Err(Refused::Text {
             line: place as u32 + 1,
             fault: Fault::DeclaredTwice,
         });
     }
-    let procedures = Procedures::of(alloc, program.procedures())?;
-    check_procedures(alloc, &globals, &procedures, program)
+    let procedures = Procedures::of(alloc, draft.procedures())?;
+    check_procedures(alloc, &globals, &procedures, draft)
 }
 
-/// Checks the names of a program, whose globals and procedures those are, beside the globals.
+/// Checks the names of a draft, whose globals and procedures those are, beside the globals.
 fn check_procedures(
     alloc: Global,
     globals: &Names<'_>,
     procedures: &Procedures<'_>,
-    program: &Program,
+    draft: &Draft,
 ) -> Result<(), Refused>
-    requires globals { globals.now ≡ globals_of program.now }
-    requires procedures { procedures.now ≡ procedures_of program.now }
-    requires distinct { (k : ℕ) → ¬ IsRepeated [] (globals_of program.now) k }
-    requires few { lines_of program.now + 1 < 2 ^ 32 }
-    ensures { Checked (NameFault program.now) result }
+    requires globals { globals.now ≡ globals_of draft.now }
+    requires procedures { procedures.now ≡ procedures_of draft.now }
+    requires distinct { (k : ℕ) → ¬ IsRepeated [] (globals_of draft.now) k }
+    requires few { lines_of draft.now + 1 < 2 ^ 32 }
+    ensures { Checked (NameFault draft.now) result }
 {
-    let mut line = program.globals().len() as u32 + 1;
-    for (place, procedure) in program.procedures().iter().enumerate() {
+    let mut line = draft.globals().len() as u32 + 1;
+    for (place, procedure) in draft.procedures().iter().enumerate() {
         if procedures.is_named_before(&procedure.name, place) {
             return Err(Refused::Text {
                 line,

@@ -3,12 +3,12 @@ ghost use Rattle.std.specs.Prelude.{◌≡◌, map, IfOk, IfErr};
 ghost use Rattle.ide_text.specs.Value.{value_of_statement, value_of_procedure};
 
 use crate::name::Name;
-use crate::program::{Expression, Procedure, Program, Statement};
+use crate::program::{Draft, Expression, Procedure, Program, Statement};
 use ide_wire::Refused;
 use std::alloc::{AllocError, Global};
 
 impl Program {
-    ghost use Rattle.ide_text.specs.Value.{value_of};
+    ghost use Rattle.ide_text.specs.Program.{value_of};
 
     /// The same program again, or [`Refused::NoMemory`].
     pub fn copy(&self, alloc: Global) -> Result<Program, Refused>
@@ -17,7 +17,10 @@ impl Program {
     {
         let globals = copy_names(alloc, self.globals())?;
         let procedures = copy_procedures(alloc, self.procedures())?;
-        Ok(Program::new(globals, procedures))
+        Ok(Program::of(Draft {
+            globals,
+            procedures,
+        }))
     }
 }
 

@@ -1,5 +1,5 @@
 //! Laws of texts and their faults. The functions do nothing: their clauses are the laws.
-ghost use Rattle.ide_text.specs.Laws.{HaveOneFault, HaveOneFirstFault, ParsedHaveNoFault, SpellOneProgram, SpelledHaveNoFault};
+ghost use Rattle.ide_text.specs.Laws.{EqualHaveOneText, HaveOneFault, HaveOneFirstFault, ParsedArePrintedAgain, ParsedHaveNoFault, PrintedAreParsedAgain, SpellOneProgram, SpelledHaveNoFault};
 
 /// A text has at most one first fault of F2 to F4, on one line.
 pub fn one_first_fault()
@@ -24,4 +24,12 @@ pub fn one_fault()
 /// A text that [`parse`](crate::parse) gives a program for has no fault.
 pub fn parsed_have_no_fault()
     ensures { ParsedHaveNoFault }
+{}
+
+/// [`parse`](crate::parse) and [`print`](crate::print()) undo each other, up to the room that
+/// vectors have: of programs, of their copies, and of texts.
+pub fn parsing_and_printing_undo_each_other()
+    ensures printed { PrintedAreParsedAgain }
+    ensures parsed { ParsedArePrintedAgain }
+    ensures copied { EqualHaveOneText }
 {}

@@ -22,7 +22,8 @@ mod tables;
 mod token;
 
 pub use laws::{
-    one_fault, one_first_fault, parsed_have_no_fault, spell_one_program, spelled_have_no_fault,
+    one_fault, one_first_fault, parsed_have_no_fault, parsing_and_printing_undo_each_other,
+    spell_one_program, spelled_have_no_fault,
 };
 pub use name::Name;
 pub use parser::{MAX_TEXT, parse};

@@ -4,6 +4,7 @@ ghost use Rattle.ide_text.specs.Flaw.{IfFaulty};
 ghost use Rattle.ide_text.specs.Grammar.{Spells};
 ghost use Rattle.ide_text.specs.Lines.{IsWithinLimits};
 ghost use Rattle.ide_text.specs.Parsed.{IsParsed, IsRefusalOf};
+ghost use Rattle.ide_text.specs.Draft as drafts;
 ghost use Rattle.ide_text.specs.Program.{lines_of};
 ghost use Rattle.ide_text.specs.Reader.{IsCounted, RefusesLine, TakesLine, taken_lines};
 ghost use Rattle.ide_text.specs.Refusal.{IsFirstFault, IsTextRefusal};
@@ -12,7 +13,7 @@ use crate::checker::check;
 use crate::cut::cut;
 use crate::flaw::Flaw;
 use crate::line::Line;
-use crate::program::Program;
+use crate::program::{Draft, Program};
 use crate::reader::Reader;
 use ide_wire::{Fault, Refused};
 use std::alloc::Global;
@@ -27,7 +28,7 @@ pub const MAX_TEXT: usize = 1_048_576;
 /// first of F5 to F9 on the least line that has one. [`Refused::NoMemory`] may be answered for any
 /// text that is not too long. The time grows with the length of the text.
 pub fn parse(alloc: Global, text: &[u8]) -> Result<Program, Refused>
-    ensures too_long { (result ≡ Err (Refused.Text 0 Fault.TextTooLong)) ↔ (MAX_TEXT < length text.now) }
+    ensures too_long { (result ≡ Err (Refused.Text 0 Fault.TextTooLong)) ↔ (1048576 < length text.now) }
     ensures refusals { IfErr result (IsTextRefusal 0 (length text.now + 1)) }
     ensures lines { IfOk result (λ program. lines_of program ≤ length text.now) }
     ensures parsed { IfOk result (IsParsed text.now) }
@@ -39,16 +40,16 @@ pub fn parse(alloc: Global, text: &[u8]) -> Result<Program, Refused>
             fault: Fault::TextTooLong,
         });
     }
-    let program = read(alloc, text)?;
-    check(alloc, &program)?;
-    Ok(program)
+    let draft = read(alloc, text)?;
+    check(alloc, &draft)?;
+    Ok(Program::of(draft))
 }
 
-/// The program of a text, whose names are still to be checked.
-fn read(alloc: Global, text: &[u8]) -> Result<Program, Refused>
-    requires { length text.now ≤ MAX_TEXT }
+/// The draft of a text, whose names are still to be checked.
+fn read(alloc: Global, text: &[u8]) -> Result<Draft, Refused>
+    requires { length text.now ≤ 1048576 }
     ensures refusals { IfErr result (IsTextRefusal 1 (length text.now + 1)) }
-    ensures lines { IfOk result (λ program. lines_of program ≤ length text.now) }
+    ensures lines { IfOk result (λ draft. drafts.lines_of draft ≤ length text.now) }
     ensures spelled { IfOk result (Spells text.now) }
     ensures limits { IfOk result IsWithinLimits }
     ensures faults { IfErr result (IsFirstFault text.now) }
@@ -67,7 +68,7 @@ fn read(alloc: Global, text: &[u8]) -> Result<Program, Refused>
         return Err(Flaw::Faulty(Fault::NoSuchLine).on_line(line));
     }
     match reader.finish() {
-        Ok(program) => Ok(program),
+        Ok(draft) => Ok(draft),
         Err(fault) => Err(Flaw::Faulty(fault).on_line(line)),
     }
 }

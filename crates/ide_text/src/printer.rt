@@ -1,6 +1,7 @@
 //! The printer: the one text of a program.
 ghost use Rattle.std.specs.Prelude.{◌≡◌, ◌++◌, OnOk, OnErr, IfErr, codes, decimal};
-ghost use Rattle.ide_text.specs.Text.{Extends, names_text, expression_text, target_text, value_text, statement_text, locals_text, statements_text, procedure_text, globals_text, program_text};
+ghost use Rattle.ide_text.specs.Text.{Extends, names_text, expression_text, target_text, value_text, statement_text, locals_text, statements_text, procedure_text, globals_text};
+ghost use Rattle.ide_text.specs.Program.{text_of};
 
 use crate::name::Name;
 use crate::program::{Expression, Procedure, Program, Statement};
@@ -13,7 +14,7 @@ use std::alloc::AllocError;
 /// After a refusal, [`Refused::NoMemory`] alone, the vector has what it had. The time grows with
 /// the length of the text.
 pub fn print(program: &Program, out: &mut Vec<u8>) -> Result<(), Refused>
-    ensures text { OnOk result (out.new.items ≡ out.old.items ++ program_text program.now) }
+    ensures text { OnOk result (out.new.items ≡ out.old.items ++ text_of program.now) }
     ensures unchanged { OnErr result (out.new.items ≡ out.old.items) }
     ensures no_memory { IfErr result (λ refused. refused ≡ Refused.NoMemory) }
 {
@@ -27,7 +28,7 @@ pub fn print(program: &Program, out: &mut Vec<u8>) -> Result<(), Refused>
 
 /// Appends the lines of a program.
 fn append_program(program: &Program, out: &mut Vec<u8>) -> Result<(), AllocError>
-    ensures text { OnOk result (out.new.items ≡ out.old.items ++ program_text program.now) }
+    ensures text { OnOk result (out.new.items ≡ out.old.items ++ text_of program.now) }
     ensures extends { OnErr result (Extends out.old.items out.new.items) }
 {
     append_globals(program.globals(), out)?;

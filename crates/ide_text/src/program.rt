@@ -1,18 +1,32 @@
 //! Programs: globals, procedures and their statements, as a text spells them.
-ghost use Rattle.std.specs.Prelude.{◌≡◌, ◌≤◌};
+ghost use Rattle.std.specs.Prelude.{◌≡◌, ◌≤◌, length};
 ghost use Rattle.ide_text.specs.declared.line.Line.TheVariants as line;
 ghost use Rattle.ide_text.specs.FirstFault.{nodes_on};
+ghost use Rattle.ide_text.specs.Lines.{IsWithinLimits};
+ghost use Rattle.ide_text.specs.LimitsProp.{IsWithinLimits-prop};
+ghost use Rattle.ide_text.specs.NameFault.{IsWellNamed};
+ghost use Rattle.ide_text.specs.Text.{draft_text};
 
 use crate::name::Name;
 
 /// A program: a list of globals and a list of procedures, in the order of the text.
 ///
-/// Names stand in it as the text has them. The parser answers only programs in which each name is
-/// declared once, each use has its declaration, and the limits hold.
+/// Names stand in it as the text has them. Each name is declared once, each use has its
+/// declaration, and the limits hold, that of the bytes of its text too.
 #[derive(Drop)]
 pub struct Program {
-    globals: Vec<Name>,
-    procedures: Vec<Procedure>,
+    draft: Draft,
+    pub ghost named: { IsWellNamed draft },
+    pub ghost limits: { IsWithinLimits draft } by { IsWithinLimits-prop draft },
+    pub ghost short: { length (draft_text draft) ≤ 1048576 },
+}
+
+/// What is to be a program once its names are checked: the globals and the procedures, in the
+/// order of the text.
+#[derive(Drop)]
+pub(crate) struct Draft {
+    pub globals: Vec<Name>,
+    pub procedures: Vec<Procedure>,
 }
 
 /// A procedure: its name, its parameters, its locals and its statements, each in the text's order.
@@ -67,16 +81,33 @@ pub enum Expression {
 impl Program {
     ghost use Rattle.ide_text.specs.Program.{globals_of, procedures_of};
 
-    /// The program of these parts.
-    pub(crate) fn new(globals: Vec<Name>, procedures: Vec<Procedure>) -> Program
-        ensures globals { globals_of result ≡ globals.items }
-        ensures procedures { procedures_of result ≡ procedures.items }
+    /// The program of this draft.
+    pub(crate) fn of(draft: Draft) -> Program
+        requires named { IsWellNamed draft }
+        requires limits { IsWithinLimits draft }
+        requires short { length (draft_text draft) ≤ 1048576 }
+        ensures { result.draft ≡ draft }
     {
-        Program {
-            globals,
-            procedures,
-        }
+        Program { draft }
     }
+
+    /// The globals, in the order of their declarations.
+    pub fn globals(&self) -> &[Name]
+        ensures { result.now ≡ globals_of self.now }
+    {
+        self.draft.globals()
+    }
+
+    /// The procedures, in the order of the text.
+    pub fn procedures(&self) -> &[Procedure]
+        ensures { result.now ≡ procedures_of self.now }
+    {
+        self.draft.procedures()
+    }
+}
+
+impl Draft {
+    ghost use Rattle.ide_text.specs.Draft.{globals_of, procedures_of};
 
     /// The globals, in the order of their declarations.
     pub fn globals(&self) -> &[Name]

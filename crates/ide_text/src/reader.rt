@@ -7,7 +7,7 @@ ghost use Rattle.ide_text.specs.Flaw.{IfFaulty};
 use crate::flaw::Flaw;
 use crate::line::Line;
 use crate::name::Name;
-use crate::program::{Procedure, Program, Statement};
+use crate::program::{Draft, Procedure, Statement};
 use ide_wire::Fault;
 use std::alloc::Global;
 
@@ -40,7 +40,7 @@ pub(crate) struct Reader {
 }
 
 impl Reader {
-    ghost use Rattle.ide_text.specs.Lines.{program_lines};
+    ghost use Rattle.ide_text.specs.Lines.{draft_lines};
     ghost use Rattle.ide_text.specs.Reader.{IsCounted, taken_lines};
 
     /// The reader at the head of a text.
@@ -75,16 +75,19 @@ impl Reader {
         }
     }
 
-    /// The program of all the lines, where a text may end after them.
-    pub(crate) fn finish(self) -> Result<Program, Fault>
-        ensures lines { IfOk result (λ program. program_lines program ≡ taken_lines self) }
+    /// The draft of all the lines, where a text may end after them.
+    pub(crate) fn finish(self) -> Result<Draft, Fault>
+        ensures lines { IfOk result (λ draft. draft_lines draft ≡ taken_lines self) }
         ensures place { OnOk result (MayEnd (taken_lines self)) }
         ensures fault { IfErr result (λ fault. (fault ≡ Fault.OutOfPlace) × ¬ (MayEnd (taken_lines self))) }
     {
         if self.open.is_some() || self.procedures.is_empty() {
             return Err(Fault::OutOfPlace);
         }
-        Ok(Program::new(self.globals, self.procedures))
+        Ok(Draft {
+            globals: self.globals,
+            procedures: self.procedures,
+        })
     }
 
     /// Takes a `global` line, which stands before the first procedure.

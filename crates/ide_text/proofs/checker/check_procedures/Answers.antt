@@ -7,7 +7,7 @@ use Rattle.ide_text.specs.declared.program.Procedure.{Procedure}
 use Rattle.ide_text.specs.Names.{is_named}
 use Rattle.ide_text.specs.First.{TellsFirst}
 use Rattle.ide_text.specs.NameFault.{ProcedureFault, line_of_procedure}
-use Rattle.ide_text.specs.Program.{globals_of, procedures_of}
+use Rattle.ide_text.specs.Draft.{globals_of, procedures_of}
 use Rattle.ide_text.proofs.ProgramLemmas.{name_first, next_line, procedure_told, procedures_more, procedures_none}
 use Rattle.ide_text.proofs.checker.check_procedures.Goals as goal
 
@@ -29,7 +29,7 @@ named b q place list procedures same h = sym (h ∙ ap (λ ps. list_any (is_name
 
 pub returns-then-is_named_before : goal.returns-then-is_named_before
 returns-then-is_named_before c =
-    let p = c.args.program.now in
+    let p = c.args.draft.now in
     let q = c.procedure-item.result in
     let at = at_place c.procedures-procedure-items.result.now (procedures_of p) c.loop-place.place q c.procedures-procedure-items.ensures c.loop-place-test.true c.procedure-item.is in
     rw c.loop-place.invariant.counted
@@ -38,7 +38,7 @@ returns-then-is_named_before c =
 
 pub returns-in_err-check_procedure : goal.returns-in_err-check_procedure
 returns-in_err-check_procedure c =
-    let p = c.args.program.now in
+    let p = c.args.draft.now in
     let q = c.procedure-item.result in
     let at = at_place c.procedures-procedure-items.result.now (procedures_of p) c.loop-place.place q c.procedures-procedure-items.ensures c.loop-place-test.true c.procedure-item.is in
     let first = named c.is_named_before.result q c.loop-place.place c.args.procedures.now (procedures_of p) c.requires.procedures c.is_named_before.ensures ∙ c.if-is_named_before.false in
@@ -50,7 +50,7 @@ returns-in_err-check_procedure c =
 
 pub loop-place-preserved : goal.loop-place-preserved
 loop-place-preserved c =
-    let p = c.args.program.now in
+    let p = c.args.draft.now in
     let q = c.procedure-item.result in
     let at = at_place c.procedures-procedure-items.result.now (procedures_of p) c.loop-place.place q c.procedures-procedure-items.ensures c.loop-place-test.true c.procedure-item.is in
     let first = named c.is_named_before.result q c.loop-place.place c.args.procedures.now (procedures_of p) c.requires.procedures c.is_named_before.ensures ∙ c.if-is_named_before.false in
@@ -65,5 +65,5 @@ loop-place-preserved c =
 
 pub returns : goal.returns
 returns c =
-    let same : length c.procedures-procedure-items.result.now ≡ length (procedures_of c.args.program.now) = ap length c.procedures-procedure-items.ensures in
-    procedures_none c.args.program.now c.loop-place.place (omega arith) c.loop-place.invariant.none
+    let same : length c.procedures-procedure-items.result.now ≡ length (procedures_of c.args.draft.now) = ap length c.procedures-procedure-items.ensures in
+    procedures_none c.args.draft.now c.loop-place.place (omega arith) c.loop-place.invariant.none

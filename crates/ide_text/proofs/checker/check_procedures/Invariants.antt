@@ -5,6 +5,6 @@ use Rattle.ide_text.proofs.checker.check_procedures.Given as goal
 
 abbrev pub invariant-loop-place : goal.invariant-loop-place
 invariant-loop-place l = record {
-  counted : l.line ≡ line_of_procedure l.program l.place;
-  none : NoneBelow (NameFault l.program) (line_of_procedure l.program l.place);
+  counted : l.line ≡ line_of_procedure l.draft l.place;
+  none : NoneBelow (NameFault l.draft) (line_of_procedure l.draft l.place);
 }

@@ -33,12 +33,12 @@ returns-then-not-is_empty-clause-faults c =
     c.loop-next.invariant.taken c.loop-next.invariant.text c.in_default.ensures some c.loop-next.invariant.line)
 
 pub returns-in-Ok-clause-lines : goal.returns-in-Ok-clause-lines
-returns-in-Ok-clause-lines c = program_fits c.args.text.now (taken_lines c.loop-next.reader) c.loop-next.rest.now c.in-Ok.program c.loop-next.invariant.text c.in-Ok.ensures.lines
+returns-in-Ok-clause-lines c = program_fits c.args.text.now (taken_lines c.loop-next.reader) c.loop-next.rest.now c.in-Ok.draft c.loop-next.invariant.text c.in-Ok.ensures.lines
 
 pub returns-in-Ok-clause-spelled : goal.returns-in-Ok-clause-spelled
 returns-in-Ok-clause-spelled c =
     let none : c.loop-next.rest.now ≡ [] = nil_from_length c.loop-next.rest.now (grind (arith, nat_tests, c.if-not-is_empty.ensures)) in
-    Spells-at_end c.args.text.now (taken_lines c.loop-next.reader) c.loop-next.rest.now c.in-Ok.program c.loop-next.invariant.taken c.loop-next.invariant.text none c.in-Ok.ensures.lines
+    Spells-at_end c.args.text.now (taken_lines c.loop-next.reader) c.loop-next.rest.now c.in-Ok.draft c.loop-next.invariant.taken c.loop-next.invariant.text none c.in-Ok.ensures.lines
 
 pub returns-in-Err-finish-clause-refusals : goal.returns-in-Err-finish-clause-refusals
 returns-in-Err-finish-clause-refusals c =
