@@ -8,7 +8,7 @@ use Rattle.std.proofs.lemmas.Option.{slice_get_within, same_Some}
 use Rattle.ide_text.specs.declared.program.Procedure.{Procedure}
 use Rattle.ide_text.specs.declared.program.Program.{Program}
 use Rattle.ide_text.specs.declared.program.Statement.TheVariants.{Call}
-use Rattle.ide_text.specs.NameFault.{IsWellNamed, variables_used}
+use Rattle.ide_text.specs.NameFault.{variables_used}
 use Rattle.ide_text.specs.Program.{procedures_of}
 use Rattle.ide_graph.specs.declared.builder.Builder.{Builder}
 use Rattle.ide_graph.specs.declared.layout.Layout.{Layout}
@@ -50,11 +50,11 @@ module _ (p : Program) (q : Procedure) where
       let long : i ≡ length (take i arguments) = simp length-take (omega arith) in
       subst (λ xs. ArePassed p q xs (pairs ++ (fact, result_of p + 1 + i) ∷ [])) (sym more) (passed_push (take i arguments) pairs x fact i passed has long)
 
-module _ (p : Program) (named : IsWellNamed p) (n : ℕ) (at : CallAt p n) where
+module _ (p : Program) (n : ℕ) (at : CallAt p n) where
   call_known : AllHaveFacts p at.procedure (variables_used (Call at.target at.callees at.arguments))
   call_known =
       let place = statement_of p n at.index at.procedure (Call at.target at.callees at.arguments) at.stands in
-      variables_known p named at.index at.procedure at.stands.owner place.0 (Call at.target at.callees at.arguments) place.1
+      variables_known p at.index at.procedure at.stands.owner place.0 (Call at.target at.callees at.arguments) place.1
 
   pub arguments_known : AllHaveFacts p at.procedure at.arguments.items
   arguments_known x used = call_known x (Contains-append_right (option_to_list at.target) at.arguments.items x used)
@@ -66,7 +66,7 @@ module _ (p : Program) (named : IsWellNamed p) (n : ℕ) (at : CallAt p n) where
   pub arguments_counted : (callee : ℕ) (r : Procedure) → IsCallee p at.callees.items callee → slice_get (procedures_of p) callee ≡ Some r → length r.parameters.items ≡ length at.arguments.items
   arguments_counted callee r called there =
       let place = statement_of p n at.index at.procedure (Call at.target at.callees at.arguments) at.stands in
-      let same = counts_agree p named at.index at.procedure at.stands.owner place.0 (Call at.target at.callees at.arguments) place.1 called.0 callee r called.1 called.2 there in
+      let same = counts_agree p at.index at.procedure at.stands.owner place.0 (Call at.target at.callees at.arguments) place.1 called.0 callee r called.1 called.2 there in
       omega (arith, same, r.parameters.ok.0, at.arguments.ok.0)
 
 module _ (p : Program) (b : Builder) (is : IsBuilderOf p b) where

@@ -10,7 +10,7 @@ use Rattle.ide_wire.specs.declared.refused.Fault.TheVariants.{NoSuchVariable, No
 use Rattle.ide_text.specs.declared.program.Procedure.{Procedure}
 use Rattle.ide_text.specs.declared.program.Program.{Program}
 use Rattle.ide_text.specs.declared.program.Statement.{Statement}
-use Rattle.ide_text.specs.NameFault.{StatementFault, No_variable, No_label, No_procedure, Wrong_count, In_statement, In_procedure, IsWellNamed, variables_used, labels_used, callees_of, arguments_passed, variables_in, line_of_procedure}
+use Rattle.ide_text.specs.NameFault.{StatementFault, No_variable, No_label, No_procedure, Wrong_count, In_statement, In_procedure, variables_used, labels_used, callees_of, arguments_passed, variables_in, line_of_procedure}
 use Rattle.ide_text.specs.Names.{declares, is_among, is_label}
 use Rattle.ide_text.specs.Program.{globals_of, procedures_of}
 use Rattle.ide_graph.specs.Building.{AllHaveFacts}
@@ -30,11 +30,11 @@ among_more : (test : List ℕ → Bool) (zero_name result_name : List ℕ) (glob
 among_more test z r globals parameters locals h =
     simp (list_any-append test) (any_more (test z) (list_any test globals) (test r) (list_any test parameters) (list_any test locals) (simp (list_any-append test) at h))
 
-module _ (p : Program) (named : IsWellNamed p) (index : ℕ) (q : Procedure) (owner : slice_get (procedures_of p) index ≡ Some q) (place : ℕ) (s : Statement) (at : slice_get q.statements.items place ≡ Some s) where
+module _ (p : Program) (index : ℕ) (q : Procedure) (owner : slice_get (procedures_of p) index ≡ Some q) (place : ℕ) (s : Statement) (at : slice_get q.statements.items place ≡ Some s) where
   no_fault : (f : Fault) → StatementFault (variables_in (globals_of p) q) (procedures_of p) (take place q.statements.items) q.statements.items s f → ⊥
   no_fault f bad =
-      let line : ℕ = line_of_procedure p index + 1 + vec_len q.locals + place in
-      named line f (In_procedure index q owner line f (In_statement line f (record { place = place; statement = s; found = at; on_line = refl; faulty = bad })))
+      let line : ℕ = line_of_procedure p.draft index + 1 + vec_len q.locals + place in
+      p.named line f (In_procedure index q owner line f (In_statement line f (record { place = place; statement = s; found = at; on_line = refl; faulty = bad })))
 
   -- each variable that the statement uses has a fact
   pub variables_known : AllHaveFacts p q (variables_used s)

@@ -10,7 +10,7 @@ use Rattle.ide_graph.specs.declared.site.Caller.{Caller}
 use Rattle.ide_graph.specs.declared.site.Site.{Site}
 use Rattle.ide_graph.specs.declared.site.Site.TheVariants.{Normal, Call, Exit}
 use Rattle.ide_graph.specs.Exits.{HasFewCallers, ExitsOfProgramsAreOwned}
-use Rattle.ide_graph.specs.GraphOf.{IsNamed, IsGraphOf}
+use Rattle.ide_graph.specs.GraphOf.{IsGraphOf}
 use Rattle.ide_graph.specs.Numbers.{exit, statement, nodes_of, exit_of}
 use Rattle.ide_graph.specs.ProgramEdges.{CallAt, HasEdgesOf, IsExitSite, IsSiteOf}
 use Rattle.ide_graph.specs.Supergraph.{Supergraph}
@@ -42,18 +42,18 @@ module _ (p : Program) where
       (λ k d within. call_within _ (site.listed.each k d within).0.call) site.listed.ascending in
       omega (arith, bound, few)
 
-module _ (p : Program) (graph : Supergraph) (named : IsNamed p) (is : IsGraphOf p graph) (has : HasEdgesOf p graph) where
+module _ (p : Program) (graph : Supergraph) (is : IsGraphOf p graph) (has : HasEdgesOf p graph) where
   exit_owned : (n begin : ℕ) (callers : Vec Caller) → slice_get graph.sites n ≡ Some (Exit begin callers) → slice_index graph.exits (slice_index graph.owners n) ≡ n
   exit_owned n begin callers stands =
       let site : IsExitSite p n begin callers.items = has n (Exit begin callers) stands in
-      let owner = node_owner p graph named is has n site.index exit site.node in
-      let within = owner_within p graph named is has n site.index exit site.node in
+      let owner = node_owner p graph is has n site.index exit site.node in
+      let within = owner_within p graph is has n site.index exit site.node in
       ap (slice_index graph.exits) owner ∙ is.exits site.index within ∙ exit_is p n site.index site.node
 
 pub exits_owned : ExitsOfProgramsAreOwned
-exits_owned p graph named is has = record {
-  owned = exit_owned p graph named is has;
+exits_owned p graph is has = record {
+  owned = exit_owned p graph is has;
   few = λ n site stands.
       let bound : 65536 ≤ 2 ^ 32 = lit≤ tt in
-      few_callers p n site (omega (arith, bound, (is.few named).0, is.nodes)) (has n site stands);
+      few_callers p n site (omega (arith, bound, is.few.0, is.nodes)) (has n site stands);
 }

@@ -7,7 +7,6 @@ use Rattle.std.proofs.lemmas.List.{length-map}
 use Rattle.std.proofs.lemmas.Option.{get_or_from_slice_get, slice_get-map}
 use Rattle.ide_text.specs.declared.program.Program.{Program}
 use Rattle.ide_text.specs.declared.program.Procedure.{Procedure}
-use Rattle.ide_text.specs.NameFault.{IsWellNamed}
 use Rattle.ide_text.specs.Program.{globals_of, procedures_of}
 use Rattle.ide_graph.specs.declared.graph.Graph.TheInside.{Inside}
 use Rattle.ide_graph.specs.declared.layout.Layout.{Layout}
@@ -44,8 +43,8 @@ module _ (p : Program) (graph : Inside) (numbering : Numbering) (is : IsNumberin
       let l = layout_at p numbering is i q at in
       (l.0, ap (λ ls. get_or (map f ls) i d) layouts ∙ mapped_at f numbering.layouts.items i l.0 d l.1, l.2)
 
-  own_at : IsWellNamed p → (i : ℕ) (q : Procedure) → slice_get (procedures_of p) i ≡ Some q → get_or (map (λ layout. layout.own) graph.layouts.items) i [] ≡ q.parameters.items ++ q.locals.items
-  own_at named i q at = let l = from_layout (λ layout. layout.own) [] i q at in l.1 ∙ l.2.own (own_names p named i q at)
+  own_at : (i : ℕ) (q : Procedure) → slice_get (procedures_of p) i ≡ Some q → get_or (map (λ layout. layout.own) graph.layouts.items) i [] ≡ q.parameters.items ++ q.locals.items
+  own_at i q at = let l = from_layout (λ layout. layout.own) [] i q at in l.1 ∙ l.2.own (own_names p i q at)
 
   pub graph_of : IsGraphOf p (counts_of graph)
   graph_of = record {
@@ -56,23 +55,23 @@ module _ (p : Program) (graph : Inside) (numbering : Numbering) (is : IsNumberin
     starts = λ i within. let at = element_of (procedures_of p) i within in let l = from_layout (λ layout. layout.start) 0 i at.0 at.1 in l.1 ∙ l.2.start;
     exits = λ i within. let at = element_of (procedures_of p) i within in let l = from_layout (λ layout. layout.exit) 0 i at.0 at.1 in l.1 ∙ l.2.exit;
     named = directory;
-    counts = λ named.
-        let same = globals (global_names p named.0) in
+    counts =
+        let same = globals (global_names p) in
         let names = ap length same in
-        let few = few_facts p named.1 in
-        (facts_are p numbering is named.0 graph.most_own most least named.1 graph.globals.names same, omega (arith, names, few));
-    few = λ named.
-        let same = globals (global_names p named.0) in
-        let facts = facts_are p numbering is named.0 graph.most_own most least named.1 graph.globals.names same in
+        let few = few_facts p in
+        (facts_are p numbering is graph.most_own most least graph.globals.names same, omega (arith, names, few));
+    few =
+        let same = globals (global_names p) in
+        let facts = facts_are p numbering is graph.most_own most least graph.globals.names same in
         let nodes = sites ∙ (sym (length-map numbering.spots.items node_value) ∙ ap length is.spots) in
-        (omega (arith, nodes, few_nodes p named.1), omega (arith, facts, few_facts p named.1));
-    parameters = λ named i q at. let l = from_layout (λ layout. layout.parameter_count) 0 i q at in l.1 ∙ l.2.parameters (own_names p named.0 i q at);
-    names = λ named i q at.
-        ap (λ names. names_of_facts names (get_or (map (λ layout. layout.own) graph.layouts.items) i [])) (globals (global_names p named.0))
-        ∙ ap (names_of_facts (globals_of p)) (own_at named.0 i q at)
+        (omega (arith, nodes, few_nodes p), omega (arith, facts, few_facts p));
+    parameters = λ i q at. let l = from_layout (λ layout. layout.parameter_count) 0 i q at in l.1 ∙ l.2.parameters (own_names p i q at);
+    names = λ i q at.
+        ap (λ names. names_of_facts names (get_or (map (λ layout. layout.own) graph.layouts.items) i [])) (globals (global_names p))
+        ∙ ap (names_of_facts (globals_of p)) (own_at i q at)
         ∙ sym (append_assoc (codes "@zero" ∷ globals_of p) (codes "@result" ∷ q.parameters.items) q.locals.items);
-    fact = λ named i q at name.
-        ap (λ names. fact_of_name names (get_or (map (λ layout. layout.own) graph.layouts.items) i []) name) (globals (global_names p named.0))
-        ∙ ap (λ own. fact_of_name (globals_of p) own name) (own_at named.0 i q at)
-        ∙ fact_of_name_at p named.0 named.1 i q at name;
+    fact = λ i q at name.
+        ap (λ names. fact_of_name names (get_or (map (λ layout. layout.own) graph.layouts.items) i []) name) (globals (global_names p))
+        ∙ ap (λ own. fact_of_name (globals_of p) own name) (own_at i q at)
+        ∙ fact_of_name_at p i q at name;
   }

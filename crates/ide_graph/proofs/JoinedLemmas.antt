@@ -19,7 +19,7 @@ use Rattle.ide_graph.specs.declared.site.Site.{Site}
 use Rattle.ide_graph.specs.declared.site.Site.TheVariants.{Normal, Call, Exit}
 use Rattle.ide_graph.specs.Building.{AllHaveFacts}
 use Rattle.ide_graph.specs.EdgeLaws.{StayWithin}
-use Rattle.ide_graph.specs.GraphOf.{IsNamed, IsGraphOf}
+use Rattle.ide_graph.specs.GraphOf.{IsGraphOf}
 use Rattle.ide_graph.specs.Joined.{HasFlat, HasCall, ReturnsTo, HasCaller, IsEntered, IsLeft, start_at, SitesOfProgramsAreJoined}
 use Rattle.ide_graph.specs.Lists.{Lists}
 use Rattle.ide_graph.specs.Numbers.{Spot, statement, exit, nodes_of, start_of, exit_of, result_of}
@@ -56,15 +56,15 @@ passed_up_to p q arguments known (suc i) within =
     (pairs, subst (λ k. ArePassed p q (take k arguments) pairs) next (passed_more p q arguments rest.0 argument.0 fact.0 i (omega (arith, within)) at rest.1 fact.1))
 
 -- a call has an edge to a callee
-called : (p : Program) → IsNamed p → (n : ℕ) (at : CallAt p n) → (callee : ℕ) × (e : EdgeData) × IsCall p n callee e
-called p named n at =
+called : (p : Program) → (n : ℕ) (at : CallAt p n) → (callee : ℕ) × (e : EdgeData) × IsCall p n callee e
+called p n at =
     let place = statement_of p n at.index at.procedure (calls at.target at.callees at.arguments) at.stands in
-    let lines = each_of IsProcedure (procedures_of p) at.index at.procedure (limits_program p named.1).procedures at.stands.owner in
+    let lines = each_of IsProcedure (procedures_of p) at.index at.procedure (limits_program p.draft p.limits).procedures at.stands.owner in
     let line = each_of IsStatement at.procedure.statements.items place.0 (calls at.target at.callees at.arguments) lines.statements place.1 in
     let name = element_of at.callees.items 0 (omega (arith, line.1)) in
     let there : Contains at.callees.items name.0 = contains_at at.callees.items 0 name.0 name.1 in
-    let callee = procedure_known p named.0 at.index at.procedure at.stands.owner place.0 (calls at.target at.callees at.arguments) place.1 name.0 there in
-    let passed = passed_up_to p at.procedure at.arguments.items (arguments_known p named.0 n at) (length at.arguments.items) (omega arith) in (
+    let callee = procedure_known p at.index at.procedure at.stands.owner place.0 (calls at.target at.callees at.arguments) place.1 name.0 there in
+    let passed = passed_up_to p at.procedure at.arguments.items (arguments_known p n at) (length at.arguments.items) (omega arith) in (
       callee.0,
       edge_of p (start_of (procedures_of p) callee.0) (kind.Call passed.0),
       record {
@@ -99,7 +99,7 @@ module _ (p : Program) where
       (same_spot p n is.index at.index exit (statement (calls at.target at.callees at.arguments)) is.node at.stands.node).1 in
       absurd (let none : ⊥ = cc in none)
 
-module _ (p : Program) (graph : Supergraph) (named : IsNamed p) (is : IsGraphOf p graph) (has : HasEdgesOf p graph) where
+module _ (p : Program) (graph : Supergraph) (is : IsGraphOf p graph) (has : HasEdgesOf p graph) where
   -- the procedure of a node is the one whose spot stands there
   pub node_owner : (n i : ℕ) (spot : Spot) → slice_get (nodes_of (procedures_of p)) n ≡ Some (i, spot) → slice_index graph.owners n ≡ i
   node_owner n i spot at =
@@ -150,7 +150,7 @@ module _ (p : Program) (graph : Supergraph) (named : IsNamed p) (is : IsGraphOf 
       let found = site_at (exit_of (procedures_of p) call.0) call.0 exit last in
       let here = exit_site p (exit_of (procedures_of p) call.0) call.0 found.0 last found.2 in
       let index : here.3.index ≡ call.0 = (same_spot p (exit_of (procedures_of p) call.0) here.3.index call.0 exit exit here.3.node last).0 in
-      let assigned = assigned_exists p it.call.procedure it.call.target (targets_known p named.0 n it.call) in
+      let assigned = assigned_exists p it.call.procedure it.call.target (targets_known p n it.call) in
       let back : EdgeData = edge_of p (n + 1) (kind.Return assigned.0) in
       let caller : Caller = record { call_node = n; call = e; back = back } in
       let known : IsCallerOf p here.3.index caller =
@@ -185,15 +185,15 @@ module _ (p : Program) (graph : Supergraph) (named : IsNamed p) (is : IsGraphOf 
   some_call : (n : ℕ) (s : Site) (m : ℕ) → IsSiteOf p n s → ReturnsTo s m → (e : EdgeData) × HasCall s e
   some_call n (Normal edges) m site there = absurd there
   some_call n (Call edges along) m site there =
-      let call = called p named n site.1.call in
+      let call = called p n site.1.call in
       (call.1, site.0.whole call.1 (call.0, call.2))
   some_call n (Exit begin callers) m site there = absurd there
 
 pub sites_joined : SitesOfProgramsAreJoined
-sites_joined p graph named is has = record {
-  flat = λ n s e at there. stays p graph named is has n e.end (flat_stays p graph named is has n s e (has n s at) there);
-  callee = λ n s e at there. callee_start p graph named is has n e (call_from p graph named is has n s e (has n s at) there);
-  entered = λ n s e at there. entered p graph named is has n e (call_from p graph named is has n s e (has n s at) there);
-  left = λ m s c at there. callers_left p graph named is has m s c (has m s at) there;
-  some = λ n s m at there. some_call p graph named is has n s m (has n s at) there;
+sites_joined p graph is has = record {
+  flat = λ n s e at there. stays p graph is has n e.end (flat_stays p graph is has n s e (has n s at) there);
+  callee = λ n s e at there. callee_start p graph is has n e (call_from p graph is has n s e (has n s at) there);
+  entered = λ n s e at there. entered p graph is has n e (call_from p graph is has n s e (has n s at) there);
+  left = λ m s c at there. callers_left p graph is has m s c (has m s at) there;
+  some = λ n s m at there. some_call p graph is has n s m (has n s at) there;
 }

@@ -11,8 +11,8 @@ use Rattle.ide_text.specs.declared.program.Procedure.{Procedure}
 use Rattle.ide_text.specs.declared.program.Program.{Program}
 use Rattle.ide_text.specs.declared.program.Statement.{Statement}
 use Rattle.ide_text.specs.declared.program.Statement.TheVariants.{Assign, Skip, At, Goto, Branch, Call, Return}
-use Rattle.ide_text.specs.Grammar.{IsExpression, IsName, IsProcedure, IsProgram, IsStatement, HasNameBytes}
-use Rattle.ide_text.specs.NameFault.{IsWellNamed}
+use Rattle.ide_text.specs.Grammar.{IsExpression, IsName, IsProcedure, IsStatement, HasNameBytes}
+use Rattle.ide_text.specs.Limits.{limits_program}
 use Rattle.ide_text.specs.Program.{globals_of, procedures_of}
 use Rattle.ide_graph.specs.declared.edge.EdgeData.{EdgeData}
 use Rattle.ide_graph.specs.declared.edge.EdgeKind.{EdgeKind}
@@ -98,11 +98,11 @@ parameters_from facts low (pair ∷ pairs) placed within =
       parameters_from facts (pair.1 + 1) pairs (λ k other at. let here : other.1 ≡ low + suc k = placed (suc k) other at in omega (arith, here, first)) (omega (arith, first, within)),
     )
 
-module _ (p : Program) (proper : IsProgram p) (named : IsWellNamed p) where
+module _ (p : Program) where
   statements_proper : (index : ℕ) (q : Procedure) (owner : slice_get (procedures_of p) index ≡ Some q) → AreProper p index q owner
   statements_proper index q owner s n stands =
       let place = statement_of p n index q s stands in
-      each_of IsStatement q.statements.items place.0 s (each_of IsProcedure (procedures_of p) index q proper.procedures owner).statements place.1
+      each_of IsStatement q.statements.items place.0 s (each_of IsProcedure (procedures_of p) index q (limits_program p.draft p.limits).procedures owner).statements place.1
 
   lawful : (index : ℕ) (q : Procedure) → slice_get (procedures_of p) index ≡ Some q → (edge : EdgeData) (end : ℕ) (k : EdgeKind) → edge ≡ edge_of p end k → IsKind (result_of p) (facts_of p) k → IsLawful p edge
   lawful index q owner edge end k is of =
@@ -136,7 +136,7 @@ module _ (p : Program) (proper : IsProgram p) (named : IsWellNamed p) where
   call_lawful n callee edge e =
       let owner = e.call.stands.owner in
       let r = callee_found p e.call.callees.items callee e.called in
-      let count : length r.0.parameters.items ≡ length e.call.arguments.items = arguments_counted p named n e.call callee r.0 e.called r.1 in
+      let count : length r.0.parameters.items ≡ length e.call.arguments.items = arguments_counted p n e.call callee r.0 e.called r.1 in
       let fits : result_of p + 1 + length e.pairs ≤ facts_of p = omega (arith, count, e.passed.each_once, own_within p callee r.0 r.1) in
       lawful e.call.index e.call.procedure owner edge (start_of (procedures_of p) callee) (kind.Call e.pairs) e.is
       (parameters_from (facts_of p) (result_of p + 1) e.pairs
@@ -149,9 +149,9 @@ module _ (p : Program) (proper : IsProgram p) (named : IsWellNamed p) where
       fits)
 
 pub edges_lawful : EdgesAreLawful
-edges_lawful p proper named = record {
-  normal = normal_lawful p proper named;
-  call = call_lawful p proper named;
-  along = along_lawful p proper named;
-  back = back_lawful p proper named;
+edges_lawful p = record {
+  normal = normal_lawful p;
+  call = call_lawful p;
+  along = along_lawful p;
+  back = back_lawful p;
 }

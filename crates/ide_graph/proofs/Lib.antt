@@ -26,6 +26,9 @@ pub mod OneSite
 pub mod PlaceLemmas
 pub mod ProcedureLemmas
 pub mod ProgramLemmas
+pub mod RoomLemmas
+pub mod SameGraph
+pub mod SameText
 pub mod SiteLemmas
 pub mod SliceLemmas
 pub mod SpotLemmas

@@ -14,8 +14,7 @@ use Rattle.ide_text.specs.declared.program.Statement.{Statement}
 use Rattle.ide_text.specs.declared.program.Statement.TheVariants.{Assign, Skip, At, Goto, Branch, Call, Return}
 use Rattle.ide_text.specs.Grammar.{IsName, IsProcedure}
 use Rattle.ide_text.specs.Limits.{statement_nodes, procedure_nodes, own_count, limits_nodes, limits_facts, limits_shared_facts, limits_program}
-use Rattle.ide_text.specs.Lines.{IsWithinLimits}
-use Rattle.ide_text.specs.NameFault.{IsWellNamed, Global_again, In_procedure, Parameter_again, Local_again}
+use Rattle.ide_text.specs.NameFault.{Global_again, In_procedure, Parameter_again, Local_again}
 use Rattle.ide_text.specs.Names.{IsRepeated, is_among}
 use Rattle.ide_text.specs.Program.{globals_of, procedures_of}
 use Rattle.std.specs.Str.{bytes_eq}
@@ -51,17 +50,17 @@ nodes_count k (q ∷ ps) =
     ∙ ap (λ n. procedure_nodes q + n) (nodes_count (k + 1) ps)
     ∙ sym (sum_by-cons procedure_nodes q ps)
 
-pub few_nodes : (p : Program) → IsWithinLimits p → length (nodes_of (procedures_of p)) ≤ 65536
-few_nodes p limits = omega (arith, nodes_count 0 (procedures_of p), limits_nodes p limits)
+pub few_nodes : (p : Program) → length (nodes_of (procedures_of p)) ≤ 65536
+few_nodes p = omega (arith, nodes_count 0 (procedures_of p), limits_nodes p.draft p.limits)
 
 pub most_bound : (ps : List Procedure) (bound : ℕ) → ((i : ℕ) (q : Procedure) → slice_get ps i ≡ Some q → own_count q ≤ bound) → most_own ps ≤ bound
 most_bound [] bound each = omega arith
 most_bound (q ∷ ps) bound each = let here = each 0 q refl in let rest = most_bound ps bound (λ i r at. each (suc i) r at) in omega (arith, here, rest)
 
-pub few_facts : (p : Program) → IsWithinLimits p → facts_of p ≤ 4096
-few_facts p limits =
-    let shared = limits_shared_facts p limits in
-    let most = most_bound (procedures_of p) (4096 - (length (globals_of p) + 2)) (λ i q at. let here = limits_facts p limits i q at in omega (arith, here)) in
+pub few_facts : (p : Program) → facts_of p ≤ 4096
+few_facts p =
+    let shared = limits_shared_facts p.draft p.limits in
+    let most = most_bound (procedures_of p) (4096 - (length (globals_of p) + 2)) (λ i q at. let here = limits_facts p.draft p.limits i q at in omega (arith, here)) in
     omega (arith, shared, most)
 
 -- ---- reserved names
@@ -117,15 +116,15 @@ new_names known first second one two k again = elim (cases_lt k (length first)) 
       })
 ]
 
-pub global_names : (p : Program) → IsWellNamed p → AreNew [] (globals_of p)
-global_names p named k again = named (k + 1) DeclaredTwice (Global_again k again)
+pub global_names : (p : Program) → AreNew [] (globals_of p)
+global_names p k again = p.named (k + 1) DeclaredTwice (Global_again k again)
 
-module _ (p : Program) (named : IsWellNamed p) (i : ℕ) (q : Procedure) (at : slice_get (procedures_of p) i ≡ Some q) where
+module _ (p : Program) (i : ℕ) (q : Procedure) (at : slice_get (procedures_of p) i ≡ Some q) where
   parameter_names : AreNew (globals_of p) q.parameters.items
-  parameter_names k again = named _ DeclaredTwice (In_procedure i q at _ DeclaredTwice (Parameter_again k again))
+  parameter_names k again = p.named _ DeclaredTwice (In_procedure i q at _ DeclaredTwice (Parameter_again k again))
 
   local_names : AreNew (globals_of p ++ q.parameters.items) q.locals.items
-  local_names k again = named _ DeclaredTwice (In_procedure i q at _ DeclaredTwice (Local_again k again))
+  local_names k again = p.named _ DeclaredTwice (In_procedure i q at _ DeclaredTwice (Local_again k again))
 
   pub own_names : HasOwnNames q
   own_names = record {
@@ -137,16 +136,16 @@ module _ (p : Program) (named : IsWellNamed p) (i : ℕ) (q : Procedure) (at : s
   own_new = new_names (globals_of p) q.parameters.items q.locals.items parameter_names local_names
 
 -- ---- facts by name
-module _ (p : Program) (named : IsWellNamed p) (limits : IsWithinLimits p) (i : ℕ) (q : Procedure) (at : slice_get (procedures_of p) i ≡ Some q) where
+module _ (p : Program) (i : ℕ) (q : Procedure) (at : slice_get (procedures_of p) i ≡ Some q) where
   pub fact_names : AreFactNames (globals_of p) (q.parameters.items ++ q.locals.items)
   fact_names =
-      let program = limits_program p limits in
+      let program = limits_program p.draft p.limits in
       let own = each_of IsProcedure (procedures_of p) i q program.procedures at in
       record {
-        new = own_new p named i q at;
+        new = own_new p i q at;
         free_globals = free_names (globals_of p) program.globals;
         free_own = free_names (q.parameters.items ++ q.locals.items) (all_names q.parameters.items q.locals.items own.parameters own.locals);
-        few = omega (arith, limits_facts p limits i q at, length-append q.parameters.items q.locals.items);
+        few = omega (arith, limits_facts p.draft p.limits i q at, length-append q.parameters.items q.locals.items);
       }
 
   -- the fact that a name finds is its place

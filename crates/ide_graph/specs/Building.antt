@@ -4,8 +4,6 @@ use Rattle.std.specs.Global.{Vec}
 use Rattle.std.specs.List.{All, Contains}
 use Rattle.ide_text.specs.declared.program.Procedure.{Procedure}
 use Rattle.ide_text.specs.declared.program.Program.{Program}
-use Rattle.ide_text.specs.Grammar.{IsProgram}
-use Rattle.ide_text.specs.NameFault.{IsWellNamed}
 use Rattle.ide_text.specs.Program.{globals_of, procedures_of}
 use Rattle.ide_graph.specs.declared.builder.Builder.{Builder}
 use Rattle.ide_graph.specs.declared.call.Call.{Call}
@@ -53,7 +51,7 @@ pub record DescribeProcedure (p : Program) (index : ℕ) (q : Procedure) (layout
 abbrev pub FindsFacts : Program → Type 0
 FindsFacts p = (index : ℕ) (q : Procedure) → slice_get (procedures_of p) index ≡ Some q → (name : List ℕ) → fact_of_name (globals_of p) (q.parameters.items ++ q.locals.items) name ≡ fact_at (globals_of p) q name
 
--- the first pass went over that program, which has no fault of names and not too many facts
+-- the first pass went over that program
 pub record IsBuilderOf (p : Program) (builder : Builder) : Type 0 where
   pub ready : IsReady builder
   pub spots : nodes_in builder.numbering.now.spots.items ≡ nodes_of (procedures_of p)
@@ -62,8 +60,6 @@ pub record IsBuilderOf (p : Program) (builder : Builder) : Type 0 where
   pub directory : (name : List ℕ) → procedure_of_name builder.directory.now.procedures name ≡ procedure_of (procedures_of p) name
   pub globals : builder.globals.now.names ≡ globals_of p
   pub finds : FindsFacts p
-  pub named : IsWellNamed p
-  pub proper : IsProgram p
   pub facts : builder.facts ≡ facts_of p
   pub few : facts_of p < 2 ^ 16
 

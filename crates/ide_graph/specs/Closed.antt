@@ -3,7 +3,7 @@ use Rattle.std.specs.Prelude.{◌≡◌, ℕ, ◌<◌, Some, length, slice_get, 
 use Rattle.ide_text.specs.declared.program.Program.{Program}
 use Rattle.ide_graph.specs.declared.edge.EdgeData.{EdgeData}
 use Rattle.ide_graph.specs.declared.site.Site.{Site}
-use Rattle.ide_graph.specs.GraphOf.{IsNamed, IsGraphOf}
+use Rattle.ide_graph.specs.GraphOf.{IsGraphOf}
 use Rattle.ide_graph.specs.Joined.{HasCall}
 use Rattle.ide_graph.specs.ProgramEdges.{HasEdgesOf}
 use Rattle.ide_graph.specs.Supergraph.{Supergraph}
@@ -18,4 +18,4 @@ pub record IsClosed (graph : Supergraph) : Type 0 where
 
 -- the graph of a program is closed
 abbrev pub GraphsOfProgramsAreClosed : Type 0
-GraphsOfProgramsAreClosed = (p : Program) (graph : Supergraph) → IsNamed p → IsGraphOf p graph → HasEdgesOf p graph → IsClosed graph
+GraphsOfProgramsAreClosed = (p : Program) (graph : Supergraph) → IsGraphOf p graph → HasEdgesOf p graph → IsClosed graph

@@ -1,8 +1,6 @@
 -- Laws of the edges of a program.
 use Rattle.std.specs.Prelude.{ℕ, ◌+◌, ◌≡◌, ◌≢◌, Some, slice_get}
 use Rattle.ide_text.specs.declared.program.Program.{Program}
-use Rattle.ide_text.specs.Grammar.{IsProgram}
-use Rattle.ide_text.specs.NameFault.{IsWellNamed}
 use Rattle.ide_text.specs.Program.{procedures_of}
 use Rattle.ide_graph.specs.declared.edge.EdgeData.{EdgeData}
 use Rattle.ide_graph.specs.declared.site.Site.{Site}
@@ -60,9 +58,9 @@ pub record AreLawful (p : Program) : Type 0 where
   pub along : (n : ℕ) (edge : EdgeData) → IsAlong p n edge → IsLawful p edge
   pub back : (n callee : ℕ) (edge : EdgeData) → IsBack p n callee edge → IsLawful p edge
 
--- the edges of a program of the grammar whose names have no fault are lawful
+-- the edges of a program are lawful
 abbrev pub EdgesAreLawful : Type 0
-EdgesAreLawful = (p : Program) → IsProgram p → IsWellNamed p → AreLawful p
+EdgesAreLawful = (p : Program) → AreLawful p
 
 -- the sites say the same, up to the room that their vectors have
 abbrev pub SaySame : Site → Site → Type 0

@@ -3,7 +3,7 @@ use Rattle.std.specs.Prelude.{◌≡◌, ℕ, ◌<◌, Some, slice_get}
 use Rattle.ide_text.specs.declared.program.Program.{Program}
 use Rattle.ide_graph.specs.declared.edge.EdgeData.{EdgeData}
 use Rattle.ide_graph.specs.declared.site.Site.{Site}
-use Rattle.ide_graph.specs.GraphOf.{IsNamed, IsGraphOf}
+use Rattle.ide_graph.specs.GraphOf.{IsGraphOf}
 use Rattle.ide_graph.specs.Joined.{HasFlat, HasCall, start_at}
 use Rattle.ide_graph.specs.ProgramEdges.{HasEdgesOf}
 use Rattle.ide_graph.specs.Supergraph.{Supergraph}
@@ -16,4 +16,4 @@ pub record AreEndsNodes (graph : Supergraph) : Type 0 where
 
 -- so it is in the graph of a program
 abbrev pub EndsOfProgramsAreNodes : Type 0
-EndsOfProgramsAreNodes = (p : Program) (graph : Supergraph) → IsNamed p → IsGraphOf p graph → HasEdgesOf p graph → AreEndsNodes graph
+EndsOfProgramsAreNodes = (p : Program) (graph : Supergraph) → IsGraphOf p graph → HasEdgesOf p graph → AreEndsNodes graph

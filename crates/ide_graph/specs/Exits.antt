@@ -5,7 +5,7 @@ use Rattle.ide_text.specs.declared.program.Program.{Program}
 use Rattle.ide_graph.specs.declared.site.Caller.{Caller}
 use Rattle.ide_graph.specs.declared.site.Site.{Site}
 use Rattle.ide_graph.specs.declared.site.Site.TheVariants.{Normal, Call, Exit}
-use Rattle.ide_graph.specs.GraphOf.{IsNamed, IsGraphOf}
+use Rattle.ide_graph.specs.GraphOf.{IsGraphOf}
 use Rattle.ide_graph.specs.ProgramEdges.{HasEdgesOf}
 use Rattle.ide_graph.specs.Supergraph.{Supergraph}
 
@@ -22,4 +22,4 @@ pub record AreExitsOwned (graph : Supergraph) : Type 0 where
 
 -- so are the exits of a program's graph
 abbrev pub ExitsOfProgramsAreOwned : Type 0
-ExitsOfProgramsAreOwned = (p : Program) (graph : Supergraph) → IsNamed p → IsGraphOf p graph → HasEdgesOf p graph → AreExitsOwned graph
+ExitsOfProgramsAreOwned = (p : Program) (graph : Supergraph) → IsGraphOf p graph → HasEdgesOf p graph → AreExitsOwned graph

@@ -6,7 +6,7 @@ use Rattle.ide_graph.specs.declared.edge.EdgeData.{EdgeData}
 use Rattle.ide_graph.specs.declared.site.Caller.{Caller}
 use Rattle.ide_graph.specs.declared.site.Site.{Site}
 use Rattle.ide_graph.specs.declared.site.Site.TheVariants.{Normal, Call, Exit}
-use Rattle.ide_graph.specs.GraphOf.{IsNamed, IsGraphOf}
+use Rattle.ide_graph.specs.GraphOf.{IsGraphOf}
 use Rattle.ide_graph.specs.ProgramEdges.{HasEdgesOf}
 use Rattle.ide_graph.specs.Supergraph.{Supergraph}
 
@@ -69,4 +69,4 @@ start_at graph n = slice_index graph.starts (slice_index graph.owners n)
 
 -- the sites of a program's graph fit together
 abbrev pub SitesOfProgramsAreJoined : Type 0
-SitesOfProgramsAreJoined = (p : Program) (graph : Supergraph) → IsNamed p → IsGraphOf p graph → HasEdgesOf p graph → AreJoined graph.sites (start_at graph)
+SitesOfProgramsAreJoined = (p : Program) (graph : Supergraph) → IsGraphOf p graph → HasEdgesOf p graph → AreJoined graph.sites (start_at graph)

@@ -1,11 +1,11 @@
 pub mod Building
+pub mod Closed
 pub mod EdgeLaws
 pub mod Edges
 pub mod Ends
 pub mod Exits
 pub mod GraphOf
 pub mod GraphOfText
-pub mod Closed
 pub mod Joined
 pub mod Lawful
 pub mod Lists
@@ -15,5 +15,6 @@ pub mod Numbered
 pub mod Numbering
 pub mod Numbers
 pub mod ProgramEdges
+pub mod SameGraphs
 pub mod Supergraph
 pub mod Whole

@@ -5,7 +5,7 @@ ghost use Rattle.std.specs.Arc.{arc_value};
 ghost use Rattle.std.specs.Option.{option_copied};
 ghost use Rattle.ide_wire.specs.declared.refused.Refused.TheVariants.{NoMemory, NoProcedure, OutOfRange};
 ghost use Rattle.ide_graph.specs.Edges.{EdgesWithin};
-ghost use Rattle.ide_graph.specs.GraphOf.{IsGraphOf, IsNamed};
+ghost use Rattle.ide_graph.specs.GraphOf.{IsGraphOf};
 ghost use Rattle.ide_graph.specs.ProgramEdges.{HasEdgesOf};
 
 use crate::builder::Builder;
@@ -60,7 +60,7 @@ impl Graph {
     /// The graph of a program. Time grows with the number of edges and the program's size.
     pub fn of(alloc: Global, program: &Program) -> Result<Graph, Refused>
         ensures numbered { IfOk result (IsGraphOf program.now) }
-        ensures edges { IsNamed program.now → IfOk result (HasEdgesOf program.now) }
+        ensures edges { IfOk result (HasEdgesOf program.now) }
         ensures refused { IfErr result (λ refused. refused ≡ NoMemory) }
     {
         let globals = Globals::of(alloc, program.globals())?;

@@ -3,7 +3,10 @@ ghost use Rattle.ide_graph.specs.Closed.{GraphsOfProgramsAreClosed};
 ghost use Rattle.ide_graph.specs.Ends.{EndsOfProgramsAreNodes};
 ghost use Rattle.ide_graph.specs.Exits.{ExitsOfProgramsAreOwned};
 ghost use Rattle.ide_graph.specs.Joined.{SitesOfProgramsAreJoined};
+ghost use Rattle.ide_graph.specs.SameGraphs.{GraphsOfOneTextAreSame};
 ghost use Rattle.ide_graph.specs.EdgeLaws.{AlongEdgesReachTheReturnSite, BackEdgesReturn, CallEdgesEnter, EdgesAreLawful, NodesHaveOneSite, NormalEdgesStayWithin, ReturnSitesFollowCalls};
+
+use ide_text::spell_one_program;
 
 /// A normal edge stays in its procedure, and does not end at the start.
 pub fn normal_edges_stay_within()
@@ -30,8 +33,7 @@ pub fn return_sites_follow_calls()
     ensures { ReturnSitesFollowCalls }
 {}
 
-/// The edges of a program of the grammar whose names have no fault are as a flow function may
-/// rely on.
+/// The edges of a program are as a flow function may rely on.
 pub fn edges_are_lawful()
     ensures { EdgesAreLawful }
 {}
@@ -62,3 +64,11 @@ pub fn exits_of_programs_are_owned()
 pub fn ends_of_programs_are_nodes()
     ensures { EndsOfProgramsAreNodes }
 {}
+
+/// Two graphs of one text are the same, up to the room that vectors have: their nodes, facts,
+/// procedures and names, and the edges that stand at each node.
+pub fn graphs_of_one_text_have_the_same_edges()
+    ensures { GraphsOfOneTextAreSame }
+{
+    spell_one_program();
+}

@@ -25,8 +25,8 @@ pub use edge::{EdgeData, EdgeKind, Effect};
 pub use graph::Graph;
 pub use laws::{
     along_edges_reach_the_return_site, back_edges_return, call_edges_enter, edges_are_lawful,
-    ends_of_programs_are_nodes, exits_of_programs_are_owned, graphs_of_programs_are_closed,
-    nodes_have_one_site, normal_edges_stay_within, return_sites_follow_calls,
-    sites_of_programs_are_joined,
+    ends_of_programs_are_nodes, exits_of_programs_are_owned,
+    graphs_of_one_text_have_the_same_edges, graphs_of_programs_are_closed, nodes_have_one_site,
+    normal_edges_stay_within, return_sites_follow_calls, sites_of_programs_are_joined,
 };
 pub use site::{Caller, Site};

@@ -6,7 +6,7 @@ ghost use Rattle.ide_text.specs.declared.program.Procedure.{Procedure};
 ghost use Rattle.ide_graph.specs.Naming.{number_of};
 ghost use Rattle.ide_graph.specs.Numbered.{BelongTo, IsNumbered};
 ghost use Rattle.ide_graph.specs.Numbering.{nodes_at, nodes_in, spot_value, IsNumberingOf};
-ghost use Rattle.ide_graph.specs.Numbers.{label_among, spots_on};
+ghost use Rattle.ide_graph.specs.Numbers.{label_among, nodes_of, spots_of, spots_on};
 
 use crate::labels::Labels;
 use crate::layout::Layout;
@@ -42,6 +42,7 @@ pub(crate) struct Numbering<'a> {
 impl<'a> Numbering<'a> {
     /// The nodes of these procedures. Time grows with their size.
     pub fn of(alloc: Global, procedures: &'a [Procedure]) -> Result<Numbering<'a>, Refused>
+        requires { length (nodes_of procedures.now) < 2 ^ 32 }
         ensures numbering { IfOk result (IsNumberingOf procedures.now) }
         ensures numbered { IfOk result IsNumbered }
         ensures whole { IfOk result (λ numbering. length numbering.layouts.items ≡ length procedures.now) }
@@ -60,13 +61,14 @@ impl<'a> Numbering<'a> {
 
     /// Adds the nodes of the next procedure. A refusal may leave some of them.
     fn add_procedure(&mut self, alloc: Global, procedure: &'a Procedure) -> Result<(), Refused>
-        requires { IsNumbered self.old }
+        requires numbered { IsNumbered self.old }
+        requires few { length self.old.spots.items + length (spots_of procedure.now) < 2 ^ 32 }
         ensures numbering { OnOk result ((before : List Procedure) → IsNumberingOf before self.old → IsNumberingOf (before ++ procedure.now ∷ []) self.new) }
         ensures numbered { OnOk result (IsNumbered self.new) }
         ensures added { OnOk result (length self.new.layouts.items ≡ length self.old.layouts.items + 1) }
         ensures refused { IfErr result (λ refused. refused ≡ NoMemory) }
     {
-        let index = node_number(self.layouts.len())?;
+        let index = self.layouts.len() as u32;
         let start = add_spot(&mut self.spots, index, Place::Start)?;
         let labels = add_statements(alloc, &mut self.spots, index, &procedure.statements)?;
         let exit = add_spot(&mut self.spots, index, Place::Exit)?;
@@ -84,7 +86,7 @@ fn add_statements<'a>(
     procedure: u32,
     statements: &'a [Statement],
 ) -> Result<Labels<'a>, Refused>
-    requires few { length spots.old.items < 2 ^ 32 }
+    requires few { length spots.old.items + length (flat_map spots_on statements.now) < 2 ^ 32 }
     requires owned { BelongTo (procedure + 1) spots.old.items }
     ensures added { OnOk result (nodes_in spots.new.items ≡ nodes_in spots.old.items ++ nodes_at procedure (flat_map spots_on statements.now)) }
     ensures labels { IfOk result (λ labels. (name : List ℕ) → number_of labels name ≡ label_among (length spots.old.items) statements.now name) }
@@ -115,6 +117,7 @@ fn add_spot<'a>(
     procedure: u32,
     place: Place<'a>,
 ) -> Result<Node, Refused>
+    requires few { length spots.old.items + 1 < 2 ^ 32 }
     requires owned { BelongTo (procedure + 1) spots.old.items }
     ensures number { IfOk result (λ node. node ≡ length spots.old.items) }
     ensures added { OnOk result (nodes_in spots.new.items ≡ nodes_in spots.old.items ++ (procedure, spot_value place.entry) ∷ []) }
@@ -123,20 +126,7 @@ fn add_spot<'a>(
     ensures owned { OnOk result (BelongTo (procedure + 1) spots.new.items) }
     ensures refused { IfErr result (λ refused. refused ≡ NoMemory) }
 {
-    let node = node_number(spots.len())?;
+    let node = spots.len() as Node;
     spots.push(Spot { procedure, place })?;
     Ok(node)
-}
-
-/// The number of the next node, where there are `count` already. A parsed program has at most
-/// 65,536 nodes; a graph of more than a `Node` counts is refused as too large for memory.
-fn node_number(count: usize) -> Result<Node, Refused>
-    ensures number { IfOk result (λ number. number ≡ count) }
-    ensures few { IfOk result (λ number. number + 1 < 2 ^ 32) }
-    ensures refused { IfErr result (λ refused. refused ≡ NoMemory) }
-{
-    match Node::try_from(count) {
-        Ok(number) if number < Node::MAX => Ok(number),
-        _ => Err(Refused::NoMemory),
-    }
 }

@@ -1,12 +1,33 @@
-use Rattle.std.proofs.Common.{◌≡◌, ℕ, ◌+◌, List, [], ◌∷◌, ◌++◌, length, take, ◌∙◌, sym, ap, arith}
+use Rattle.std.proofs.Common.{◌≡◌, ℕ, ◌+◌, List, [], ◌∷◌, ◌++◌, length, take, ◌∙◌, sym, ap, refl, arith}
 use Rattle.std.specs.List.{flat_map}
 use Rattle.std.proofs.lemmas.List.{length-map}
+use Rattle.std.proofs.lemmas.Option.{slice_get_read}
+use Rattle.ide_text.specs.declared.program.Statement.{Statement}
+use Rattle.ide_graph.proofs.RoomLemmas.{room_before, some_spot}
 use Rattle.ide_graph.specs.Numbers.{spots_on, label_among, statement, return_site}
 use Rattle.ide_graph.specs.Numbering.{nodes_at, nodes_in, node_value}
 use Rattle.ide_graph.specs.Naming.{number_of}
 use Rattle.ide_graph.proofs.StatementLemmas.{front_more, nodes_more, next_node, labels_more, labels_same, plain_spots, plain_declares, label_spots, call_spots, call_declares, two_nodes}
 use Rattle.ide_graph.proofs.numbering.add_statements.Goals as goal
 use Rattle.ide_graph.proofs.numbering.add_statements.Goals.{in-At+in_ok-add-in-At, in-Call+in_ok-add_spot-in-Call, in_default}
+
+-- the numbers suffice for a statement, and for the return site of a call
+pub add_spot-requires-clause-few : goal.add_spot-requires-clause-few
+add_spot-requires-clause-few c =
+    let ss = c.args.statements.now in
+    let i = c.loop-statement.statement-index in
+    let s = c.statement-item.result in
+    let at = slice_get_read ss (length ss) i s refl c.loop-statement-test.true c.statement-item.is in
+    omega (arith, room_before c.loop-statement.spots.items c.args.spots.now.items c.args.procedure ss i s c.loop-statement.invariant.added at, some_spot s, c.requires.few)
+
+pub add_spot-requires-in-Call-clause-few : goal.add_spot-requires-in-Call-clause-few
+add_spot-requires-in-Call-clause-few c =
+    let ss = c.args.statements.now in
+    let i = c.loop-statement.statement-index in
+    let s = c.statement-item.result in
+    let at = slice_get_read ss (length ss) i s refl c.loop-statement-test.true c.statement-item.is in
+    let two : length (spots_on s) ≡ 2 = ap (λ (t : Statement). length (spots_on t)) c.in-Call.is in
+    omega (arith, room_before c.loop-statement.spots.items c.args.spots.now.items c.args.procedure ss i s c.loop-statement.invariant.added at, two, c.in_ok-node.ensures.longer, c.requires.few)
 
 pub loop-statement-preserved : goal.loop-statement-preserved
 loop-statement-preserved c =

@@ -9,7 +9,7 @@ use Rattle.ide_graph.proofs.builder.Builder.call.Goals as goal
 pub returns-clause-exact : goal.returns-clause-exact
 returns-clause-exact c = λ p is at scope target callees arguments.
     let known : AllHaveFacts p at.procedure (option_to_list c.args.target.now) =
-    subst (λ t. AllHaveFacts p at.procedure (option_to_list t)) (sym target) (targets_known p is.named c.args.node at) in
+    subst (λ t. AllHaveFacts p at.procedure (option_to_list t)) (sym target) (targets_known p c.args.node at) in
     record {
       at = at;
       scope = scope;

@@ -21,13 +21,13 @@ loop-index-preserved c = λ p is call called.
     let at : slice_get c.args.self.now.numbering.now.layouts.items c.args.callee ≡ Some c.index-layout.result.now =
     slice_get_read c.args.self.now.numbering.now.layouts.items (length c.args.self.now.numbering.now.layouts.items) c.args.callee c.index-layout.result.now refl c.requires.callee c.index-layout.ensures in
     let layout = layout_at p c.args.self.now is c.args.callee q.0 c.index-layout.result.now q.1 at in
-    let count : length q.0.parameters.items ≡ length call.at.arguments.items = arguments_counted p is.named c.args.call.now.node call.at c.args.callee q.0 called q.1 in
+    let count : length q.0.parameters.items ≡ length call.at.arguments.items = arguments_counted p c.args.call.now.node call.at c.args.callee q.0 called q.1 in
     let passed : length c.args.call.now.arguments.now ≡ length call.at.arguments.items = ap length call.arguments in
     elim c.if-index-layout.branch [
       | then-index-layout+in_ok-push w ↦
           let contains : Contains call.at.arguments.items c.argument-item.result =
           subst (λ (xs : List (List ℕ)). Contains xs c.argument-item.result) call.arguments (c.loop-index.index, c.loop-index-test.true, sym c.argument-item.is) in
-          let fact = arguments_known p is.named c.args.call.now.node call.at c.argument-item.result contains in
+          let fact = arguments_known p c.args.call.now.node call.at c.argument-item.result contains in
           let argument : w.fact.result ≡ fact.0 = w.fact.ensures p call.at.index call.at.procedure fact.0 call.scope fact.1 in
           let globals : length c.args.self.now.globals.now.names ≡ length (globals_of p) = ap length is.globals in
           let own : length (globals_of p) + 2 + length q.0.parameters.items + length q.0.locals.items ≤ facts_of p = own_within p c.args.callee q.0 q.1 in

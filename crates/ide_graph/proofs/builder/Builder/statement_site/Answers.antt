@@ -28,7 +28,7 @@ returns-in-Assign-clause-exact c = λ p i q is scope stands.
     let few = few_below p c.args.self.now is (c.args.node + 1) below in
     let next : c.saturating_add-next.result ≡ c.args.node + 1 = omega (arith, c.saturating_add-next.ensures, few) in
     let place = statement_of p c.args.node i q s here in
-    let known = variables_known p is.named i q here.owner place.0 s place.1 in
+    let known = variables_known p i q here.owner place.0 s place.1 in
     let effect = c.assign.ensures p i q scope known in
     plain_result p c.args.node i q (statement s) here tt (λ l e. cc) (c.args.node + 1) c.assign.result (refl, effect.0, effect.1, effect.2) c.normal.result c.saturating_add-next.result c.assign.result next refl
     (c.normal.ensures.exact p is (rw next below))
@@ -38,7 +38,7 @@ returns-in-Goto-clause-exact c = λ p i q is scope stands.
     let s : Statement = Goto c.in-Goto.label in
     let here : Stands p c.args.node i q (statement s) = subst (λ s. Stands p c.args.node i q (statement s)) c.in-Goto.is stands in
     let place = statement_of p c.args.node i q s here in
-    let label = label_known p is.named i q here.owner place.0 s place.1 (start_of (procedures_of p) i) c.in-Goto.label (0, omega arith, refl) in
+    let label = label_known p i q here.owner place.0 s place.1 (start_of (procedures_of p) i) c.in-Goto.label (0, omega arith, refl) in
     let there : c.label.result ≡ label.0 = c.label.ensures p i q label.0 scope label.1 in
     let below : label.0 < node_count c.args.self.now = omega (arith, counted p c.args.self.now is, label_within p i q c.in-Goto.label label.0 here.owner label.1) in
     plain_result p c.args.node i q (statement s) here tt (λ l e. cc) label.0 Nothing (label.1, refl) c.normal-in-Goto.result c.label.result Nothing there refl
@@ -52,7 +52,7 @@ returns-in-Branch-clause-exact c = λ p i q is scope stands.
     let few = few_below p c.args.self.now is (c.args.node + 1) first in
     let next : c.saturating_add-next.result ≡ c.args.node + 1 = omega (arith, c.saturating_add-next.ensures, few) in
     let place = statement_of p c.args.node i q s here in
-    let label = label_known p is.named i q here.owner place.0 s place.1 (start_of (procedures_of p) i) c.in-Branch.label (0, omega arith, refl) in
+    let label = label_known p i q here.owner place.0 s place.1 (start_of (procedures_of p) i) c.in-Branch.label (0, omega arith, refl) in
     let there : c.label-in-Branch.result ≡ label.0 = c.label-in-Branch.ensures p i q label.0 scope label.1 in
     let second : label.0 < node_count c.args.self.now = omega (arith, counted p c.args.self.now is, label_within p i q c.in-Branch.label label.0 here.owner label.1) in
     branch_result p c.args.node i q c.in-Branch.label label.0 here label.1 c.branch-self.result c.saturating_add-next.result c.label-in-Branch.result next there
@@ -81,7 +81,7 @@ returns-in-Return-Some-clause-exact c = λ p i q is scope stands.
     let is_some : c.args.statement.now ≡ s = (let at : c.in-Return-Some.field-0 ≡ Some c.in-Return-Some.value = rw c.in-Return-Some.is at c.in-Return-Some.field-0-is in c.in-Return-Some.is ∙ ap (λ y. Return y) at) in
     let here : Stands p c.args.node i q (statement s) = subst (λ s. Stands p c.args.node i q (statement s)) is_some stands in
     let place = statement_of p c.args.node i q s here in
-    let known = variables_known p is.named i q here.owner place.0 s place.1 in
+    let known = variables_known p i q here.owner place.0 s place.1 in
     let source = known c.in-Return-Some.value (0, omega arith, refl) in
     let effect = c.give_back.ensures p i q source.0 scope source.1 in
     let exit : c.args.scope.layout.now.exit ≡ exit_of (procedures_of p) i = scope.layout.exit in

@@ -1,4 +1,4 @@
-use Rattle.std.proofs.Common.{◌≡◌, ℕ, ◌+◌, ◌≤◌, min, arith, List, [], length, map, ap, ◌∙◌, sym, subst, refl}
+use Rattle.std.proofs.Common.{◌≡◌, ℕ, ◌+◌, ◌≤◌, ◌^◌, min, arith, List, [], length, map, ap, ◌∙◌, sym, subst, refl, lit≤}
 use Rattle.std.specs.Arc.{arc_value}
 use Rattle.std.specs.List.{All}
 use Rattle.std.proofs.lemmas.List.{length-map}
@@ -11,13 +11,22 @@ use Rattle.ide_text.specs.Program.{globals_of, procedures_of}
 use Rattle.ide_graph.specs.Named.{procedure_of_name}
 use Rattle.ide_graph.specs.Naming.{AreNew}
 use Rattle.ide_graph.specs.Numbering.{IsNumberingOf}
-use Rattle.ide_graph.specs.Numbers.{procedure_of, facts_of}
+use Rattle.ide_graph.specs.Numbers.{nodes_of, procedure_of, facts_of}
 use Rattle.ide_graph.proofs.BuilderOfLemmas.{builder_of}
 use Rattle.ide_graph.proofs.FirstPass.{facts_are}
 use Rattle.ide_graph.proofs.GraphLemmas.{All-owners}
 use Rattle.ide_graph.proofs.GraphOfLemmas.{graph_of}
-use Rattle.ide_graph.proofs.LimitLemmas.{few_facts, global_names}
+use Rattle.ide_graph.proofs.LimitLemmas.{few_facts, few_nodes, global_names}
 use Rattle.ide_graph.proofs.graph.Graph.of.Goals as goal
+
+-- a program has few enough nodes for their numbers
+pub of-requires-3 : goal.of-requires-3
+of-requires-3 c =
+    let p = c.args.program.now in
+    let procedures : c.procedures-procedures.result.now ≡ procedures_of p = c.procedures-procedures.ensures in
+    let same = ap (λ (ps : List Procedure). length (nodes_of ps)) procedures in
+    let bound : 65537 ≤ 2 ^ 32 = lit≤ tt in
+    omega (arith, same, few_nodes p, bound)
 
 -- the first pass counted what the second made
 pub invariant_of-result : goal.invariant_of-result
@@ -68,7 +77,7 @@ returns-clause-numbered c =
 
 -- the second pass rests on what the first found
 pub returns-clause-edges : goal.returns-clause-edges
-returns-clause-edges c = λ named.
+returns-clause-edges c =
     let p = c.args.program.now in
     let numbering = c.in_ok-numbering.numbering in
     let procedures : c.procedures-procedures.result.now ≡ procedures_of p = c.procedures-procedures.ensures in
@@ -79,13 +88,13 @@ returns-clause-edges c = λ named.
     subst (λ (ps : List Procedure). (name : List ℕ) → procedure_of_name c.in_ok-directory.directory.procedures name ≡ procedure_of ps name) procedures c.in_ok-directory.ensures.named in
     let layouts = c.deref.ensures.value in
     let facts : min (length c.in_ok-globals.globals.names + 2 + c.most_own_of-most_own.result) 65536 ≡ facts_of p =
-    facts_are p numbering is named.0 c.most_own_of-most_own.result
+    facts_are p numbering is c.most_own_of-most_own.result
     (All-same (λ layout. length layout.own ≤ c.most_own_of-most_own.result) _ _ (sym layouts) c.most_own_of-most_own.ensures.most)
     (λ bound all. c.most_own_of-most_own.ensures.least bound (All-same (λ layout. length layout.own ≤ bound) _ _ layouts all))
-    named.1 c.in_ok-globals.globals.names (globals (global_names p named.0)) in
+    c.in_ok-globals.globals.names (globals (global_names p)) in
     let count : c.fact_count-facts.result ≡ facts_of p = c.fact_count-facts.ensures ∙ facts in
-    let builder = builder_of p c.new.result c.new.ensures.ready named (subst (λ n. IsNumberingOf (procedures_of p) n.now) (sym c.new.ensures.same) is)
+    let builder = builder_of p c.new.result c.new.ensures.ready (subst (λ n. IsNumberingOf (procedures_of p) n.now) (sym c.new.ensures.same) is)
     (λ new. ap (λ g. g.now.names) c.new.ensures.globals ∙ globals new)
     (λ name. ap (λ d. procedure_of_name d.now.procedures name) c.new.ensures.directory ∙ directory name)
-    (omega (arith, c.new.ensures.facts, count, few_facts p named.1)) in
+    (omega (arith, c.new.ensures.facts, count, few_facts p)) in
     c.in_ok-sites.ensures.exact p builder
