@@ -1,10 +1,12 @@
 pub mod Best
+pub mod Bounds
 pub mod Effect
 pub mod Entry
 pub mod Frame
 pub mod Given
 pub mod Graphs
 pub mod Image
+pub mod Images
 pub mod Invariant
 pub mod Member
 pub mod Members

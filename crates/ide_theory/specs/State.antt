@@ -50,16 +50,27 @@ with_claim s h c = record s { claims = put nat_eq s.claims h c }
 abbrev pub part_done : {F : Type 0} → State F → ℕ → State F
 part_done s h = with_claim s h (option_map without_first (s.claims h))
 
--- the key receives the function and is pending, and each claim of it is marked
-abbrev pub lowered_by : {F L : Type 0} → EdgeAlgebra F L → State F → Key → F → State F
-lowered_by B s t g = record {
-  get = put same_key s.get t (Some (B.meet (unwrap_or (s.get t) B.all_top) g));
+-- the key has the function and is pending, and each claim of it is marked
+abbrev pub with_function : {F : Type 0} → State F → Key → F → State F
+with_function s t f = record {
+  get = put same_key s.get t (Some f);
   pending = put same_key s.pending t true;
   claims = λ h. option_map (marked t) (s.claims h);
 }
 
+-- the key receives the function
+abbrev pub lowered_by : {F L : Type 0} → EdgeAlgebra F L → State F → Key → F → State F
+lowered_by B s t g = with_function s t (B.meet (unwrap_or (s.get t) B.all_top) g)
+
 abbrev pub lowered_at : (K : Frame) → State K.F → Key → K.F → State K.F
 lowered_at K = lowered_by K.functions
+
+-- the key becomes the identity, as one does that was absent
+abbrev pub seeded : {F L : Type 0} → EdgeAlgebra F L → State F → Key → State F
+seeded B s t = with_function s t B.id
+
+abbrev pub seeded_at : (K : Frame) → State K.F → Key → State K.F
+seeded_at K = seeded K.functions
 
 -- the hand's claim is over, and its key is pending no more, unless it was lowered since
 abbrev pub finished : {F : Type 0} → State F → ℕ → Claim F → State F

@@ -8,7 +8,7 @@
 //! contracts, for every analysis.
 #![tactic(auto)]
 
-ghost use Rattle.ide_theory.specs.Theorem.{ValuesAreBest, RunsAreBest, BestIsUnique, TopIsBest, PartsAreOwed, PartsInRangeAreOwed, RunsAreSound, RunsGoOn, SitesMakeAGraph, GraphsAreSupergraphs, KeysStandAtNodes};
+ghost use Rattle.ide_theory.specs.Theorem.{ValuesAreBest, RunsAreBest, BestIsUnique, TopIsBest, PartsAreOwed, PartsInRangeAreOwed, RunsAreSound, RunsGoOn, ReleasedRunsAreRuns, StartsAreSeeded, ClaimsArePaid, LoweringsAreFew, WaysAreImageSteps, RootsAreWays, SitesMakeAGraph, GraphsAreSupergraphs, KeysStandAtNodes};
 
 use ide_graph::{edges_are_lawful, sites_of_programs_are_joined};
 use ide_problem::Problem;
@@ -53,6 +53,39 @@ pub fn runs_are_sound<P: Problem>()
 /// Steps from the end of a run are a run, and what was received stays so.
 pub fn runs_go_on<P: Problem>()
     ensures { RunsGoOn P.L.algebra P.F.edge P.targets }
+{}
+
+/// A run stays one where every hand gives back its claim, as at a stop.
+pub fn released_runs_are_runs<P: Problem>()
+    ensures { ReleasedRunsAreRuns P.L.algebra P.F.edge P.targets }
+{}
+
+/// Where a jump is present, the start of its procedure has received the identity of the jump's first
+/// fact: a call gave it, or a root.
+pub fn starts_are_seeded<P: Problem>()
+    ensures { StartsAreSeeded P.L.algebra P.F.edge P.targets }
+{}
+
+/// Each claim is paid by a key that waits no more, by a lowering, by a claim that was given back, or by
+/// the entry of a root.
+pub fn claims_are_paid<P: Problem>()
+    ensures { ClaimsArePaid P.L.algebra P.F.edge P.targets }
+{}
+
+/// Each lowering is paid by a rank that the function of a key lost, and so is each entry of a root,
+/// where the identity is not always-top.
+pub fn lowerings_are_few<P: Problem>()
+    ensures { LoweringsAreFew P.L.algebra P.F.edge P.targets }
+{}
+
+/// What hands do is the parts and the ends of claims, to an image of any program.
+pub fn ways_are_image_steps<P: Problem, Program, Name>()
+    ensures { WaysAreImageSteps P.L.algebra P.F.edge P.targets Program Name }
+{}
+
+/// To set a root is to make the identity of each entry at its start that is absent, one after the other.
+pub fn roots_are_ways<P: Problem, Program, Name>()
+    ensures { RootsAreWays P.L.algebra P.F.edge P.targets Program Name }
 {}
 
 /// Sites of which each edge along a procedure stays in it, each call leads to a start whose exit has

@@ -6,12 +6,15 @@ use Rattle.ide_lattice.specs.Laws.{IsLattice, IsEdgeAlgebra}
 use Rattle.ide_problem.specs.Flow.{Targets, IsFlow, AreTargets}
 use Rattle.ide_theory.specs.Frame.{IsLawful}
 use Rattle.ide_theory.specs.Given.{Edges, IsGraph, frame_of, roots_of}
-use Rattle.ide_theory.specs.Theorem.{ValuesAreBest, RunsAreBest, BestIsUnique, TopIsBest, PartsAreOwed, PartsInRangeAreOwed, RunsAreSound, RunsGoOn}
+use Rattle.ide_theory.specs.Theorem.{ValuesAreBest, RunsAreBest, BestIsUnique, TopIsBest, PartsAreOwed, PartsInRangeAreOwed, RunsAreSound, RunsGoOn, StartsAreSeeded, ClaimsArePaid, LoweringsAreFew}
 use Rattle.ide_theory.proofs.Laws.Effects.{best-unique, top-best}
+use Rattle.ide_theory.proofs.Laws.Paid.{claims-paid}
 use Rattle.ide_theory.proofs.Laws.Parts.{parts-are}
 use Rattle.ide_theory.proofs.Laws.Ranged.{run-parts}
+use Rattle.ide_theory.proofs.Laws.Ranks.{lowerings-few}
 use Rattle.ide_theory.proofs.Laws.Reached.{run-reached, runs-go-on}
 use Rattle.ide_theory.proofs.Laws.Runs.{quiet-best, run-best}
+use Rattle.ide_theory.proofs.Laws.Seeded.{start-seeded}
 
 module _ {L F : Type 0} (lattice : LatticeAlgebra L) (functions : EdgeAlgebra F L) (targets : Targets F)
     (lattice_laws : IsLattice lattice) (function_laws : IsEdgeAlgebra lattice functions) (flow : IsFlow functions targets) where
@@ -59,3 +62,12 @@ module _ {L F : Type 0} (lattice : LatticeAlgebra L) (functions : EdgeAlgebra F 
 
   pub runs-go-on-over : RunsGoOn lattice functions targets
   runs-go-on-over G graph = runs-go-on (frame_of lattice functions targets G) (lawful-frame G graph)
+
+  pub starts-are-seeded : StartsAreSeeded lattice functions targets
+  starts-are-seeded G graph s run n a b f same = start-seeded (frame_of lattice functions targets G) (lawful-frame G graph) run n a b f same
+
+  pub claims-are-paid : ClaimsArePaid lattice functions targets
+  claims-are-paid G graph = claims-paid (frame_of lattice functions targets G) (lawful-frame G graph)
+
+  pub lowerings-are-few : LoweringsAreFew lattice functions targets
+  lowerings-are-few G graph = lowerings-few (frame_of lattice functions targets G) (lawful-frame G graph)

@@ -14,7 +14,7 @@ use Rattle.ide_theory.specs.Invariant.{awaits, IsHeld, IsInvariant}
 use Rattle.ide_theory.proofs.Laws.Changes.{key-tells, some-inj, none-some, map-tells, left-with, left-without, left-done}
 use Rattle.ide_theory.proofs.Laws.Bridge.{present-or, present-is, absent-is}
 use Rattle.ide_theory.proofs.Laws.Sound.{proper-meets, proper-key, has-proper, instance-sound, at-start}
-use Rattle.ide_theory.proofs.Laws.Ready.{all_top-meet, other-instance, met-now, settled-claim, settled-done, open-lowered, pending-lowered, settled-lowered, settled-release, settled-finish}
+use Rattle.ide_theory.proofs.Laws.Ready.{all_top-meet, lowered-is-seeded, other-instance, met-now, settled-claim, settled-done, open-lowered, pending-lowered, settled-lowered, settled-release, settled-finish}
 
 -- a claim that a part was taken from has the key that it had
 pub same-claim-key : {F : Type 0} (d c : Claim F) → (d ≡ c) ⊎ (without_first d ≡ c) → d.key ≡ c.key
@@ -149,11 +149,11 @@ module _ (K : Frame) (laws : IsLawful K) where
     ];
   }
   inv-step (skip {s = s} h c t f rest mine parts has) inv = inv-done s inv h c t f rest mine parts has
-  inv-step (lower {s = s} h c t f rest mine parts) inv =
+  inv-step (lower {s = s} h c t f rest mine parts changes) inv =
       let meets : MeetOf B (OfKey K t) f = inv.owed h c mine t f (subst (IsIn {T = Key × F} (t, f)) (sym parts) first) in
       inv-done (lowered_at K s t f) (inv-lowered s inv t f meets) h (marked t c) t f rest (ap (option_map (marked t)) mine) parts
       (met-now K laws s (has-proper K laws s.get inv.sound) t f (proper-owed t f meets))
-  inv-step (release {s = s} h) inv = record {
+  inv-step (release {s = s} h c mine) inv = record {
     ready = λ ks k g instance. settled-release K laws s h inv.held (inv.ready ks k g instance);
     held = held-release s inv.held h;
     sound = inv.sound;
@@ -165,8 +165,9 @@ module _ (K : Frame) (laws : IsLawful K) where
     sound = inv.sound;
     owed = λ j d left k g part. inv.owed j d (left-without s h j d left).1 k g part;
   }
-  inv-step (root {s = s} r d is_start in_range) inv =
-      inv-lowered s inv (Jump r d d) B.id (one (record { path = []; level = at-start K laws (sym is_start) here; exploded = done }))
+  inv-step (root {s = s} r d is_start in_range absent) inv =
+      subst (IsInvariant K) (lowered-is-seeded K laws s (Jump r d d) absent)
+      (inv-lowered s inv (Jump r d d) B.id (one (record { path = []; level = at-start K laws (sym is_start) here; exploded = done })))
 
   -- an image in which no key is present has no instance
   pub none-present : (get : Key → Option F) → ((k : Key) → get k ≡ None) → {ks : List Key} {k : Key} {g : F} → Instance K get ks k g → ⊥

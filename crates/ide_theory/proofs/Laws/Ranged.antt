@@ -5,7 +5,7 @@ use Rattle.ide_wire.specs.declared.key.Key.TheVariants.{Jump}
 use Rattle.ide_theory.specs.Frame.{Frame, IsLawful}
 use Rattle.ide_theory.specs.Member.{IsIn, first}
 use Rattle.ide_theory.specs.Image.{function_of, Instance}
-use Rattle.ide_theory.specs.State.{Claim, State, nothing_done, without_first, marked, new_claim, part_done, lowered_at}
+use Rattle.ide_theory.specs.State.{Claim, State, nothing_done, without_first, marked, new_claim, part_done, with_function, lowered_at}
 use Rattle.ide_theory.specs.Run.{ArePartsOf, Step, claim, skip, lower, release, finish, root, Run, begins, goes_on}
 use Rattle.ide_theory.specs.Parts.{NodeEdges, AreEdgesOf, parts_of, IsKeyInRange, AreAllInRange}
 use Rattle.ide_theory.proofs.Laws.Changes.{key-tells, none-some, map-tells, left-with, left-without, left-done}
@@ -26,9 +26,9 @@ module _ (K : Frame) (laws : IsLawful K) where
         ]);
   }
 
-  pub ranged-lowered : (s : State F) → AreAllInRange K s → (t : Key) (f : F) → IsKeyInRange facts t → AreAllInRange K (lowered_at K s t f)
-  ranged-lowered s all t f within = record {
-    keys = λ k g same. elim (key-tells s.get t (Some (B.meet (function_of K s.get t) f)) k) [
+  pub ranged-with : (s : State F) → AreAllInRange K s → (t : Key) (f : F) → IsKeyInRange facts t → AreAllInRange K (with_function s t f)
+  ranged-with s all t f within = record {
+    keys = λ k g same. elim (key-tells s.get t (Some f) k) [
       | inl here ↦ subst (IsKeyInRange facts) here.0 within
       | inr other ↦ all.keys k g (sym other.1 ∙ same)
     ];
@@ -49,12 +49,12 @@ module _ (K : Frame) (laws : IsLawful K) where
     ];
   }
   ranged-step (skip {s = s} h c t f rest mine parts has) all = ranged-done s all h
-  ranged-step (lower {s = s} h c t f rest mine parts) all =
+  ranged-step (lower {s = s} h c t f rest mine parts changes) all =
       ranged-done (lowered_at K s t f)
-      (ranged-lowered s all t f (all.parts h c mine t f (subst (IsIn {T = Key × F} (t, f)) (sym parts) first))) h
-  ranged-step (release {s = s} h) all = record { keys = all.keys; parts = λ j c left. all.parts j c (left-without s h j c left).1 }
+      (ranged-with s all t (B.meet (function_of K s.get t) f) (all.parts h c mine t f (subst (IsIn {T = Key × F} (t, f)) (sym parts) first))) h
+  ranged-step (release {s = s} h c mine) all = record { keys = all.keys; parts = λ j d left. all.parts j d (left-without s h j d left).1 }
   ranged-step (finish {s = s} h c mine none) all = record { keys = all.keys; parts = λ j d left. all.parts j d (left-without s h j d left).1 }
-  ranged-step (root {s = s} r d is_start within) all = ranged-lowered s all (Jump r d d) B.id (within, within)
+  ranged-step (root {s = s} r d is_start within absent) all = ranged-with s all (Jump r d d) B.id (within, within)
 
   pub ranged-empty : AreAllInRange K (nothing_done F)
   ranged-empty = record { keys = λ k f same. elim (none-some same) [ ]; parts = λ h c has k g part. elim (none-some has) [ ] }

@@ -6,8 +6,8 @@ use Rattle.ide_theory.specs.Frame.{Frame, IsLawful}
 use Rattle.ide_theory.specs.Image.{function_of, IsMet}
 use Rattle.ide_theory.specs.Invariant.{IsInvariant}
 use Rattle.ide_theory.specs.Reached.{IsRunOf, DoRunsGoOn}
-use Rattle.ide_theory.specs.State.{State, lowered_at}
-use Rattle.ide_theory.specs.Run.{Step, claim, skip, lower, release, finish, root, Run, begins, goes_on, Steps, none, more}
+use Rattle.ide_theory.specs.State.{State, with_function}
+use Rattle.ide_theory.specs.Run.{Step, claim, skip, lower, release, finish, root, Run, begins, goes_on, Steps, none, more, joined}
 use Rattle.ide_theory.proofs.Laws.Changes.{key-tells}
 use Rattle.ide_theory.proofs.Laws.Sound.{has-proper}
 use Rattle.ide_theory.proofs.Laws.Kept.{inv-run}
@@ -21,9 +21,9 @@ ArePresent K s = (key : Key) → s.pending key ≡ true → (f : K.F) × (s.get 
 module _ (K : Frame) where
   open K use {F, functions as B}
 
-  pub present-lowered : (s : State F) → ArePresent K s → (t : Key) (g : F) → ArePresent K (lowered_at K s t g)
-  present-lowered s present t g key waits = elim (key-tells s.get t (Some (B.meet (function_of K s.get t) g)) key) [
-    | inl here ↦ (B.meet (function_of K s.get t) g, here.1)
+  pub present-with : (s : State F) → ArePresent K s → (t : Key) (f : F) → ArePresent K (with_function s t f)
+  present-with s present t f key waits = elim (key-tells s.get t (Some f) key) [
+    | inl here ↦ (f, here.1)
     | inr other ↦ elim (key-tells s.pending t true key) [
       | inl same ↦ elim (other.0 same.0) [ ]
       | inr before ↦
@@ -35,13 +35,13 @@ module _ (K : Frame) where
   pub present-step : {s t : State F} → Step K s t → IsInvariant K s → ArePresent K s → ArePresent K t
   present-step (claim h q parts free waits alone all) inv present = present
   present-step (skip h c t g rest mine parts is) inv present = present
-  present-step (lower {s = s} h c t g rest mine parts) inv present = present-lowered s present t g
-  present-step (release h) inv present = present
+  present-step (lower {s = s} h c t g rest mine parts changes) inv present = present-with s present t (B.meet (function_of K s.get t) g)
+  present-step (release h c mine) inv present = present
   present-step (finish {s = s} h c mine done) inv present = λ key waits. elim (key-tells s.pending c.key c.lowered key) [
     | inl here ↦ present key (subst (λ u. s.pending u ≡ true) here.0 (inv.held.pending h c mine))
     | inr other ↦ present key (sym other.1 ∙ waits)
   ]
-  present-step (root {s = s} r d is_start in_range) inv present = present-lowered s present (Jump r d d) B.id
+  present-step (root {s = s} r d is_start in_range absent) inv present = present-with s present (Jump r d d) B.id
 
   module _ (laws : IsLawful K) where
     pub present-run : {s : State F} → Run K s → ArePresent K s
@@ -68,14 +68,10 @@ module _ (K : Frame) where
     met-on run none key f p has = has
     met-on run (more steps step) key f p has = met-step K laws step (inv-run K laws (run-on run steps)) key f p (met-on run steps key f p has)
 
-    pub steps-on : {s t u : State F} → Steps K s t → Steps K t u → Steps K s u
-    steps-on before none = before
-    steps-on before (more after step) = more (steps-on before after) step
-
     -- so runs go on
     pub runs-go-on : DoRunsGoOn K
     runs-go-on = record {
       run = λ s t. run-on;
       keeps = λ s t. met-on;
-      compose = λ s t u. steps-on;
+      compose = λ s t u. joined;
     }

@@ -9,7 +9,7 @@ use Rattle.ide_wire.specs.declared.key.Key.TheVariants.{Jump, Summary}
 use Rattle.ide_theory.specs.Frame.{Frame, IsLawful}
 use Rattle.ide_theory.specs.Member.{IsIn, first, later}
 use Rattle.ide_theory.specs.Image.{function_of, Instance, flat, seed, after, summarised, IsMet}
-use Rattle.ide_theory.specs.State.{Claim, State, put, rest_of, without_first, marked, new_claim, with_claim, part_done, lowered_at, finished}
+use Rattle.ide_theory.specs.State.{Claim, State, put, rest_of, without_first, marked, new_claim, with_claim, part_done, with_function, lowered_at, seeded_at, finished}
 use Rattle.ide_theory.specs.Run.{ArePartsOf}
 use Rattle.ide_theory.specs.Invariant.{IsOpen, IsSettled, met, awaits, owed, IsHeld}
 use Rattle.ide_theory.proofs.Laws.Changes.{key-tells, hand-tells, same-or, some-inj, none-some, map-tells, or-true, left-with, has-claim, kept-with, left-without, left-done, kept-done}
@@ -84,6 +84,11 @@ module _ (K : Frame) (laws : IsLawful K) where
     | inl here ↦ inl (subst (λ u. IsIn u (Jump (K.graph.from ret) b c ∷ [])) (sym here.0) first)
     | inr other ↦ inr (summarised call ret a b c d g f h matched is (sym other.1 ∙ same) out)
   ]
+
+  -- to receive the identity at an absent key is to become it
+  pub lowered-is-seeded : (s : State F) (t : Key) → s.get t ≡ None → lowered_at K s t B.id ≡ seeded_at K s t
+  lowered-is-seeded s t absent =
+      ap (with_function s t) (ap (λ o. B.meet (unwrap_or o B.all_top) B.id) absent ∙ all_top-meet A B laws.lattice laws.functions B.id laws.functions.proper_id)
 
   -- the function of each key after one receives another
   pub function-lowered : (s : State F) (t : Key) (g : F) (k : Key)

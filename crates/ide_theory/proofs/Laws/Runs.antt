@@ -11,7 +11,7 @@ use Rattle.ide_theory.specs.State.{State, lowered_at}
 use Rattle.ide_theory.specs.Run.{Step, claim, skip, lower, release, finish, root, Run, IsQuiet}
 use Rattle.ide_theory.specs.Invariant.{IsSettled, met, awaits, owed, IsHeld, IsInvariant}
 use Rattle.ide_theory.proofs.Laws.Sound.{has-proper}
-use Rattle.ide_theory.proofs.Laws.Ready.{met-lowered, met-now}
+use Rattle.ide_theory.proofs.Laws.Ready.{lowered-is-seeded, met-lowered, met-now}
 use Rattle.ide_theory.proofs.Laws.Kept.{proper-owed, inv-run}
 use Rattle.ide_theory.proofs.Laws.Greatest.{best-value}
 use Rattle.ide_theory.specs.Member.{IsIn, first}
@@ -31,13 +31,13 @@ pub met-step : (K : Frame) → IsLawful K → {s t : State K.F} → Step K s t �
     → IsMet K s.get k f → IsMet K t.get k f
 met-step K laws (claim h q parts free waits alone all) inv k f p has = has
 met-step K laws (skip h c t g rest mine parts is) inv k f p has = has
-met-step K laws (lower {s = s} h c t g rest mine parts) inv k f p has =
+met-step K laws (lower {s = s} h c t g rest mine parts changes) inv k f p has =
     met-lowered K laws s (has-proper K laws s.get inv.sound) t g
     (proper-owed K laws t g (inv.owed h c mine t g (subst (IsIn {T = Key × K.F} (t, g)) (sym parts) first))) k f p has
-met-step K laws (release h) inv k f p has = has
+met-step K laws (release h c mine) inv k f p has = has
 met-step K laws (finish h c mine none) inv k f p has = has
-met-step K laws (root {s = s} r d is_start in_range) inv k f p has =
-    met-lowered K laws s (has-proper K laws s.get inv.sound) (Jump r d d) K.functions.id laws.functions.proper_id k f p has
+met-step K laws (root {s = s} r d is_start in_range absent) inv k f p has =
+    subst (λ u. IsMet K u.get k f) (lowered-is-seeded K laws s (Jump r d d) absent) (met-lowered K laws s (has-proper K laws s.get inv.sound) (Jump r d d) K.functions.id laws.functions.proper_id k f p has)
 
 -- a root's identity is received when it is given
 pub met-root : (K : Frame) → IsLawful K → (s : State K.F) → IsInvariant K s → (r d : ℕ)

@@ -1,7 +1,7 @@
 -- Keys stay at the nodes of a graph in each step of a run, where its edges end at nodes and its
 -- procedures begin at them.
 use Rattle.std.proofs.Common.{◌≡◌, ℕ, ◌<◌, ◌⊎◌, true, List, Option, Some, ap, sym, subst, refl, ◌∙◌, inl, inr}
-use Rattle.std.specs.Prelude.{slice_get, unwrap_or}
+use Rattle.std.specs.Prelude.{slice_get}
 use Rattle.ide_graph.specs.declared.edge.EdgeData.{EdgeData}
 use Rattle.ide_graph.specs.declared.site.Site.{Site}
 use Rattle.ide_graph.specs.declared.site.Site.TheVariants.{Normal, Call, Exit}
@@ -15,12 +15,12 @@ use Rattle.ide_wire.specs.declared.key.Key.TheVariants.{Jump}
 use Rattle.ide_theory.specs.Frame.{Frame}
 use Rattle.ide_theory.specs.Graphs.{frame_at}
 use Rattle.ide_theory.specs.Given.{Edge}
-use Rattle.ide_theory.specs.Image.{Instance, flat, seed, after, summarised}
+use Rattle.ide_theory.specs.Image.{function_of, Instance, flat, seed, after, summarised}
 use Rattle.ide_theory.specs.Member.{IsIn, first}
 use Rattle.ide_theory.specs.Parts.{AreEdgesOf}
 use Rattle.ide_theory.specs.Run.{Step, claim, skip, lower, release, finish, root, Run, begins, goes_on}
 use Rattle.ide_theory.specs.Sites.{HaveEdgesOf, node_edges}
-use Rattle.ide_theory.specs.State.{Claim, State, nothing_done, without_first, marked, new_claim, part_done, lowered_at}
+use Rattle.ide_theory.specs.State.{Claim, State, nothing_done, without_first, marked, new_claim, part_done, with_function, lowered_at}
 use Rattle.ide_theory.specs.Within.{AreAllWithin, IsPlaced, is_call, is_some_call}
 use Rattle.ide_theory.proofs.Laws.Changes.{key-tells, none-some, map-tells, left-with, left-without, left-done}
 use Rattle.ide_theory.proofs.Laws.Kept.{in-rest}
@@ -54,9 +54,9 @@ module _ (K : Frame) (G : Supergraph) (has : AreNodesOf K G) where
         ]);
   }
 
-  within-lowered : (s : State F) → AreAllWithin G s → (t : Key) (f : F) → IsPlaced G t → AreAllWithin G (lowered_at K s t f)
-  within-lowered s all t f within = record {
-    keys = λ k g same. elim (key-tells s.get t (Some (B.meet (unwrap_or (s.get t) B.all_top) f)) k) [
+  within-with : (s : State F) → AreAllWithin G s → (t : Key) (f : F) → IsPlaced G t → AreAllWithin G (with_function s t f)
+  within-with s all t f within = record {
+    keys = λ k g same. elim (key-tells s.get t (Some f) k) [
       | inl here ↦ subst (IsPlaced G) here.0 within
       | inr other ↦ all.keys k g (sym other.1 ∙ same)
     ];
@@ -77,12 +77,12 @@ module _ (K : Frame) (G : Supergraph) (has : AreNodesOf K G) where
     ];
   }
   within-step (skip {s = s} h c t f rest mine parts met) all = within-done s all h
-  within-step (lower {s = s} h c t f rest mine parts) all =
+  within-step (lower {s = s} h c t f rest mine parts changes) all =
       within-done (lowered_at K s t f)
-      (within-lowered s all t f (all.parts h c mine t f (subst (IsIn {T = Key × F} (t, f)) (sym parts) first))) h
-  within-step (release {s = s} h) all = record { keys = all.keys; parts = λ j c left. all.parts j c (left-without s h j c left).1 }
+      (within-with s all t (B.meet (function_of K s.get t) f) (all.parts h c mine t f (subst (IsIn {T = Key × F} (t, f)) (sym parts) first))) h
+  within-step (release {s = s} h c mine) all = record { keys = all.keys; parts = λ j d left. all.parts j d (left-without s h j d left).1 }
   within-step (finish {s = s} h c mine none) all = record { keys = all.keys; parts = λ j d left. all.parts j d (left-without s h j d left).1 }
-  within-step (root {s = s} r d is_start in_range) all = within-lowered s all (Jump r d d) B.id (has.start r is_start)
+  within-step (root {s = s} r d is_start in_range absent) all = within-with s all (Jump r d d) B.id (has.start r is_start)
 
   within-empty : AreAllWithin G (nothing_done F)
   within-empty = record { keys = λ k f same. elim (none-some same) [ ]; parts = λ h c mine k g part. elim (none-some mine) [ ] }
