@@ -9,12 +9,11 @@ use Rattle.std.proofs.lemmas.Bool.Decides.{nat_tests}
 use Rattle.std.proofs.lemmas.List.Sorted.{list_any-IsPermutation}
 use Rattle.std.proofs.lemmas.Map.Keys.{IsDistinct-IsPermutation, apart_from_distinct, sorted_from_all_adjacent}
 use Rattle.std.proofs.lemmas.Map.Made.{is_some-lookup}
-use Rattle.ide_wire.specs.contracts.key.KeyOrd.TheImpl.Laws.{total-law}
 use Rattle.ide_wire.specs.declared.key.Key.{Key}
 use Rattle.ide_wire.specs.declared.key.Key.TheVariants.{Jump, Summary}
 use Rattle.ide_wire.specs.Key.{same_key, same_key_symm}
+use Rattle.ide_wire.specs.KeyOrder.{key_cmp, key_cmp_total}
 use Rattle.ide_tables.specs.Tables.{Table, AreKeys}
-use Rattle.ide_tables.proofs.Partners.{key_cmp}
 
 -- of two keys that differ the first is below, where the second is not
 pub below : (x y : Key) → is_lt (key_cmp y x) ≡ false → same_key x y ≡ false → key_cmp x y ≡ Less
@@ -26,7 +25,7 @@ below (Summary n a b) (Summary m c d) o e = grind (arith, nat_tests)
 -- keys that differ ascend strictly once they are sorted
 pub strictly : (keys : List Key) → IsDistinct same_key keys → IsSorted key_cmp keys → IsStrictlySortedBy key_cmp keys
 strictly keys apart sorted =
-    sorted_from_all_adjacent total-law keys (Jump 0 0 0)
+    sorted_from_all_adjacent key_cmp_total keys (Jump 0 0 0)
     (λ k l. below (get_or keys k (Jump 0 0 0)) (get_or keys (k + 1) (Jump 0 0 0)) (sorted k (Jump 0 0 0) (omega arith) l)
     (apart_from_distinct same_key keys k (k + 1) (Jump 0 0 0) apart (omega arith) l))
 

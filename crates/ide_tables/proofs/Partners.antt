@@ -17,11 +17,8 @@ use Rattle.std.proofs.lemmas.Bool.Decides.{nat_tests}
 use Rattle.ide_wire.specs.declared.key.Key.{Key}
 use Rattle.ide_wire.specs.declared.key.Key.TheVariants.{Jump, Summary}
 use Rattle.ide_wire.specs.Key.{same_key}
-use Rattle.ide_wire.specs.contracts.key.KeyOrd.TheImpl.{ghosts as key_ord}
+use Rattle.ide_wire.specs.KeyOrder.{key_cmp}
 use Rattle.ide_tables.specs.Tables.{Table, ArePartners, IsIndex, found, partner_of, place_of, listed_fact, is_noted}
-
-abbrev pub key_cmp : Key → Key → Ordering
-key_cmp = key_ord.cmp
 
 pub fact_exact : (a b : ℕ) → is_at (nat_cmp a) b ≡ true → a ≡ b
 fact_exact a b e = grind (arith, nat_tests)

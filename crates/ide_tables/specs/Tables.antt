@@ -1,5 +1,5 @@
 -- What a table says in contracts: the function of each present key, and which nodes it watches.
-use Rattle.std.specs.Prelude.{◌≡◌, ℕ, ◌<◌, ◌^◌, Bool, true, false, List, [], ◌∷◌, Option, None, Some, if◌then◌else◌}
+use Rattle.std.specs.Prelude.{◌≡◌, ℕ, ◌<◌, ◌≤◌, ◌^◌, Bool, true, false, List, [], ◌∷◌, Option, None, Some, if◌then◌else◌}
 use Rattle.std.specs.List.{AllByRecursion, list_any, slice_index_or}
 use Rattle.std.specs.List.Sorted.{IsStrictlySortedBy}
 use Rattle.std.specs.Map.{lookup, keys_of}
@@ -62,6 +62,11 @@ module _ {F L : Type 0} (edge : EdgeAlgebra F L) where
   -- the key's function is met with f, and every other entry stays
   abbrev pub Lowers : (old new : Table F) → Key → F → Type 0
   Lowers old new key f = Sets old new key (lowered_by old key f)
+
+  -- a function falls to another one of smaller rank: so the other is not the one before, nor always top
+  pub record Falls (old new : F) : Type 0 where
+    pub less : edge.rank new < edge.rank old
+    pub most : edge.rank old ≤ edge.height
 
 -- the partners, ascending by fact, are the present ones of the keys `at` a fact
 pub record ArePartners {F : Type 0} (at : ℕ → Key) (table : Table F) (partners : List (ℕ × F)) : Type 0 where

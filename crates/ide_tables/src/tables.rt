@@ -7,8 +7,9 @@ ghost use Rattle.ide_wire.specs.declared.refused.Refused.TheVariants.{NoMemory};
 ghost use Rattle.indexmap.specs.IndexMap.{insert_all, insert_entry, spare, get};
 ghost use Rattle.ide_wire.specs.declared.key.Key.{Key};
 ghost use Rattle.ide_wire.specs.Key.{same_key};
+ghost use Rattle.ide_wire.specs.KeyOrder.{key_cmp};
 ghost use Rattle.ide_tables.specs.Spent.{spent};
-ghost use Rattle.ide_tables.specs.Tables.{Table, IsIndex, AreKeys, ArePartners, found, function_at, lowered_by, is_watched, Sets, SetsAll, Lowers};
+ghost use Rattle.ide_tables.specs.Tables.{Table, Falls, IsIndex, AreKeys, ArePartners, found, function_at, lowered_by, is_watched, Sets, SetsAll, Lowers};
 
 use crate::index;
 use ide_lattice::EdgeFn;
@@ -92,9 +93,9 @@ impl<F: EdgeFn> Tables<F> {
         Some((*key, *function))
     }
 
-    /// The present keys, ascending.
+    /// The present keys, ascending: jumps before summaries, then by node and facts.
     pub fn keys(&self, alloc: Global) -> Result<Vec<Key>, Refused>
-        ensures keys { IfOk result (λ keys. AreKeys ⟦<Key as Ord>⟧.cmp self.now keys.items) }
+        ensures keys { IfOk result (λ keys. AreKeys key_cmp self.now keys.items) }
         ensures refused { IfErr result (λ e. e ≡ NoMemory) }
     {
         let mut keys = keys_of(alloc, &self.functions)?;
@@ -152,6 +153,7 @@ impl<F: EdgeFn> Tables<F> {
     pub fn lower(&mut self, key: Key, f: F) -> Result<Change, Refused>
         ensures lowered { result ≡ Ok Change.Lowered → Lowers F.edge self.old self.new key f }
         ensures changes { result ≡ Ok Change.Lowered → F.eq (lowered_by F.edge self.old key f) (function_at F.edge self.old key) ≡ false }
+        ensures falls { result ≡ Ok Change.Lowered → Falls F.edge (function_at F.edge self.old key) (lowered_by F.edge self.old key f) }
         ensures same { result ≡ Ok Change.Same → self.new ≡ self.old }
         ensures met { result ≡ Ok Change.Same → F.eq (lowered_by F.edge self.old key f) (function_at F.edge self.old key) ≡ true }
         ensures spent { result ≡ Ok Change.Lowered → spent F.edge self.old.entries < spent F.edge self.new.entries }

@@ -49,9 +49,19 @@ impl<P: Problem> Work<P> {
 
     /// The task that the parts are of.
     pub fn task(&self) -> &Task<P>
-        ensures { result.now ≡ self.now.task }
+        ensures task { result.now ≡ self.now.task }
+        ensures owed { self.now.parts ≡ owed P.targets P.F.edge self.now.task }
     {
         &self.task
+    }
+
+    /// All parts of the task, done or not, in the order in which they are done: each a key and the
+    /// function that its entry is met with.
+    pub fn parts(&self) -> &[(Key, P::F)]
+        ensures parts { result.now ≡ self.now.parts }
+        ensures owed { result.now ≡ owed P.targets P.F.edge self.now.task }
+    {
+        self.parts.as_slice()
     }
 
     /// How many parts are done.

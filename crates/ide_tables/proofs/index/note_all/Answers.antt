@@ -1,4 +1,4 @@
-use Rattle.ide_tables.proofs.Partners.{key_cmp}
+use Rattle.ide_wire.specs.KeyOrder.{key_cmp}
 use Rattle.ide_tables.proofs.Sets.{noted-more}
 use Rattle.ide_tables.proofs.index.note_all.Goals as goal
 

@@ -1,7 +1,7 @@
 use Rattle.std.proofs.Common.{take}
 use Rattle.std.specs.Map.{keys_of}
 use Rattle.ide_tables.specs.Tables.{KeepsPlaces, NotesAll}
-use Rattle.ide_tables.proofs.Partners.{key_cmp}
+use Rattle.ide_wire.specs.KeyOrder.{key_cmp}
 use Rattle.ide_tables.proofs.index.note_all.Given as goal
 
 abbrev pub invariant-loop-entry : goal.invariant-loop-entry

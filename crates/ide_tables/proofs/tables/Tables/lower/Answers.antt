@@ -1,4 +1,5 @@
-use Rattle.std.proofs.Common.{◌<◌, ◌≤◌, ◌∙◌, sym, subst}
+use Rattle.std.proofs.Common.{◌<◌, ◌≤◌, ◌∙◌, ap, sym, subst}
+use Rattle.ide_tables.specs.Tables.{function_at}
 use Rattle.ide_tables.proofs.Falls.{spent-insert}
 use Rattle.ide_tables.proofs.tables.Tables.lower.Goals as goal
 
@@ -9,3 +10,13 @@ returns-clause-spent g c is =
     let less = subst (λ f. B.rank c.fallen-new.result < B.rank f) c.function-old.ensures (c.fallen-new.ensures.falls (sym c.eq.ensures ∙ c.if-eq.false)) in
     rw c.in_ok-set.ensures.order
     (spent-insert B c.args.key c.fallen-new.result c.args.self.now.entries most less)
+
+pub returns-clause-falls : goal.returns-clause-falls
+returns-clause-falls g c is =
+    let B = g.F.EdgeFn.edge in
+    let less = subst (λ f. B.rank c.fallen-new.result < B.rank f) c.function-old.ensures (c.fallen-new.ensures.falls (sym c.eq.ensures ∙ c.if-eq.false)) in
+    record {
+      most = subst (λ f. B.rank f ≤ B.height) c.function-old.ensures c.fallen-new.ensures.most;
+      less = subst (λ f. B.rank f < B.rank (function_at B c.args.self.now c.args.key))
+          (c.fallen-new.ensures.meet ∙ ap (λ f. B.meet f c.args.f) c.function-old.ensures) less;
+    }

@@ -3,7 +3,7 @@ use Rattle.std.specs.Map.{keys_of, lookup}
 use Rattle.indexmap.specs.IndexMap.{insert_all}
 use Rattle.ide_wire.specs.Key.{same_key}
 use Rattle.ide_tables.specs.Tables.{NotesAll}
-use Rattle.ide_tables.proofs.Partners.{key_cmp}
+use Rattle.ide_wire.specs.KeyOrder.{key_cmp}
 use Rattle.ide_tables.proofs.Sets.{found-insert_all, index-of-all}
 use Rattle.ide_tables.proofs.tables.Tables.set_all.Goals as goal
 
