@@ -18,19 +18,19 @@ use Rattle.ide_bench.specs.Phases.{IsRootedAtMain}
 pub rooted_at_main : (text : List ℕ) (p : Program) → IsParsed text p
     → (loaded rooted drained : CoreData ConstFn) (graph : Supergraph) (roots : List ℕ)
     → IsSomeAnd loaded.graph (IsGraphOf p) → IsSomeAnd loaded.graph (HasEdgesOf p) → loaded.roots ≡ []
-    → IsBegun const_algebra const_edge copy_targets loaded rooted (codes "main") → GoesOn const_algebra const_edge copy_targets rooted drained
+    → IsBegun const_algebra const_edge copy_targets loaded rooted (codes "main") → GoesOn const_algebra const_edge copy_targets 0 rooted drained
     → drained.graph ≡ Some graph → roots ≡ drained.roots
     → IsRootedAtMain text graph roots
 rooted_at_main text p parsed loaded rooted drained graph roots has_graph has_edges no_roots begun goes at_end roots_end =
     record {
       spelled = record { program = p; parsed = parsed; counted = subst (λ o. IsSomeAnd o (IsGraphOf p)) at_load has_graph; edges = subst (λ o. IsSomeAnd o (HasEdgesOf p)) at_load has_edges };
       main = begun.root;
-      named = subst (λ g. procedure_named g (codes "main") ≡ Some begun.root) same begun.named;
-      alone = roots_end ∙ goes.roots ∙ begun.roots ∙ ap (λ xs. xs ++ begun.root ∷ []) no_roots;
+      named = subst (λ g. procedure_named g (codes "main") ≡ Some begun.root) same begun.named.named;
+      alone = roots_end ∙ goes.by.same.roots ∙ begun.roots ∙ ap (λ xs. xs ++ begun.root ∷ []) no_roots;
     }
   where
     at_load : loaded.graph ≡ Some graph
-    at_load = sym begun.same ∙ sym goes.graph ∙ at_end
+    at_load = sym begun.same ∙ sym goes.by.same.graph ∙ at_end
 
     same : begun.graph ≡ graph
     same = ap (λ o. unwrap_or o graph) (sym begun.is ∙ at_load)

@@ -18,7 +18,8 @@ use Rattle.ide_steps.specs.Core.{CoreData}
 use Rattle.ide_steps.specs.Rooted.{IsBegun}
 use Rattle.ide_steps.specs.State.{state_of}
 use Rattle.ide_service.specs.Begun.{AreBegun, IsReady}
-use Rattle.ide_service.specs.Solve.{AreRootNames, IsRootName, none, then}
+use Rattle.ide_steps.specs.Refusal.{IsRootName}
+use Rattle.ide_service.specs.Solve.{AreRootNames, none, then}
 
 -- one name more
 names-more : (graph : Supergraph) {roots mid : List ℕ} {names : List (List ℕ)} (name : List ℕ) (root : ℕ) → AreRootNames graph roots names mid
@@ -29,6 +30,7 @@ names-more graph name root (then n r at rest) is = then n r at (names-more graph
 module _ {F L : Type 0} (A : LatticeAlgebra L) (B : EdgeAlgebra F L) (targets : Targets F) where
   pub begun-none : (core : CoreData F) → AreBegun A B targets core core []
   begun-none core = record {
+    program = refl;
     same = refl;
     unclaimed = λ free h. free h;
     named = λ graph is. none;
@@ -49,12 +51,13 @@ module _ {F L : Type 0} (A : LatticeAlgebra L) (B : EdgeAlgebra F L) (targets : 
     pub begun-more : (old mid new : CoreData F) (names : List (List ℕ)) (name : List ℕ) → AreBegun A B targets old mid names → IsBegun A B targets mid new name
         → AreBegun A B targets old new (names ++ name ∷ [])
     begun-more old mid new names name before is = record {
+      program = is.program ∙ before.program;
       same = is.same ∙ before.same;
       unclaimed = λ free. is.unclaimed (before.unclaimed free);
       named = λ graph at.
           let same = here graph at in
           let root : IsRootName graph mid.roots name is.root =
-          subst (λ g. IsRootName g mid.roots name is.root) same (record { named = is.named; closed = is.closed; new = is.fresh }) in
+          subst (λ g. IsRootName g mid.roots name is.root) same is.named in
           subst (AreRootNames graph old.roots (names ++ name ∷ [])) (sym is.roots) (names-more graph name is.root (before.named graph at) root);
       within = λ graph at all i among.
           elim (in-either mid.roots (is.root ∷ []) (subst (IsIn i) is.roots among)) [

@@ -1,6 +1,6 @@
 -- Why a solve is refused: what its parts refuse, as a refusal of the text and the names.
-use Rattle.std.proofs.Common.{◌≡◌, ◌≢◌, ℕ, ◌<◌, ◌≤◌, ◌⊎◌, ◌↔◌, inl, inr, false, zero, suc, suc-ne-zero, true≢false, List, [], ◌∷◌, ◌++◌, length, take, drop, get_or, map, Option, Some, None, Result, Ok, Err, is_some, IsSome, refl, ap, sym, subst, ◌∙◌, arith}
-use Rattle.std.specs.Prelude.{IfErr, slice_index}
+use Rattle.std.proofs.Common.{◌≡◌, ◌≢◌, ℕ, ◌<◌, ◌≤◌, ◌⊎◌, ◌↔◌, inl, inr, false, suc, true≢false, List, [], ◌∷◌, ◌++◌, length, take, drop, get_or, map, Option, Some, None, Result, Ok, Err, is_some, IsSome, refl, ap, sym, subst, ◌∙◌, arith}
+use Rattle.std.specs.Prelude.{IfErr}
 use Rattle.std.specs.Option.{IsSomeAnd}
 use Rattle.std.proofs.Math.Seq.{split_at}
 use Rattle.std.proofs.lemmas.List.{map-append}
@@ -10,15 +10,16 @@ use Rattle.ide_graph.specs.GraphOfText.{IsGraphOfText}
 use Rattle.ide_graph.specs.Supergraph.{Supergraph}
 use Rattle.ide_lattice.specs.Algebra.{LatticeAlgebra, EdgeAlgebra}
 use Rattle.ide_problem.specs.Flow.{Targets}
-use Rattle.ide_steps.specs.Core.{CoreData, FindsNone, FindsParameters, FindsRoot, is_loaded}
+use Rattle.ide_steps.specs.Core.{CoreData, is_loaded}
 use Rattle.ide_steps.specs.Going.{GoesOn, IsOutside}
+use Rattle.ide_steps.specs.Refusal.{IsRootRefusal, fault as root_fault, memory as wants, no_program as no_program_loaded}
 use Rattle.ide_text.specs.Parsed.{IsParsed, IsRefusalOf}
 use Rattle.ide_text.specs.declared.program.Program.{Program}
 use Rattle.ide_worklist.specs.Worklist.{claim_at}
 use Rattle.ide_wire.specs.declared.refused.Refused.{Refused}
-use Rattle.ide_wire.specs.declared.refused.Refused.TheVariants.{NoMemory, Text, NoProgram, NoProcedure, HasParameters, Already, Unfinished, Busy, Limit, OutOfRange}
+use Rattle.ide_wire.specs.declared.refused.Refused.TheVariants.{NoMemory, Text, NoProgram, Unfinished, Busy, Limit, OutOfRange}
 use Rattle.ide_service.specs.Begun.{AreBegun}
-use Rattle.ide_service.specs.Refusal.{FirstRootFault, IsRootsRefusal, IsSolveRefusal, already, fault, here, later, memory, no_memory, no_program, no_root, parameters, root, unnamed}
+use Rattle.ide_service.specs.Refusal.{FirstRootFault, IsRootsRefusal, IsSolveRefusal, fault, here, later, memory, no_memory, no_program, no_root, root}
 use Rattle.ide_service.specs.Solve.{AreRootNames, none, then}
 use Rattle.ide_service.specs.Started.{IsStarted}
 
@@ -39,14 +40,6 @@ pub names-around : {X Y : Type 0} (f : X → Y) (xs : List X) (i : ℕ) (d : X) 
     → map f xs ≡ map f (take i xs) ++ f (get_or xs i d) ∷ map f (drop (suc i) xs)
 names-around f xs i d within = ap (map f) (split_at xs i d within) ∙ map-append f (take i xs) (get_or xs i d ∷ drop (suc i) xs)
 
-none-unless : {T : Type 0} (o : Option T) → is_some o ≡ false → o ≡ None
-none-unless None is = refl
-none-unless (Some x) is = absurd (true≢false is)
-
-zero-unless : (n : ℕ) → (n ≢ 0 → ⊥) → n ≡ 0
-zero-unless zero not = refl
-zero-unless (suc n) not = absurd (not (suc-ne-zero n))
-
 -- a call that is refused for want of memory alone
 pub wants-memory : {T : Type 0} (text : List ℕ) (names : List (List ℕ)) (result : Result T Refused)
     → IfErr result (λ e. e ≡ NoMemory) → IfErr result (IsSolveRefusal text names)
@@ -63,34 +56,12 @@ values-refused text names workers (Err e) some few limit is =
       | inr wanting ↦ subst (IsSolveRefusal text names) (sym wanting) memory
     ]
 
-module _ {F : Type 0} where
-  -- what `root` refuses is the fault of its name, which is the first
-  pub root-refused : (core : CoreData F) (name : List ℕ) (names : List (List ℕ)) (refused : Refused)
-      → (refused ≡ NoProgram) ⊎ (refused ≡ NoProcedure) ⊎ (refused ≡ HasParameters) ⊎ (refused ≡ Already) ⊎ (refused ≡ NoMemory)
-      → (refused ≡ NoProgram → is_loaded core ≡ false) → (refused ≡ NoProcedure → FindsNone core.graph name)
-      → (refused ≡ HasParameters → FindsParameters core.graph name)
-      → (refused ≡ Already → FindsRoot core.graph core.roots name × (FindsParameters core.graph name → ⊥))
-      → IsRootsRefusal core.graph core.roots (name ∷ names) refused
-  root-refused core name names refused is unloaded unnamed_is parameters_is already_is =
-      elim is [
-        | inl program ↦ as-is program (no_program (none-unless core.graph (unloaded program)))
-        | inr (inl procedure) ↦
-            let finds = unnamed_is procedure in
-            as-is procedure (no_root finds.loaded NoProcedure finds.is (here name (unnamed finds.unnamed)))
-        | inr (inr (inl has)) ↦
-            let finds = parameters_is has in
-            as-is has (no_root finds.found.loaded HasParameters finds.found.is (here name (parameters finds.procedure finds.found.named finds.parameters)))
-        | inr (inr (inr (inl twice))) ↦
-            let finds = (already_is twice).0 in
-            let closed = zero-unless (slice_index finds.found.loaded.parameters finds.procedure)
-            (λ some. (already_is twice).1 (record { procedure = finds.procedure; found = finds.found; parameters = some })) in
-            as-is twice (no_root finds.found.loaded Already finds.found.is (here name (already finds.procedure finds.found.named closed finds.is_root)))
-        | inr (inr (inr (inr wanting))) ↦ as-is wanting no_memory
-      ]
-    where
-      as-is : {other : Refused} → refused ≡ other → IsRootsRefusal core.graph core.roots (name ∷ names) other
-          → IsRootsRefusal core.graph core.roots (name ∷ names) refused
-      as-is same h = subst (IsRootsRefusal core.graph core.roots (name ∷ names)) (sym same) h
+-- what `root` refuses is the fault of its name, which is the first
+pub root-refused : (graph : Option Supergraph) (roots name : List ℕ) (names : List (List ℕ)) {refused : Refused}
+    → IsRootRefusal graph roots name refused → IsRootsRefusal graph roots (name ∷ names) refused
+root-refused graph roots name names (no_program_loaded none) = no_program none
+root-refused graph roots name names (root_fault {refused = refused} loaded at is) = no_root loaded refused at (here name is)
+root-refused graph roots name names (wants loaded root at is) = no_memory
 
 module _ {F L : Type 0} (A : LatticeAlgebra L) (B : EdgeAlgebra F L) (targets : Targets F) where
   -- names that are begun stand before a refusal of more
@@ -140,12 +111,12 @@ module _ {F L : Type 0} (A : LatticeAlgebra L) (B : EdgeAlgebra F L) (targets : 
 
   -- and once it is quiet it is closed
   pub close-refused : (text : List ℕ) (names : List (List ℕ)) (core drained : CoreData F) (graph : Supergraph) (refused : Refused)
-      → IsStarted A B targets text names core graph → GoesOn A B targets core drained → drained.pile.pending ≡ []
+      → IsStarted A B targets text names core graph → GoesOn A B targets 0 core drained → drained.pile.pending ≡ []
       → (refused ≡ NoProgram) ⊎ (refused ≡ Unfinished)
       → (refused ≡ NoProgram → is_loaded drained ≡ false) → (refused ≡ Unfinished → drained.pile.pending ≢ [])
       → ⊥
   close-refused text names core drained graph refused is goes quiet either unloaded unfinished =
       elim either [
-        | inl program ↦ true≢false (sym (ap is_some (goes.graph ∙ is.is)) ∙ unloaded program)
+        | inl program ↦ true≢false (sym (ap is_some (goes.by.same.graph ∙ is.is)) ∙ unloaded program)
         | inr left ↦ unfinished left quiet
       ]

@@ -3,9 +3,10 @@ use Rattle.std.specs.Prelude.{IfErr, IfOk, OnOk}
 use Rattle.std.proofs.Common.{◌≡◌, Ok, Err, sym, subst}
 use Rattle.std.specs.declared.result.Result.{Result}
 
-pub if-ok : {T E : Type 0} {P Q R S : T → Type 0} (r : Result T E) → IfOk r P → IfOk r Q → IfOk r R → ((x : T) → P x → Q x → R x → S x) → IfOk r S
-if-ok (Ok x) p q s follows = follows x p q s
-if-ok (Err e) p q s follows = p
+pub if-ok : {T E : Type 0} {O P Q R S : T → Type 0} (r : Result T E) → IfOk r O → IfOk r P → IfOk r Q → IfOk r R
+    → ((x : T) → O x → P x → Q x → R x → S x) → IfOk r S
+if-ok (Ok x) o p q r follows = follows x o p q r
+if-ok (Err e) o p q r follows = o
 
 pub on-ok : {T E : Type 0} {P Q : Type 0} (r : Result T E) → OnOk r P → (P → Q) → OnOk r Q
 on-ok (Ok x) p follows = follows p

@@ -8,6 +8,7 @@ use Rattle.ide_graph.specs.Supergraph.{Supergraph}
 use Rattle.ide_lattice.specs.Algebra.{LatticeAlgebra, EdgeAlgebra}
 use Rattle.ide_problem.specs.Flow.{Targets}
 use Rattle.ide_tables.specs.Tables.{Table, found}
+use Rattle.ide_text.specs.Program.{value_of as program_value}
 use Rattle.ide_theory.specs.Frame.{Frame}
 use Rattle.ide_theory.specs.Graphs.{frame_at}
 use Rattle.ide_theory.specs.Image.{IsMet}
@@ -29,13 +30,14 @@ module _ {F L : Type 0} (A : LatticeAlgebra L) (B : EdgeAlgebra F L) (targets : 
     (goes_on : (graph : Supergraph) (all : HaveEdgesOf graph.facts graph.sites) → AreJoined graph.sites (start_at graph) → DoRunsGoOn (frame_at A B targets graph all))
     (proper_id : IsTrue (B.proper B.id)) where
   pub solved : (text : List ℕ) (names : List (List ℕ)) (rooted drained : CoreData F) (graph : Supergraph) (values : ValuesData L) (table : Table F)
-      → IsStarted A B targets text names rooted graph → GoesOn A B targets rooted drained → drained.pile.pending ≡ []
-      → drained.graph ≡ Some values.graph → values.roots ≡ drained.roots → table ≡ drained.table
+      → IsStarted A B targets text names rooted graph → GoesOn A B targets 0 rooted drained → drained.pile.pending ≡ []
+      → drained.program ≡ Some values.program → drained.graph ≡ Some values.graph → values.roots ≡ drained.roots → table ≡ drained.table
       → AreBest A B targets values.graph values.roots table (value_of A values)
       → AreSolved A B targets text names values
-  solved text names rooted drained before values table started goes quiet at_end roots_end table_is best =
+  solved text names rooted drained before values table started goes quiet program_end at_end roots_end table_is best =
       record {
         spelled = is.spelled;
+        program = same_Some values.program (program_value is.spelled.program) (sym program_end ∙ (goes.by.same.program ∙ is.loaded));
         named = subst (AreRootNames graph [] names) (sym roots_are) is.named;
         all = is.all;
         best = best is.spelled.program of is.all is_solved;
@@ -45,13 +47,13 @@ module _ {F L : Type 0} (A : LatticeAlgebra L) (B : EdgeAlgebra F L) (targets : 
       graph = values.graph
 
       at_roots : rooted.graph ≡ Some graph
-      at_roots = sym goes.graph ∙ at_end
+      at_roots = sym goes.by.same.graph ∙ at_end
 
       is : IsStarted A B targets text names rooted graph
       is = subst (IsStarted A B targets text names rooted) (same_Some before graph (sym started.is ∙ at_roots)) started
 
       roots_are : values.roots ≡ rooted.roots
-      roots_are = roots_end ∙ goes.roots
+      roots_are = roots_end ∙ goes.by.same.roots
 
       K : Frame
       K = frame_at A B targets graph is.all
@@ -60,7 +62,7 @@ module _ {F L : Type 0} (A : LatticeAlgebra L) (B : EdgeAlgebra F L) (targets : 
       on = goes_on graph is.all is.fit.joined
 
       steps : Steps K (state_of targets B rooted) (state_of targets B drained)
-      steps = goes.steps graph at_roots is.all is.fit is.run
+      steps = (goes.by.steps graph at_roots is.all is.fit is.run).0
 
       kept : (r d : ℕ) → (cond (nat_lt d graph.entries) A.bottom A.top ≡ A.top) ⊎ IsMet K (state_of targets B rooted).get (Jump r d d) B.id
           → (cond (nat_lt d graph.entries) A.bottom A.top ≡ A.top) ⊎ IsMet K (state_of targets B drained).get (Jump r d d) B.id
@@ -78,7 +80,6 @@ module _ {F L : Type 0} (A : LatticeAlgebra L) (B : EdgeAlgebra F L) (targets : 
 
       of : AreOf graph values.roots is.spelled.program
       of = record {
-        named = (is.spelled.parsed.named, is.spelled.parsed.limits);
         numbered = is.spelled.counted;
         edges = is.spelled.edges;
         rooted = λ i among. is.within i (subst (IsIn i) roots_are among);

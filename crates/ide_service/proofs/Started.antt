@@ -5,13 +5,14 @@ use Rattle.std.specs.Option.{IsSomeAnd}
 use Rattle.ide_graph.specs.Closed.{GraphsOfProgramsAreClosed}
 use Rattle.ide_graph.specs.Ends.{EndsOfProgramsAreNodes}
 use Rattle.ide_graph.specs.Exits.{ExitsOfProgramsAreOwned}
-use Rattle.ide_graph.specs.GraphOf.{IsNamed, IsGraphOf}
+use Rattle.ide_graph.specs.GraphOf.{IsGraphOf}
 use Rattle.ide_graph.specs.Joined.{AreJoined, SitesOfProgramsAreJoined, start_at}
 use Rattle.ide_graph.specs.ProgramEdges.{HasEdgesOf}
 use Rattle.ide_graph.specs.Supergraph.{Supergraph}
 use Rattle.ide_lattice.specs.Algebra.{LatticeAlgebra, EdgeAlgebra}
 use Rattle.ide_problem.specs.Flow.{Targets}
 use Rattle.ide_text.specs.Parsed.{IsParsed}
+use Rattle.ide_text.specs.Program.{value_of}
 use Rattle.ide_text.specs.declared.program.Program.{Program}
 use Rattle.ide_theory.specs.Graphs.{frame_at, roots_at}
 use Rattle.ide_theory.specs.Image.{HasRoots}
@@ -43,22 +44,23 @@ held P (Some x) h = (x, refl)
 
 module _ {F L : Type 0} (A : LatticeAlgebra L) (B : EdgeAlgebra F L) (targets : Targets F) (laws : Laws A B targets) where
   pub started : (text : List ℕ) (names : List (List ℕ)) (p : Program) → IsParsed text p → (loaded rooted : CoreData F)
-      → IsSomeAnd loaded.graph (IsGraphOf p) → IsSomeAnd loaded.graph (HasEdgesOf p) → state_of targets B loaded ≡ nothing_done F → loaded.roots ≡ []
+      → loaded.program ≡ Some (value_of p) → IsSomeAnd loaded.graph (IsGraphOf p) → IsSomeAnd loaded.graph (HasEdgesOf p) → state_of targets B loaded ≡ nothing_done F → loaded.roots ≡ []
       → loaded.pile.claims ≡ [] → AreBegun A B targets loaded rooted names
       → (graph : Supergraph) × IsStarted A B targets text names rooted graph
-  started text names p parsed loaded rooted has_graph has_edges state no_roots no_claims begun = (
+  started text names p parsed loaded rooted has_program has_graph has_edges state no_roots no_claims begun = (
     graph,
     record {
       is = begun.same ∙ at_load;
       spelled = record { program = p; parsed = parsed; counted = numbered; edges = edges };
+      loaded = begun.program ∙ has_program;
       named = subst (λ rs. AreRootNames graph rs names rooted.roots) no_roots (begun.named graph at_load);
       within = begun.within graph at_load none_before;
       fit = record {
-        sited = (laws.closed p graph named numbered edges).sited;
+        sited = (laws.closed p graph numbered edges).sited;
         joined = joined;
-        few = omega (arith, (numbered.few named).1);
-        exits = laws.exits p graph named numbered edges;
-        ends = laws.ends p graph named numbered edges;
+        few = omega (arith, numbered.few.1);
+        exits = laws.exits p graph numbered edges;
+        ends = laws.ends p graph numbered edges;
       };
       all = all;
       run = goes_on.run (state_of targets B loaded) (state_of targets B rooted) run_load (begun.steps graph at_load all ready run_load);
@@ -73,9 +75,6 @@ module _ {F L : Type 0} (A : LatticeAlgebra L) (B : EdgeAlgebra F L) (targets : 
       at_load : loaded.graph ≡ Some graph
       at_load = (held (IsGraphOf p) loaded.graph has_graph).1
 
-      named : IsNamed p
-      named = (parsed.named, parsed.limits)
-
       numbered : IsGraphOf p graph
       numbered = subst (λ o. IsSomeAnd o (IsGraphOf p)) at_load has_graph
 
@@ -83,16 +82,16 @@ module _ {F L : Type 0} (A : LatticeAlgebra L) (B : EdgeAlgebra F L) (targets : 
       edges = subst (λ o. IsSomeAnd o (HasEdgesOf p)) at_load has_edges
 
       all : HaveEdgesOf graph.facts graph.sites
-      all = (laws.supergraphs p graph named numbered edges).0
+      all = (laws.supergraphs p graph numbered edges).0
 
       joined : AreJoined graph.sites (start_at graph)
-      joined = laws.joined p graph named numbered edges
+      joined = laws.joined p graph numbered edges
 
       ready : IsReady graph
       ready = record {
         joined = joined;
-        home = λ i h. ap (slice_index graph.starts) ((laws.closed p graph named numbered edges).home i h);
-        entries = omega (arith, (numbered.counts named).0, (numbered.counts named).1);
+        home = λ i h. ap (slice_index graph.starts) ((laws.closed p graph numbered edges).home i h);
+        entries = omega (arith, numbered.counts.0, numbered.counts.1);
       }
 
       goes_on : DoRunsGoOn (frame_at A B targets graph all)

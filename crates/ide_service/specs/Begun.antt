@@ -21,8 +21,10 @@ pub record IsReady (graph : Supergraph) : Type 0 where
   pub entries : graph.entries ≤ graph.facts
 
 module _ {F L : Type 0} (A : LatticeAlgebra L) (B : EdgeAlgebra F L) (targets : Targets F) where
-  -- over a graph that is ready, steps make the procedures of the names roots, and these have their identities
+  -- over a graph that is ready, steps make the procedures of the names roots, and these have their identities;
+  -- the program stays
   pub record AreBegun (old new : CoreData F) (names : List (List ℕ)) : Type 0 where
+    pub program : new.program ≡ old.program
     pub same : new.graph ≡ old.graph
     pub unclaimed : IsFree old.pile → IsFree new.pile
     pub named : (graph : Supergraph) → old.graph ≡ Some graph → AreRootNames graph old.roots names new.roots

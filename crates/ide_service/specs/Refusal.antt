@@ -1,19 +1,12 @@
 -- Why a text and the names of roots are refused.
-use Rattle.std.specs.Prelude.{◌≡◌, ◌≢◌, ℕ, List, [], ◌∷◌, ◌++◌, Option, Some, None, slice_index}
-use Rattle.std.specs.List.{Contains}
+use Rattle.std.specs.Prelude.{◌≡◌, ℕ, List, [], ◌∷◌, ◌++◌, Option, Some, None}
 use Rattle.ide_graph.specs.GraphOfText.{IsGraphOfText}
-use Rattle.ide_graph.specs.Supergraph.{Supergraph, procedure_named}
+use Rattle.ide_graph.specs.Supergraph.{Supergraph}
 use Rattle.ide_text.specs.Parsed.{TextFault}
 use Rattle.ide_wire.specs.declared.refused.Fault.{Fault}
 use Rattle.ide_wire.specs.declared.refused.Refused.{Refused}
-use Rattle.ide_wire.specs.declared.refused.Refused.TheVariants.{NoMemory, Text, NoProgram, NoProcedure, HasParameters, Already}
-use Rattle.ide_service.specs.Solve.{IsRootName}
-
--- why a name cannot be a root beside these
-pub data RootFault (graph : Supergraph) (roots : List ℕ) (name : List ℕ) : Refused → Type 0 where
-  unnamed : procedure_named graph name ≡ None → RootFault graph roots name NoProcedure
-  parameters : (root : ℕ) → procedure_named graph name ≡ Some root → slice_index graph.parameters root ≢ 0 → RootFault graph roots name HasParameters
-  already : (root : ℕ) → procedure_named graph name ≡ Some root → slice_index graph.parameters root ≡ 0 → Contains roots root → RootFault graph roots name Already
+use Rattle.ide_wire.specs.declared.refused.Refused.TheVariants.{NoMemory, Text, NoProgram}
+use Rattle.ide_steps.specs.Refusal.{IsRootName, RootFault}
 
 -- of names that are made roots one after the other, beside these, the first that cannot be one has that fault
 pub data FirstRootFault (graph : Supergraph) : List ℕ → List (List ℕ) → Refused → Type 0 where

@@ -1,21 +1,16 @@
 -- What is answered of a text and the names of roots: the dump of the best values.
-use Rattle.std.specs.Prelude.{◌≡◌, ℕ, ◌<◌, List, [], ◌∷◌, ◌++◌, Some, slice_index}
-use Rattle.std.specs.List.{Contains}
+use Rattle.std.specs.Prelude.{◌≡◌, ℕ, ◌<◌, List, [], ◌∷◌, ◌++◌}
 use Rattle.ide_graph.specs.GraphOfText.{IsGraphOfText}
-use Rattle.ide_graph.specs.Supergraph.{Supergraph, procedure_named}
+use Rattle.ide_graph.specs.Supergraph.{Supergraph}
 use Rattle.ide_lattice.specs.Algebra.{LatticeAlgebra, EdgeAlgebra}
 use Rattle.ide_problem.specs.Flow.{Targets}
+use Rattle.ide_steps.specs.Refusal.{IsRootName}
+use Rattle.ide_text.specs.Program.{value_of as program_value}
 use Rattle.ide_theory.specs.Best.{IsBest}
 use Rattle.ide_theory.specs.Graphs.{frame_at, roots_at}
 use Rattle.ide_theory.specs.Sites.{HaveEdgesOf}
 use Rattle.ide_values.specs.BestDump.{IsBestDump}
 use Rattle.ide_values.specs.Values.{ValuesData, value_of}
-
--- a name may be a root beside these: its procedure has no parameters and is none of them
-pub record IsRootName (graph : Supergraph) (roots : List ℕ) (name : List ℕ) (root : ℕ) : Type 0 where
-  pub named : procedure_named graph name ≡ Some root
-  pub closed : slice_index graph.parameters root ≡ 0
-  pub new : ¬ (Contains roots root)
 
 -- the names are those of the roots, in their order, after these
 pub data AreRootNames (graph : Supergraph) : List ℕ → List (List ℕ) → List ℕ → Type 0 where
@@ -24,9 +19,11 @@ pub data AreRootNames (graph : Supergraph) : List ℕ → List (List ℕ) → Li
       → AreRootNames graph (roots ++ root ∷ []) names all → AreRootNames graph roots (name ∷ names) all
 
 module _ {F L : Type 0} (A : LatticeAlgebra L) (B : EdgeAlgebra F L) (targets : Targets F) where
-  -- the values are the best ones of the program that the text spells, for the roots of these names
+  -- the values are the best ones of the program that the text spells, which they keep, for the roots of
+  -- these names
   pub record AreSolved (text : List ℕ) (names : List (List ℕ)) (values : ValuesData L) : Type 0 where
     pub spelled : IsGraphOfText text values.graph
+    pub program : values.program ≡ program_value spelled.program
     pub named : AreRootNames values.graph [] names values.roots
     pub all : HaveEdgesOf values.graph.facts values.graph.sites
     pub best : (n d : ℕ) → n < values.graph.nodes → d < values.graph.facts

@@ -4,6 +4,7 @@ use Rattle.ide_graph.specs.GraphOfText.{IsGraphOfText}
 use Rattle.ide_graph.specs.Supergraph.{Supergraph}
 use Rattle.ide_lattice.specs.Algebra.{LatticeAlgebra, EdgeAlgebra}
 use Rattle.ide_problem.specs.Flow.{Targets}
+use Rattle.ide_text.specs.Program.{value_of}
 use Rattle.ide_theory.specs.Graphs.{frame_at, roots_at}
 use Rattle.ide_theory.specs.Image.{HasRoots}
 use Rattle.ide_theory.specs.Member.{IsIn}
@@ -16,11 +17,12 @@ use Rattle.ide_steps.specs.State.{state_of}
 use Rattle.ide_service.specs.Solve.{AreRootNames}
 
 module _ {F L : Type 0} (A : LatticeAlgebra L) (B : EdgeAlgebra F L) (targets : Targets F) where
-  -- the core has the graph of the program that the text spells, and the procedures of the names as its
+  -- the core has the program that the text spells, with its graph, and the procedures of the names as its
   -- roots; a run came to its state, where the roots have their identities; and no hand has a claim
   pub record IsStarted (text : List ℕ) (names : List (List ℕ)) (core : CoreData F) (graph : Supergraph) : Type 0 where
     pub is : core.graph ≡ Some graph
     pub spelled : IsGraphOfText text graph
+    pub loaded : core.program ≡ Some (value_of spelled.program)
     pub named : AreRootNames graph [] names core.roots
     pub within : (i : ℕ) → IsIn i core.roots → i < graph.procedures
     pub fit : IsFit graph

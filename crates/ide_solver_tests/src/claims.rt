@@ -87,6 +87,7 @@ fn expect_claims<P: Problem>(
     assert!(rt; release(core, 0) == Err(Refused::Stale));
     load(rt.alloc(), core, EMPTY)?;
     expect_claim(rt, core, 0, Ok(Given::Quiet));
+    assert!(rt; refused_freeze(core) == None);
     Ok(())
 }
 

@@ -1,23 +1,24 @@
--- Entries that the identity lowers, put into a state one after the other.
+-- Entries put into a state one after the other.
 use Rattle.std.proofs.Common.{◌≡◌, ℕ, ◌+◌, suc, ◌<◌, ◌≤◌, add-one, refl, sym, ap, ◌∙◌, subst, arith, List, [], ◌∷◌, ◌++◌, length, take, get_or, Option, Some, None, Bool, true, false, cond, ◌||◌}
 use Rattle.std.proofs.lemmas.Bool.Decides.{nat_tests}
 use Rattle.std.proofs.lemmas.List.{take_more}
-use Rattle.std.specs.Prelude.{option_map, unwrap_or}
+use Rattle.std.specs.Prelude.{option_map}
 use Rattle.std.specs.List.{list_any}
 use Rattle.std.specs.Map.{keys_of}
+use Rattle.std.specs.Option.{is_some}
 use Rattle.ide_lattice.specs.Algebra.{EdgeAlgebra}
 use Rattle.ide_problem.specs.Flow.{Targets}
 use Rattle.ide_tables.specs.Tables.{Table, SetsAll, last_of}
 use Rattle.ide_tasks.specs.Task.{TaskData}
-use Rattle.ide_theory.specs.State.{Claim, State, lowered_by, marked}
+use Rattle.ide_theory.specs.State.{Claim, State, marked, seeded, with_function}
 use Rattle.ide_wire.specs.Key.{same_key, same_key_symm}
 use Rattle.ide_wire.specs.declared.key.Key.{Key}
 use Rattle.ide_wire.specs.declared.key.Key.TheVariants.{Jump}
 use Rattle.ide_worklist.specs.Worklist.{Pile, claim_at, is_pending, marked as marked_claim}
 use Rattle.ide_worklist.specs.declared.claim.Claim.{Claim as Held}
-use Rattle.ide_steps.specs.Rooted.{AreEntered, keeps, lowers, marked_all, marked_by, with_entries}
+use Rattle.ide_theory.specs.Images.{seeded_below, seeded_once}
+use Rattle.ide_steps.specs.Rooted.{marked_all, marked_by, with_entries}
 use Rattle.ide_steps.specs.State.{claim_of}
-use Rattle.ide_steps.specs.Steps.{IsBelow}
 use Rattle.ide_steps.proofs.States.{or-cond, state-at}
 
 pub marked-none : {T : Type 0} (o : Option (Held T)) → marked_all [] o ≡ o
@@ -85,12 +86,12 @@ module _ {F : Type 0} where
       same (Some claim) = refl
 
 module _ {F L : Type 0} (targets : Targets F) (B : EdgeAlgebra F L) where
-  -- one entry more lowers its key
-  pub with-more : (s : State F) (es : List (Key × F)) (key : Key) (g f : F) → f ≡ B.meet (unwrap_or ((with_entries s es).get key) B.all_top) g
-      → with_entries s (es ++ (key, f) ∷ []) ≡ lowered_by B (with_entries s es) key g
-  with-more s es key g f is =
-      let gets : (q : Key) → last_of (es ++ (key, f) ∷ []) q (s.get q) ≡ cond (same_key key q) (Some (B.meet (unwrap_or (last_of es key (s.get key)) B.all_top) g)) (last_of es q (s.get q)) =
-      λ q. last_of-more es (key, f) q (s.get q) ∙ ap (λ v. cond (same_key key q) (Some v) (last_of es q (s.get q))) is in
+  -- one entry more gives its key the function
+  pub with-more : (s : State F) (es : List (Key × F)) (key : Key) (f : F)
+      → with_entries s (es ++ (key, f) ∷ []) ≡ with_function (with_entries s es) key f
+  with-more s es key f =
+      let gets : (q : Key) → last_of (es ++ (key, f) ∷ []) q (s.get q) ≡ cond (same_key key q) (Some f) (last_of es q (s.get q)) =
+      λ q. last_of-more es (key, f) q (s.get q) in
       let waits : (q : Key) → (list_any (same_key q) (keys_of (es ++ (key, f) ∷ [])) || s.pending q) ≡ cond (same_key key q) true (list_any (same_key q) (keys_of es) || s.pending q) =
       λ q. ap (λ b. b || s.pending q) (any-more (same_key q) es (key, f) ∙ ap (λ b. b || list_any (same_key q) (keys_of es)) (same_key_symm q key))
       ∙ (grind (arith) ∙ or-cond (same_key key q) (list_any (same_key q) (keys_of es) || s.pending q)) in
@@ -138,16 +139,24 @@ module _ {F L : Type 0} (B : EdgeAlgebra F L) (targets : Targets F) (r n : ℕ) 
   own : (with_entries s es).get (Jump r n n) ≡ s.get (Jump r n n)
   own = last_of-other es (Jump r n n) (s.get (Jump r n n)) (before n (omega arith))
 
-  -- one fact more is lowered
-  pub entered-lowers : (f : F) → f ≡ B.meet (unwrap_or (s.get (Jump r n n)) B.all_top) B.id → (IsBelow B s (Jump r n n) B.id → ⊥)
-      → AreEntered B r s n (with_entries s es) → AreEntered B r s (n + 1) (with_entries s (es ++ (Jump r n n, f) ∷ []))
-  entered-lowers f is falls entered =
-      subst (λ m. AreEntered B r s m (with_entries s (es ++ (Jump r n n, f) ∷ []))) (sym (add-one n))
-      (subst (AreEntered B r s (suc n)) (sym (with-more targets B s es (Jump r n n) B.id f (is ∙ ap (λ o. B.meet (unwrap_or o B.all_top) B.id) (sym own))))
-      (lowers n entered (λ below. falls (subst (λ o. B.meet (unwrap_or o B.all_top) B.id ≡ unwrap_or o B.all_top) own below))))
+  -- one fact more is entered, after those of the entries
+  one-more : seeded_below B s r n ≡ with_entries s es → seeded_below B s r (n + 1) ≡ seeded_once B (with_entries s es) (Jump r n n)
+  one-more are = ap (seeded_below B s r) (add-one n) ∙ ap (λ t. seeded_once B t (Jump r n n)) are
 
-  -- one fact more is below the identity already
-  pub entered-keeps : IsBelow B s (Jump r n n) B.id → AreEntered B r s n (with_entries s es) → AreEntered B r s (n + 1) (with_entries s es)
-  entered-keeps below entered =
-      subst (λ m. AreEntered B r s m (with_entries s es)) (sym (add-one n))
-      (keeps n entered (subst (λ o. B.meet (unwrap_or o B.all_top) B.id ≡ unwrap_or o B.all_top) (sym own) below))
+  -- it was absent, and is the identity now
+  pub entered-absent : (f : F) → f ≡ B.id → s.get (Jump r n n) ≡ None → seeded_below B s r n ≡ with_entries s es
+      → seeded_below B s r (n + 1) ≡ with_entries s (es ++ (Jump r n n, f) ∷ [])
+  entered-absent f is none are =
+      one-more are
+      ∙ ap (λ o. cond (is_some o) (with_entries s es) (seeded B (with_entries s es) (Jump r n n))) (own ∙ none)
+      ∙ (ap (with_function (with_entries s es) (Jump r n n)) (sym is) ∙ sym (with-more targets B s es (Jump r n n) f))
+
+  -- it was present, and stays
+  pub entered-present : (s.get (Jump r n n) ≡ None → ⊥) → seeded_below B s r n ≡ with_entries s es → seeded_below B s r (n + 1) ≡ with_entries s es
+  entered-present present are =
+      one-more are
+      ∙ ap (λ b. cond b (with_entries s es) (seeded B (with_entries s es) (Jump r n n))) (ap is_some own ∙ some-of (s.get (Jump r n n)) present)
+    where
+      some-of : (o : Option F) → (o ≡ None → ⊥) → is_some o ≡ true
+      some-of None none = absurd (none refl)
+      some-of (Some f) none = refl

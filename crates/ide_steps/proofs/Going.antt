@@ -1,7 +1,8 @@
 -- What a core does to its state is steps of a tabulation.
-use Rattle.std.proofs.Common.{◌≡◌, ◌≢◌, ℕ, zero, suc, ◌+◌, ◌⊎◌, inl, inr, Bool, true, cond, List, [], ◌∷◌, Option, Some, None, option_map, slice_get, drop, length, ap, sym, subst, ◌∙◌, refl, arith}
+use Rattle.std.proofs.Common.{◌≡◌, ◌≢◌, ℕ, zero, suc, ◌+◌, ◌⊎◌, inl, inr, Bool, true, false, cond, List, [], ◌∷◌, Option, Some, None, option_map, slice_get, drop, length, ap, sym, subst, ◌∙◌, refl, arith}
 use Rattle.std.specs.List.{list_any}
-use Rattle.std.specs.Prelude.{Result, Ok, Err, IfOk, OnOk}
+use Rattle.std.specs.Prelude.{Result, Ok, Err, IfOk, OnOk, nat_eq}
+use Rattle.std.proofs.lemmas.Bool.{eqb-true}
 use Rattle.std.proofs.lemmas.List.{drop_all}
 use Rattle.std.proofs.lemmas.Option.{same_Some}
 use Rattle.ide_graph.specs.Supergraph.{Supergraph}
@@ -12,7 +13,8 @@ use Rattle.ide_tasks.specs.Task.{TaskData}
 use Rattle.ide_tasks.specs.Work.{WorkData}
 use Rattle.ide_theory.specs.Frame.{Frame}
 use Rattle.ide_theory.specs.Graphs.{frame_at}
-use Rattle.ide_theory.specs.Run.{ArePartsOf, Run, goes_on, Step, Steps, claim, skip, lower, finish, release, none, more, claims_of, claims_in, lowerings_of, lowerings_in}
+use Rattle.ide_theory.proofs.Laws.Ways.{joined-claims, joined-lowerings, joined-releases, joined-by}
+use Rattle.ide_theory.specs.Run.{ArePartsOf, AreBy, IsBy, Run, goes_on, Step, Steps, claim, skip, lower, finish, release, none, more, joined, claims_of, claims_in, lowerings_of, lowerings_in, releases_of, releases_in}
 use Rattle.ide_theory.specs.Sites.{HaveEdgesOf}
 use Rattle.ide_theory.specs.State.{Claim, State, finished, with_claim}
 use Rattle.ide_tables.specs.Spent.{spent}
@@ -22,11 +24,11 @@ use Rattle.ide_worklist.specs.Worklist.{claim_at}
 use Rattle.ide_worklist.specs.declared.claim.Claim.{Claim as Held}
 use Rattle.ide_steps.specs.declared.part.Parted.{Parted}
 use Rattle.ide_steps.specs.declared.part.Parted.TheVariants.{Lowered, Same, NoPart}
-use Rattle.ide_steps.specs.Core.{CoreData, IsUnchanged}
+use Rattle.ide_steps.specs.Core.{CoreData, IsSameProblem, IsUnchanged}
 use Rattle.ide_steps.specs.Drain.{ArePaid, GoesOnPaid}
 use Rattle.ide_steps.specs.Going.{GoesOn, GoesOnBy, IsFit, IsOutside, IsWorking}
 use Rattle.ide_steps.specs.State.{state_of, claim_of}
-use Rattle.ide_steps.specs.Steps.{IsLowered, IsOneMore, IsSkipped, IsTaken, progress_at}
+use Rattle.ide_steps.specs.Steps.{IsCurrent, IsLowered, IsOneMore, IsSkipped, IsTaken, progress_at}
 
 -- what is left from a place on begins with what stands there
 drop-at : {X : Type 0} (xs : List X) (i : ℕ) (x : X) → slice_get xs i ≡ Some x → drop i xs ≡ x ∷ drop (suc i) xs
@@ -34,9 +36,10 @@ drop-at [] i x at = let no : None ≡ Some x = at in cc
 drop-at (y ∷ xs) zero x at = ap (λ z. z ∷ xs) (same_Some y x at)
 drop-at (y ∷ xs) (suc i) x at = drop-at xs i x at
 
--- one step, which is so many claims and lowerings
-abbrev pub StepBy : (K : Frame) → ℕ → ℕ → State K.F → State K.F → Type 0
-StepBy K m n s t = (step : Step K s t) × (claims_of step ≡ m) × (lowerings_of step ≡ n)
+-- one step of the hand, which is so many claims, lowerings and releases
+abbrev pub StepBy : (K : Frame) → (hand claims lowerings releases : ℕ) → State K.F → State K.F → Type 0
+StepBy K hand claims lowerings releases s t =
+    (step : Step K s t) × IsBy hand step × (claims_of step ≡ claims) × (lowerings_of step ≡ lowerings) × (releases_of step ≡ releases)
 
 module _ {F L : Type 0} (A : LatticeAlgebra L) (B : EdgeAlgebra F L) (targets : Targets F) (graph : Supergraph) (all : HaveEdgesOf graph.facts graph.sites) where
   -- the claim of a hand that works on the task and has done so many parts
@@ -67,26 +70,30 @@ module _ {F L : Type 0} (A : LatticeAlgebra L) (B : EdgeAlgebra F L) (targets : 
 
   pub lowers : (old new : CoreData F) (hand : ℕ) (work after : WorkData F) (task : TaskData F) → progress_at old.pile hand ≡ Some (task, work.done)
       → work.parts ≡ owed targets B task → IsLowered B (state_of targets B old) (state_of targets B new) hand work after
-      → StepBy (frame_at A B targets graph all) 0 1 (state_of targets B old) (state_of targets B new)
+      → StepBy (frame_at A B targets graph all) hand 0 1 0 (state_of targets B old) (state_of targets B new)
   lowers old new hand work after task progress parts is =
       let h = held_by old hand task work.done progress in
       let at : slice_get (owed targets B task) work.done ≡ Some is.part = subst (λ ps. slice_get ps work.done ≡ Some is.part) parts is.next in
-      subst (StepBy (frame_at A B targets graph all) 0 1 (state_of targets B old)) (sym is.state) (
+      subst (StepBy (frame_at A B targets graph all) hand 0 1 0 (state_of targets B old)) (sym is.state) (
         lower hand (claim_of targets B h.held) is.part.0 is.part.1 (drop (suc work.done) (owed targets B task))
-            (claim_has old hand task work.done h) (parts_left old hand task work.done h ∙ drop-at (owed targets B task) work.done is.part at),
+            (claim_has old hand task work.done h) (parts_left old hand task work.done h ∙ drop-at (owed targets B task) work.done is.part at) is.changes.falls,
+        refl,
+        refl,
         refl,
         refl,
       )
 
   pub skips : (old new : CoreData F) (hand : ℕ) (work after : WorkData F) (task : TaskData F) → progress_at old.pile hand ≡ Some (task, work.done)
       → work.parts ≡ owed targets B task → IsSkipped B (state_of targets B old) (state_of targets B new) hand work after
-      → StepBy (frame_at A B targets graph all) 0 0 (state_of targets B old) (state_of targets B new)
+      → StepBy (frame_at A B targets graph all) hand 0 0 0 (state_of targets B old) (state_of targets B new)
   skips old new hand work after task progress parts is =
       let h = held_by old hand task work.done progress in
       let at : slice_get (owed targets B task) work.done ≡ Some is.part = subst (λ ps. slice_get ps work.done ≡ Some is.part) parts is.next in
-      subst (StepBy (frame_at A B targets graph all) 0 0 (state_of targets B old)) (sym is.state) (
+      subst (StepBy (frame_at A B targets graph all) hand 0 0 0 (state_of targets B old)) (sym is.state) (
         skip hand (claim_of targets B h.held) is.part.0 is.part.1 (drop (suc work.done) (owed targets B task))
             (claim_has old hand task work.done h) (parts_left old hand task work.done h ∙ drop-at (owed targets B task) work.done is.part at) is.met,
+        refl,
+        refl,
         refl,
         refl,
       )
@@ -94,19 +101,19 @@ module _ {F L : Type 0} (A : LatticeAlgebra L) (B : EdgeAlgebra F L) (targets : 
   pub finishes : (old new : CoreData F) (hand : ℕ) (work : WorkData F) (task : TaskData F) → progress_at old.pile hand ≡ Some (task, work.done)
       → work.parts ≡ owed targets B task → work.done ≡ length work.parts
       → ((held : Held (TaskData F)) → claim_at old.pile hand ≡ Some held → state_of targets B new ≡ finished (state_of targets B old) hand (claim_of targets B held))
-      → StepBy (frame_at A B targets graph all) 0 0 (state_of targets B old) (state_of targets B new)
+      → StepBy (frame_at A B targets graph all) hand 0 0 0 (state_of targets B old) (state_of targets B new)
   finishes old new hand work task progress parts over state =
       let h = held_by old hand task work.done progress in
       let nothing : drop work.done (owed targets B task) ≡ [] = drop_all work.done (owed targets B task) (let same = ap length parts in omega (arith, over, same)) in
-      subst (StepBy (frame_at A B targets graph all) 0 0 (state_of targets B old)) (sym (state h.held h.has))
-      (finish hand (claim_of targets B h.held) (claim_has old hand task work.done h) (parts_left old hand task work.done h ∙ nothing), refl, refl)
+      subst (StepBy (frame_at A B targets graph all) hand 0 0 0 (state_of targets B old)) (sym (state h.held h.has))
+      (finish hand (claim_of targets B h.held) (claim_has old hand task work.done h) (parts_left old hand task work.done h ∙ nothing), refl, refl, refl, refl)
 
   pub claims : (old new : CoreData F) (hand : ℕ) (task : TaskData F) → IsTaken targets B hand old new task
       → ArePartsOf (frame_at A B targets graph all) (state_of targets B old).get task.key (owed targets B task)
-      → StepBy (frame_at A B targets graph all) 1 0 (state_of targets B old) (state_of targets B new)
+      → StepBy (frame_at A B targets graph all) hand 1 0 0 (state_of targets B old) (state_of targets B new)
   claims old new hand task is parts =
-      subst (StepBy (frame_at A B targets graph all) 1 0 (state_of targets B old)) (sym is.state)
-      (claim hand task.key (owed targets B task) (ap (option_map (claim_of targets B)) is.free) is.pending alone parts, refl, refl)
+      subst (StepBy (frame_at A B targets graph all) hand 1 0 0 (state_of targets B old)) (sym is.state)
+      (claim hand task.key (owed targets B task) (ap (option_map (claim_of targets B)) is.free) is.pending alone parts, refl, refl, refl, refl)
     where
       apart : (j : ℕ) (c : Claim F) (claimed : Option (Held (TaskData F))) → claim_at old.pile j ≡ claimed
           → option_map (claim_of targets B) claimed ≡ Some c → c.key ≢ task.key
@@ -121,82 +128,61 @@ module _ {F L : Type 0} (A : LatticeAlgebra L) (B : EdgeAlgebra F L) (targets : 
   run-goes K run none = run
   run-goes K run (more steps step) = goes_on (run-goes K run steps) step
 
-  abbrev steps-join : (K : Frame) {s t u : State K.F} → Steps K s t → Steps K t u → Steps K s u
-  steps-join K first none = first
-  steps-join K first (more steps step) = more (steps-join K first steps) step
-
-  joined-claims : (K : Frame) {s t u : State K.F} (first : Steps K s t) (next : Steps K t u) → claims_in (steps-join K first next) ≡ claims_in first + claims_in next
-  joined-claims K first none = let same : claims_in first ≡ claims_in first + 0 = omega arith in same
-  joined-claims K first (more steps step) =
-      let rest = joined-claims K first steps in
-      let sum : claims_in (steps-join K first steps) + claims_of step ≡ claims_in first + (claims_in steps + claims_of step) = omega (arith, rest) in
-      sum
-
-  joined-lowerings : (K : Frame) {s t u : State K.F} (first : Steps K s t) (next : Steps K t u) → lowerings_in (steps-join K first next) ≡ lowerings_in first + lowerings_in next
-  joined-lowerings K first none = let same : lowerings_in first ≡ lowerings_in first + 0 = omega arith in same
-  joined-lowerings K first (more steps step) =
-      let rest = joined-lowerings K first steps in
-      let sum : lowerings_in (steps-join K first steps) + lowerings_of step ≡ lowerings_in first + (lowerings_in steps + lowerings_of step) = omega (arith, rest) in
-      sum
+  pub same-problem : {old mid new : CoreData F} → IsSameProblem old mid → IsSameProblem mid new → IsSameProblem old new
+  same-problem first next = record { program = next.program ∙ first.program; graph = next.graph ∙ first.graph; roots = next.roots ∙ first.roots }
 
   -- nothing happens to the state
-  pub goes-nowhere : (old new : CoreData F) → new.graph ≡ old.graph → new.roots ≡ old.roots
-      → state_of targets B new ≡ state_of targets B old → GoesOnBy A B targets 0 0 old new
-  goes-nowhere old new graph roots state = record {
-    graph = graph;
-    roots = roots;
+  pub goes-nowhere : (hand : ℕ) (old new : CoreData F) → IsSameProblem old new
+      → state_of targets B new ≡ state_of targets B old → GoesOnBy A B targets hand 0 0 0 old new
+  goes-nowhere hand old new same state = record {
+    same = same;
     steps = λ g is all fit run.
-        subst (λ t. (way : Steps (frame_at A B targets g all) (state_of targets B old) t) × (claims_in way ≡ 0) × (lowerings_in way ≡ 0)) (sym state) (none, refl, refl);
+        subst (λ t. (way : Steps (frame_at A B targets g all) (state_of targets B old) t) × AreBy hand way × (claims_in way ≡ 0) × (lowerings_in way ≡ 0) × (releases_in way ≡ 0))
+        (sym state) (none, tt, refl, refl, refl);
   }
 
-  pub goes-step : (m k : ℕ) (old new : CoreData F) → new.graph ≡ old.graph → new.roots ≡ old.roots
+  pub goes-step : (hand m k l : ℕ) (old new : CoreData F) → IsSameProblem old new
       → ((graph : Supergraph) → old.graph ≡ Some graph → (all : HaveEdgesOf graph.facts graph.sites) → IsFit graph
       → Run (frame_at A B targets graph all) (state_of targets B old)
-      → StepBy (frame_at A B targets graph all) m k (state_of targets B old) (state_of targets B new))
-      → GoesOnBy A B targets m k old new
-  goes-step m k old new graph roots step = record {
-    graph = graph;
-    roots = roots;
+      → StepBy (frame_at A B targets graph all) hand m k l (state_of targets B old) (state_of targets B new))
+      → GoesOnBy A B targets hand m k l old new
+  goes-step hand m k l old new same step = record {
+    same = same;
     steps = λ g is all fit run. let one = step g is all fit run in
-        let claimed : 0 + claims_of one.0 ≡ m = omega (arith, one.1) in
-        let lowered : 0 + lowerings_of one.0 ≡ k = omega (arith, one.2) in
-        (more none one.0, claimed, lowered);
+        let claimed : 0 + claims_of one.0 ≡ m = omega (arith, one.2) in
+        let lowered : 0 + lowerings_of one.0 ≡ k = omega (arith, one.3) in
+        let released : 0 + releases_of one.0 ≡ l = omega (arith, one.4) in
+        (more none one.0, (tt, one.1), claimed, lowered, released);
   }
 
-  pub goes-then : {m n k l : ℕ} (old mid new : CoreData F) → GoesOnBy A B targets m k old mid → GoesOnBy A B targets n l mid new
-      → GoesOnBy A B targets (m + n) (k + l) old new
-  goes-then old mid new first next = record {
-    graph = next.graph ∙ first.graph;
-    roots = next.roots ∙ first.roots;
+  pub goes-then : {hand m n k l r q : ℕ} (old mid new : CoreData F) → GoesOnBy A B targets hand m k r old mid → GoesOnBy A B targets hand n l q mid new
+      → GoesOnBy A B targets hand (m + n) (k + l) (r + q) old new
+  goes-then {hand = hand} old mid new first next = record {
+    same = same-problem first.same next.same;
     steps = λ g is all fit run.
         let K = frame_at A B targets g all in
         let way = first.steps g is all fit run in
-        let rest = next.steps g (first.graph ∙ is) all fit (run-goes K run way.0) in (
-          steps-join K way.0 rest.0,
-          joined-claims K way.0 rest.0 ∙ (λ i. way.1 i + rest.1 i),
-          joined-lowerings K way.0 rest.0 ∙ (λ i. way.2 i + rest.2 i),
+        let rest = next.steps g (first.same.graph ∙ is) all fit (run-goes K run way.0) in (
+          joined way.0 rest.0,
+          joined-by hand way.0 rest.0 way.1 rest.1,
+          joined-claims way.0 rest.0 ∙ (λ i. way.2 i + rest.2 i),
+          joined-lowerings way.0 rest.0 ∙ (λ i. way.3 i + rest.3 i),
+          joined-releases way.0 rest.0 ∙ (λ i. way.4 i + rest.4 i),
         );
   }
 
-  -- claims and lowerings need not be counted
-  pub goes-on : {m k : ℕ} (old new : CoreData F) → GoesOnBy A B targets m k old new → GoesOn A B targets old new
-  goes-on old new goes = record { graph = goes.graph; roots = goes.roots; steps = λ g is all fit run. (goes.steps g is all fit run).0 }
+  -- claims, lowerings and releases need not be counted
+  pub goes-on : {hand m k r : ℕ} (old new : CoreData F) → GoesOnBy A B targets hand m k r old new → GoesOn A B targets hand old new
+  goes-on {m = m} {k = k} {r = r} old new goes = record { claims = m; lowerings = k; releases = r; by = goes }
 
-  pub goes-on-then : (old mid new : CoreData F) → GoesOn A B targets old mid → GoesOn A B targets mid new → GoesOn A B targets old new
-  goes-on-then old mid new first next = record {
-    graph = next.graph ∙ first.graph;
-    roots = next.roots ∙ first.roots;
-    steps = λ g is all fit run.
-        let K = frame_at A B targets g all in
-        let way = first.steps g is all fit run in
-        steps-join K way (next.steps g (first.graph ∙ is) all fit (run-goes K run way));
-  }
+  pub goes-on-then : {hand : ℕ} (old mid new : CoreData F) → GoesOn A B targets hand old mid → GoesOn A B targets hand mid new → GoesOn A B targets hand old new
+  goes-on-then old mid new first next = goes-on old new (goes-then old mid new first.by next.by)
 
   -- what happens to nothing is paid for, and so is what is done one after the other
   pub paid-same : (old new : CoreData F) → new ≡ old → GoesOnPaid A B targets 0 old new
   paid-same old new same = subst (GoesOnPaid A B targets 0 old) (sym same) (record {
     lowerings = 0;
-    goes = goes-nowhere old old refl refl refl;
+    goes = goes-nowhere 0 old old (record { program = refl; graph = refl; roots = refl }) refl;
     paid = record { keys = omega arith; ranks = omega arith };
   })
 
@@ -213,7 +199,7 @@ module _ {F L : Type 0} (A : LatticeAlgebra L) (B : EdgeAlgebra F L) (targets : 
 
   -- a claim changes neither tables nor pending keys: the parts after it pay for it
   pub paid-task : {E : Type 0} {k : ℕ} (r : Result Bool E) (old mid new : CoreData F) → mid.table ≡ old.table → mid.pile.pending ≡ old.pile.pending
-      → GoesOnBy A B targets 1 0 old mid → GoesOnBy A B targets 0 k mid new → OnOk r (ArePaid B 1 k mid new) → OnOk r (GoesOnPaid A B targets 1 old new)
+      → GoesOnBy A B targets 0 1 0 0 old mid → GoesOnBy A B targets 0 0 k 0 mid new → OnOk r (ArePaid B 1 k mid new) → OnOk r (GoesOnPaid A B targets 1 old new)
   paid-task {k} (Ok flag) old mid new table pending first next paid = record {
     lowerings = 0 + k;
     goes = goes-then old mid new first next;
@@ -231,9 +217,9 @@ module _ {F L : Type 0} (A : LatticeAlgebra L) (B : EdgeAlgebra F L) (targets : 
   goes-more (Err e) old new is goes = tt
 
   -- no run came to a core's state, where none comes to the state after its steps
-  pub outside-before : (old new : CoreData F) → GoesOn A B targets old new → IsOutside A B targets new → IsOutside A B targets old
+  pub outside-before : (old new : CoreData F) → GoesOn A B targets 0 old new → IsOutside A B targets new → IsOutside A B targets old
   outside-before old new goes outside = λ g is all fit run.
-      outside g (goes.graph ∙ is) all fit (run-goes (frame_at A B targets g all) run (goes.steps g is all fit run))
+      outside g (goes.by.same.graph ∙ is) all fit (run-goes (frame_at A B targets g all) run (goes.by.steps g is all fit run).0)
 
   -- an image, pending keys and claims that are as they were are the same state
   pub state-unchanged : (old new : CoreData F) → IsUnchanged old new → state_of targets B new ≡ state_of targets B old
@@ -243,21 +229,43 @@ module _ {F L : Type 0} (A : LatticeAlgebra L) (B : EdgeAlgebra F L) (targets : 
     claims = λ h. option_map (claim_of targets B) (is.claims h i);
   }
 
-  pub goes-unchanged : (old new : CoreData F) → IsUnchanged old new → GoesOnBy A B targets 0 0 old new
-  goes-unchanged old new is = goes-nowhere old new is.graph is.roots (state-unchanged old new is)
+  pub goes-unchanged : (hand : ℕ) (old new : CoreData F) → IsUnchanged old new → GoesOnBy A B targets hand 0 0 0 old new
+  goes-unchanged hand old new is =
+      goes-nowhere hand old new (record { program = is.program; graph = is.graph; roots = is.roots }) (state-unchanged old new is)
+
+  -- a claim is a step, where its task owes what a claim of its key does
+  pub goes-claim : (old new : CoreData F) (hand : ℕ) (task : TaskData F) → IsSameProblem old new → IsTaken targets B hand old new task
+      → ((graph : Supergraph) → old.graph ≡ Some graph → (all : HaveEdgesOf graph.facts graph.sites) → IsFit graph
+      → Run (frame_at A B targets graph all) (state_of targets B old)
+      → ArePartsOf (frame_at A B targets graph all) (state_of targets B old).get task.key (owed targets B task))
+      → GoesOnBy A B targets hand 1 0 0 old new
+  goes-claim old new hand task same taken owes =
+      goes-step hand 1 0 0 old new same (λ g is all fit run. claims A B targets g all old new hand task taken (owes g is all fit run))
 
   -- a part is a step, which lowers a key or finds it met
-  pub goes-lowered : (old new : CoreData F) (hand : ℕ) (work after : WorkData F) → new.graph ≡ old.graph → new.roots ≡ old.roots
-      → IsWorking A B targets old hand work → IsLowered B (state_of targets B old) (state_of targets B new) hand work after
-      → GoesOnBy A B targets 0 1 old new
-  goes-lowered old new hand work after graph roots working is =
-      goes-step 0 1 old new graph roots (λ g same all fit run. lowers A B targets g all old new hand work after work.task working.progress working.parts is)
+  pub goes-lowered : (old new : CoreData F) (hand : ℕ) (work after : WorkData F) → IsSameProblem old new
+      → IsCurrent targets B old hand work → IsLowered B (state_of targets B old) (state_of targets B new) hand work after
+      → GoesOnBy A B targets hand 0 1 0 old new
+  goes-lowered old new hand work after same current is =
+      goes-step hand 0 1 0 old new same (λ g at all fit run. lowers A B targets g all old new hand work after current.task current.progress current.parts is)
 
-  pub goes-skipped : (old new : CoreData F) (hand : ℕ) (work after : WorkData F) → new.graph ≡ old.graph → new.roots ≡ old.roots
-      → IsWorking A B targets old hand work → IsSkipped B (state_of targets B old) (state_of targets B new) hand work after
-      → GoesOnBy A B targets 0 0 old new
-  goes-skipped old new hand work after graph roots working is =
-      goes-step 0 0 old new graph roots (λ g same all fit run. skips A B targets g all old new hand work after work.task working.progress working.parts is)
+  pub goes-skipped : (old new : CoreData F) (hand : ℕ) (work after : WorkData F) → IsSameProblem old new
+      → IsCurrent targets B old hand work → IsSkipped B (state_of targets B old) (state_of targets B new) hand work after
+      → GoesOnBy A B targets hand 0 0 0 old new
+  goes-skipped old new hand work after same current is =
+      goes-step hand 0 0 0 old new same (λ g at all fit run. skips A B targets g all old new hand work after current.task current.progress current.parts is)
+
+  -- the work of a task that the hand works on is its claim
+  pub working-current : (core : CoreData F) (hand : ℕ) (work : WorkData F) → IsWorking A B targets core hand work → IsCurrent targets B core hand work
+  working-current core hand work is = record { task = work.task; progress = is.progress; parts = is.parts }
+
+  -- a claim that ends with no part left is a step
+  pub goes-ended : (old new : CoreData F) (hand : ℕ) (held : Held (TaskData F)) → IsSameProblem old new → claim_at old.pile hand ≡ Some held
+      → (claim_of targets B held).parts ≡ [] → state_of targets B new ≡ finished (state_of targets B old) hand (claim_of targets B held)
+      → GoesOnBy A B targets hand 0 0 0 old new
+  goes-ended old new hand held same has over state =
+      goes-step hand 0 0 0 old new same (λ g at all fit run. subst (StepBy (frame_at A B targets g all) hand 0 0 0 (state_of targets B old)) (sym state)
+      (finish hand (claim_of targets B held) (ap (option_map (claim_of targets B)) has) over, refl, refl, refl, refl))
 
   -- the hand goes on working
   pub works-on : (new : CoreData F) (hand : ℕ) (old work : WorkData F) → IsOneMore old work → old.parts ≡ owed targets B old.task
@@ -267,20 +275,41 @@ module _ {F L : Type 0} (A : LatticeAlgebra L) (B : EdgeAlgebra F L) (targets : 
     parts = is.parts ∙ parts ∙ ap (owed targets B) (sym is.task);
   }
 
-  pub goes-back : (old new : CoreData F) (hand : ℕ) → new.graph ≡ old.graph → new.roots ≡ old.roots
-      → state_of targets B new ≡ with_claim (state_of targets B old) hand None → GoesOnBy A B targets 0 0 old new
-  goes-back old new hand graph roots state =
-      goes-step 0 0 old new graph roots (λ g same all fit run. subst (StepBy (frame_at A B targets g all) 0 0 (state_of targets B old)) (sym state) (release hand, refl, refl))
+  -- a claim that is given back is a step
+  pub goes-back : (old new : CoreData F) (hand : ℕ) (held : Held (TaskData F)) → IsSameProblem old new → claim_at old.pile hand ≡ Some held
+      → state_of targets B new ≡ with_claim (state_of targets B old) hand None → GoesOnBy A B targets hand 0 0 1 old new
+  goes-back old new hand held same has state =
+      goes-step hand 0 0 1 old new same (λ g is all fit run. subst (StepBy (frame_at A B targets g all) hand 0 0 1 (state_of targets B old)) (sym state)
+      (release hand (claim_of targets B held) (ap (option_map (claim_of targets B)) has), refl, refl, refl, refl))
 
-  pub goes-same : (old new : CoreData F) → new ≡ old → GoesOnBy A B targets 0 0 old new
-  goes-same old new same = goes-nowhere old new (ap (λ c. c.graph) same) (ap (λ c. c.roots) same) (ap (state_of targets B) same)
+  without-claim : (core : CoreData F) (hand : ℕ) → claim_at core.pile hand ≡ None → with_claim (state_of targets B core) hand None ≡ state_of targets B core
+  without-claim core hand empty = λ i. record { get = (state_of targets B core).get; pending = (state_of targets B core).pending; claims = λ h. kept h i }
+    where
+      kept : (h : ℕ) → cond (nat_eq hand h) None ((state_of targets B core).claims h) ≡ (state_of targets B core).claims h
+      kept h = elim (nat_eq hand h) as (λ b. nat_eq hand h ≡ b → cond b None ((state_of targets B core).claims h) ≡ (state_of targets B core).claims h) [
+        | true ↦ λ same. sym (ap (option_map (claim_of targets B)) (ap (claim_at core.pile) (sym (eqb-true hand h same)) ∙ empty))
+        | false ↦ λ other. refl
+      ] refl
 
-  pub goes-finish : (old new : CoreData F) (hand : ℕ) (work : WorkData F) → new.graph ≡ old.graph → new.roots ≡ old.roots
+  -- a hand that is without a claim then gave one back, or had none
+  pub goes-released : (old new : CoreData F) (hand : ℕ) → IsSameProblem old new
+      → state_of targets B new ≡ with_claim (state_of targets B old) hand None → GoesOn A B targets hand old new
+  goes-released old new hand same state =
+      elim (claim_at old.pile hand) as (λ o. claim_at old.pile hand ≡ o → GoesOn A B targets hand old new) [
+        | Some held ↦ λ has. goes-on old new (goes-back old new hand held same has state)
+        | None ↦ λ empty. goes-on old new (goes-nowhere hand old new same (state ∙ without-claim old hand empty))
+      ] refl
+
+  pub goes-same : (hand : ℕ) (old new : CoreData F) → new ≡ old → GoesOnBy A B targets hand 0 0 0 old new
+  goes-same hand old new same =
+      goes-nowhere hand old new (record { program = ap (λ c. c.program) same; graph = ap (λ c. c.graph) same; roots = ap (λ c. c.roots) same }) (ap (state_of targets B) same)
+
+  pub goes-finish : (old new : CoreData F) (hand : ℕ) (work : WorkData F) → IsSameProblem old new
       → IsWorking A B targets old hand work → work.done ≡ length work.parts
       → ((held : Held (TaskData F)) → claim_at old.pile hand ≡ Some held → state_of targets B new ≡ finished (state_of targets B old) hand (claim_of targets B held))
-      → GoesOnBy A B targets 0 0 old new
-  goes-finish old new hand work graph roots working over state =
-      goes-step 0 0 old new graph roots (λ g same all fit run. finishes A B targets g all old new hand work work.task working.progress working.parts over state)
+      → GoesOnBy A B targets hand 0 0 0 old new
+  goes-finish old new hand work same working over state =
+      goes-step hand 0 0 0 old new same (λ g is all fit run. finishes A B targets g all old new hand work work.task working.progress working.parts over state)
 
 -- what a part did
 pub parted-is : (parted : Parted) → (parted ≡ Lowered) ⊎ ((parted ≡ Same) ⊎ (parted ≡ NoPart))

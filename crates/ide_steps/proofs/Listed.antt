@@ -10,7 +10,7 @@ use Rattle.ide_theory.specs.Member.{IsIn}
 use Rattle.ide_theory.specs.Members.{contains-in, in-contains, in-map, of-map}
 use Rattle.ide_wire.specs.declared.key.Key.{Key}
 use Rattle.ide_wire.specs.Key.{same_key, same_key_exact, same_key_laws}
-use Rattle.ide_wire.specs.contracts.key.KeyOrd.TheImpl.{ghosts as key_ord}
+use Rattle.ide_wire.specs.KeyOrder.{key_cmp}
 use Rattle.ide_worklist.specs.Worklist.{is_claim_of, is_pending}
 use Rattle.ide_worklist.specs.declared.claim.Claim.{Claim}
 use Rattle.ide_steps.specs.Core.{CoreData}
@@ -52,9 +52,9 @@ module _ {F L : Type 0} (B : EdgeAlgebra F L) (core : CoreData F) where
         let same : item_of B core key ≡ (key, f, waits) = λ i. (key, or_top B (is i), sym waiting i) in
         subst (Contains (map (item_of B core) keys)) same (contains-in (in-map (item_of B core) (in-contains keys key there)))
 
-  pub are-items : (keys : List Key) (items : List (Key × F × Bool)) → AreKeys key_ord.cmp core.table keys → items ≡ map (item_of B core) keys
-      → AreItems key_ord.cmp core items
-  are-items keys items are is = subst (AreItems key_ord.cmp core) (sym is) (record {
-    ascending = subst (IsStrictlySortedBy key_ord.cmp) (sym (keys-of-items keys)) are.ascending;
+  pub are-items : (keys : List Key) (items : List (Key × F × Bool)) → AreKeys key_cmp core.table keys → items ≡ map (item_of B core) keys
+      → AreItems core items
+  are-items keys items are is = subst (AreItems core) (sym is) (record {
+    ascending = subst (IsStrictlySortedBy key_cmp) (sym (keys-of-items keys)) are.ascending;
     exact = λ key f waits. (listed keys are.exact key f waits, λ there. lists keys are.exact key f waits there.0 there.1);
   })

@@ -1,16 +1,18 @@
 -- Each call of a core as what it does to the state: table by table, place by place.
-use Rattle.std.proofs.Common.{◌≡◌, ℕ, zero, suc, refl, sym, ap, ◌∙◌, List, [], ◌∷◌, drop, Option, None, Some, Bool, true, false, cond, get_or, ◌||◌}
+use Rattle.std.proofs.Common.{◌≡◌, ◌<◌, ◌≤◌, ℕ, zero, suc, refl, sym, ap, subst, ◌∙◌, arith, ◌⊎◌, inl, inr, List, [], ◌∷◌, drop, Option, None, Some, Bool, true, false, cond, get_or, ◌||◌}
+use Rattle.std.proofs.lemmas.Bool.{eqb-true}
 use Rattle.std.specs.Map.{lookup}
-use Rattle.std.specs.Prelude.{Result, Ok, Err, OnErr, ◌&&◌, not, nat_eq, option_map, unwrap_or}
+use Rattle.std.specs.Prelude.{Result, Ok, Err, IfErr, OnErr, OnOk, ◌&&◌, not, nat_eq, option_map, unwrap_or}
 use Rattle.std.specs.List.{list_any}
 use Rattle.std.specs.Option.{IsSomeAnd}
 use Rattle.ide_lattice.specs.Algebra.{EdgeAlgebra}
 use Rattle.ide_problem.specs.Flow.{Targets}
-use Rattle.ide_tables.specs.Tables.{Table, Lowers, found, or_top}
+use Rattle.ide_tables.specs.Tables.{Table, Falls, Lowers, found, function_at, or_top, lowered_by as lowered_in}
 use Rattle.ide_tables.specs.declared.tables.Change.{Change}
 use Rattle.ide_tables.specs.declared.tables.Change.TheVariants.{Lowered, Same}
 use Rattle.ide_tasks.specs.Parts.{owed}
 use Rattle.ide_tasks.specs.Task.{TaskData}
+use Rattle.ide_tasks.specs.Work.{WorkData}
 use Rattle.ide_theory.proofs.Laws.Targets.{nat_eq-refl}
 use Rattle.ide_theory.specs.State.{State, nothing_done, put, rest_of, without_first, marked, with_claim, part_done, lowered_by, finished}
 use Rattle.ide_wire.specs.declared.key.Key.{Key}
@@ -18,8 +20,10 @@ use Rattle.ide_wire.specs.Key.{same_key, same_key_exact}
 use Rattle.ide_worklist.specs.Worklist.{Pile, IsWorklist, is_pending, claim_at, put_hand, with_done, ends, ends_key, marked as marked_claim}
 use Rattle.ide_worklist.specs.declared.claim.Claim.{Claim as Held}
 use Rattle.ide_steps.specs.Core.{CoreData, IsUnchanged}
+use Rattle.ide_steps.specs.declared.part.Parted.{Parted}
+use Rattle.ide_steps.specs.declared.part.Parted.TheVariants as part
 use Rattle.ide_steps.specs.State.{claim_of, state_of}
-use Rattle.ide_steps.specs.Steps.{progress_at}
+use Rattle.ide_steps.specs.Steps.{Changes, IsCurrent, KeepTasks, progress_at}
 
 pub or-cond : (a b : Bool) → (a || b) ≡ cond a true b
 or-cond true b = refl
@@ -60,6 +64,19 @@ module _ {F L : Type 0} (targets : Targets F) (B : EdgeAlgebra F L) where
       let hands : (h : ℕ) → option_map (claim_of targets B) (claim_at new_pile h) ≡ option_map (marked key) (option_map (claim_of targets B) (claim_at pile h)) =
       λ h. ap (option_map (claim_of targets B)) (claims h) ∙ claim-marked key (claim_at pile h) in
       λ i. record { get = λ q. gets q i; pending = λ q. waits q i; claims = λ h. hands h i }
+
+  -- a function that falls is not the one before, and not always top
+  pub changes-of : B.rank B.all_top ≡ B.height → (table : Table F) (pile : Pile (TaskData F)) (key : Key) (g : F)
+      → Falls B (function_at B table key) (lowered_in B table key g) → Changes B (state-at table pile) key g
+  changes-of top table pile key g falls =
+      let old : function_at B table key ≡ unwrap_or (found table key) B.all_top = or_top-unwrap (found table key) in
+      let less : B.rank (B.meet (unwrap_or (found table key) B.all_top) g) < B.rank (unwrap_or (found table key) B.all_top) =
+      subst (λ f. B.rank (B.meet f g) < B.rank f) old falls.less in
+      let most : B.rank (unwrap_or (found table key) B.all_top) ≤ B.height = subst (λ f. B.rank f ≤ B.height) old falls.most in
+      record {
+        falls = λ same. let rank = ap B.rank same in omega (arith, less, rank);
+        present = λ same. let rank = ap B.rank same in omega (arith, less, most, rank, top);
+      }
 
   -- a table that is lowered, or stays as it was, watches the nodes that it watched
   pub watched-kept : {E : Type 0} (table new_table : Table F) (key : Key) (g : F) (change : Change)
@@ -171,6 +188,34 @@ module _ {F : Type 0} (P : TaskData F → Type 0) where
   progress-held (Some held) n is =
       let there : ℕ → Option (TaskData F × ℕ) = λ m. Some (held.task, m) in (held.task, ap there is.0)
 
+-- of a refusal that `?` hands on
+pub handed-on : {T E : Type 0} (P : E → Type 0) (result : Result T E) (given handed : E) → result ≡ Err handed → handed ≡ given → P given → IfErr result P
+handed-on P result given handed is same h = subst (λ r. IfErr r P) (sym is) (subst P (sym same) h)
+
+-- what holds in any case holds at Ok
+pub at-ok : {T E P : Type 0} (r : Result T E) → P → OnOk r P
+at-ok (Ok x) p = p
+at-ok (Err e) p = tt
+
+-- what holds after each answer of a part holds at Ok
+pub after-part : {E P : Type 0} (r : Result Parted E) → ((r ≡ Ok part.Lowered) ⊎ (r ≡ Ok part.Same) → P) → (r ≡ Ok part.NoPart → P) → OnOk r P
+after-part (Ok part.Lowered) done none = done (inl refl)
+after-part (Ok part.Same) done none = done (inr refl)
+after-part (Ok part.NoPart) done none = none refl
+after-part (Err e) done none = tt
+
+-- the work is the hand's claim, where that has as many parts done and owes the same
+pub current-held : {F L : Type 0} (targets : Targets F) (B : EdgeAlgebra F L) (core : CoreData F) (hand : ℕ) (work : WorkData F)
+    → IsSomeAnd (claim_at core.pile hand) (λ held. (held.done ≡ work.done) × (owed targets B held.task ≡ owed targets B work.task))
+    → work.parts ≡ owed targets B work.task → IsCurrent targets B core hand work
+current-held {F} targets B core hand work far parts =
+    let there = claim-held {F = F} (λ task. owed targets B task ≡ owed targets B work.task) (claim_at core.pile hand) work.done far in
+    record {
+      task = there.0.task;
+      progress = ap (option_map {U = TaskData F × ℕ} (λ held. (held.task, held.done))) there.1 ∙ ap (λ n. Some (there.0.task, n)) there.2;
+      parts = parts ∙ sym there.3;
+    }
+
 module _ {F : Type 0} where
   -- nothing changed where the claims stand as they were
   pub unchanged-err : {T E : Type 0} (r : Result T E) (inside old : CoreData F) (pile : Pile (TaskData F)) → inside ≡ old
@@ -178,6 +223,7 @@ module _ {F : Type 0} where
       → OnErr r (IsUnchanged old (record inside { pile = pile }))
   unchanged-err (Ok x) inside old pile same pending claims = tt
   unchanged-err (Err e) inside old pile same pending claims = record {
+    program = ap (λ (c : CoreData F). c.program) same;
     graph = ap (λ (c : CoreData F). c.graph) same;
     roots = ap (λ (c : CoreData F). c.roots) same;
     table = ap (λ (c : CoreData F). c.table) same;
@@ -196,3 +242,54 @@ module _ {F : Type 0} where
 
     pub taken-progress : progress_at new_pile hand ≡ Some (held.task, held.done)
     taken-progress = ap (option_map {U = TaskData F × ℕ} (λ held. (held.task, held.done))) taken-there
+
+  -- what a claim works on and how much of it is done
+  abbrev progress-of : Option (Held (TaskData F)) → Option (TaskData F × ℕ)
+  progress-of = option_map {U = TaskData F × ℕ} (λ held. (held.task, held.done))
+
+  -- it with that count
+  abbrev counted : ℕ → Option (TaskData F × ℕ) → Option (TaskData F × ℕ)
+  counted done = option_map {U = TaskData F × ℕ} (λ at. (at.0, done))
+
+  progress-counted : (done : ℕ) (o : Option (Held (TaskData F))) → progress-of (with_done done o) ≡ counted done (progress-of o)
+  progress-counted done None = refl
+  progress-counted done (Some held) = refl
+
+  recounted : (first last : ℕ) (o : Option (TaskData F × ℕ)) → counted last (counted first o) ≡ counted last o
+  recounted first last None = refl
+  recounted first last (Some at) = refl
+
+  -- tasks stay where progress stays, and then one hand's count is set
+  pub tasks-counted : (hand done : ℕ) (old mid new : Pile (TaskData F)) → ((h : ℕ) → progress_at mid h ≡ progress_at old h)
+      → ((h : ℕ) → claim_at new h ≡ put_hand (claim_at mid) hand (with_done done (claim_at mid hand)) h)
+      → KeepTasks hand done old new
+  tasks-counted hand done old mid new before claims h =
+      elim (nat_eq hand h) as (λ b. nat_eq hand h ≡ b → progress_at new h ≡ cond b (counted done (progress_at old h)) (progress_at old h)) [
+        | true ↦ λ same.
+            ap progress-of (claims h) ∙ ap (λ b. progress-of (cond b (with_done done (claim_at mid hand)) (claim_at mid h))) same
+            ∙ progress-counted done (claim_at mid hand) ∙ ap (counted done) (before hand)
+            ∙ ap (λ j. counted done (progress_at old j)) (eqb-true hand h same)
+        | false ↦ λ other. ap progress-of (claims h) ∙ ap (λ b. progress-of (cond b (with_done done (claim_at mid hand)) (claim_at mid h))) other ∙ before h
+      ] refl
+
+  -- tasks stay where nothing happened
+  pub tasks-here : (hand done : ℕ) (task : TaskData F) (pile : Pile (TaskData F)) → progress_at pile hand ≡ Some (task, done) → KeepTasks hand done pile pile
+  tasks-here hand done task pile is h =
+      elim (nat_eq hand h) as (λ b. nat_eq hand h ≡ b → progress_at pile h ≡ cond b (counted done (progress_at pile h)) (progress_at pile h)) [
+        | true ↦ λ same.
+            let here : progress_at pile h ≡ Some (task, done) = ap (progress_at pile) (sym (eqb-true hand h same)) ∙ is in
+            here ∙ sym (ap (counted done) here)
+        | false ↦ λ other. refl
+      ] refl
+
+  pub tasks-then : (hand first last : ℕ) (old mid new : Pile (TaskData F)) → KeepTasks hand first old mid → KeepTasks hand last mid new → KeepTasks hand last old new
+  tasks-then hand first last old mid new before next h =
+      next h
+      ∙ elim (nat_eq hand h) as (λ b. progress_at mid h ≡ cond b (counted first (progress_at old h)) (progress_at old h)
+      → cond b (counted last (progress_at mid h)) (progress_at mid h) ≡ cond b (counted last (progress_at old h)) (progress_at old h)) [
+        | true ↦ λ is. ap (counted last) is ∙ recounted first last (progress_at old h)
+        | false ↦ λ is. is
+      ] (before h)
+
+  pub tasks-unchanged : (hand done : ℕ) (old mid new : Pile (TaskData F)) → KeepTasks hand done old mid → ((h : ℕ) → claim_at new h ≡ claim_at mid h) → KeepTasks hand done old new
+  tasks-unchanged hand done old mid new before same h = ap progress-of (same h) ∙ before h

@@ -1,8 +1,7 @@
 -- What contracts see of a core, and when its calls are refused.
-use Rattle.std.specs.Prelude.{◌≡◌, ℕ, ◌≤◌, Bool, true, false, ◌&&◌, ◌≢◌, length, map, slice_index, List, Option, None, Some, nat_eq}
+use Rattle.std.specs.Prelude.{◌≡◌, ℕ, ◌≤◌, Bool, true, false, ◌&&◌, length, map, List, Option, None, Some, nat_eq}
 use Rattle.std.specs.Option.{is_some}
-use Rattle.std.specs.List.{Contains}
-use Rattle.ide_graph.specs.Supergraph.{Supergraph, procedure_named}
+use Rattle.ide_graph.specs.Supergraph.{Supergraph}
 use Rattle.ide_problem.specs.Flow.{Targets}
 use Rattle.ide_tasks.specs.Sources.{AreSourcesOf}
 use Rattle.ide_tasks.specs.declared.sources.Source.{Source}
@@ -10,15 +9,17 @@ use Rattle.ide_tables.specs.Tables.{Table}
 use Rattle.ide_tasks.specs.Task.{TaskData, same_task}
 use Rattle.ide_tasks.specs.Work.{WorkData}
 use Rattle.ide_tasks.specs.declared.partners.Partners.{Partners}
+use Rattle.ide_text.specs.Value.{ProgramValue}
 use Rattle.ide_theory.specs.Within.{is_call}
 use Rattle.ide_wire.specs.Key.{node_of}
 use Rattle.ide_wire.specs.declared.key.Key.{Key}
 use Rattle.ide_worklist.specs.declared.claim.Claim.{Claim}
 use Rattle.ide_worklist.specs.Worklist.{Pile, claim_at, is_pending}
 
--- the graph of the loaded program, if one is loaded; the roots, as indices of procedures; the tables;
+-- what the loaded program says, and its graph, if one is loaded; the roots, as indices of procedures; the tables;
 -- and the pending keys with the claims
 pub record CoreData (F : Type 0) : Type 0 where
+  pub program : Option ProgramValue
   pub graph : Option Supergraph
   pub roots : List ℕ
   pub table : Table F
@@ -35,8 +36,15 @@ module _ {F : Type 0} where
   abbrev pub is_loaded : CoreData F → Bool
   is_loaded core = is_some core.graph
 
+  -- program, graph and roots stay
+  pub record IsSameProblem (old new : CoreData F) : Type 0 where
+    pub program : new.program ≡ old.program
+    pub graph : new.graph ≡ old.graph
+    pub roots : new.roots ≡ old.roots
+
   -- the image, the pending keys and each hand's claim are as they were
   pub record IsUnchanged (old new : CoreData F) : Type 0 where
+    pub program : new.program ≡ old.program
     pub graph : new.graph ≡ old.graph
     pub roots : new.roots ≡ old.roots
     pub table : new.table ≡ old.table
@@ -50,30 +58,6 @@ pub record HasKeyOutside {F : Type 0} (core : CoreData F) : Type 0 where
   pub graph : Supergraph
   pub is : core.graph ≡ Some graph
   pub outside : graph.nodes ≤ node_of key
-
--- the name finds a procedure of the graph
-pub record Finds (graph : Option Supergraph) (name : List ℕ) (procedure : ℕ) : Type 0 where
-  pub loaded : Supergraph
-  pub is : graph ≡ Some loaded
-  pub named : procedure_named loaded name ≡ Some procedure
-
--- a program is loaded, and no procedure of it has the name
-pub record FindsNone (graph : Option Supergraph) (name : List ℕ) : Type 0 where
-  pub loaded : Supergraph
-  pub is : graph ≡ Some loaded
-  pub unnamed : procedure_named loaded name ≡ None
-
--- the name finds a procedure with parameters
-pub record FindsParameters (graph : Option Supergraph) (name : List ℕ) : Type 0 where
-  pub procedure : ℕ
-  pub found : Finds graph name procedure
-  pub parameters : slice_index found.loaded.parameters procedure ≢ 0
-
--- the name finds a procedure that is a root already
-pub record FindsRoot (graph : Option Supergraph) (roots : List ℕ) (name : List ℕ) : Type 0 where
-  pub procedure : ℕ
-  pub found : Finds graph name procedure
-  pub is_root : Contains roots procedure
 
 -- what is kept of a loaded program: each node has a site, the sources are those of the graph, and the
 -- tables watch the call nodes

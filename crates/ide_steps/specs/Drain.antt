@@ -38,8 +38,9 @@ lowerings_by Same = 0
 lowerings_by NoPart = 0
 
 module _ {F L : Type 0} (A : LatticeAlgebra L) (B : EdgeAlgebra F L) (targets : Targets F) where
-  -- so many claims, and some number of lowerings, lead from the one core's state to the other's, and are paid for
+  -- so many claims of hand 0, with some number of lowerings, lead from the one core's state to the
+  -- other's, and are paid for; none is given back
   pub record GoesOnPaid (claims : ℕ) (old new : CoreData F) : Type 0 where
     pub lowerings : ℕ
-    pub goes : GoesOnBy A B targets claims lowerings old new
+    pub goes : GoesOnBy A B targets 0 claims lowerings 0 old new
     pub paid : ArePaid B claims lowerings old new

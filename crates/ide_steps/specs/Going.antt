@@ -9,9 +9,9 @@ use Rattle.ide_problem.specs.Flow.{Targets}
 use Rattle.ide_tasks.specs.Parts.{owed}
 use Rattle.ide_tasks.specs.Work.{WorkData}
 use Rattle.ide_theory.specs.Graphs.{frame_at}
-use Rattle.ide_theory.specs.Run.{Run, Steps, claims_in, lowerings_in}
+use Rattle.ide_theory.specs.Run.{AreBy, Run, Steps, claims_in, lowerings_in, releases_in}
 use Rattle.ide_theory.specs.Sites.{HaveEdgesOf}
-use Rattle.ide_steps.specs.Core.{CoreData}
+use Rattle.ide_steps.specs.Core.{CoreData, IsSameProblem}
 use Rattle.ide_steps.specs.State.{state_of}
 use Rattle.ide_steps.specs.Steps.{progress_at}
 
@@ -25,24 +25,25 @@ pub record IsFit (graph : Supergraph) : Type 0 where
   pub ends : AreEndsNodes graph
 
 module _ {F L : Type 0} (A : LatticeAlgebra L) (B : EdgeAlgebra F L) (targets : Targets F) where
-  -- over a graph that is fit, steps lead from the one core's state to the other's, where a run came to
-  -- that, so many of them are claims, and so many parts that lower a key; program and roots stay
-  pub record GoesOnBy (claims lowerings : ℕ) (old new : CoreData F) : Type 0 where
-    pub graph : new.graph ≡ old.graph
-    pub roots : new.roots ≡ old.roots
+  -- over a graph that is fit, steps of one hand lead from the one core's state to the other's, where a
+  -- run came to that: so many of them are claims, parts that lower a key, and claims given back; program
+  -- and roots stay
+  pub record GoesOnBy (hand claims lowerings releases : ℕ) (old new : CoreData F) : Type 0 where
+    pub same : IsSameProblem old new
     pub steps : (graph : Supergraph) → old.graph ≡ Some graph → (all : HaveEdgesOf graph.facts graph.sites) → IsFit graph
         → Run (frame_at A B targets graph all) (state_of targets B old)
         → (way : Steps (frame_at A B targets graph all) (state_of targets B old) (state_of targets B new))
+        × AreBy hand way
         × (claims_in way ≡ claims)
         × (lowerings_in way ≡ lowerings)
+        × (releases_in way ≡ releases)
 
-  -- the same, with any number of claims and lowerings
-  pub record GoesOn (old new : CoreData F) : Type 0 where
-    pub graph : new.graph ≡ old.graph
-    pub roots : new.roots ≡ old.roots
-    pub steps : (graph : Supergraph) → old.graph ≡ Some graph → (all : HaveEdgesOf graph.facts graph.sites) → IsFit graph
-        → Run (frame_at A B targets graph all) (state_of targets B old)
-        → Steps (frame_at A B targets graph all) (state_of targets B old) (state_of targets B new)
+  -- the same, with any number of each
+  pub record GoesOn (hand : ℕ) (old new : CoreData F) : Type 0 where
+    pub claims : ℕ
+    pub lowerings : ℕ
+    pub releases : ℕ
+    pub by : GoesOnBy hand claims lowerings releases old new
 
   -- the hand works on the work's task, and has done as many of its parts
   pub record IsWorking (core : CoreData F) (hand : ℕ) (work : WorkData F) : Type 0 where

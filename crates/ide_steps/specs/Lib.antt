@@ -1,8 +1,10 @@
 pub mod Core
 pub mod Owed
+pub mod Refusal
 pub mod Room
 pub mod Rooted
 pub mod State
+pub mod Calls
 pub mod Drain
 pub mod Items
 pub mod Steps

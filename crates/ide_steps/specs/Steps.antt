@@ -1,5 +1,5 @@
 -- What the calls of a core do to its state, told as steps of a tabulation.
-use Rattle.std.specs.Prelude.{◌≡◌, ◌≢◌, ℕ, ◌+◌, true, Option, Some, None, option_map, slice_get, unwrap_or}
+use Rattle.std.specs.Prelude.{◌≡◌, ◌≢◌, ℕ, ◌+◌, true, Option, Some, None, if◌then◌else◌, nat_eq, option_map, slice_get, unwrap_or}
 use Rattle.ide_lattice.specs.Algebra.{EdgeAlgebra}
 use Rattle.ide_problem.specs.Flow.{Targets}
 use Rattle.ide_tasks.specs.Parts.{owed}
@@ -17,6 +17,11 @@ module _ {F : Type 0} where
   abbrev pub progress_at : Pile (TaskData F) → ℕ → Option (TaskData F × ℕ)
   progress_at pile hand = option_map (λ held. (held.task, held.done)) (claim_at pile hand)
 
+  -- each hand works on the task that it had: this one has so many parts of it done, any other as many as it had
+  abbrev pub KeepTasks : ℕ → ℕ → (old new : Pile (TaskData F)) → Type 0
+  KeepTasks hand done old new = (h : ℕ)
+      → progress_at new h ≡ (if nat_eq hand h then option_map (λ at. (at.0, done)) (progress_at old h) else progress_at old h)
+
   -- one part more is done of the same work
   pub record IsOneMore (old new : WorkData F) : Type 0 where
     pub task : new.task ≡ old.task
@@ -28,10 +33,16 @@ module _ {F : Type 0} where
     abbrev pub IsBelow : State F → Key → F → Type 0
     IsBelow s t g = B.meet (unwrap_or (s.get t) B.all_top) g ≡ unwrap_or (s.get t) B.all_top
 
+    -- to meet it changes the key's function, and makes none that is always top
+    pub record Changes (s : State F) (t : Key) (g : F) : Type 0 where
+      pub falls : ¬ (IsBelow s t g)
+      pub present : B.meet (unwrap_or (s.get t) B.all_top) g ≢ B.all_top
+
     -- the work's next part is done, which lowered its key
     pub record IsLowered (s t : State F) (hand : ℕ) (old new : WorkData F) : Type 0 where
       pub part : Key × F
       pub next : slice_get old.parts old.done ≡ Some part
+      pub changes : Changes s part.0 part.1
       pub state : t ≡ part_done (lowered_by B s part.0 part.1) hand
       pub counted : IsOneMore old new
 
@@ -53,6 +64,12 @@ pub data ArePartsDone {F L : Type 0} (B : EdgeAlgebra F L) (hand : ℕ) (s : Sta
       → ArePartsDone B hand s work u after
 
 module _ {F L : Type 0} (targets : Targets F) (B : EdgeAlgebra F L) where
+  -- the hand has a claim, with as many parts done as the work, whose parts are what its task owes
+  pub record IsCurrent (core : CoreData F) (hand : ℕ) (work : WorkData F) : Type 0 where
+    pub task : TaskData F
+    pub progress : progress_at core.pile hand ≡ Some (task, work.done)
+    pub parts : work.parts ≡ owed targets B task
+
   -- the hand, which had no claim, claims the task's key, which was pending and no hand's, and owes its parts
   pub record IsTaken (hand : ℕ) (old new : CoreData F) (task : TaskData F) : Type 0 where
     pub free : claim_at old.pile hand ≡ None

@@ -7,7 +7,7 @@ ghost use Rattle.ide_wire.specs.Key.{node_of};
 ghost use Rattle.ide_wire.specs.declared.key.Key.{Key};
 ghost use Rattle.ide_worklist.specs.Worklist.{claim_at, ends_key, is_pending, is_claimed, put_hand};
 ghost use Rattle.ide_tasks.specs.Task.{TaskData};
-ghost use Rattle.ide_steps.specs.Core.{is_loaded, HasKeyOutside, IsProgramKept, IsUnchanged};
+ghost use Rattle.ide_steps.specs.Core.{is_loaded, HasKeyOutside, IsProgramKept, IsSameProblem, IsUnchanged};
 ghost use Rattle.ide_steps.specs.State.{ArePartnersOf, IsTaskOf};
 ghost use Rattle.ide_steps.specs.Steps.{IsTaken, progress_at};
 
@@ -47,7 +47,8 @@ impl<P: Problem> Core<P> {
         ensures quiet { result ≡ Ok Claimed.Quiet → self.old.pile.pending ≡ [] }
         ensures waiting { result ≡ Ok Claimed.Idle → self.old.pile.pending ≢ [] }
         ensures idle { result ≡ Ok Claimed.Idle → (q : Key) → is_pending self.old.pile q ≡ true → is_claimed self.old.pile q ≡ true }
-        ensures image { (self.new.graph ≡ self.old.graph) × (self.new.roots ≡ self.old.roots) × (self.new.table ≡ self.old.table) }
+        ensures stays { IsSameProblem self.old self.new }
+        ensures table { self.new.table ≡ self.old.table }
         ensures pending { self.new.pile.pending ≡ self.old.pile.pending }
         ensures others { (h : ℕ) → nat_eq hand h ≡ false → claim_at self.new.pile h ≡ claim_at self.old.pile h }
         ensures fresh { (task : TaskData P.F) → result ≡ Ok (Claimed.Task task) → ends_key (claim_at self.new.pile hand) ≡ true }

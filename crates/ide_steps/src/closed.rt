@@ -3,6 +3,7 @@ ghost use Rattle.std.specs.Prelude.{◌≡◌, ◌≢◌, ◌↔◌, ◌⊎◌, 
 ghost use Rattle.std.specs.Arc.{arc_value};
 ghost use Rattle.ide_steps.specs.declared.loaded.Loaded.{Loaded};
 ghost use Rattle.ide_steps.specs.Core.{is_loaded};
+ghost use Rattle.ide_text.specs.Program.{value_of};
 
 use crate::loaded::Loaded;
 use crate::machine::Core;
@@ -27,6 +28,8 @@ impl<P: Problem> Core<P> {
     pub fn freeze(&self) -> Result<Closed<P>, Refused>
         ensures no_program { (result ≡ Err Refused.NoProgram) ↔ (is_loaded self.now ≡ false) }
         ensures unfinished { (result ≡ Err Refused.Unfinished) ↔ ((is_loaded self.now ≡ true) × (self.now.pile.pending ≢ [])) }
+        ensures refused { IfErr result (λ e. (e ≡ Refused.NoProgram) ⊎ (e ≡ Refused.Unfinished) ⊎ (e ≡ Refused.NoMemory)) }
+        ensures program { IfOk result (λ closed. self.now.program ≡ Some (value_of (arc_value {X = Loaded P P.L P.F} closed.loaded).program)) }
         ensures graph { IfOk result (λ closed. self.now.graph ≡ Some (arc_value {X = Loaded P P.L P.F} closed.loaded).graph) }
         ensures table { IfOk result (λ closed. closed.tables ≡ self.now.table) }
         ensures roots { IfOk result (λ closed. closed.roots.items ≡ self.now.roots) }
@@ -51,6 +54,7 @@ impl<P: Problem> Core<P> {
     pub fn close(self) -> Result<Closed<P>, (Refused, Core<P>)>
         ensures no_program { IsErrAnd result (λ e. e.0 ≡ Refused.NoProgram) ↔ (is_loaded self ≡ false) }
         ensures unfinished { IsErrAnd result (λ e. e.0 ≡ Refused.Unfinished) ↔ ((is_loaded self ≡ true) × (self.pile.pending ≢ [])) }
+        ensures program { IfOk result (λ closed. self.program ≡ Some (value_of (arc_value {X = Loaded P P.L P.F} closed.loaded).program)) }
         ensures graph { IfOk result (λ closed. self.graph ≡ Some (arc_value {X = Loaded P P.L P.F} closed.loaded).graph) }
         ensures table { IfOk result (λ closed. closed.tables ≡ self.table) }
         ensures roots { IfOk result (λ closed. closed.roots.items ≡ self.roots) }

@@ -13,7 +13,7 @@ ghost use Rattle.ide_wire.specs.Key.{same_key};
 ghost use Rattle.ide_worklist.specs.Worklist.{claim_at, ends_key, IsFree};
 
 use crate::claim::Claimed;
-use crate::laws::{images_have_room, tasks_owe_their_parts};
+use crate::laws::{calls_are_steps, images_have_room};
 use crate::machine::Core;
 use crate::part::Parted;
 use ide_problem::Problem;
@@ -45,7 +45,7 @@ impl<P: Problem> Core<P> {
         ensures free { IsFree self.old.pile → IsFree self.new.pile }
         ensures claims { IfOk result (λ tasks. (claims : ℕ) × (tasks ≡ min claims (2 ^ 64 - 1)) × GoesOnPaid P.L.algebra P.F.edge P.targets claims self.old self.new) }
         ensures few { IfOk result (λ tasks. AreTasksFew P.L.algebra P.F.edge P.targets tasks self.old) }
-        ensures goes { GoesOn P.L.algebra P.F.edge P.targets self.old self.new }
+        ensures goes { GoesOn P.L.algebra P.F.edge P.targets 0 self.old self.new }
         ensures unchanged { IfErr result (λ e. (e ≡ Refused.NoMemory) ⊎ (e ≡ Refused.OutOfRange) ⊎ (self.new ≡ self.old)) }
     {
         if self.loaded.is_none() {
@@ -83,7 +83,7 @@ impl<P: Problem> Core<P> {
         ensures free { OnOk result (IsFree self.new.pile) }
         ensures others { (h : ℕ) → nat_eq 0 h ≡ false → claim_at self.new.pile h ≡ None }
         ensures claims { IfOk result (λ tasks. (claims : ℕ) × (tasks ≡ min claims (2 ^ 64 - 1)) × GoesOnPaid P.L.algebra P.F.edge P.targets claims self.old self.new) }
-        ensures goes { GoesOn P.L.algebra P.F.edge P.targets self.old self.new }
+        ensures goes { GoesOn P.L.algebra P.F.edge P.targets 0 self.old self.new }
     {
         let mut tasks = 0_u64;
         while self.run_next()? {
@@ -103,7 +103,7 @@ impl<P: Problem> Core<P> {
         ensures free { OnOk result (IsFree self.new.pile) }
         ensures others { (h : ℕ) → nat_eq 0 h ≡ false → claim_at self.new.pile h ≡ None }
         ensures claims { IfOk result (λ more. GoesOnPaid P.L.algebra P.F.edge P.targets (if more then 1 else 0) self.old self.new) }
-        ensures goes { GoesOn P.L.algebra P.F.edge P.targets self.old self.new }
+        ensures goes { GoesOn P.L.algebra P.F.edge P.targets 0 self.old self.new }
     {
         let Some(task) = self.take_next()? else {
             return Ok(false);
@@ -127,13 +127,13 @@ impl<P: Problem> Core<P> {
         ensures progress { (task : TaskData P.F) → result ≡ Ok (Some task) → progress_at self.new.pile 0 ≡ Some (task, 0) }
         ensures others { (h : ℕ) → nat_eq 0 h ≡ false → claim_at self.new.pile h ≡ None }
         ensures none { result ≡ Ok None → IsFree self.new.pile }
-        ensures claims { IfOk result (λ task. GoesOnBy P.L.algebra P.F.edge P.targets (if is_some task then 1 else 0) 0 self.old self.new) }
-        ensures goes { GoesOn P.L.algebra P.F.edge P.targets self.old self.new }
+        ensures claims { IfOk result (λ task. GoesOnBy P.L.algebra P.F.edge P.targets 0 (if is_some task then 1 else 0) 0 0 self.old self.new) }
+        ensures goes { GoesOn P.L.algebra P.F.edge P.targets 0 self.old self.new }
     {
         runs_are_sound::<P>();
         keys_stand_at_nodes::<P>();
         sites_make_a_graph::<P>();
-        tasks_owe_their_parts::<P>();
+        calls_are_steps::<P>();
         match self.claim(DRAINING)? {
             Claimed::Task(task) => Ok(Some(task)),
             Claimed::Idle => Err(Refused::Unfinished),
@@ -149,7 +149,7 @@ impl<P: Problem> Core<P> {
         ensures falls { OnOk result (potential P.F.edge self.new < potential P.F.edge self.old) }
         ensures done { OnOk result (claim_at self.new.pile 0 ≡ None) }
         ensures others { (h : ℕ) → nat_eq 0 h ≡ false → claim_at self.old.pile h ≡ None → claim_at self.new.pile h ≡ None }
-        ensures goes { (lowerings : ℕ) × (IsWorking P.L.algebra P.F.edge P.targets self.old 0 work → GoesOnBy P.L.algebra P.F.edge P.targets 0 lowerings self.old self.new) × OnOk result (ArePaid P.F.edge 1 lowerings self.old self.new) }
+        ensures goes { (lowerings : ℕ) × (IsWorking P.L.algebra P.F.edge P.targets self.old 0 work → GoesOnBy P.L.algebra P.F.edge P.targets 0 0 lowerings 0 self.old self.new) × OnOk result (ArePaid P.F.edge 1 lowerings self.old self.new) }
     {
         while self.next_part(DRAINING, &mut work)? != Parted::NoPart {}
         self.end_claim(DRAINING);

@@ -6,8 +6,9 @@ ghost use Rattle.ide_theory.specs.Invariant.{unclaimed};
 ghost use Rattle.ide_theory.specs.State.{finished, with_claim};
 ghost use Rattle.ide_worklist.specs.Worklist.{claim_at, ends_key, put_hand};
 ghost use Rattle.ide_worklist.specs.declared.claim.Claim.{Claim as Held};
-ghost use Rattle.ide_steps.specs.Core.{is_claim_of_work};
+ghost use Rattle.ide_steps.specs.Core.{is_claim_of_work, IsSameProblem};
 ghost use Rattle.ide_steps.specs.State.{state_of, claim_of};
+ghost use Rattle.ide_steps.specs.Steps.{IsCurrent};
 
 use crate::machine::Core;
 use ide_problem::Problem;
@@ -22,8 +23,11 @@ impl<P: Problem> Core<P> {
     pub fn finish(&mut self, hand: usize, work: &Work<P>) -> Result<(), Refused>
         ensures stale { (result ≡ Err Refused.Stale) ↔ ((is_claim_of_work P.F.eq ⟦<Partners<P::F> as PartialEq>⟧.eq work.now (claim_at self.old.pile hand) ≡ false) ⊎ (work.now.done < length work.now.parts)) }
         ensures refused { IfErr result (λ e. e ≡ Refused.Stale) }
+        ensures current { OnOk result (IsCurrent P.targets P.F.edge self.old hand work.now) }
         ensures finished { OnOk result ((held : Held (TaskData P.F)) × (claim_at self.old.pile hand ≡ Some held) × ((claim_of P.targets P.F.edge held).parts ≡ []) × (state_of P.targets P.F.edge self.new ≡ finished (state_of P.targets P.F.edge self.old) hand (claim_of P.targets P.F.edge held))) }
-        ensures stays { (self.new.graph ≡ self.old.graph) × (self.new.roots ≡ self.old.roots) × (self.new.table ≡ self.old.table) }
+        ensures claims { OnOk result ((h : ℕ) → claim_at self.new.pile h ≡ put_hand (claim_at self.old.pile) hand None h) }
+        ensures stays { IsSameProblem self.old self.new }
+        ensures table { self.new.table ≡ self.old.table }
         ensures unchanged { OnErr result (self.new ≡ self.old) }
     {
         if !self.is_current(hand, work) {
@@ -39,7 +43,8 @@ impl<P: Problem> Core<P> {
     /// Ends the hand's claim.
     pub(crate) fn end_claim(&mut self, hand: usize)
         ensures finished { (held : Held (TaskData P.F)) → claim_at self.old.pile hand ≡ Some held → state_of P.targets P.F.edge self.new ≡ finished (state_of P.targets P.F.edge self.old) hand (claim_of P.targets P.F.edge held) }
-        ensures stays { (self.new.graph ≡ self.old.graph) × (self.new.roots ≡ self.old.roots) × (self.new.table ≡ self.old.table) }
+        ensures stays { IsSameProblem self.old self.new }
+        ensures table { self.new.table ≡ self.old.table }
         ensures claims { (h : ℕ) → claim_at self.new.pile h ≡ put_hand (claim_at self.old.pile) hand None h }
         ensures count { length self.new.pile.pending + (if ends_key (claim_at self.old.pile hand) then 1 else 0) ≡ length self.old.pile.pending }
     {
@@ -56,7 +61,8 @@ impl<P: Problem> Core<P> {
         ensures released { state_of P.targets P.F.edge self.new ≡ with_claim (state_of P.targets P.F.edge self.old) hand None }
         ensures claim { claim_at self.new.pile hand ≡ None }
         ensures claims { (h : ℕ) → claim_at self.new.pile h ≡ put_hand (claim_at self.old.pile) hand None h }
-        ensures stays { (self.new.graph ≡ self.old.graph) × (self.new.roots ≡ self.old.roots) × (self.new.table ≡ self.old.table) }
+        ensures stays { IsSameProblem self.old self.new }
+        ensures table { self.new.table ≡ self.old.table }
         ensures pending { self.new.pile.pending ≡ self.old.pile.pending }
     {
         match self.worklist.release(hand) {
@@ -69,7 +75,8 @@ impl<P: Problem> Core<P> {
     pub fn release_all(&mut self) -> usize
         ensures count { result ≡ length (filter is_some self.old.pile.claims) }
         ensures claims { self.new.pile.claims ≡ [] }
-        ensures stays { (self.new.graph ≡ self.old.graph) × (self.new.roots ≡ self.old.roots) × (self.new.table ≡ self.old.table) }
+        ensures stays { IsSameProblem self.old self.new }
+        ensures table { self.new.table ≡ self.old.table }
         ensures pending { self.new.pile.pending ≡ self.old.pile.pending }
         ensures state { state_of P.targets P.F.edge self.new ≡ unclaimed (state_of P.targets P.F.edge self.old) }
     {

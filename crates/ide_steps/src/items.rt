@@ -1,17 +1,19 @@
 //! The image as a list, and an image made from one.
-ghost use Rattle.std.specs.Prelude.{◌≡◌, ℕ, ◌↔◌, false, IfErr, IfOk, IsTrue, OnErr, OnOk, map, if◌then◌else◌};
+ghost use Rattle.std.specs.Prelude.{◌≡◌, ◌<◌, ℕ, ◌↔◌, false, true, length, slice_get, IfErr, IfOk, IsTrue, OnErr, OnOk, map, if◌then◌else◌};
 ghost use Rattle.std.specs.Option.{IsSomeAnd};
 ghost use Rattle.ide_tables.specs.Tables.{Sets};
+ghost use Rattle.ide_theory.specs.Within.{is_some_call};
 ghost use Rattle.ide_wire.specs.Key.{same_key};
 ghost use Rattle.ide_wire.specs.declared.key.Key.{Key};
 ghost use Rattle.ide_worklist.specs.Worklist.{claim_at, is_pending, IsFree};
-ghost use Rattle.ide_steps.specs.Core.{IsUnchanged};
+ghost use Rattle.ide_steps.specs.Core.{IsSameProblem, IsUnchanged};
 ghost use Rattle.ide_steps.specs.Items.{AreItems, IsKeyOf, item_of};
 
+use crate::loaded::is_call;
 use crate::machine::Core;
 use ide_graph::Graph;
 use ide_problem::Problem;
-use ide_wire::{Key, Refused};
+use ide_wire::{Fact, Key, Node, Refused};
 use std::alloc::AllocError;
 
 impl<P: Problem> Core<P> {
@@ -19,7 +21,7 @@ impl<P: Problem> Core<P> {
     ///
     /// Refusal: `NoMemory`.
     pub fn items(&self) -> Result<Vec<(Key, P::F, bool)>, Refused>
-        ensures items { IfOk result (λ items. AreItems ⟦<Key as Ord>⟧.cmp self.now items.items) }
+        ensures items { IfOk result (λ items. AreItems self.now items.items) }
         ensures refused { IfErr result (λ e. e ≡ Refused.NoMemory) }
     {
         let keys = self.tables.keys(self.alloc)?;
@@ -41,8 +43,8 @@ impl<P: Problem> Core<P> {
         (key, self.tables.function(key), self.is_pending(key))
     }
 
-    /// Whether the core may have the key: a program is loaded, the key stands at a node of it, and
-    /// its facts are facts of it.
+    /// Whether the core may have the key: a program is loaded, the key stands at a node of it, a
+    /// summary at a call node, and its facts are facts of it.
     pub fn may_have(&self, key: Key) -> bool
         ensures { IsTrue result ↔ IsSomeAnd self.now.graph (λ graph. IsKeyOf graph key) }
     {
@@ -62,8 +64,7 @@ impl<P: Problem> Core<P> {
         requires present { P.F.eq function P.F.edge.all_top ≡ false }
         ensures sets { OnOk result (Sets self.old.table self.new.table key function) }
         ensures pending { OnOk result ((q : Key) → is_pending self.new.pile q ≡ (if same_key key q then pending else is_pending self.old.pile q)) }
-        ensures graph { self.new.graph ≡ self.old.graph }
-        ensures roots { self.new.roots ≡ self.old.roots }
+        ensures stays { IsSameProblem self.old self.new }
         ensures claims { (h : ℕ) → claim_at self.new.pile h ≡ claim_at self.old.pile h }
         ensures refused { IfErr result (λ e. e ≡ Refused.NoMemory) }
         ensures unchanged { OnErr result (IsUnchanged self.old self.new) }
@@ -75,14 +76,32 @@ impl<P: Problem> Core<P> {
     }
 }
 
-/// Whether the key stands at a node of the graph, and its facts are facts of the graph.
+/// Whether the key stands at a node of the graph, a summary at a call node, and its facts are facts
+/// of the graph.
 fn is_key_of(graph: &Graph, key: Key) -> bool
+    requires sited { length graph.now.sites ≡ graph.now.nodes }
     ensures { IsTrue result ↔ IsKeyOf graph.now key }
 {
-    let (node, first, second) = match key {
-        Key::Jump(node, from, to) => (node, from, to),
-        Key::Summary(call, from, to) => (call, from, to),
-    };
+    match key {
+        Key::Jump(node, from, to) => {
+            (node as usize) < graph.node_count() && are_facts(graph, from, to)
+        }
+        Key::Summary(call, from, to) => is_call_node(graph, call) && are_facts(graph, from, to),
+    }
+}
+
+/// Whether both are facts of the graph.
+fn are_facts(graph: &Graph, first: Fact, second: Fact) -> bool
+    ensures { IsTrue result ↔ ((first < graph.now.facts) × (second < graph.now.facts)) }
+{
     let facts = graph.fact_count();
-    (node as usize) < graph.node_count() && (first as usize) < facts && (second as usize) < facts
+    (first as usize) < facts && (second as usize) < facts
+}
+
+/// Whether a call stands at the node.
+fn is_call_node(graph: &Graph, node: Node) -> bool
+    requires sited { length graph.now.sites ≡ graph.now.nodes }
+    ensures { IsTrue result ↔ (is_some_call (slice_get graph.now.sites node) ≡ true) }
+{
+    (node as usize) < graph.node_count() && is_call(graph.site(node))
 }

@@ -1,4 +1,5 @@
 //! Laws of tasks. The functions do nothing: their clauses are the laws.
+ghost use Rattle.ide_steps.specs.Calls.{CallsAreSteps};
 ghost use Rattle.ide_steps.specs.Owed.{TasksOweTheirParts};
 ghost use Rattle.ide_steps.specs.Room.{ImagesHaveRoom};
 
@@ -13,6 +14,16 @@ pub fn tasks_owe_their_parts<P: Problem>()
 {
     parts_in_range_are_owed::<P>();
     sites_make_a_graph::<P>();
+}
+
+/// Each call of a hand is a step of it, by what the call says of the core before and after it: so
+/// calls of any hands in any order, from a core that was just loaded, are a run.
+pub fn calls_are_steps<P: Problem>()
+    ensures { CallsAreSteps P.L.algebra P.F.edge P.targets }
+{
+    runs_are_sound::<P>();
+    sites_make_a_graph::<P>();
+    tasks_owe_their_parts::<P>();
 }
 
 /// The image of a run has no more keys than its graph has room for.

@@ -20,7 +20,7 @@ mod root;
 
 pub use claim::Claimed;
 pub use closed::Closed;
-pub use laws::tasks_owe_their_parts;
+pub use laws::{calls_are_steps, images_have_room, tasks_owe_their_parts};
 pub use loaded::Loaded;
 pub use machine::{Core, HANDS};
 pub use part::Parted;

@@ -1,6 +1,6 @@
 //! A loaded program, shared by the core and what it hands out.
 ghost use Rattle.std.specs.Prelude.{◌≡◌, length, map, IfErr, IfOk};
-ghost use Rattle.ide_graph.specs.GraphOf.{IsNamed, IsGraphOf};
+ghost use Rattle.ide_graph.specs.GraphOf.{IsGraphOf};
 ghost use Rattle.ide_graph.specs.ProgramEdges.{HasEdgesOf};
 ghost use Rattle.ide_tasks.specs.Sources.{AreSourcesOf};
 ghost use Rattle.ide_theory.specs.Within.{is_call};
@@ -25,7 +25,7 @@ impl<P: Problem> Loaded<P> {
     pub fn of(alloc: Global, program: Program) -> Result<Loaded<P>, Refused>
         ensures program { IfOk result (λ loaded. loaded.program ≡ program) }
         ensures graph { IfOk result (λ loaded. IsGraphOf program loaded.graph) }
-        ensures edges { IsNamed program → IfOk result (λ loaded. HasEdgesOf program loaded.graph) }
+        ensures edges { IfOk result (λ loaded. HasEdgesOf program loaded.graph) }
         ensures sources { IfOk result (λ loaded. AreSourcesOf P.targets loaded.graph loaded.sources) }
         ensures refused { IfErr result (λ e. e ≡ Refused.NoMemory) }
     {
@@ -51,7 +51,7 @@ impl<P: Problem> Loaded<P> {
 }
 
 /// Whether it is the site of a call node.
-fn is_call(site: &Site) -> bool
+pub(crate) fn is_call(site: &Site) -> bool
     ensures { result ≡ is_call site.now }
 {
     matches!(site, Site::Call { .. })

@@ -1,23 +1,25 @@
 //! The core: its state and what may be asked of it.
-ghost use Rattle.ide_graph.specs.GraphOf.{IsNamed, IsGraphOf};
+ghost use Rattle.ide_graph.specs.GraphOf.{IsGraphOf};
 ghost use Rattle.ide_graph.specs.ProgramEdges.{HasEdgesOf};
-ghost use Rattle.ide_steps.specs.Core.{IsUnchanged, is_loaded};
+ghost use Rattle.ide_steps.specs.Core.{IsSameProblem, IsUnchanged};
 ghost use Rattle.ide_steps.specs.Drain.{IsPaidBy, potential};
-ghost use Rattle.std.specs.Prelude.{◌≡◌, ℕ, ◌<◌, ◌↔◌, [], true, false, Ok, length, IsTrue, IfErr, OnOk, OnErr};
+ghost use Rattle.std.specs.Prelude.{◌≡◌, ℕ, ◌<◌, ◌↔◌, [], None, Some, Ok, length, IsTrue, IfErr, OnOk, OnErr};
 ghost use Rattle.ide_steps.specs.State.{state_of};
-ghost use Rattle.ide_steps.specs.Steps.{IsBelow, progress_at};
+ghost use Rattle.ide_steps.specs.Steps.{Changes, IsBelow, progress_at};
 ghost use Rattle.ide_theory.specs.State.{nothing_done, lowered_by};
-ghost use Rattle.std.specs.Option.{option_copied, IsSomeAnd};
+ghost use Rattle.std.specs.Option.{option_copied, option_map, IsSomeAnd};
 ghost use Rattle.ide_tables.specs.Tables.{found};
-ghost use Rattle.ide_worklist.specs.Worklist.{is_pending};
+ghost use Rattle.ide_text.specs.Program.{value_of};
+ghost use Rattle.ide_worklist.specs.Worklist.{claim_at, is_pending};
 
 use crate::loaded::Loaded;
+use ide_graph::Graph;
 use ide_problem::Problem;
 use ide_tables::{Change, Tables};
 use ide_tasks::Task;
 use ide_text::Program;
 use ide_wire::{Key, Refused};
-use ide_worklist::Worklist;
+use ide_worklist::{Claim, Worklist};
 use std::alloc::Global;
 use std::marker::Model;
 use std::sync::Arc;
@@ -37,6 +39,7 @@ pub struct Core<P: Problem> {
 }
 
 impl<P: Problem> Model for Core<P> {
+    ghost use Rattle.ide_text.specs.Program.{value_of};
     ghost use Rattle.std.specs.Option.{option_map};
     ghost use Rattle.std.specs.Arc.{arc_value};
     ghost use Rattle.ide_steps.specs.declared.loaded.Loaded.{Loaded};
@@ -45,17 +48,21 @@ impl<P: Problem> Model for Core<P> {
 
     ghost Value = { CoreData P.F };
 
-    ghost view = { λ c. record { graph = option_map (λ loaded. (arc_value {X = Loaded P P.L P.F} loaded).graph) c.loaded; roots = c.roots.items; table = c.tables; pile = c.worklist } };
+    ghost view = { λ c. record { program = option_map (λ loaded. value_of (arc_value {X = Loaded P P.L P.F} loaded).program) c.loaded; graph = option_map (λ loaded. (arc_value {X = Loaded P P.L P.F} loaded).graph) c.loaded; roots = c.roots.items; table = c.tables; pile = c.worklist } };
 
     ghost invariant = { λ c. (loaded : Loaded P P.L P.F) → option_map (arc_value {X = Loaded P P.L P.F}) c.loaded ≡ Some loaded → IsProgramKept P.targets loaded.graph loaded.sources c.tables };
 }
 
 impl<P: Problem> Core<P> {
-    /// A core with no program. It takes no memory.
+    /// A core with no program: the empty image. It takes no memory.
     pub fn new(alloc: Global) -> Core<P>
-        ensures is_loaded { is_loaded result ≡ false }
+        ensures program { result.program ≡ None }
+        ensures graph { result.graph ≡ None }
+        ensures roots { result.roots ≡ [] }
+        ensures state { state_of P.targets P.F.edge result ≡ nothing_done P.F }
         ensures entries { result.table.entries ≡ [] }
         ensures pending { result.pile.pending ≡ [] }
+        ensures claims { result.pile.claims ≡ [] }
     {
         Core {
             alloc,
@@ -70,10 +77,10 @@ impl<P: Problem> Core<P> {
     /// time in proportion to the facts at each call. Where memory is wanting (`NoMemory`), the
     /// program is dropped and the core as it was.
     pub fn load(&mut self, program: Program) -> Result<(), Refused>
-        ensures is_loaded { OnOk result (is_loaded self.new ≡ true) }
+        ensures program { OnOk result (self.new.program ≡ Some (value_of program)) }
         ensures roots { OnOk result (self.new.roots ≡ []) }
         ensures graph { OnOk result (IsSomeAnd self.new.graph (IsGraphOf program)) }
-        ensures edges { IsNamed program → OnOk result (IsSomeAnd self.new.graph (HasEdgesOf program)) }
+        ensures edges { OnOk result (IsSomeAnd self.new.graph (HasEdgesOf program)) }
         ensures state { OnOk result (state_of P.targets P.F.edge self.new ≡ nothing_done P.F) }
         ensures entries { OnOk result (self.new.table.entries ≡ []) }
         ensures pending { OnOk result (self.new.pile.pending ≡ []) }
@@ -89,6 +96,34 @@ impl<P: Problem> Core<P> {
         self.worklist.clear();
         self.roots.clear();
         Ok(())
+    }
+
+    /// The loaded program, if one is loaded.
+    pub fn program(&self) -> Option<&Program>
+        ensures { option_map value_of (option_copied result) ≡ self.now.program }
+    {
+        Some(&self.loaded.as_ref()?.program)
+    }
+
+    /// The graph of the loaded program, if one is loaded.
+    pub fn graph(&self) -> Option<&Graph>
+        ensures { option_copied result ≡ self.now.graph }
+    {
+        Some(&self.loaded.as_ref()?.graph)
+    }
+
+    /// The roots, as indices of procedures, in the order in which they were made.
+    pub fn roots(&self) -> &[usize]
+        ensures { result.now ≡ self.now.roots }
+    {
+        self.roots.as_slice()
+    }
+
+    /// The hand's claim, if it has one: its key, its task, and how many parts of that are done.
+    pub fn claim_of(&self, hand: usize) -> Option<&Claim<Task<P>>>
+        ensures { option_copied result ≡ claim_at self.now.pile hand }
+    {
+        self.worklist.claim(hand)
     }
 
     /// Whether no key is pending, claimed or not.
@@ -122,12 +157,12 @@ impl<P: Problem> Core<P> {
     /// Meets one entry with a function. An entry that changed is pending then, and a claim of its
     /// key is marked as lowered.
     pub(crate) fn lower(&mut self, key: Key, function: P::F) -> Result<Change, Refused>
-        ensures graph { self.new.graph ≡ self.old.graph }
-        ensures roots { self.new.roots ≡ self.old.roots }
+        ensures stays { IsSameProblem self.old self.new }
         ensures falls { result ≡ Ok Change.Lowered → potential P.F.edge self.new < potential P.F.edge self.old }
         ensures paid { result ≡ Ok Change.Lowered → (h : ℕ) → IsPaidBy P.F.edge h 1 self.old self.new }
         ensures still { result ≡ Ok Change.Same → IsUnchanged self.old self.new }
         ensures lowered { result ≡ Ok Change.Lowered → state_of P.targets P.F.edge self.new ≡ lowered_by P.F.edge (state_of P.targets P.F.edge self.old) key function }
+        ensures changes { result ≡ Ok Change.Lowered → Changes P.F.edge (state_of P.targets P.F.edge self.old) key function }
         ensures same { result ≡ Ok Change.Same → state_of P.targets P.F.edge self.new ≡ state_of P.targets P.F.edge self.old }
         ensures met { result ≡ Ok Change.Same → IsBelow P.F.edge (state_of P.targets P.F.edge self.old) key function }
         ensures progress { OnOk result ((h : ℕ) → progress_at self.new.pile h ≡ progress_at self.old.pile h) }

@@ -6,8 +6,8 @@ ghost use Rattle.std.specs.Option.{IsSomeAnd};
 ghost use Rattle.ide_tasks.specs.Parts.{owed};
 ghost use Rattle.ide_tasks.specs.Task.{TaskData};
 ghost use Rattle.ide_steps.specs.State.{state_of};
-ghost use Rattle.ide_steps.specs.Steps.{ArePartsDone, IsLowered, IsSkipped, progress_at};
-ghost use Rattle.ide_steps.specs.Core.{IsUnchanged, is_claim_of_work};
+ghost use Rattle.ide_steps.specs.Steps.{ArePartsDone, IsCurrent, IsLowered, IsSkipped, KeepTasks, progress_at};
+ghost use Rattle.ide_steps.specs.Core.{IsSameProblem, IsUnchanged, is_claim_of_work};
 
 use crate::machine::Core;
 use ide_problem::Problem;
@@ -35,10 +35,13 @@ impl<P: Problem> Core<P> {
     pub fn part(&mut self, hand: usize, work: &mut Work<P>) -> Result<Parted, Refused>
         ensures stale { (result ≡ Err Refused.Stale) ↔ (is_claim_of_work P.F.eq ⟦<Partners<P::F> as PartialEq>⟧.eq work.old (claim_at self.old.pile hand) ≡ false) }
         ensures refused { IfErr result (λ e. (e ≡ Refused.Stale) ⊎ (e ≡ Refused.NoMemory)) }
+        ensures current { OnOk result (IsCurrent P.targets P.F.edge self.old hand work.old) }
         ensures no_part { result ≡ Ok Parted.NoPart → (work.old.done ≡ length work.old.parts) × (self.new ≡ self.old) × (work.new ≡ work.old) }
         ensures all_done { is_claim_of_work P.F.eq ⟦<Partners<P::F> as PartialEq>⟧.eq work.old (claim_at self.old.pile hand) ≡ true → work.old.done ≡ length work.old.parts → result ≡ Ok Parted.NoPart }
         ensures lowered { result ≡ Ok Parted.Lowered → IsLowered P.F.edge (state_of P.targets P.F.edge self.old) (state_of P.targets P.F.edge self.new) hand work.old work.new }
         ensures same { result ≡ Ok Parted.Same → IsSkipped P.F.edge (state_of P.targets P.F.edge self.old) (state_of P.targets P.F.edge self.new) hand work.old work.new }
+        ensures tasks { OnOk result (KeepTasks hand work.new.done self.old.pile self.new.pile) }
+        ensures stays { IsSameProblem self.old self.new }
         ensures unchanged { OnErr result (IsUnchanged self.old self.new × (work.new ≡ work.old)) }
     {
         if !self.is_current(hand, work) {
@@ -56,11 +59,13 @@ impl<P: Problem> Core<P> {
     pub fn parts(&mut self, hand: usize, work: &mut Work<P>, most: usize) -> Result<usize, Refused>
         ensures stale { (result ≡ Err Refused.Stale) ↔ (is_claim_of_work P.F.eq ⟦<Partners<P::F> as PartialEq>⟧.eq work.old (claim_at self.old.pile hand) ≡ false) }
         ensures refused { IfErr result (λ e. (e ≡ Refused.Stale) ⊎ (e ≡ Refused.NoMemory)) }
+        ensures current { (result ≡ Err Refused.Stale) ⊎ IsCurrent P.targets P.F.edge self.old hand work.old }
         ensures count { IfOk result (λ n. n ≡ min most (length work.old.parts - work.old.done)) }
         ensures done { IfOk result (λ n. work.new ≡ record work.old { done = work.old.done + n }) }
         ensures parts { ArePartsDone P.F.edge hand (state_of P.targets P.F.edge self.old) work.old (state_of P.targets P.F.edge self.new) work.new }
         ensures kept { (work.new.task ≡ work.old.task) × (work.new.parts ≡ work.old.parts) }
-        ensures stays { (self.new.graph ≡ self.old.graph) × (self.new.roots ≡ self.old.roots) }
+        ensures tasks { (result ≡ Err Refused.Stale) ⊎ KeepTasks hand work.new.done self.old.pile self.new.pile }
+        ensures stays { IsSameProblem self.old self.new }
         ensures free { (h : ℕ) → claim_at self.old.pile h ≡ None → claim_at self.new.pile h ≡ None }
         ensures unchanged { result ≡ Err Refused.Stale → (self.new ≡ self.old) × (work.new ≡ work.old) }
     {
@@ -71,10 +76,12 @@ impl<P: Problem> Core<P> {
         }
     }
 
-    /// Whether the work is the hand's claim as it stands.
-    pub(crate) fn is_current(&self, hand: usize, work: &Work<P>) -> bool
+    /// Whether the work is the hand's claim as it stands: its task, with as many parts done. It
+    /// takes time in proportion to the site and the partners of the task.
+    pub fn is_current(&self, hand: usize, work: &Work<P>) -> bool
         ensures current { result ≡ is_claim_of_work P.F.eq ⟦<Partners<P::F> as PartialEq>⟧.eq work.now (claim_at self.now.pile hand) }
         ensures far { IsTrue result → IsSomeAnd (claim_at self.now.pile hand) (λ held. (held.done ≡ work.now.done) × (owed P.targets P.F.edge held.task ≡ owed P.targets P.F.edge work.now.task)) }
+        ensures owed { IsTrue result → work.now.parts ≡ owed P.targets P.F.edge work.now.task }
     {
         match self.worklist.claim(hand) {
             Some(claim) => claim.done == work.done() && claim.task.is_same(work.task()),
@@ -95,7 +102,8 @@ impl<P: Problem> Core<P> {
         ensures lowered { result ≡ Ok Parted.Lowered → (task : TaskData P.F) → progress_at self.old.pile hand ≡ Some (task, work.old.done) → IsLowered P.F.edge (state_of P.targets P.F.edge self.old) (state_of P.targets P.F.edge self.new) hand work.old work.new }
         ensures same { result ≡ Ok Parted.Same → (task : TaskData P.F) → progress_at self.old.pile hand ≡ Some (task, work.old.done) → IsSkipped P.F.edge (state_of P.targets P.F.edge self.old) (state_of P.targets P.F.edge self.new) hand work.old work.new }
         ensures progress { OnOk result ((task : TaskData P.F) → progress_at self.old.pile hand ≡ Some (task, work.old.done) → progress_at self.new.pile hand ≡ Some (task, work.new.done)) }
-        ensures stays { OnOk result ((self.new.graph ≡ self.old.graph) × (self.new.roots ≡ self.old.roots)) }
+        ensures tasks { (result ≡ Ok Parted.Lowered) ⊎ (result ≡ Ok Parted.Same) → KeepTasks hand work.new.done self.old.pile self.new.pile }
+        ensures stays { IsSameProblem self.old self.new }
         ensures unchanged { OnErr result (IsUnchanged self.old self.new × (work.new ≡ work.old)) }
     {
         let Some(part) = work.next() else {
@@ -117,7 +125,8 @@ impl<P: Problem> Core<P> {
         ensures done { IfOk result (λ n. work.new ≡ record work.old { done = work.old.done + n }) }
         ensures parts { (task : TaskData P.F) → progress_at self.old.pile hand ≡ Some (task, work.old.done) → ArePartsDone P.F.edge hand (state_of P.targets P.F.edge self.old) work.old (state_of P.targets P.F.edge self.new) work.new }
         ensures kept { (work.new.task ≡ work.old.task) × (work.new.parts ≡ work.old.parts) }
-        ensures stays { (self.new.graph ≡ self.old.graph) × (self.new.roots ≡ self.old.roots) }
+        ensures tasks { (task : TaskData P.F) → progress_at self.old.pile hand ≡ Some (task, work.old.done) → KeepTasks hand work.new.done self.old.pile self.new.pile }
+        ensures stays { IsSameProblem self.old self.new }
         ensures free { (h : ℕ) → claim_at self.old.pile h ≡ None → claim_at self.new.pile h ≡ None }
     {
         for count in 0..most {

@@ -47,8 +47,8 @@ module _ {F L : Type 0} (A : LatticeAlgebra L) (laws : IsLattice A) (B : EdgeAlg
   pub following_best : RunsAreBest A B targets → RunsAreSound A B targets → SitesMakeAGraph A B targets → SitesOfProgramsAreJoined → GraphsOfProgramsAreClosed
       → FollowingValuesAreBest A B targets
   following_best best sound make joined closed graph roots table values follow p of all solved n d h k =
-      let joint : AreJoined graph.sites (start_at graph) = joined p graph of.named of.numbered of.edges in
-      let rooted : IsRooted graph roots = record { is_closed = closed p graph of.named of.numbered of.edges; rooted = of.rooted } in
+      let joint : AreJoined graph.sites (start_at graph) = joined p graph of.numbered of.edges in
+      let rooted : IsRooted graph roots = record { is_closed = closed p graph of.numbered of.edges; rooted = of.rooted } in
       let G : Edges = edges_of graph.facts graph.sites all (start_at graph) in
       let is : IsGraph G = (make graph.facts graph.sites all (start_at graph) joint).0 in
       let run : IsRunOf (frame_at A B targets graph all) solved.state = sound G is solved.state solved.run in

@@ -1,6 +1,6 @@
 -- When values are best: a run over the graph of a program came to the tables that they follow from.
 use Rattle.std.specs.Prelude.{◌≡◌, ℕ, ◌+◌, ◌*◌, ◌<◌, List, slice_index_or}
-use Rattle.ide_graph.specs.GraphOf.{IsNamed, IsGraphOf}
+use Rattle.ide_graph.specs.GraphOf.{IsGraphOf}
 use Rattle.ide_graph.specs.ProgramEdges.{HasEdgesOf}
 use Rattle.ide_graph.specs.Supergraph.{Supergraph}
 use Rattle.ide_lattice.specs.Algebra.{LatticeAlgebra, EdgeAlgebra}
@@ -20,7 +20,6 @@ use Rattle.ide_values.specs.Dump.{dump_of}
 
 -- the graph is that of the program, and roots are procedures
 pub record AreOf (graph : Supergraph) (roots : List ℕ) (p : Program) : Type 0 where
-  pub named : IsNamed p
   pub numbered : IsGraphOf p graph
   pub edges : HasEdgesOf p graph
   pub rooted : (i : ℕ) → IsIn i roots → i < graph.procedures

@@ -5,14 +5,14 @@ use Rattle.ide_graph.specs.Supergraph.{Supergraph}
 use Rattle.ide_lattice.specs.Algebra.{LatticeAlgebra, EdgeAlgebra}
 use Rattle.ide_problem.specs.Flow.{Targets}
 use Rattle.ide_tables.specs.Tables.{Table, found}
-use Rattle.ide_text.specs.declared.program.Program.{Program}
+use Rattle.ide_text.specs.Value.{ProgramValue}
 use Rattle.ide_values.specs.Fill.{AreFilled, IsImage}
 use Rattle.ide_values.specs.Settled.{AreStarts}
 
--- the program and its graph, the roots as indices of procedures, and rows of values by node, one for each
--- fact
+-- what the program says, its graph, the roots as indices of procedures, and rows of values by node, one for
+-- each fact
 pub record ValuesData (L : Type 0) : Type 0 where
-  pub program : Program
+  pub program : ProgramValue
   pub graph : Supergraph
   pub roots : List ℕ
   pub values : List L

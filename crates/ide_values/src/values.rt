@@ -2,6 +2,7 @@
 ghost use Rattle.std.specs.Prelude.{◌≡◌, ◌<◌, ◌≤◌, ◌⊎◌, ◌↔◌, Err, IfErr, IfOk};
 ghost use Rattle.std.specs.Arc.{arc_value};
 ghost use Rattle.ide_steps.specs.declared.loaded.Loaded.{Loaded};
+ghost use Rattle.ide_text.specs.Program.{value_of as program_value};
 ghost use Rattle.ide_values.specs.Best.{AreBest};
 ghost use Rattle.ide_values.specs.Closed.{FollowFrom};
 ghost use Rattle.ide_values.specs.Values.{AreValues, value_of};
@@ -33,11 +34,12 @@ pub struct Values<P: Problem> {
 impl<P: Problem> Model for Values<P> {
     ghost use Rattle.std.specs.Arc.{arc_value};
     ghost use Rattle.ide_steps.specs.declared.loaded.Loaded.{Loaded};
+    ghost use Rattle.ide_text.specs.Program.{value_of as program_value};
     ghost use Rattle.ide_values.specs.Values.{ValuesData};
 
     ghost Value = { ValuesData P.L };
 
-    ghost view = { λ v. record { program = (arc_value {X = Loaded P P.L P.F} v.loaded).program; graph = (arc_value {X = Loaded P P.L P.F} v.loaded).graph; roots = v.roots.items; values = v.values.items } };
+    ghost view = { λ v. record { program = program_value (arc_value {X = Loaded P P.L P.F} v.loaded).program; graph = (arc_value {X = Loaded P P.L P.F} v.loaded).graph; roots = v.roots.items; values = v.values.items } };
 }
 
 /// The phase that turns a quiet image into values.
@@ -54,7 +56,7 @@ impl<P: Problem> ValuePhase<P> for Closed<P> {
     fn values(&self, alloc: Global, workers: usize) -> Result<Values<P>, Refused>
         ensures limit { (result ≡ Err Refused.Limit) ↔ ((workers ≡ 0) ⊎ (64 < workers)) }
         ensures refused { IfErr result (λ e. (e ≡ Refused.Limit) ⊎ (e ≡ Refused.NoMemory)) }
-        ensures program { IfOk result (λ values. values.program ≡ (arc_value {X = Loaded P P.L P.F} self.now.loaded).program) }
+        ensures program { IfOk result (λ values. values.program ≡ program_value (arc_value {X = Loaded P P.L P.F} self.now.loaded).program) }
         ensures graph { IfOk result (λ values. values.graph ≡ (arc_value {X = Loaded P P.L P.F} self.now.loaded).graph) }
         ensures roots { IfOk result (λ values. values.roots ≡ self.now.roots.items) }
         ensures follow { IfOk result (λ values. FollowFrom P.L.algebra P.F.edge P.targets (arc_value {X = Loaded P P.L P.F} self.now.loaded).graph self.now.tables self.now.roots.items values.values) }
@@ -70,7 +72,7 @@ impl<P: Problem> ValuePhase<P> for Closed<P> {
 
 /// The values of an image.
 fn values_of<P: Problem>(alloc: Global, closed: &Closed<P>) -> Result<Values<P>, AllocError>
-    ensures program { IfOk result (λ values. values.program ≡ (arc_value {X = Loaded P P.L P.F} closed.now.loaded).program) }
+    ensures program { IfOk result (λ values. values.program ≡ program_value (arc_value {X = Loaded P P.L P.F} closed.now.loaded).program) }
     ensures graph { IfOk result (λ values. values.graph ≡ (arc_value {X = Loaded P P.L P.F} closed.now.loaded).graph) }
     ensures roots { IfOk result (λ values. values.roots ≡ closed.now.roots.items) }
     ensures follow { IfOk result (λ values. FollowFrom P.L.algebra P.F.edge P.targets (arc_value {X = Loaded P P.L P.F} closed.now.loaded).graph closed.now.tables closed.now.roots.items values.values) }
@@ -125,14 +127,14 @@ impl<P: Problem> Values<P> {
 
     /// The program whose values they are.
     pub fn program(&self) -> &Program
-        ensures { result.now ≡ self.now.program }
+        ensures { program_value result.now ≡ self.now.program }
     {
         &self.loaded.program
     }
 
     /// The program and its graph, by which nodes and facts are found.
     pub fn loaded(&self) -> &Loaded<P>
-        ensures program { result.now.program ≡ self.now.program }
+        ensures program { program_value result.now.program ≡ self.now.program }
         ensures graph { result.now.graph ≡ self.now.graph }
     {
         &*self.loaded

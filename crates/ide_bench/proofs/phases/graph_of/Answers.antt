@@ -7,5 +7,5 @@ returns c =
       program = c.in_ok-program.program;
       parsed = parsed;
       counted = c.in_ok-of.ensures.numbered;
-      edges = c.in_ok-of.ensures.edges (parsed.named, parsed.limits);
+      edges = c.in_ok-of.ensures.edges;
     }

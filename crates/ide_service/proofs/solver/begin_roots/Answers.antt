@@ -40,5 +40,4 @@ returns-in_err-root-clause-refused g c =
     handed-on (IsRootsRefusal old.graph old.roots (map (λ name. name.now) names)) c.from_residual.result refused p.0 p.1 p.2
     (subst (λ ns. IsRootsRefusal old.graph old.roots ns refused) (sym (names-around (λ name. name.now) names index _ c.loop-name-test.true))
     (refused-later A B targets old mid (map (λ name. name.now) (take index names)) (_ ∷ map (λ name. name.now) (drop (suc index) names)) c.loop-name.invariant
-    (root-refused mid _ (map (λ name. name.now) (drop (suc index) names)) refused is.refused
-    (λ same. is.no_program.0 (ap Err same)) (λ same. is.no_procedure.0 (ap Err same)) (λ same. is.has_parameters.0 (ap Err same)) (λ same. is.already.0 (ap Err same)))))
+    (root-refused mid.graph mid.roots _ (map (λ name. name.now) (drop (suc index) names)) is.refused)))

@@ -25,7 +25,7 @@ returns-clause-started g c =
     let parsed = c.in_ok-program.ensures.parsed in
     started A B targets laws c.args.text.now (map (λ name. name.now) c.args.roots.now) c.in_ok-program.program parsed
     c.load.new.self c.begin_roots.new.core
-    c.in_ok-load.ensures.graph (c.in_ok-load.ensures.edges (parsed.named, parsed.limits)) c.in_ok-load.ensures.state c.in_ok-load.ensures.roots
+    c.in_ok-load.ensures.program c.in_ok-load.ensures.graph c.in_ok-load.ensures.edges c.in_ok-load.ensures.state c.in_ok-load.ensures.roots
     c.in_ok-load.ensures.claims c.in_ok-begin_roots.ensures.begun
 
 pub returns-in_err-program-clause-refused : goal.returns-in_err-program-clause-refused
@@ -48,5 +48,5 @@ returns-in_err-begin_roots-clause-refused g c =
     let parsed = c.in_ok-program.ensures.parsed in
     handed-on (IsSolveRefusal c.args.text.now names) c.from_residual-in_err-begin_roots.result c.in_err-begin_roots.field-0.0 p.0 p.1 p.2
     (roots-refused g.P.L.Lattice.algebra g.P.F.EdgeFn.edge g.P.Problem.targets c.args.text.now names c.load.new.self c.in_ok-program.program
-    parsed c.in_ok-load.ensures.graph (c.in_ok-load.ensures.edges (parsed.named, parsed.limits)) c.in_ok-load.ensures.roots
+    parsed c.in_ok-load.ensures.graph c.in_ok-load.ensures.edges c.in_ok-load.ensures.roots
     c.in_err-begin_roots.ensures.refused)

@@ -1,27 +1,26 @@
 use Rattle.std.proofs.Common.{None, ap, cond, refl, ◌∙◌}
 use Rattle.ide_worklist.specs.Worklist.{claim_at}
 use Rattle.ide_steps.proofs.Free.{free-without}
-use Rattle.ide_steps.proofs.Going.{goes-back, goes-on, goes-on-then, goes-same}
+use Rattle.ide_steps.proofs.Going.{goes-on, goes-on-then, goes-released, goes-same}
 use Rattle.ide_steps.proofs.Bounded.{few-of}
 use Rattle.ide_steps.proofs.machine.Core.drain.Goals as goal
 
 pub returns-then-is_some-clause-goes : goal.returns-then-is_some-clause-goes
 returns-then-is_some-clause-goes g c =
     goes-on g.P.L.Lattice.algebra g.P.F.EdgeFn.edge g.P.Problem.targets c.args.self.now c.args.self.now
-    (goes-same g.P.L.Lattice.algebra g.P.F.EdgeFn.edge g.P.Problem.targets c.args.self.now c.args.self.now refl)
+    (goes-same g.P.L.Lattice.algebra g.P.F.EdgeFn.edge g.P.Problem.targets 0 c.args.self.now c.args.self.now refl)
 
 pub returns-then-claimed_elsewhere-clause-goes : goal.returns-then-claimed_elsewhere-clause-goes
 returns-then-claimed_elsewhere-clause-goes g c =
     goes-on g.P.L.Lattice.algebra g.P.F.EdgeFn.edge g.P.Problem.targets c.args.self.now c.args.self.now
-    (goes-same g.P.L.Lattice.algebra g.P.F.EdgeFn.edge g.P.Problem.targets c.args.self.now c.args.self.now refl)
+    (goes-same g.P.L.Lattice.algebra g.P.F.EdgeFn.edge g.P.Problem.targets 0 c.args.self.now c.args.self.now refl)
 
 pub returns-then-is_err-clause-goes : goal.returns-then-is_err-clause-goes
 returns-then-is_err-clause-goes g c =
     goes-on-then g.P.L.Lattice.algebra g.P.F.EdgeFn.edge g.P.Problem.targets c.args.self.now c.run_all-drained.new.self c.release.new.self
     c.run_all-drained.ensures.goes
-    (goes-on g.P.L.Lattice.algebra g.P.F.EdgeFn.edge g.P.Problem.targets c.run_all-drained.new.self c.release.new.self
-    (goes-back g.P.L.Lattice.algebra g.P.F.EdgeFn.edge g.P.Problem.targets c.run_all-drained.new.self c.release.new.self 0
-    c.release.ensures.stays.0 c.release.ensures.stays.1 c.release.ensures.released))
+    (goes-released g.P.L.Lattice.algebra g.P.F.EdgeFn.edge g.P.Problem.targets c.run_all-drained.new.self c.release.new.self 0
+    c.release.ensures.stays c.release.ensures.released)
 
 pub returns-then-is_err-clause-free : goal.returns-then-is_err-clause-free
 returns-then-is_err-clause-free g c = λ free.

@@ -2,7 +2,7 @@ use Rattle.std.proofs.Common.{◌≡◌, [], drop, length, ap, ◌∙◌, arith,
 use Rattle.std.proofs.lemmas.List.{drop_all}
 use Rattle.ide_tasks.specs.Parts.{owed}
 use Rattle.ide_worklist.specs.Worklist.{claim_at}
-use Rattle.ide_steps.proofs.States.{claim-held}
+use Rattle.ide_steps.proofs.States.{claim-held, current-held}
 use Rattle.ide_steps.proofs.machine.Core.finish.Goals as goal
 
 -- the claim's task owes what the work's does, of which nothing is left
@@ -22,3 +22,8 @@ returns-clause-finished g c =
       ap (λ n. drop n (owed targets B there.0.task)) done ∙ (ap (drop work.done) there.3 ∙ none),
       c.end_claim.ensures.finished there.0 there.1,
     )
+
+pub returns-clause-current : goal.returns-clause-current
+returns-clause-current g c =
+    current-held g.P.Problem.targets g.P.F.EdgeFn.edge c.args.self.now c.args.hand c.args.work.now
+    (c.is_current.ensures.far c.if-not-is_current.false) (c.is_current.ensures.owed c.if-not-is_current.false)

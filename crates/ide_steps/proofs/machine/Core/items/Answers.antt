@@ -1,6 +1,6 @@
 use Rattle.std.proofs.Common.{◌∙◌, ap, map, subst}
 use Rattle.ide_tables.specs.Tables.{AreKeys}
-use Rattle.ide_wire.specs.contracts.key.KeyOrd.TheImpl.{ghosts as key_ord}
+use Rattle.ide_wire.specs.KeyOrder.{key_cmp}
 use Rattle.ide_steps.specs.Core.{CoreData}
 use Rattle.ide_steps.specs.Items.{item_of}
 use Rattle.ide_steps.proofs.Listed.{are-items}
@@ -9,5 +9,5 @@ use Rattle.ide_steps.proofs.machine.Core.items.Goals as goal
 pub returns-clause-items : goal.returns-clause-items
 returns-clause-items g c =
     are-items g.P.F.EdgeFn.edge c.args.self.now c.in_ok-keys.keys.items c.in_ok-items.items.items
-    (subst (λ (core : CoreData g.row.P-F.Denot). AreKeys key_ord.cmp core.table c.in_ok-keys.keys.items) c.self.view_is c.in_ok-keys.ensures.keys)
+    (subst (λ (core : CoreData g.row.P-F.Denot). AreKeys key_cmp core.table c.in_ok-keys.keys.items) c.self.view_is c.in_ok-keys.ensures.keys)
     (c.in_ok-items.ensures ∙ ap (map (item_of g.P.F.EdgeFn.edge c.args.self.now)) c.deref.ensures.value)

@@ -7,7 +7,7 @@ use Rattle.std.specs.List.{list_any}
 use Rattle.ide_tables.specs.Tables.{Table, found}
 use Rattle.ide_wire.specs.Key.{same_key}
 use Rattle.ide_worklist.specs.Worklist.{claim_at, marked}
-use Rattle.ide_steps.proofs.States.{or_top-unwrap, state-lowered, watched-kept}
+use Rattle.ide_steps.proofs.States.{changes-of, or_top-unwrap, state-lowered, watched-kept}
 
 -- `search` would try long at these before it gave up: an invariant is a function into a record
 pub invariant_of-self-in_err-change : goal.invariant_of-self-in_err-change
@@ -75,3 +75,9 @@ returns-then-eq-clause-paid g c = λ is h.
       keys = omega (arith, pays, c.push.ensures.count, after, before, keys);
       ranks = omega (arith, less);
     })
+
+pub returns-then-eq-clause-changes : goal.returns-then-eq-clause-changes
+returns-then-eq-clause-changes g c = λ is.
+    rw (← c.self.view_is)
+    (changes-of g.P.Problem.targets g.P.F.EdgeFn.edge g.met.P.F.EdgeFn.lawful.rank_all_top c.self.inside.tables c.self.inside.worklist c.args.key c.args.function
+    (c.in_ok-change.ensures.falls is))

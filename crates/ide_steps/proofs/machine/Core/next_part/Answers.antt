@@ -1,9 +1,10 @@
-use Rattle.std.proofs.Common.{◌≡◌, ◌+◌, ◌<◌, sym, ap, ◌∙◌, add-one, arith, Ok, Some, length}
+use Rattle.std.proofs.Common.{◌≡◌, ◌+◌, ◌<◌, sym, ap, subst, ◌∙◌, add-one, arith, Ok, Some, length}
 use Rattle.std.specs.Prelude.{slice_get}
 use Rattle.std.proofs.lemmas.Option.{slice_get_within}
 use Rattle.ide_tables.specs.declared.tables.Change.{Change}
 use Rattle.ide_theory.specs.State.{part_done}
-use Rattle.ide_steps.proofs.States.{state-counted}
+use Rattle.ide_steps.specs.Steps.{KeepTasks}
+use Rattle.ide_steps.proofs.States.{state-counted, tasks-counted}
 use Rattle.ide_steps.proofs.machine.Core.next_part.Goals as goal
 use Rattle.ide_steps.proofs.machine.Core.next_part.Goals.{in-Lowered, in-Same}
 
@@ -18,6 +19,7 @@ returns-clause-lowered g c = λ is task at.
     record {
       part = c.in-Some.part;
       next = next;
+      changes = c.in_ok-change.ensures.changes (ap Ok change);
       state =
           state-counted g.P.Problem.targets g.P.F.EdgeFn.edge c.self.inside.tables c.self.inside.worklist c.set_done.new.self c.args.hand task
           c.args.work.now.done c.done.result (rw (← c.self.view_is) at (c.in_ok-change.ensures.progress c.args.hand ∙ at)) (done_there ∙ add-one c.args.work.now.done)
@@ -64,3 +66,9 @@ returns-in_err-change-clause-all_done g c = λ is.
     let next : slice_get c.args.work.now.parts c.args.work.now.done ≡ Some c.in-Some.part = sym c.in-Some.ensures.next in
     let within : c.args.work.now.done < length c.args.work.now.parts = slice_get_within c.args.work.now.parts c.args.work.now.done c.in-Some.part next in
     absurd (omega (arith, within, is))
+
+pub returns-clause-tasks : goal.returns-clause-tasks
+returns-clause-tasks g c = λ _.
+    subst (λ n. KeepTasks c.args.hand n c.args.self.now.pile c.set_done.new.self) c.done.ensures
+    (tasks-counted {F = g.row.P-F.Denot} c.args.hand c.done.result c.args.self.now.pile c.self.inside.worklist c.set_done.new.self
+    (rw (← c.self.view_is) at c.in_ok-change.ensures.progress) c.set_done.ensures.claims)

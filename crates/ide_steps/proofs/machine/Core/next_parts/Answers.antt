@@ -2,11 +2,13 @@ use Rattle.std.proofs.Common.{◌≡◌, ◌+◌, ◌<◌, ◌⊎◌, inl, inr, 
 use Rattle.ide_lattice.specs.Algebra.{EdgeAlgebra}
 use Rattle.ide_tasks.specs.Work.{WorkData}
 use Rattle.ide_theory.specs.State.{State}
+use Rattle.ide_steps.specs.Core.{CoreData}
 use Rattle.ide_steps.specs.declared.part.Parted.{Parted}
 use Rattle.ide_steps.specs.declared.part.Parted.TheVariants.{Lowered, Same, NoPart}
 use Rattle.ide_steps.specs.State.{state_of}
-use Rattle.ide_steps.specs.Steps.{ArePartsDone, IsLowered, IsSkipped, none_yet, then_lowered, then_skipped}
-use Rattle.ide_steps.proofs.Going.{state-unchanged}
+use Rattle.ide_steps.specs.Steps.{ArePartsDone, IsLowered, IsSkipped, KeepTasks, none_yet, then_lowered, then_skipped}
+use Rattle.ide_steps.proofs.Going.{same-problem, state-unchanged}
+use Rattle.ide_steps.proofs.States.{tasks-here, tasks-then, tasks-unchanged}
 use Rattle.ide_steps.proofs.machine.Core.next_parts.Goals as goal
 
 -- work with no part more, and with one more than those counted
@@ -41,8 +43,8 @@ loop-count-init g c = record {
   done = as-counted c.args.work.now;
   progress = λ task at. at;
   parts = λ task at. none_yet;
-  graph = refl;
-  roots = refl;
+  tasks = λ task at. tasks-here c.args.hand c.args.work.now.done task c.args.self.now.pile at;
+  same = record { program = refl; graph = refl; roots = refl };
   free = λ h free. free;
 }
 
@@ -69,10 +71,19 @@ loop-count-preserved g c =
           parts-more B c.args.hand (state_of targets B c.args.self.now) (state_of targets B c.loop-count.self) (state_of targets B c.next_part.new.self)
           start before c.next_part.new.work parted (λ is. ensures.lowered (ap Ok is) task now) (λ is. ensures.same (ap Ok is) task now) some
           (c.loop-count.invariant.parts task at);
-      graph = ensures.stays.0 ∙ c.loop-count.invariant.graph;
-      roots = ensures.stays.1 ∙ c.loop-count.invariant.roots;
+      tasks = λ task at.
+          tasks-then c.args.hand before.done c.next_part.new.work.done c.args.self.now.pile c.loop-count.self.pile c.next_part.new.self.pile
+          (c.loop-count.invariant.tasks task at) (ensures.tasks (some-part (Ok parted) parted refl some));
+      same = same-problem g.P.L.Lattice.algebra B targets c.loop-count.invariant.same ensures.stays;
       free = λ h free. ensures.free h (c.loop-count.invariant.free h free);
     }
+
+pub returns-in_err-next_part-clause-tasks : goal.returns-in_err-next_part-clause-tasks
+returns-in_err-next_part-clause-tasks g c = λ task at.
+    let unchanged = c.in_err-next_part.ensures.unchanged in
+    subst (λ (work : WorkData g.row.P-F.Denot). KeepTasks c.args.hand work.done c.args.self.now.pile c.next_part.new.self.pile) (sym unchanged.1)
+    (tasks-unchanged c.args.hand c.loop-count.work.done c.args.self.now.pile c.loop-count.self.pile c.next_part.new.self.pile
+    (c.loop-count.invariant.tasks task at) unchanged.0.claims)
 
 -- the part that wanted memory changed nothing
 pub returns-in_err-next_part-clause-parts : goal.returns-in_err-next_part-clause-parts
@@ -85,3 +96,11 @@ returns-in_err-next_part-clause-parts g c = λ task at.
     subst (λ t. ArePartsDone B c.args.hand (state_of targets B c.args.self.now) c.args.work.now t c.next_part.new.work) (sym same)
     (subst (ArePartsDone B c.args.hand (state_of targets B c.args.self.now) c.args.work.now (state_of targets B c.loop-count.self)) (sym unchanged.1)
     (c.loop-count.invariant.parts task at))
+
+-- where no part was left, nothing changed
+pub returns-then-eq-clause-tasks : goal.returns-then-eq-clause-tasks
+returns-then-eq-clause-tasks g c = λ task at.
+    let kept = c.in_ok-next_part.ensures.no_part (search rules) in
+    subst (λ (work : WorkData g.row.P-F.Denot). KeepTasks c.args.hand work.done c.args.self.now.pile c.next_part.new.self.pile) (sym kept.2)
+    (subst (λ (core : CoreData g.row.P-F.Denot). KeepTasks c.args.hand c.loop-count.work.done c.args.self.now.pile core.pile) (sym kept.1)
+    (c.loop-count.invariant.tasks task at))

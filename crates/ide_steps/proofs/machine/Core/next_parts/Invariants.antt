@@ -1,8 +1,9 @@
 use Rattle.std.proofs.Common.{◌≡◌, ◌+◌, ◌-◌, ◌≤◌, ℕ, None, Some, length}
 use Rattle.ide_tasks.specs.Task.{TaskData}
 use Rattle.ide_worklist.specs.Worklist.{claim_at}
+use Rattle.ide_steps.specs.Core.{IsSameProblem}
 use Rattle.ide_steps.specs.State.{state_of}
-use Rattle.ide_steps.specs.Steps.{ArePartsDone, progress_at}
+use Rattle.ide_steps.specs.Steps.{ArePartsDone, KeepTasks, progress_at}
 use Rattle.ide_steps.proofs.machine.Core.next_parts.Given as goal
 
 -- as many parts are done as are counted, and they were there to do; where the work is the hand's claim
@@ -16,7 +17,8 @@ invariant-loop-count g l = record {
   parts : (task : TaskData g.row.P-F.Denot) → progress_at l.initial.self.pile l.hand ≡ Some (task, l.initial.work.done)
       → ArePartsDone g.P.F.EdgeFn.edge l.hand (state_of g.P.Problem.targets g.P.F.EdgeFn.edge l.initial.self) l.initial.work
       (state_of g.P.Problem.targets g.P.F.EdgeFn.edge l.self) l.work;
-  graph : l.self.graph ≡ l.initial.self.graph;
-  roots : l.self.roots ≡ l.initial.self.roots;
+  tasks : (task : TaskData g.row.P-F.Denot) → progress_at l.initial.self.pile l.hand ≡ Some (task, l.initial.work.done)
+      → KeepTasks l.hand l.work.done l.initial.self.pile l.self.pile;
+  same : IsSameProblem l.initial.self l.self;
   free : (h : ℕ) → claim_at l.initial.self.pile h ≡ None → claim_at l.self.pile h ≡ None;
 }

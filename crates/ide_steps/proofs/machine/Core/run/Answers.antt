@@ -8,7 +8,7 @@ use Rattle.ide_steps.specs.declared.part.Parted.{Parted}
 use Rattle.ide_steps.specs.declared.part.Parted.TheVariants.{Lowered, Same}
 use Rattle.ide_steps.specs.Drain.{IsPaidBy, left_by, lowerings_by, potential}
 use Rattle.ide_steps.specs.Going.{GoesOnBy, IsWorking}
-use Rattle.ide_steps.proofs.Going.{goes-then, goes-finish, goes-lowered, goes-same, goes-skipped, goes-unchanged, parted-is, works-on}
+use Rattle.ide_steps.proofs.Going.{goes-then, goes-finish, goes-lowered, goes-same, goes-skipped, goes-unchanged, parted-is, working-current, works-on}
 use Rattle.ide_steps.proofs.machine.Core.run.Goals as goal
 
 -- the end of a task takes at most its key out, and takes it out where the flag says so
@@ -35,7 +35,7 @@ returns-clause-falls g c =
     ⊎ ((potential B core ≡ potential B c.args.self.now) × (ends_key (claim_at core.pile 0) ≡ true)))
     (sym here) c.loop-work.invariant.1) in
     subst (λ t. 2 * (2 ^ 64 * B.height - spent B t.entries) + length c.end_claim.new.self.pile.pending < potential B c.args.self.now)
-    (sym c.end_claim.ensures.stays.2) less
+    (sym c.end_claim.ensures.table) less
 
 pub returns-clause-others : goal.returns-clause-others
 returns-clause-others g c = λ h other none.
@@ -60,13 +60,13 @@ returns-clause-goes g c =
     let paid = settled (length over.pile.pending) (length core.pile.pending) (length start.pile.pending + c.loop-work.invariant.0)
     (ends_key (claim_at core.pile 0)) c.end_claim.ensures.count due in
     let ranks = by.ranks in
-    let same = ap (λ t. spent B t.entries) c.end_claim.ensures.stays.2 in (
+    let same = ap (λ t. spent B t.entries) c.end_claim.ensures.table in (
       c.loop-work.invariant.0 + 0,
       λ working.
           let now = c.loop-work.invariant.2 working in
           goes-then A B targets start core over
-          (subst (GoesOnBy A B targets 0 c.loop-work.invariant.0 start) (sym done.1) now.1)
-          (goes-finish A B targets core over 0 work c.end_claim.ensures.stays.0 c.end_claim.ensures.stays.1
+          (subst (GoesOnBy A B targets 0 0 c.loop-work.invariant.0 0 start) (sym done.1) now.1)
+          (goes-finish A B targets core over 0 work c.end_claim.ensures.stays
           (subst (λ s. IsWorking A B targets s 0 work) (sym done.1) now.0) done.0 c.end_claim.ensures.finished),
       record { keys = omega (arith, paid); ranks = omega (arith, ranks, same) },
     )
@@ -82,7 +82,7 @@ returns-in_err-next_part-clause-goes g c =
       c.loop-work.invariant.0 + 0,
       λ working.
           goes-then A B targets c.args.self.now c.loop-work.self c.next_part.new.self (c.loop-work.invariant.2 working).1
-          (goes-unchanged A B targets c.loop-work.self c.next_part.new.self c.in_err-next_part.ensures.unchanged.0),
+          (goes-unchanged A B targets 0 c.loop-work.self c.next_part.new.self c.in_err-next_part.ensures.unchanged.0),
       search rules,
     )
 
@@ -90,7 +90,7 @@ pub loop-work-init : goal.loop-work-init
 loop-work-init g c = (
   0,
   inr (refl, c.requires),
-  λ working. (working, goes-same g.P.L.Lattice.algebra g.P.F.EdgeFn.edge g.P.Problem.targets c.args.self.now c.args.self.now refl),
+  λ working. (working, goes-same g.P.L.Lattice.algebra g.P.F.EdgeFn.edge g.P.Problem.targets 0 c.args.self.now c.args.self.now refl),
   record { keys = omega arith; ranks = omega arith },
   λ h other none. none,
 )
@@ -132,7 +132,7 @@ loop-work-preserved g c =
                 let now = c.loop-work.invariant.2 working in
                 let part = ensures.lowered is work.task now.0.progress in (
                   works-on A B targets new 0 work after part.counted now.0.parts (ensures.progress work.task now.0.progress),
-                  goes-then A B targets start old new now.1 (goes-lowered A B targets old new 0 work after ensures.stays.0 ensures.stays.1 now.0 part),
+                  goes-then A B targets start old new now.1 (goes-lowered A B targets old new 0 work after ensures.stays (working-current A B targets old 0 work now.0) part),
                 ),
             pays Lowered lowered,
             others,
@@ -150,7 +150,7 @@ loop-work-preserved g c =
                   let now = c.loop-work.invariant.2 working in
                   let part = ensures.same is work.task now.0.progress in (
                     works-on A B targets new 0 work after part.counted now.0.parts (ensures.progress work.task now.0.progress),
-                    goes-then A B targets start old new now.1 (goes-skipped A B targets old new 0 work after ensures.stays.0 ensures.stays.1 now.0 part),
+                    goes-then A B targets start old new now.1 (goes-skipped A B targets old new 0 work after ensures.stays (working-current A B targets old 0 work now.0) part),
                   ),
               pays Same same,
               others,

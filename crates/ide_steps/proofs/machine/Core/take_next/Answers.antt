@@ -1,19 +1,18 @@
 use Rattle.std.proofs.Common.{◌<◌, ap, arith, sym, ◌∙◌, rules, Ok}
 use Rattle.std.proofs.lemmas.Option.{same_Some}
-use Rattle.std.specs.Option.{is_some}
 use Rattle.ide_graph.specs.Joined.{start_at}
 use Rattle.ide_wire.specs.Key.{node_of}
 use Rattle.ide_theory.specs.Sites.{edges_of}
 use Rattle.ide_steps.specs.State.{state_of}
 use Rattle.ide_steps.proofs.Free.{some-unclaimed}
-use Rattle.ide_steps.proofs.Going.{claims, goes-on, goes-same, goes-step, goes-unchanged}
+use Rattle.ide_steps.proofs.Going.{goes-on, goes-same, goes-unchanged}
 use Rattle.ide_steps.proofs.Room.{placed-within}
 use Rattle.ide_steps.proofs.machine.Core.take_next.Goals as goal
 
 pub returns-in_err-task-clause-goes : goal.returns-in_err-task-clause-goes
 returns-in_err-task-clause-goes g c =
     goes-on g.P.L.Lattice.algebra g.P.F.EdgeFn.edge g.P.Problem.targets c.args.self.now c.claim.new.self
-    (goes-unchanged g.P.L.Lattice.algebra g.P.F.EdgeFn.edge g.P.Problem.targets c.args.self.now c.claim.new.self c.in_err-task.ensures.unchanged)
+    (goes-unchanged g.P.L.Lattice.algebra g.P.F.EdgeFn.edge g.P.Problem.targets 0 c.args.self.now c.claim.new.self c.in_err-task.ensures.unchanged)
 
 -- each pending key of a run is present, and each present one stands at a node
 pub returns-in_err-task-clause-within : goal.returns-in_err-task-clause-within
@@ -31,21 +30,12 @@ returns-in_err-task-clause-within g c = λ is graph at all fit run.
 
 pub returns-in-Task-clause-claims : goal.returns-in-Task-clause-claims
 returns-in-Task-clause-claims g c =
-    let A = g.P.L.Lattice.algebra in
-    let B = g.P.F.EdgeFn.edge in
-    let targets = g.P.Problem.targets in
     let old = c.args.self.now in
     let new = c.claim.new.self in
     let task = c.in-Task.task in
     let is = ap Ok c.in-Task.is in
-    let taken = c.in_ok-task.ensures.task task is in
-    goes-step A B targets 1 0 old new c.in_ok-task.ensures.image.0 c.in_ok-task.ensures.image.1 (λ graph same all fit run.
-    let made = c.sites_make_a_graph.ensures graph.facts graph.sites all (start_at graph) fit.joined in
-    let sound = c.runs_are_sound.ensures (edges_of graph.facts graph.sites all (start_at graph)) made.0 (state_of targets B old) run in
-    let present = sound.present task.key taken.pending in
-    claims A B targets graph all old new 0 task taken
-    (c.tasks_owe_their_parts.ensures graph all fit.joined fit.few old.table task
-    (c.in_ok-task.ensures.is_task task graph is same fit.exits (ap is_some present.1)) sound.ranged.keys))
+    c.calls_are_steps.ensures.claim 0 old new task c.in_ok-task.ensures.stays (c.in_ok-task.ensures.task task is)
+    (λ graph same exits present. c.in_ok-task.ensures.is_task task graph is same exits present)
 
 pub returns-in-Task-clause-goes : goal.returns-in-Task-clause-goes
 returns-in-Task-clause-goes g c =
@@ -59,11 +49,11 @@ returns-in-Idle-clause-refused g c =
 pub returns-in-Idle-clause-goes : goal.returns-in-Idle-clause-goes
 returns-in-Idle-clause-goes g c =
     goes-on g.P.L.Lattice.algebra g.P.F.EdgeFn.edge g.P.Problem.targets c.args.self.now c.claim.new.self
-    (goes-same g.P.L.Lattice.algebra g.P.F.EdgeFn.edge g.P.Problem.targets c.args.self.now c.claim.new.self (c.in_ok-task.ensures.waits (ap Ok c.in-Idle.is)))
+    (goes-same g.P.L.Lattice.algebra g.P.F.EdgeFn.edge g.P.Problem.targets 0 c.args.self.now c.claim.new.self (c.in_ok-task.ensures.waits (ap Ok c.in-Idle.is)))
 
 pub returns-in-Quiet-clause-claims : goal.returns-in-Quiet-clause-claims
 returns-in-Quiet-clause-claims g c =
-    goes-same g.P.L.Lattice.algebra g.P.F.EdgeFn.edge g.P.Problem.targets c.args.self.now c.claim.new.self (c.in_ok-task.ensures.nothing (ap Ok c.in-Quiet.is))
+    goes-same g.P.L.Lattice.algebra g.P.F.EdgeFn.edge g.P.Problem.targets 0 c.args.self.now c.claim.new.self (c.in_ok-task.ensures.nothing (ap Ok c.in-Quiet.is))
 
 pub returns-in-Quiet-clause-goes : goal.returns-in-Quiet-clause-goes
 returns-in-Quiet-clause-goes g c =

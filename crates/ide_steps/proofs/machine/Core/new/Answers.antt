@@ -1,0 +1,6 @@
+use Rattle.ide_steps.proofs.States.{state-nothing}
+use Rattle.ide_steps.proofs.machine.Core.new.Goals as goal
+
+pub returns-clause-state : goal.returns-clause-state
+returns-clause-state g c =
+    state-nothing g.P.Problem.targets g.P.F.EdgeFn.edge c.new-3.result c.new-4.result c.new-3.ensures.entries c.new-4.ensures.pending c.new-4.ensures.claims
