@@ -1,8 +1,6 @@
 //! Whether the solver's values are those that the paths give.
-ghost use Rattle.std.specs.Prelude.{◌≡◌, ◌*◌, ◌<◌, ℕ, List, IfOk, IsTrue, length, map};
+ghost use Rattle.std.specs.Prelude.{◌<◌, ℕ, IsTrue};
 ghost use Rattle.ide_plain.specs.Agreement.{AreSame, IsSameAt};
-ghost use Rattle.ide_service.specs.Solve.{AreSolved};
-ghost use Rattle.ide_values.specs.Values.{ValuesData};
 
 use crate::walks::values_of_paths;
 use ide_graph::Graph;
@@ -15,15 +13,14 @@ use std::alloc::Global;
 /// Whether the values that the solver finds of a text, with the procedures of these names as
 /// roots, are at each node and fact what the valid paths of at most `longest` edges give.
 ///
-/// It is refused as [`values_of`] is.
+/// It is a test alone, and has no clause: that the list of `values_of_paths` has the values of the
+/// paths is not proved. It is refused as [`values_of`] is.
 pub fn agrees<P: Problem>(
     alloc: Global,
     text: &[u8],
     roots: &[&[u8]],
     longest: usize,
 ) -> Result<bool, Refused>
-    // The list is that of the paths, of which only its length is proved.
-    ensures { IfOk result (λ same. (values : ValuesData P.L) × (listed : List P.L) × AreSolved P.L.algebra P.F.edge P.targets text.now (map (λ name. name.now) roots.now) values × (length listed ≡ values.graph.nodes * values.graph.facts) × (IsTrue same → AreSame P.L.algebra values listed)) }
 {
     let values = values_of::<P>(alloc, text, roots)?;
     let graph = &values.loaded().graph;
