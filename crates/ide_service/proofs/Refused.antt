@@ -59,9 +59,9 @@ values-refused text names workers (Err e) some few limit is =
 -- what `root` refuses is the fault of its name, which is the first
 pub root-refused : (graph : Option Supergraph) (roots name : List ℕ) (names : List (List ℕ)) {refused : Refused}
     → IsRootRefusal graph roots name refused → IsRootsRefusal graph roots (name ∷ names) refused
-root-refused graph roots name names (no_program_loaded none) = no_program none
+root-refused graph roots name names (no_program_loaded empty) = no_program empty
 root-refused graph roots name names (root_fault {refused = refused} loaded at is) = no_root loaded refused at (here name is)
-root-refused graph roots name names (wants loaded root at is) = no_memory
+root-refused graph roots name names (wants loaded procedure at is) = no_memory
 
 module _ {F L : Type 0} (A : LatticeAlgebra L) (B : EdgeAlgebra F L) (targets : Targets F) where
   -- names that are begun stand before a refusal of more
