@@ -20,8 +20,7 @@ pub fn agrees<P: Problem>(
     text: &[u8],
     roots: &[&[u8]],
     longest: usize,
-) -> Result<bool, Refused>
-{
+) -> Result<bool, Refused> {
     let values = values_of::<P>(alloc, text, roots)?;
     let graph = &values.loaded().graph;
     let starts = starts_of(alloc, graph, values.roots())?;
