@@ -4,6 +4,7 @@
 //! ends with the status that it answers.
 #![tactic(auto)]
 
+mod counts;
 mod run;
 mod words;
 

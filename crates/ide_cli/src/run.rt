@@ -1,7 +1,10 @@
 //! Commands: what each does, and what it prints.
-ghost use Rattle.std.specs.Prelude.{◌≡◌, ◌⊎◌, ◌++◌, ℕ, List, IsErr, IsOk, OnOk};
+ghost use Rattle.std.specs.Prelude.{◌≡◌, ◌⊎◌, ◌++◌, ℕ, List, IfErr, IsErr, IsOk, OnOk};
+ghost use Rattle.ide_cli.specs.Counts.{AppendsCounts};
 ghost use Rattle.ide_cli.specs.Dump.{IsDump};
+ghost use Rattle.ide_text.specs.Parsed.{IsRefusalOf};
 
+use crate::counts::append_counts;
 use crate::words::{Instance, Words, read_words};
 use clap::error::ErrorKind;
 use ide_graph::Graph;
@@ -149,14 +152,12 @@ fn read_file<'a, R: Files + AllocGlobal>(rt: &R, file: &'a str) -> Result<Vec<u8
 }
 
 /// Appends the counts of the program that the text spells.
-fn check(alloc: Global, text: &[u8], out: &mut Vec<u8>) -> Result<(), Refused> {
-    let graph = Graph::of(alloc, &parse(alloc, text)?)?;
-    let counts = format!(in alloc;
-        "ok procedures {} nodes {} facts {}\n",
-        graph.procedure_count(),
-        graph.node_count(),
-        graph.fact_count()
-    )?;
-    out.extend_from_slice(counts.as_bytes())?;
+fn check(alloc: Global, text: &[u8], out: &mut Vec<u8>) -> Result<(), Refused>
+    ensures counts { OnOk result (AppendsCounts text.now out.old.items out.new.items) }
+    ensures refused { IfErr result (IsRefusalOf text.now) }
+{
+    let program = parse(alloc, text)?;
+    let graph = Graph::of(alloc, &program)?;
+    append_counts(&graph, out)?;
     Ok(())
 }

@@ -1,13 +1,13 @@
 //! The worked programs, and some made by chance: the solver's values are those of their paths,
 //! under each analysis.
 use crate::generated;
-use crate::texts::{
-    ADDS_IN_CALLEE, BRANCH_OF_TWO, COPIES, LOOP, RECURSION, SUM_OR_NUMBER, TWO_CALLS, UNREACHABLE,
-};
 use ide_instances::{CopyConst, Reach, ShiftConst, Uninit};
 use ide_plain::agrees;
 use ide_problem::Problem;
 use ide_wire::Refused;
+use ide_worked::{
+    ADDS_IN_CALLEE, BRANCH_OF_TWO, COPIES, LOOP, RECURSION, SUM_OR_NUMBER, TWO_CALLS, UNREACHABLE,
+};
 use std::alloc::Global;
 use std::process::Abort;
 use std::test::Fail;

@@ -1,13 +1,14 @@
 //! From text to answer: what rows of `examples/rows.txt` cannot say, since the program has one root
 //! and prints names.
-use crate::texts::{COPIES, EMPTY, NUMBER, RECURSION, TWO_CALLS, UNREACHABLE, program_of};
 use ide_graph::Graph;
 use ide_instances::{CopyConst, Reach, Uninit};
 use ide_lattice::Lattice;
 use ide_problem::Problem;
 use ide_service::{solve, values_of};
+use ide_text::{Program, parse};
 use ide_values::Values;
 use ide_wire::{Fact, Node, Refused};
+use ide_worked::{COPIES, EMPTY, NUMBER, RECURSION, TWO_CALLS, UNREACHABLE};
 use std::alloc::Global;
 use std::process::Abort;
 use std::test::Fail;
@@ -139,6 +140,12 @@ fn roots_that_are_refused(rt: HostRuntime) -> Result<(), Fail> {
     expect_refusal::<CopyConst>(&rt, TWO_CALLS, &[id], Refused::HasParameters)?;
     expect_refusal::<CopyConst>(&rt, TWO_CALLS, &[main, main], Refused::Already)?;
     expect_refusal::<CopyConst>(&rt, TWO_CALLS, &[main, none], Refused::NoProcedure)
+}
+
+/// The program of a text.
+fn program_of(alloc: Global, text: &str) -> Result<Program, Refused> {
+    let program = parse(alloc, text.as_bytes())?;
+    Ok(program)
 }
 
 /// The graph of a text.

@@ -1,11 +1,12 @@
 //! Counts, sites and names of the graphs of small programs.
-use crate::examples::{
-    ADDS_IN_CALLEE, BRANCH, CALLS, COPIES, COUNTING, EMPTY, NUMBER, RECURSION, STATEMENTS,
-    SUM_OR_NUMBER, UNINITIALISED, UNREACHABLE, WRAPPING_SUM, on_graph_of,
-};
+use crate::graphs::on_graph_of;
 use crate::sites::{Call, expect_call, expect_exit, expect_fork, expect_shared_step, expect_step};
 use ide_graph::{Effect, Graph};
 use ide_wire::{Fact, Node, Refused};
+use ide_worked::{
+    ADDS_IN_CALLEE, BRANCH, COPIES, EMPTY, NUMBER, PASSES_GLOBAL, RECURSION, STATEMENTS,
+    SUM_OR_NUMBER, TWO_CALLS, UNINITIALISED, UNREACHABLE, WRAPPING_SUM,
+};
 use std::process::Abort;
 use std::test::Fail;
 
@@ -35,7 +36,7 @@ fn examples_have_their_counts(rt: HostRuntime) -> Result<(), Fail> {
     expect_counts_of(&rt, UNREACHABLE, (1, 6, 3, 1))?;
     expect_counts_of(&rt, UNINITIALISED, (1, 4, 4, 1))?;
     expect_counts_of(&rt, WRAPPING_SUM, (1, 4, 4, 1))?;
-    expect_counts_of(&rt, COUNTING, (2, 12, 3, 2))?;
+    expect_counts_of(&rt, RECURSION, (2, 12, 3, 2))?;
     expect_counts_of(&rt, ADDS_IN_CALLEE, (2, 12, 4, 1))?;
     expect_counts_of(&rt, SUM_OR_NUMBER, (2, 17, 6, 1))
 }
@@ -87,7 +88,7 @@ fn a_node_may_be_unreachable(rt: HostRuntime) -> Result<(), Fail> {
     )
 }
 
-/// That these are the sites of `COUNTING`.
+/// That these are the sites of `RECURSION`.
 fn expect_counted_global(rt: &impl Abort, graph: &Graph) {
     let again = Call {
         node: 3,
@@ -127,12 +128,12 @@ fn expect_counted_global(rt: &impl Abort, graph: &Graph) {
 fn a_global_is_counted_in_recursion(rt: HostRuntime) -> Result<(), Fail> {
     on_graph_of(
         rt.alloc(),
-        COUNTING,
+        RECURSION,
         |graph| expect_counted_global(&rt, graph),
     )
 }
 
-/// That these are the sites of `CALLS`.
+/// That these are the sites of `TWO_CALLS`.
 fn expect_both_calls(rt: &impl Abort, graph: &Graph) {
     let first = Call {
         node: 6,
@@ -168,7 +169,7 @@ fn expect_both_calls(rt: &impl Abort, graph: &Graph) {
 
 #[test]
 fn calls_go_to_starts_and_come_back(rt: HostRuntime) -> Result<(), Fail> {
-    on_graph_of(rt.alloc(), CALLS, |graph| expect_both_calls(&rt, graph))
+    on_graph_of(rt.alloc(), TWO_CALLS, |graph| expect_both_calls(&rt, graph))
 }
 
 /// That these are the sites of `STATEMENTS` whose statements assign.
@@ -228,7 +229,7 @@ fn statements_have_their_effects_and_targets(rt: HostRuntime) -> Result<(), Fail
     )
 }
 
-/// That these are the sites of `RECURSION`.
+/// That these are the sites of `PASSES_GLOBAL`.
 fn expect_recursion(rt: &impl Abort, graph: &Graph) {
     let again = Call {
         node: 2,
@@ -264,7 +265,11 @@ fn expect_recursion(rt: &impl Abort, graph: &Graph) {
 
 #[test]
 fn a_procedure_may_call_itself(rt: HostRuntime) -> Result<(), Fail> {
-    on_graph_of(rt.alloc(), RECURSION, |graph| expect_recursion(&rt, graph))
+    on_graph_of(
+        rt.alloc(),
+        PASSES_GLOBAL,
+        |graph| expect_recursion(&rt, graph),
+    )
 }
 
 /// That the graph answers so for these names.
@@ -280,7 +285,7 @@ fn expect_place(
     assert!(rt; place == expected, "at {procedure} {position} {fact}");
 }
 
-/// That these names of `CALLS` are found.
+/// That these names of `TWO_CALLS` are found.
 fn expect_names(rt: &impl Abort, graph: &Graph) {
     expect_place(rt, graph, "main", 7, "x", Ok((10, 4)));
     expect_place(rt, graph, "main", 0, "@zero", Ok((3, 0)));
@@ -290,10 +295,10 @@ fn expect_names(rt: &impl Abort, graph: &Graph) {
 
 #[test]
 fn names_are_found(rt: HostRuntime) -> Result<(), Fail> {
-    on_graph_of(rt.alloc(), CALLS, |graph| expect_names(&rt, graph))
+    on_graph_of(rt.alloc(), TWO_CALLS, |graph| expect_names(&rt, graph))
 }
 
-/// That these names of `CALLS` are refused.
+/// That these names of `TWO_CALLS` are refused.
 fn expect_no_names(rt: &impl Abort, graph: &Graph) {
     expect_place(rt, graph, "nobody", 99, "x", Err(Refused::NoProcedure));
     expect_place(rt, graph, "main", 8, "x", Err(Refused::OutOfRange));
@@ -304,7 +309,7 @@ fn expect_no_names(rt: &impl Abort, graph: &Graph) {
 
 #[test]
 fn names_are_refused(rt: HostRuntime) -> Result<(), Fail> {
-    on_graph_of(rt.alloc(), CALLS, |graph| expect_no_names(&rt, graph))
+    on_graph_of(rt.alloc(), TWO_CALLS, |graph| expect_no_names(&rt, graph))
 }
 
 /// That the fact has that name at the node; the empty name stands for none.
@@ -313,7 +318,7 @@ fn expect_name(rt: &impl Abort, graph: &Graph, node: Node, fact: Fact, name: &[u
     assert!(rt; answer == name, "at node {node} fact {fact}");
 }
 
-/// That the facts of `RECURSION` have these names.
+/// That the facts of `PASSES_GLOBAL` have these names.
 fn expect_fact_names(rt: &impl Abort, graph: &Graph) {
     expect_name(rt, graph, 0, 0, b"@zero");
     expect_name(rt, graph, 0, 1, b"g");
@@ -326,7 +331,11 @@ fn expect_fact_names(rt: &impl Abort, graph: &Graph) {
 
 #[test]
 fn facts_have_their_procedure_s_names(rt: HostRuntime) -> Result<(), Fail> {
-    on_graph_of(rt.alloc(), RECURSION, |graph| expect_fact_names(&rt, graph))
+    on_graph_of(
+        rt.alloc(),
+        PASSES_GLOBAL,
+        |graph| expect_fact_names(&rt, graph),
+    )
 }
 
 /// That the procedure has this start, exit and count of parameters, and owns both nodes.
@@ -356,7 +365,7 @@ fn expect_owner(rt: &impl Abort, graph: &Graph, node: Node, procedure: usize) {
     assert!(rt; graph.procedure_of(node) == procedure, "at node {node}");
 }
 
-/// That these are the procedures of `RECURSION`.
+/// That these are the procedures of `PASSES_GLOBAL`.
 fn expect_procedures(rt: &impl Abort, graph: &Graph) {
     assert!(rt; graph.procedure_named(b"main") == Some(1));
     assert!(rt; graph.procedure_named(b"n") == None);
@@ -369,5 +378,9 @@ fn expect_procedures(rt: &impl Abort, graph: &Graph) {
 
 #[test]
 fn procedures_have_their_nodes(rt: HostRuntime) -> Result<(), Fail> {
-    on_graph_of(rt.alloc(), RECURSION, |graph| expect_procedures(&rt, graph))
+    on_graph_of(
+        rt.alloc(),
+        PASSES_GLOBAL,
+        |graph| expect_procedures(&rt, graph),
+    )
 }

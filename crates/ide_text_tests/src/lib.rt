@@ -5,11 +5,11 @@
 #![tactic(auto)]
 
 #[cfg(test)]
-mod examples;
-#[cfg(test)]
 mod faults;
 #[cfg(test)]
 mod graph;
+#[cfg(test)]
+mod graphs;
 #[cfg(test)]
 mod instances;
 #[cfg(test)]

@@ -1,10 +1,11 @@
 //! Claims: who gets one, and what work of before a load, a release or a finish still does.
+use crate::cores::{begin, load};
 use crate::hands::{Given, Hand, release};
-use crate::texts::{EMPTY, NUMBER, begin, load};
 use ide_instances::CopyConst;
 use ide_problem::Problem;
 use ide_steps::{Core, Parted};
 use ide_wire::Refused;
+use ide_worked::{EMPTY, NUMBER};
 use std::alloc::Global;
 use std::process::Abort;
 use std::test::Fail;

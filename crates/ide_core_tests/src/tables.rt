@@ -1,10 +1,11 @@
 //! The tables of the worked programs: how many tasks they take, and what is in them then.
-use crate::texts::{COPIES, EMPTY, TWO_CALLS, begin, load};
+use crate::cores::{begin, load};
 use ide_instances::{CopyConst, Uninit};
 use ide_lattice::EdgeFn;
 use ide_problem::Problem;
 use ide_steps::Core;
 use ide_wire::{Fact, Key, Node, Refused};
+use ide_worked::{COPIES, EMPTY, TWO_CALLS};
 use std::process::Abort;
 use std::test::Fail;
 

@@ -1,11 +1,12 @@
 //! Hands: what one does with its claims, and programs that are tabulated part by part.
+use crate::cores::begin;
 use crate::tables::expect_two_calls;
-use crate::texts::{TWO_CALLS, begin};
 use ide_instances::CopyConst;
 use ide_problem::Problem;
 use ide_steps::{Claimed, Core, Parted};
 use ide_tasks::{Task, Work};
 use ide_wire::Refused;
+use ide_worked::TWO_CALLS;
 use std::alloc::Global;
 use std::process::Abort;
 use std::test::Fail;

@@ -1,0 +1,11 @@
+-- Four texts that are appended one after the other are appended as one.
+use Rattle.std.proofs.Common.{◌≡◌, ℕ, List, ◌++◌, ap, ◌∙◌, append_assoc}
+
+pub two_appended : (old x y one all : List ℕ) → one ≡ old ++ x → all ≡ one ++ y → all ≡ old ++ (x ++ y)
+two_appended old x y one all first second = second ∙ ap (λ text. text ++ y) first ∙ append_assoc old x y
+
+pub four_appended : (old x y z w one two three all : List ℕ) → one ≡ old ++ x → two ≡ one ++ y → three ≡ two ++ z → all ≡ three ++ w
+    → all ≡ old ++ (x ++ (y ++ (z ++ w)))
+four_appended old x y z w one two three all first second third fourth =
+    two_appended old x (y ++ (z ++ w)) one all first
+    (two_appended one y (z ++ w) two all second (two_appended two z w three all third fourth))
