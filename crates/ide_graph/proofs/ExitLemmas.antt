@@ -1,7 +1,6 @@
 -- The exits of a program's graph are those of their procedures, and have no more callers than there are nodes.
-use Rattle.std.proofs.Common.{◌≡◌, ℕ, ◌^◌, ◌<◌, ◌≤◌, Some, length, ap, ◌∙◌, arith, lit≤}
+use Rattle.std.proofs.Common.{◌≡◌, ℕ, ◌^◌, ◌<◌, ◌≤◌, Some, List, length, ap, ◌∙◌, arith, lit≤}
 use Rattle.std.specs.Prelude.{slice_get, slice_index}
-use Rattle.std.specs.Global.{Vec}
 use Rattle.std.proofs.lemmas.Option.{slice_get_within}
 use Rattle.ide_text.specs.declared.program.Program.{Program}
 use Rattle.ide_text.specs.declared.program.Statement.TheVariants.{Call as calls}
@@ -37,15 +36,15 @@ module _ (p : Program) where
   few_callers n (Normal edges) few site = tt
   few_callers n (Call edges along) few site = tt
   few_callers n (Exit begin callers) few site =
-      let bound : length callers.items ≤ length (nodes_of (procedures_of p)) =
-      few_ascending (λ (caller : Caller). caller.call_node) callers.items (length (nodes_of (procedures_of p)))
+      let bound : length callers ≤ length (nodes_of (procedures_of p)) =
+      few_ascending (λ (caller : Caller). caller.call_node) callers (length (nodes_of (procedures_of p)))
       (λ k d within. call_within _ (site.listed.each k d within).0.call) site.listed.ascending in
       omega (arith, bound, few)
 
 module _ (p : Program) (graph : Supergraph) (is : IsGraphOf p graph) (has : HasEdgesOf p graph) where
-  exit_owned : (n begin : ℕ) (callers : Vec Caller) → slice_get graph.sites n ≡ Some (Exit begin callers) → slice_index graph.exits (slice_index graph.owners n) ≡ n
+  exit_owned : (n begin : ℕ) (callers : List Caller) → slice_get graph.sites n ≡ Some (Exit begin callers) → slice_index graph.exits (slice_index graph.owners n) ≡ n
   exit_owned n begin callers stands =
-      let site : IsExitSite p n begin callers.items = has n (Exit begin callers) stands in
+      let site : IsExitSite p n begin callers = has n (Exit begin callers) stands in
       let owner = node_owner p graph is has n site.index exit site.node in
       let within = owner_within p graph is has n site.index exit site.node in
       ap (slice_index graph.exits) owner ∙ is.exits site.index within ∙ exit_is p n site.index site.node

@@ -1,7 +1,6 @@
 -- The sites of a program's graph fit together.
 use Rattle.std.proofs.Common.{◌≡◌, ℕ, zero, suc, ◌+◌, ◌<◌, ◌≤◌, List, [], ◌∷◌, Option, None, Some, ◌++◌, get_or, take, map, length, refl, sym, ap, subst, ◌∙◌, arith}
 use Rattle.std.specs.Prelude.{slice_get, slice_index}
-use Rattle.std.specs.Global.{Vec}
 use Rattle.std.specs.List.{Contains, All}
 use Rattle.std.specs.Option.{option_map, option_to_list}
 use Rattle.std.proofs.lemmas.List.{take_all}
@@ -79,7 +78,7 @@ called p n at =
 module _ (p : Program) where
   -- at an exit stands the site of its procedure
   exit_site : (n i : ℕ) (s : Site) → slice_get (nodes_of (procedures_of p)) n ≡ Some (i, exit) → IsSiteOf p n s
-      → (begin : ℕ) × (callers : Vec Caller) × (s ≡ Exit begin callers) × IsExitSite p n begin callers.items
+      → (begin : ℕ) × (callers : List Caller) × (s ≡ Exit begin callers) × IsExitSite p n begin callers
   exit_site n i (Normal edges) at is = absurd (subst IsPlain (same_spot p n is.0.index i is.0.spot exit is.0.node at).1 is.0.plain)
   exit_site n i (Call edges along) at is =
       let call = is.1.call in
@@ -90,7 +89,7 @@ module _ (p : Program) where
 
   -- at a call node stands the site of a call
   call_site : (n : ℕ) (s : Site) → CallAt p n → IsSiteOf p n s
-      → (edges : Vec EdgeData) × (along : EdgeData) × (s ≡ Call edges along) × Lists (IsCallFrom p n) (λ edge. edge.end) edges.items × IsAlong p n along
+      → (edges : List EdgeData) × (along : EdgeData) × (s ≡ Call edges along) × Lists (IsCallFrom p n) (λ edge. edge.end) edges × IsAlong p n along
   call_site n (Normal edges) at is =
       absurd (subst IsPlain (same_spot p n is.0.index at.index is.0.spot (statement (calls at.target at.callees at.arguments)) is.0.node at.stands.node).1 is.0.plain)
   call_site n (Call edges along) at is = (edges, along, refl, is.0, is.1)
@@ -128,13 +127,13 @@ module _ (p : Program) (graph : Supergraph) (is : IsGraphOf p graph) (has : HasE
       (found.0, found.1, has n found.0 found.1)
 
   pub flat_stays : (n : ℕ) (s : Site) (e : EdgeData) → IsSiteOf p n s → HasFlat s e → StayWithin p n e.end
-  flat_stays n (Normal edges) e site there = normal_within p n e (of_each (IsNormal p n) edges.items e site.1.each there)
+  flat_stays n (Normal edges) e site there = normal_within p n e (of_each (IsNormal p n) edges e site.1.each there)
   flat_stays n (Call edges along) e site there = subst (λ (d : EdgeData). StayWithin p n d.end) (sym there) (along_reaches p n along site.1).0
   flat_stays n (Exit begin callers) e site there = absurd there
 
   pub call_from : (n : ℕ) (s : Site) (e : EdgeData) → IsSiteOf p n s → HasCall s e → IsCallFrom p n e
   call_from n (Normal edges) e site there = absurd there
-  call_from n (Call edges along) e site there = of_each (IsCallFrom p n) edges.items e site.0.each there
+  call_from n (Call edges along) e site there = of_each (IsCallFrom p n) edges e site.0.each there
   call_from n (Exit begin callers) e site there = absurd there
 
   callee_start : (n : ℕ) (e : EdgeData) → IsCallFrom p n e → start_at graph e.end ≡ e.end
@@ -169,7 +168,7 @@ module _ (p : Program) (graph : Supergraph) (is : IsGraphOf p graph) (has : HasE
   callers_left m (Normal edges) c site there = absurd there
   callers_left m (Call edges along) c site there = absurd there
   callers_left m (Exit begin callers) c site there =
-      let it : IsCallerOf p site.index c = of_each (IsCallerOf p site.index) callers.items c site.listed.each there in
+      let it : IsCallerOf p site.index c = of_each (IsCallerOf p site.index) callers c site.listed.each there in
       let at : CallAt p c.call_node = it.0.call in
       let found = site_at c.call_node at.index (statement (calls at.target at.callees at.arguments)) at.stands.node in
       let here = call_site p c.call_node found.0 at found.2 in

@@ -1,5 +1,5 @@
 -- A node has one site.
-use Rattle.std.proofs.Common.{ℕ, List, sym, ap, subst, ◌∙◌}
+use Rattle.std.proofs.Common.{◌≡◌, ℕ, List, sym, ap, subst, ◌∙◌}
 use Rattle.ide_text.specs.declared.program.Program.{Program}
 use Rattle.ide_text.specs.declared.program.Statement.TheVariants.{Call}
 use Rattle.ide_text.specs.Program.{procedures_of}
@@ -29,16 +29,20 @@ module _ (p : Program) (n : ℕ) where
       let none : ⊥ = cc same in none
 
 pub one_site : NodesHaveOneSite
-one_site p n (site.Normal a) (site.Normal b) x y = lists_once (λ (e : EdgeData). e.end) (IsNormal p n) a.items b.items x.1 y.1
-one_site p n (site.Normal a) (site.Call b other) x y = plain_no_call p n x.0 y.1.call
-one_site p n (site.Normal a) (site.Exit other b) x y = plain_no_exit p n other b.items x.0 y
-one_site p n (site.Call a along) (site.Normal b) x y = plain_no_call p n y.0 x.1.call
-one_site p n (site.Call a along) (site.Call b other) x y = (lists_once (λ (e : EdgeData). e.end) (IsCallFrom p n) a.items b.items x.0 y.0, along_once p n along other x.1 y.1)
-one_site p n (site.Call a along) (site.Exit other b) x y = absurd (call_no_exit p n other b.items x.1.call y)
-one_site p n (site.Exit begin a) (site.Normal b) x y = plain_no_exit p n begin a.items y.0 x
-one_site p n (site.Exit begin a) (site.Call b other) x y = absurd (call_no_exit p n begin a.items y.1.call x)
+one_site p n (site.Normal a) (site.Normal b) x y = ap (λ edges. site.Normal edges) (lists_once (λ (e : EdgeData). e.end) (IsNormal p n) a b x.1 y.1)
+one_site p n (site.Normal a) (site.Call b other) x y = absurd (plain_no_call p n x.0 y.1.call)
+one_site p n (site.Normal a) (site.Exit other b) x y = absurd (plain_no_exit p n other b x.0 y)
+one_site p n (site.Call a along) (site.Normal b) x y = absurd (plain_no_call p n y.0 x.1.call)
+one_site p n (site.Call a along) (site.Call b other) x y =
+    let calls : a ≡ b = lists_once (λ (e : EdgeData). e.end) (IsCallFrom p n) a b x.0 y.0 in
+    let over : along ≡ other = along_once p n along other x.1 y.1 in
+    cc
+one_site p n (site.Call a along) (site.Exit other b) x y = absurd (call_no_exit p n other b x.1.call y)
+one_site p n (site.Exit begin a) (site.Normal b) x y = absurd (plain_no_exit p n begin a y.0 x)
+one_site p n (site.Exit begin a) (site.Call b other) x y = absurd (call_no_exit p n begin a y.1.call x)
 one_site p n (site.Exit begin a) (site.Exit other b) x y =
-    let index = (same_spot p n x.index y.index exit exit x.node y.node).0 in (
-      x.begins ∙ (ap (start_of (procedures_of p)) index ∙ sym y.begins),
-      lists_once (λ (c : Caller). c.call_node) (IsCallerOf p y.index) a.items b.items (subst (λ i. Lists (IsCallerOf p i) (λ caller. caller.call_node) a.items) index x.listed) y.listed,
-    )
+    let index = (same_spot p n x.index y.index exit exit x.node y.node).0 in
+    let start : begin ≡ other = x.begins ∙ (ap (start_of (procedures_of p)) index ∙ sym y.begins) in
+    let callers : a ≡ b =
+    lists_once (λ (c : Caller). c.call_node) (IsCallerOf p y.index) a b (subst (λ i. Lists (IsCallerOf p i) (λ caller. caller.call_node) a) index x.listed) y.listed in
+    cc

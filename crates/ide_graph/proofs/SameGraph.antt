@@ -1,5 +1,5 @@
 -- Programs of one value have one graph: the same numbers, names and sites.
-use Rattle.std.proofs.Common.{◌≡◌, ℕ, zero, suc, ◌+◌, ◌-◌, Bool, true, false, cond, not, nat_lt, codes, List, [], ◌∷◌, ◌++◌, Option, None, Some, ◌⊎◌, inl, inr, length, map, max, take, refl, sym, ap, subst, ◌∙◌, arith}
+use Rattle.std.proofs.Common.{◌≡◌, ℕ, zero, suc, ◌+◌, ◌-◌, Bool, false, cond, not, nat_lt, codes, List, [], ◌∷◌, ◌++◌, Option, None, Some, ◌⊎◌, inl, inr, length, map, max, take, refl, sym, ap, subst, ◌∙◌, arith}
 use Rattle.std.specs.Prelude.{slice_get}
 use Rattle.std.specs.Global.{Vec}
 use Rattle.std.specs.List.{Contains, flat_map, position, prefix_len}
@@ -23,9 +23,8 @@ use Rattle.ide_graph.specs.declared.edge.Effect.TheVariants.{Copy, Enter}
 use Rattle.ide_graph.specs.declared.site.Caller.{Caller}
 use Rattle.ide_graph.specs.declared.site.Site.{Site}
 use Rattle.ide_graph.specs.declared.site.Site.TheVariants as site
-use Rattle.ide_graph.specs.Lists.{Lists}
-use Rattle.ide_graph.specs.Numbers.{Spot, start, statement, return_site, exit, spots_on, spots_of, nodes_from, nodes_of, start_of, exit_of, label_from, procedure_of, names_at, fact_at, most_own, result_of, facts_of}
-use Rattle.ide_graph.specs.ProgramEdges.{ArePassed, CallAt, Gives, Goes, HasFact, IsAlong, IsAssigned, IsBack, IsCall, IsCallee, IsCallerOf, IsCallFrom, IsExitSite, IsNormal, IsPlain, IsPlainNode, IsSiteOf, Stands, edge_of}
+use Rattle.ide_graph.specs.Numbers.{Spot, start, statement, return_site, exit, spots_on, spots_of, nodes_from, nodes_of, start_of, exit_of, label_from, procedure_of, names_at, most_own, result_of, facts_of}
+use Rattle.ide_graph.specs.ProgramEdges.{ArePassed, CallAt, Gives, Goes, HasFact, IsAlong, IsAssigned, IsBack, IsCall, IsCallee, IsCallerOf, IsCallFrom, IsNormal, IsPlain, IsPlainNode, IsSiteOf, Stands, edge_of}
 use Rattle.ide_graph.proofs.ListsLemmas.{lists_same}
 
 -- ---- lists that a function maps to one list
@@ -500,14 +499,14 @@ caller_same p q e callee c h = (call_same p q e c.call_node callee c.call h.0, b
 -- a site of one is a site of the other
 pub site_same : (p q : Program) → value_of p ≡ value_of q → (n : ℕ) (s : Site) → IsSiteOf p n s → IsSiteOf q n s
 site_same p q e n (site.Normal edges) h =
-    (plain_node p q e n h.0, lists_same (λ (x : EdgeData). x.end) (IsNormal p n) (IsNormal q n) edges.items (normal_same p q e n) (normal_same q p (sym e) n) h.1)
+    (plain_node p q e n h.0, lists_same (λ (x : EdgeData). x.end) (IsNormal p n) (IsNormal q n) edges (normal_same p q e n) (normal_same q p (sym e) n) h.1)
 site_same p q e n (site.Call calls other_edge) h =
-    (lists_same (λ (x : EdgeData). x.end) (IsCallFrom p n) (IsCallFrom q n) calls.items (call_from p q e n) (call_from q p (sym e) n) h.0, along_same p q e n other_edge h.1)
+    (lists_same (λ (x : EdgeData). x.end) (IsCallFrom p n) (IsCallFrom q n) calls (call_from p q e n) (call_from q p (sym e) n) h.0, along_same p q e n other_edge h.1)
 site_same p q e n (site.Exit begin callers) h =
     let there = node_there p q e n h.index exit h.node in
     record {
       index = h.index;
       node = there.1 ∙ ap (λ (t : Spot). Some (h.index, t)) (exit_is there.0 there.2);
       begins = h.begins ∙ start_same (procedures_of p) (procedures_of q) (procedures_same p q e) h.index;
-      listed = lists_same (λ (c : Caller). c.call_node) (IsCallerOf p h.index) (IsCallerOf q h.index) callers.items (caller_same p q e h.index) (caller_same q p (sym e) h.index) h.listed;
+      listed = lists_same (λ (c : Caller). c.call_node) (IsCallerOf p h.index) (IsCallerOf q h.index) callers (caller_same p q e h.index) (caller_same q p (sym e) h.index) h.listed;
     }

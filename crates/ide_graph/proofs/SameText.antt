@@ -1,5 +1,5 @@
 -- Two graphs of one text are the same.
-use Rattle.std.proofs.Common.{◌≡◌, ℕ, ◌<◌, List, Some, length, sym, ap, ◌∙◌, arith}
+use Rattle.std.proofs.Common.{◌≡◌, ℕ, ◌<◌, Some, length, sym, ap, ◌∙◌, arith}
 use Rattle.std.specs.Prelude.{slice_get}
 use Rattle.std.specs.Str.{bytes_eq}
 use Rattle.std.specs.List.{position}
@@ -9,14 +9,13 @@ use Rattle.ide_text.specs.Laws.{SpellOneProgram}
 use Rattle.ide_text.specs.Program.{globals_of, procedures_of, value_of}
 use Rattle.ide_text.specs.Value.{ProcedureValue, value_of_procedure}
 use Rattle.ide_graph.specs.GraphOf.{IsGraphOf}
-use Rattle.ide_graph.specs.GraphOfText.{IsGraphOfText}
 use Rattle.ide_graph.specs.Numbers.{nodes_of}
 use Rattle.ide_graph.specs.ProgramEdges.{HasEdgesOf}
 use Rattle.ide_graph.specs.SameGraphs.{AreSameGraphs, GraphsOfOneTextAreSame}
 use Rattle.ide_graph.specs.Supergraph.{Supergraph}
 use Rattle.ide_graph.proofs.OneSite.{one_site}
 use Rattle.ide_graph.proofs.SameGraph.{count_same, exit_same, facts_same, globals_same, names_same, owners_same, procedure_same, procedure_there, procedures_same, result_same, site_same, start_same}
-use Rattle.ide_graph.proofs.SliceLemmas.{element_of}
+use Rattle.ide_graph.proofs.SliceLemmas.{element_of, same_elements}
 use Rattle.std.proofs.lemmas.List.{length-map}
 
 module _ (p q : Program) (e : value_of p ≡ value_of q) (graph other : Supergraph)
@@ -63,8 +62,8 @@ module _ (p q : Program) (e : value_of p ≡ value_of q) (graph other : Supergra
             a.fact i r.0 r.2 name
             ∙ ap (position (bytes_eq name)) (names_same (globals_of p) (globals_of q) r.0 r.1 (globals_same p q e) r.4)
             ∙ sym (b.fact i r.1 r.3 name);
-        sited = a.sited ∙ node_count ∙ sym b.sited;
-        sites = λ node one two at to. one_site q node one two (site_same p q e node one (edges node one at)) (others node two to);
+        sites = same_elements graph.sites other.sites (a.sited ∙ node_count ∙ sym b.sited)
+            (λ node one two at to. one_site q node one two (site_same p q e node one (edges node one at)) (others node two to));
       }
 
 pub same_graphs : SpellOneProgram → GraphsOfOneTextAreSame

@@ -68,7 +68,7 @@ module _ (p : Program) where
   -- a site that has just the normal edges is the node's
   has_normal : (n i : ℕ) (q : Procedure) (spot : Spot) → Stands p n i q spot → IsPlain spot → (P : EdgeData → Type 0) → ((x : EdgeData) → P x → IsNormal p n x) → ((x : EdgeData) → IsNormal p n x → P x) → (s : Site) → HasNormal P s → IsSiteOf p n s
   has_normal n i q spot stands plain P to from (site.Normal edges) has =
-      (record { index = i; spot = spot; node = stands.node; plain = plain }, lists_same (λ edge. edge.end) P (IsNormal p n) edges.items to from has)
+      (record { index = i; spot = spot; node = stands.node; plain = plain }, lists_same (λ edge. edge.end) P (IsNormal p n) edges to from has)
   has_normal n i q spot stands plain P to from (site.Call calls along) has = absurd has
   has_normal n i q spot stands plain P to from (site.Exit begin callers) has = absurd has
 

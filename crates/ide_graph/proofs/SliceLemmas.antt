@@ -65,3 +65,13 @@ pub each_of : {X : Type 0} (P : X → Type 0) (xs : List X) (k : ℕ) (x : X) �
 each_of P [] k x all e = let none : ⊥ = cc in elim none [ ]
 each_of P (y ∷ xs) zero x all e = subst P (same_Some y x e) all.0
 each_of P (y ∷ xs) (suc k) x all e = each_of P xs k x all.1 e
+
+-- lists of one length whose elements are the same at each place
+pub same_elements : {X : Type 0} (xs ys : List X) → length xs ≡ length ys → ((n : ℕ) (x y : X) → slice_get xs n ≡ Some x → slice_get ys n ≡ Some y → x ≡ y) → xs ≡ ys
+same_elements [] [] long same = refl
+same_elements [] (y ∷ ys) long same = absurd (omega (arith, long))
+same_elements (x ∷ xs) [] long same = absurd (omega (arith, long))
+same_elements (x ∷ xs) (y ∷ ys) long same =
+    let first : x ≡ y = same 0 x y refl refl in
+    let rest : xs ≡ ys = same_elements xs ys (omega (arith, long)) (λ n a b at to. same (suc n) a b at to) in
+    cc

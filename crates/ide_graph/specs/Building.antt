@@ -77,7 +77,7 @@ AllHaveFacts p q names = (name : List ℕ) → Contains names name → (fact : �
 
 -- the site has exactly the normal edges of which P holds
 abbrev pub HasNormal : (EdgeData → Type 0) → Site → Type 0
-HasNormal P (site.Normal edges) = Lists P (λ edge. edge.end) edges.items
+HasNormal P (site.Normal edges) = Lists P (λ edge. edge.end) edges
 HasNormal P (site.Call calls along) = ⊥
 HasNormal P (site.Exit begin callers) = ⊥
 

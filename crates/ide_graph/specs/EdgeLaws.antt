@@ -4,7 +4,6 @@ use Rattle.ide_text.specs.declared.program.Program.{Program}
 use Rattle.ide_text.specs.Program.{procedures_of}
 use Rattle.ide_graph.specs.declared.edge.EdgeData.{EdgeData}
 use Rattle.ide_graph.specs.declared.site.Site.{Site}
-use Rattle.ide_graph.specs.declared.site.Site.TheVariants as site
 use Rattle.ide_graph.specs.Lawful.{IsEdge}
 use Rattle.ide_graph.specs.Numbers.{Spot, start, return_site, exit, nodes_of, exit_of, facts_of}
 use Rattle.ide_graph.specs.ProgramEdges.{CallAt, IsNormal, IsCall, IsAlong, IsBack, IsSiteOf}
@@ -62,13 +61,6 @@ pub record AreLawful (p : Program) : Type 0 where
 abbrev pub EdgesAreLawful : Type 0
 EdgesAreLawful = (p : Program) → AreLawful p
 
--- the sites say the same, up to the room that their vectors have
-abbrev pub SaySame : Site → Site → Type 0
-SaySame (site.Normal edges) (site.Normal others) = edges.items ≡ others.items
-SaySame (site.Call calls along) (site.Call others other) = (calls.items ≡ others.items) × (along ≡ other)
-SaySame (site.Exit begin callers) (site.Exit other others) = (begin ≡ other) × (callers.items ≡ others.items)
-SaySame _ _ = ⊥
-
 -- a node has one site
 abbrev pub NodesHaveOneSite : Type 0
-NodesHaveOneSite = (p : Program) (n : ℕ) (s t : Site) → IsSiteOf p n s → IsSiteOf p n t → SaySame s t
+NodesHaveOneSite = (p : Program) (n : ℕ) (s t : Site) → IsSiteOf p n s → IsSiteOf p n t → s ≡ t

@@ -17,9 +17,9 @@ IsCallerWithin n caller = (caller.call_node < n) × (caller.call.end < n) × (ca
 
 -- each node that the site names is one of the first n
 abbrev pub EdgesWithin : ℕ → Site → Type 0
-EdgesWithin n (Normal edges) = All (EndsWithin n) edges.items
-EdgesWithin n (Call calls along) = All (EndsWithin n) calls.items × (along.end < n)
-EdgesWithin n (Exit start callers) = (start < n) × All (IsCallerWithin n) callers.items
+EdgesWithin n (Normal edges) = All (EndsWithin n) edges
+EdgesWithin n (Call calls along) = All (EndsWithin n) calls × (along.end < n)
+EdgesWithin n (Exit start callers) = (start < n) × All (IsCallerWithin n) callers
 
 -- each call in the lists, one list for each procedure, is among the first n nodes
 abbrev pub AllCallersWithin : ℕ → List (Vec Caller) → Type 0

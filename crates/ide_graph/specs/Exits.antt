@@ -1,6 +1,5 @@
 -- The exits of a graph, and their callers.
-use Rattle.std.specs.Prelude.{◌≡◌, ℕ, ◌^◌, ◌≤◌, Some, length, slice_get, slice_index}
-use Rattle.std.specs.Global.{Vec}
+use Rattle.std.specs.Prelude.{◌≡◌, ℕ, ◌^◌, ◌≤◌, List, Some, length, slice_get, slice_index}
 use Rattle.ide_text.specs.declared.program.Program.{Program}
 use Rattle.ide_graph.specs.declared.site.Caller.{Caller}
 use Rattle.ide_graph.specs.declared.site.Site.{Site}
@@ -13,11 +12,11 @@ use Rattle.ide_graph.specs.Supergraph.{Supergraph}
 abbrev pub HasFewCallers : Site → Type 0
 HasFewCallers (Normal edges) = Unit {0}
 HasFewCallers (Call calls along) = Unit {0}
-HasFewCallers (Exit start callers) = length callers.items ≤ 2 ^ 32
+HasFewCallers (Exit start callers) = length callers ≤ 2 ^ 32
 
 -- each exit is that of its node's procedure, and its callers can be counted
 pub record AreExitsOwned (graph : Supergraph) : Type 0 where
-  pub owned : (n : ℕ) (start : ℕ) (callers : Vec Caller) → slice_get graph.sites n ≡ Some (Exit start callers) → slice_index graph.exits (slice_index graph.owners n) ≡ n
+  pub owned : (n : ℕ) (start : ℕ) (callers : List Caller) → slice_get graph.sites n ≡ Some (Exit start callers) → slice_index graph.exits (slice_index graph.owners n) ≡ n
   pub few : (n : ℕ) (site : Site) → slice_get graph.sites n ≡ Some site → HasFewCallers site
 
 -- so are the exits of a program's graph

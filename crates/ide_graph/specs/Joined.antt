@@ -12,14 +12,14 @@ use Rattle.ide_graph.specs.Supergraph.{Supergraph}
 
 -- the site has the edge along its procedure
 abbrev pub HasFlat : Site → EdgeData → Type 0
-HasFlat (Normal edges) edge = Contains edges.items edge
+HasFlat (Normal edges) edge = Contains edges edge
 HasFlat (Call calls along) edge = edge ≡ along
 HasFlat (Exit start callers) edge = ⊥
 
 -- the site has the edge to a callee
 abbrev pub HasCall : Site → EdgeData → Type 0
 HasCall (Normal edges) edge = ⊥
-HasCall (Call calls along) edge = Contains calls.items edge
+HasCall (Call calls along) edge = Contains calls edge
 HasCall (Exit start callers) edge = ⊥
 
 -- calls at the site return to the node
@@ -32,7 +32,7 @@ ReturnsTo (Exit start callers) m = ⊥
 abbrev pub HasCaller : Site → Caller → Type 0
 HasCaller (Normal edges) caller = ⊥
 HasCaller (Call calls along) caller = ⊥
-HasCaller (Exit start callers) caller = Contains callers.items caller
+HasCaller (Exit start callers) caller = Contains callers caller
 
 -- an exit has the call at the node n among its callers
 pub record IsEntered (sites : List Site) (n : ℕ) (edge : EdgeData) : Type 0 where

@@ -153,9 +153,9 @@ pub record IsExitSite (p : Program) (n begin : ℕ) (callers : List Caller) : Ty
 
 -- the site has exactly the edges of the program at the node n
 abbrev pub IsSiteOf : Program → ℕ → Site → Type 0
-IsSiteOf p n (site.Normal edges) = IsPlainNode p n × Lists (IsNormal p n) (λ edge. edge.end) edges.items
-IsSiteOf p n (site.Call calls along) = Lists (IsCallFrom p n) (λ edge. edge.end) calls.items × IsAlong p n along
-IsSiteOf p n (site.Exit begin callers) = IsExitSite p n begin callers.items
+IsSiteOf p n (site.Normal edges) = IsPlainNode p n × Lists (IsNormal p n) (λ edge. edge.end) edges
+IsSiteOf p n (site.Call calls along) = Lists (IsCallFrom p n) (λ edge. edge.end) calls × IsAlong p n along
+IsSiteOf p n (site.Exit begin callers) = IsExitSite p n begin callers
 
 -- the graph has exactly the edges of the program out of each of its nodes
 abbrev pub HasEdgesOf : Program → Supergraph → Type 0

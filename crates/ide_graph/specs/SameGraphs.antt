@@ -1,11 +1,9 @@
--- Graphs that are the same but for the room that vectors have.
-use Rattle.std.specs.Prelude.{ℕ, ◌<◌, ◌≡◌, List, Some, length, slice_get, slice_index}
-use Rattle.ide_graph.specs.declared.site.Site.{Site}
-use Rattle.ide_graph.specs.EdgeLaws.{SaySame}
+-- Graphs that are the same.
+use Rattle.std.specs.Prelude.{ℕ, ◌<◌, ◌≡◌, List, slice_index}
 use Rattle.ide_graph.specs.GraphOfText.{IsGraphOfText}
 use Rattle.ide_graph.specs.Supergraph.{Supergraph, procedure_named, fact_named, fact_names}
 
--- the graphs have the same nodes, facts, procedures and names, and the sites of each node say the same
+-- the graphs have the same nodes, facts, procedures and names, and the same sites
 pub record AreSameGraphs (graph other : Supergraph) : Type 0 where
   pub procedures : graph.procedures ≡ other.procedures
   pub nodes : graph.nodes ≡ other.nodes
@@ -18,8 +16,7 @@ pub record AreSameGraphs (graph other : Supergraph) : Type 0 where
   pub named : (name : List ℕ) → procedure_named graph name ≡ procedure_named other name
   pub names : (i : ℕ) → i < graph.procedures → fact_names graph i ≡ fact_names other i
   pub found : (i : ℕ) → i < graph.procedures → (name : List ℕ) → fact_named graph i name ≡ fact_named other i name
-  pub sited : length graph.sites ≡ length other.sites
-  pub sites : (node : ℕ) (one two : Site) → slice_get graph.sites node ≡ Some one → slice_get other.sites node ≡ Some two → SaySame one two
+  pub sites : graph.sites ≡ other.sites
 
 -- two graphs of one text are the same
 abbrev pub GraphsOfOneTextAreSame : Type 0

@@ -203,10 +203,13 @@ impl<'a, 'p> Builder<'a, 'p> {
             Place::Start => self.normal(next, scope.enter()),
             Place::Statement(statement) => self.statement_site(node, scope, statement),
             Place::ReturnSite => self.normal(next, Effect::Nothing),
-            Place::Exit => Ok(Site::Exit {
-                start: scope.layout.start,
-                callers: mem::replace(&mut callers[spot.procedure as usize], Vec::new(self.alloc)),
-            }),
+            Place::Exit => {
+                let owner = &mut callers[spot.procedure as usize];
+                Ok(Site::Exit {
+                    start: scope.layout.start,
+                    callers: Listing::of(mem::replace(owner, Vec::new(self.alloc))),
+                })
+            }
         }
     }
 
@@ -253,7 +256,7 @@ impl<'a, 'p> Builder<'a, 'p> {
     {
         let mut edges = Vec::with_capacity(self.alloc, 1)?;
         edges.push(self.edge(end, EdgeKind::Normal(effect)))?;
-        Ok(Site::Normal(edges))
+        Ok(Site::Normal(Listing::of(edges)))
     }
 
     /// The site of a branch: the edges to the next node and to the label's, once if they are one.
@@ -270,7 +273,7 @@ impl<'a, 'p> Builder<'a, 'p> {
         let mut edges = Vec::with_capacity(self.alloc, 2)?;
         edges.push(self.edge(next.min(label), EdgeKind::Normal(Effect::Nothing)))?;
         edges.push(self.edge(next.max(label), EdgeKind::Normal(Effect::Nothing)))?;
-        Ok(Site::Normal(edges))
+        Ok(Site::Normal(Listing::of(edges)))
     }
 
     /// The site of a call.
@@ -287,7 +290,7 @@ impl<'a, 'p> Builder<'a, 'p> {
             calls.push(self.call_edge(call, *callee)?)?;
         }
         Ok(Site::Call {
-            calls,
+            calls: Listing::of(calls),
             along: self.edge(call.return_site(), EdgeKind::CallToReturn(call.target)),
         })
     }

@@ -38,7 +38,7 @@ pub fn edges_are_lawful()
     ensures { EdgesAreLawful }
 {}
 
-/// A node has one site, up to the room that its vectors have.
+/// A node has one site.
 pub fn nodes_have_one_site()
     ensures { NodesHaveOneSite }
 {}
@@ -65,8 +65,7 @@ pub fn ends_of_programs_are_nodes()
     ensures { EndsOfProgramsAreNodes }
 {}
 
-/// Two graphs of one text are the same, up to the room that vectors have: their nodes, facts,
-/// procedures and names, and the edges that stand at each node.
+/// Two graphs of one text are the same: their nodes, facts, procedures, names and sites.
 pub fn graphs_of_one_text_have_the_same_edges()
     ensures { GraphsOfOneTextAreSame }
 {

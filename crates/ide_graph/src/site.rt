@@ -1,23 +1,23 @@
 //! Sites: what stands at a node, with the edges out of it.
 use crate::edge::EdgeData;
-use ide_wire::Node;
+use ide_wire::{Listing, Node};
 
 /// What stands at a node of the supergraph.
 #[derive(PartialEq, Eq, Drop)]
 pub enum Site {
     /// A start, a statement but a call, or a return site: its normal edges by ascending target,
     /// each once.
-    Normal(Vec<EdgeData>),
+    Normal(Listing<EdgeData>),
     /// A call node: one call edge for each callee, by ascending start, and the call-to-return edge
     /// along the call, which ends at the return site, the node after the call node.
     Call {
-        calls: Vec<EdgeData>,
+        calls: Listing<EdgeData>,
         along: EdgeData,
     },
     /// The exit of the procedure that begins at `start`: the calls of it, by ascending call node.
     Exit {
         start: Node,
-        callers: Vec<Caller>,
+        callers: Listing<Caller>,
     },
 }
 

@@ -26,7 +26,7 @@ use Rattle.ide_steps.specs.declared.part.Parted.{Parted}
 use Rattle.ide_steps.specs.declared.part.Parted.TheVariants.{Lowered, Same, NoPart}
 use Rattle.ide_steps.specs.Core.{CoreData, IsSameProblem, IsUnchanged}
 use Rattle.ide_steps.specs.Drain.{ArePaid, GoesOnPaid}
-use Rattle.ide_steps.specs.Going.{GoesOn, GoesOnBy, IsFit, IsOutside, IsWorking}
+use Rattle.ide_steps.specs.Going.{GoesOn, GoesOnBy, IsFit, IsOutside}
 use Rattle.ide_steps.specs.State.{state_of, claim_of}
 use Rattle.ide_steps.specs.Steps.{IsCurrent, IsLowered, IsOneMore, IsSkipped, IsTaken, progress_at}
 
@@ -243,21 +243,17 @@ module _ {F L : Type 0} (A : LatticeAlgebra L) (B : EdgeAlgebra F L) (targets : 
       goes-step hand 1 0 0 old new same (λ g is all fit run. claims A B targets g all old new hand task taken (owes g is all fit run))
 
   -- a part is a step, which lowers a key or finds it met
-  pub goes-lowered : (old new : CoreData F) (hand : ℕ) (work after : WorkData F) → IsSameProblem old new
-      → IsCurrent targets B old hand work → IsLowered B (state_of targets B old) (state_of targets B new) hand work after
+  pub goes-lowered : (old new : CoreData F) (hand : ℕ) (work after : WorkData F) (task : TaskData F) → IsSameProblem old new
+      → progress_at old.pile hand ≡ Some (task, work.done) → work.parts ≡ owed targets B task → IsLowered B (state_of targets B old) (state_of targets B new) hand work after
       → GoesOnBy A B targets hand 0 1 0 old new
-  goes-lowered old new hand work after same current is =
-      goes-step hand 0 1 0 old new same (λ g at all fit run. lowers A B targets g all old new hand work after current.task current.progress current.parts is)
+  goes-lowered old new hand work after task same progress parts is =
+      goes-step hand 0 1 0 old new same (λ g at all fit run. lowers A B targets g all old new hand work after task progress parts is)
 
-  pub goes-skipped : (old new : CoreData F) (hand : ℕ) (work after : WorkData F) → IsSameProblem old new
-      → IsCurrent targets B old hand work → IsSkipped B (state_of targets B old) (state_of targets B new) hand work after
+  pub goes-skipped : (old new : CoreData F) (hand : ℕ) (work after : WorkData F) (task : TaskData F) → IsSameProblem old new
+      → progress_at old.pile hand ≡ Some (task, work.done) → work.parts ≡ owed targets B task → IsSkipped B (state_of targets B old) (state_of targets B new) hand work after
       → GoesOnBy A B targets hand 0 0 0 old new
-  goes-skipped old new hand work after same current is =
-      goes-step hand 0 0 0 old new same (λ g at all fit run. skips A B targets g all old new hand work after current.task current.progress current.parts is)
-
-  -- the work of a task that the hand works on is its claim
-  pub working-current : (core : CoreData F) (hand : ℕ) (work : WorkData F) → IsWorking A B targets core hand work → IsCurrent targets B core hand work
-  working-current core hand work is = record { task = work.task; progress = is.progress; parts = is.parts }
+  goes-skipped old new hand work after task same progress parts is =
+      goes-step hand 0 0 0 old new same (λ g at all fit run. skips A B targets g all old new hand work after task progress parts is)
 
   -- a claim that ends with no part left is a step
   pub goes-ended : (old new : CoreData F) (hand : ℕ) (held : Held (TaskData F)) → IsSameProblem old new → claim_at old.pile hand ≡ Some held
@@ -269,9 +265,9 @@ module _ {F L : Type 0} (A : LatticeAlgebra L) (B : EdgeAlgebra F L) (targets : 
 
   -- the hand goes on working
   pub works-on : (new : CoreData F) (hand : ℕ) (old work : WorkData F) → IsOneMore old work → old.parts ≡ owed targets B old.task
-      → progress_at new.pile hand ≡ Some (old.task, work.done) → IsWorking A B targets new hand work
+      → progress_at new.pile hand ≡ Some (old.task, work.done) → IsCurrent targets B new hand work
   works-on new hand old work is parts progress = record {
-    progress = progress ∙ ap (λ t. Some (t, work.done)) (sym is.task);
+    claim = progress ∙ ap (λ t. Some (t, work.done)) (sym is.task);
     parts = is.parts ∙ parts ∙ ap (owed targets B) (sym is.task);
   }
 
@@ -305,11 +301,11 @@ module _ {F L : Type 0} (A : LatticeAlgebra L) (B : EdgeAlgebra F L) (targets : 
       goes-nowhere hand old new (record { program = ap (λ c. c.program) same; graph = ap (λ c. c.graph) same; roots = ap (λ c. c.roots) same }) (ap (state_of targets B) same)
 
   pub goes-finish : (old new : CoreData F) (hand : ℕ) (work : WorkData F) → IsSameProblem old new
-      → IsWorking A B targets old hand work → work.done ≡ length work.parts
+      → IsCurrent targets B old hand work → work.done ≡ length work.parts
       → ((held : Held (TaskData F)) → claim_at old.pile hand ≡ Some held → state_of targets B new ≡ finished (state_of targets B old) hand (claim_of targets B held))
       → GoesOnBy A B targets hand 0 0 0 old new
-  goes-finish old new hand work same working over state =
-      goes-step hand 0 0 0 old new same (λ g is all fit run. finishes A B targets g all old new hand work work.task working.progress working.parts over state)
+  goes-finish old new hand work same current over state =
+      goes-step hand 0 0 0 old new same (λ g is all fit run. finishes A B targets g all old new hand work work.task current.claim current.parts over state)
 
 -- what a part did
 pub parted-is : (parted : Parted) → (parted ≡ Lowered) ⊎ ((parted ≡ Same) ⊎ (parted ≡ NoPart))

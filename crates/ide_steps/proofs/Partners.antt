@@ -2,7 +2,6 @@
 use Rattle.std.proofs.Common.{◌≡◌, ℕ, ◌+◌, zero, suc, ◌<◌, sym, ap, ◌∙◌, List, [], ◌∷◌, ◌++◌, take, Some, map, length, true, false}
 use Rattle.std.specs.Prelude.{slice_get, slice_index, slice_index_or}
 use Rattle.std.proofs.lemmas.List.{map-append, take_more}
-use Rattle.std.specs.Global.{Vec}
 use Rattle.ide_graph.specs.declared.site.Caller.{Caller}
 use Rattle.ide_graph.specs.Exits.{AreExitsOwned}
 use Rattle.ide_graph.specs.Supergraph.{Supergraph}
@@ -42,7 +41,7 @@ module _ {F L : Type 0} (targets : Targets F) (B : EdgeAlgebra F L) (graph : Sup
       partners (ap (λ flags. slice_index_or flags c false) kept.watched ∙ flag-at graph.sites c (Call calls along) is)
   resumed-partners c a b (Exit start callers) jumps is partners = tt
 
-  pub exit-partners : (n a b start : ℕ) (callers : Vec Caller) (reaching : List (Reaching F)) (procedure : ℕ) → AreExitsOwned graph
+  pub exit-partners : (n a b start : ℕ) (callers : List Caller) (reaching : List (Reaching F)) (procedure : ℕ) → AreExitsOwned graph
       → slice_get graph.sites n ≡ Some (Exit start callers) → procedure ≡ slice_index graph.owners n → procedure < graph.procedures
       → reaching ≡ reaching_of a (slice_index_or sources procedure [])
       → ArePartnersOf targets B graph table (Jump n a b) (Exit start callers) (Callers reaching)

@@ -1,10 +1,10 @@
 -- Each call of a core as what it does to the state: table by table, place by place.
 use Rattle.std.proofs.Common.{◌≡◌, ◌<◌, ◌≤◌, ℕ, zero, suc, refl, sym, ap, subst, ◌∙◌, arith, ◌⊎◌, inl, inr, List, [], ◌∷◌, drop, Option, None, Some, Bool, true, false, cond, get_or, ◌||◌}
 use Rattle.std.proofs.lemmas.Bool.{eqb-true}
+use Rattle.std.proofs.lemmas.Option.{same_Some}
 use Rattle.std.specs.Map.{lookup}
 use Rattle.std.specs.Prelude.{Result, Ok, Err, IfErr, OnErr, OnOk, ◌&&◌, not, nat_eq, option_map, unwrap_or}
 use Rattle.std.specs.List.{list_any}
-use Rattle.std.specs.Option.{IsSomeAnd}
 use Rattle.ide_lattice.specs.Algebra.{EdgeAlgebra}
 use Rattle.ide_problem.specs.Flow.{Targets}
 use Rattle.ide_tables.specs.Tables.{Table, Falls, Lowers, found, function_at, or_top, lowered_by as lowered_in}
@@ -23,7 +23,7 @@ use Rattle.ide_steps.specs.Core.{CoreData, IsUnchanged}
 use Rattle.ide_steps.specs.declared.part.Parted.{Parted}
 use Rattle.ide_steps.specs.declared.part.Parted.TheVariants as part
 use Rattle.ide_steps.specs.State.{claim_of, state_of}
-use Rattle.ide_steps.specs.Steps.{Changes, IsCurrent, KeepTasks, progress_at}
+use Rattle.ide_steps.specs.Steps.{Changes, IsClaimOfWork, KeepTasks, progress_at}
 
 pub or-cond : (a b : Bool) → (a || b) ≡ cond a true b
 or-cond true b = refl
@@ -175,18 +175,13 @@ module _ {F L : Type 0} (targets : Targets F) (B : EdgeAlgebra F L) where
       (λ same. ap (is_pending pile) (sym (same_key_exact held.key q same)) ∙ list.held hand held is) in
       λ i. record { get = found table; pending = λ q. waits q i; claims = λ h. hands h i }
 
-module _ {F : Type 0} (P : TaskData F → Type 0) where
-  -- where a hand has a claim with so many parts done, what it is
-  pub claim-held : (o : Option (Held (TaskData F))) (n : ℕ) → IsSomeAnd o (λ held. (held.done ≡ n) × P held.task)
-      → (held : Held (TaskData F)) × (o ≡ Some held) × (held.done ≡ n) × P held.task
-  claim-held None n is = absurd is
-  claim-held (Some held) n is = (held, refl, is.0, is.1)
-
-  pub progress-held : (o : Option (Held (TaskData F))) (n : ℕ) → IsSomeAnd o (λ held. (held.done ≡ n) × P held.task)
-      → (task : TaskData F) × (option_map {U = TaskData F × ℕ} (λ held. (held.task, held.done)) o ≡ Some (task, n))
-  progress-held None n is = absurd is
-  progress-held (Some held) n is =
-      let there : ℕ → Option (TaskData F × ℕ) = λ m. Some (held.task, m) in (held.task, ap there is.0)
+-- the claim that is of the work
+pub claim-of-work : {F : Type 0} (work : WorkData F) (o : Option (Held (TaskData F))) → IsClaimOfWork work o
+    → (held : Held (TaskData F)) × (o ≡ Some held) × (held.task ≡ work.task) × (held.done ≡ work.done)
+claim-of-work work None is = let no : None ≡ Some (work.task, work.done) = is in absurd (cc)
+claim-of-work work (Some held) is =
+    let both : (held.task, held.done) ≡ (work.task, work.done) = same_Some _ _ is in
+    (held, refl, ap (λ p. p.0) both, ap (λ p. p.1) both)
 
 -- of a refusal that `?` hands on
 pub handed-on : {T E : Type 0} (P : E → Type 0) (result : Result T E) (given handed : E) → result ≡ Err handed → handed ≡ given → P given → IfErr result P
@@ -203,18 +198,6 @@ after-part (Ok part.Lowered) done none = done (inl refl)
 after-part (Ok part.Same) done none = done (inr refl)
 after-part (Ok part.NoPart) done none = none refl
 after-part (Err e) done none = tt
-
--- the work is the hand's claim, where that has as many parts done and owes the same
-pub current-held : {F L : Type 0} (targets : Targets F) (B : EdgeAlgebra F L) (core : CoreData F) (hand : ℕ) (work : WorkData F)
-    → IsSomeAnd (claim_at core.pile hand) (λ held. (held.done ≡ work.done) × (owed targets B held.task ≡ owed targets B work.task))
-    → work.parts ≡ owed targets B work.task → IsCurrent targets B core hand work
-current-held {F} targets B core hand work far parts =
-    let there = claim-held {F = F} (λ task. owed targets B task ≡ owed targets B work.task) (claim_at core.pile hand) work.done far in
-    record {
-      task = there.0.task;
-      progress = ap (option_map {U = TaskData F × ℕ} (λ held. (held.task, held.done))) there.1 ∙ ap (λ n. Some (there.0.task, n)) there.2;
-      parts = parts ∙ sym there.3;
-    }
 
 module _ {F : Type 0} where
   -- nothing changed where the claims stand as they were

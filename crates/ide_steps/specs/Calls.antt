@@ -5,6 +5,7 @@ use Rattle.ide_graph.specs.Supergraph.{Supergraph}
 use Rattle.ide_lattice.specs.Algebra.{LatticeAlgebra, EdgeAlgebra}
 use Rattle.ide_problem.specs.Flow.{Targets}
 use Rattle.ide_tables.specs.Tables.{found}
+use Rattle.ide_tasks.specs.Parts.{owed}
 use Rattle.ide_tasks.specs.Task.{TaskData}
 use Rattle.ide_tasks.specs.Work.{WorkData}
 use Rattle.ide_theory.specs.State.{finished, with_claim}
@@ -13,7 +14,7 @@ use Rattle.ide_worklist.specs.declared.claim.Claim.{Claim as Held}
 use Rattle.ide_steps.specs.Core.{CoreData, IsSameProblem}
 use Rattle.ide_steps.specs.Going.{GoesOnBy}
 use Rattle.ide_steps.specs.State.{IsTaskOf, claim_of, state_of}
-use Rattle.ide_steps.specs.Steps.{IsCurrent, IsLowered, IsSkipped, IsTaken}
+use Rattle.ide_steps.specs.Steps.{IsLowered, IsSkipped, IsTaken, progress_at}
 
 module _ {F L : Type 0} (A : LatticeAlgebra L) (B : EdgeAlgebra F L) (targets : Targets F) where
   -- what each call says of the core before and after it makes it one step of its hand: a claim, a part that
@@ -22,10 +23,12 @@ module _ {F L : Type 0} (A : LatticeAlgebra L) (B : EdgeAlgebra F L) (targets : 
     pub claim : (hand : ℕ) (old new : CoreData F) (task : TaskData F) → IsSameProblem old new → IsTaken targets B hand old new task
         → ((graph : Supergraph) → old.graph ≡ Some graph → AreExitsOwned graph → IsSome (found old.table task.key) → IsTaskOf targets B graph old.table task)
         → GoesOnBy A B targets hand 1 0 0 old new
-    pub lower : (hand : ℕ) (old new : CoreData F) (work after : WorkData F) → IsSameProblem old new → IsCurrent targets B old hand work
+    pub lower : (hand : ℕ) (old new : CoreData F) (work after : WorkData F) (task : TaskData F) → IsSameProblem old new
+        → progress_at old.pile hand ≡ Some (task, work.done) → work.parts ≡ owed targets B task
         → IsLowered B (state_of targets B old) (state_of targets B new) hand work after
         → GoesOnBy A B targets hand 0 1 0 old new
-    pub skip : (hand : ℕ) (old new : CoreData F) (work after : WorkData F) → IsSameProblem old new → IsCurrent targets B old hand work
+    pub skip : (hand : ℕ) (old new : CoreData F) (work after : WorkData F) (task : TaskData F) → IsSameProblem old new
+        → progress_at old.pile hand ≡ Some (task, work.done) → work.parts ≡ owed targets B task
         → IsSkipped B (state_of targets B old) (state_of targets B new) hand work after
         → GoesOnBy A B targets hand 0 0 0 old new
     pub finish : (hand : ℕ) (old new : CoreData F) (held : Held (TaskData F)) → IsSameProblem old new

@@ -1,19 +1,16 @@
 -- What contracts see of a core, and when its calls are refused.
-use Rattle.std.specs.Prelude.{◌≡◌, ℕ, ◌≤◌, Bool, true, false, ◌&&◌, length, map, List, Option, None, Some, nat_eq}
+use Rattle.std.specs.Prelude.{◌≡◌, ℕ, ◌≤◌, Bool, true, length, map, List, Option, Some}
 use Rattle.std.specs.Option.{is_some}
 use Rattle.ide_graph.specs.Supergraph.{Supergraph}
 use Rattle.ide_problem.specs.Flow.{Targets}
 use Rattle.ide_tasks.specs.Sources.{AreSourcesOf}
 use Rattle.ide_tasks.specs.declared.sources.Source.{Source}
 use Rattle.ide_tables.specs.Tables.{Table}
-use Rattle.ide_tasks.specs.Task.{TaskData, same_task}
-use Rattle.ide_tasks.specs.Work.{WorkData}
-use Rattle.ide_tasks.specs.declared.partners.Partners.{Partners}
+use Rattle.ide_tasks.specs.Task.{TaskData}
 use Rattle.ide_text.specs.Value.{ProgramValue}
 use Rattle.ide_theory.specs.Within.{is_call}
 use Rattle.ide_wire.specs.Key.{node_of}
 use Rattle.ide_wire.specs.declared.key.Key.{Key}
-use Rattle.ide_worklist.specs.declared.claim.Claim.{Claim}
 use Rattle.ide_worklist.specs.Worklist.{Pile, claim_at, is_pending}
 
 -- what the loaded program says, and its graph, if one is loaded; the roots, as indices of procedures; the tables;
@@ -26,12 +23,6 @@ pub record CoreData (F : Type 0) : Type 0 where
   pub pile : Pile (TaskData F)
 
 module _ {F : Type 0} where
-  -- whether the claim is of the work's task, with as many parts done
-  abbrev pub is_claim_of_work : (F → F → Bool) → (Partners F → Partners F → Bool) → WorkData F → Option (Claim (TaskData F)) → Bool
-  is_claim_of_work same_function same_partners work None = false
-  is_claim_of_work same_function same_partners work (Some claim) =
-      nat_eq claim.done work.done && same_task same_function same_partners claim.task work.task
-
   -- whether a program is loaded
   abbrev pub is_loaded : CoreData F → Bool
   is_loaded core = is_some core.graph

@@ -6,14 +6,11 @@ use Rattle.ide_graph.specs.Joined.{AreJoined, start_at}
 use Rattle.ide_graph.specs.Supergraph.{Supergraph}
 use Rattle.ide_lattice.specs.Algebra.{LatticeAlgebra, EdgeAlgebra}
 use Rattle.ide_problem.specs.Flow.{Targets}
-use Rattle.ide_tasks.specs.Parts.{owed}
-use Rattle.ide_tasks.specs.Work.{WorkData}
 use Rattle.ide_theory.specs.Graphs.{frame_at}
 use Rattle.ide_theory.specs.Run.{AreBy, Run, Steps, claims_in, lowerings_in, releases_in}
 use Rattle.ide_theory.specs.Sites.{HaveEdgesOf}
 use Rattle.ide_steps.specs.Core.{CoreData, IsSameProblem}
 use Rattle.ide_steps.specs.State.{state_of}
-use Rattle.ide_steps.specs.Steps.{progress_at}
 
 -- each node has a site, the sites fit together, facts are 16 bit numbers, exits are those of their
 -- procedures, and edges end at nodes
@@ -44,11 +41,6 @@ module _ {F L : Type 0} (A : LatticeAlgebra L) (B : EdgeAlgebra F L) (targets : 
     pub lowerings : ℕ
     pub releases : ℕ
     pub by : GoesOnBy hand claims lowerings releases old new
-
-  -- the hand works on the work's task, and has done as many of its parts
-  pub record IsWorking (core : CoreData F) (hand : ℕ) (work : WorkData F) : Type 0 where
-    pub progress : progress_at core.pile hand ≡ Some (work.task, work.done)
-    pub parts : work.parts ≡ owed targets B work.task
 
   -- over a graph that is fit, no run came to the core's state: it has a key at no node
   abbrev pub IsOutside : CoreData F → Type 0

@@ -13,9 +13,17 @@ use Rattle.ide_steps.specs.Core.{CoreData}
 use Rattle.ide_steps.specs.State.{state_of}
 
 module _ {F : Type 0} where
+  -- what a claim is of, and how many of its parts are done
+  abbrev pub progress_of : Option (Held (TaskData F)) → Option (TaskData F × ℕ)
+  progress_of claim = option_map (λ held. (held.task, held.done)) claim
+
   -- what the hand works on, and how many of its parts are done
   abbrev pub progress_at : Pile (TaskData F) → ℕ → Option (TaskData F × ℕ)
-  progress_at pile hand = option_map (λ held. (held.task, held.done)) (claim_at pile hand)
+  progress_at pile hand = progress_of (claim_at pile hand)
+
+  -- the claim is of the work's task, with as many parts done
+  abbrev pub IsClaimOfWork : WorkData F → Option (Held (TaskData F)) → Type 0
+  IsClaimOfWork work claim = progress_of claim ≡ Some (work.task, work.done)
 
   -- each hand works on the task that it had: this one has so many parts of it done, any other as many as it had
   abbrev pub KeepTasks : ℕ → ℕ → (old new : Pile (TaskData F)) → Type 0
@@ -64,11 +72,10 @@ pub data ArePartsDone {F L : Type 0} (B : EdgeAlgebra F L) (hand : ℕ) (s : Sta
       → ArePartsDone B hand s work u after
 
 module _ {F L : Type 0} (targets : Targets F) (B : EdgeAlgebra F L) where
-  -- the hand has a claim, with as many parts done as the work, whose parts are what its task owes
+  -- the hand's claim is of the work's task, with as many parts done, and its parts are what the task owes
   pub record IsCurrent (core : CoreData F) (hand : ℕ) (work : WorkData F) : Type 0 where
-    pub task : TaskData F
-    pub progress : progress_at core.pile hand ≡ Some (task, work.done)
-    pub parts : work.parts ≡ owed targets B task
+    pub claim : IsClaimOfWork work (claim_at core.pile hand)
+    pub parts : work.parts ≡ owed targets B work.task
 
   -- the hand, which had no claim, claims the task's key, which was pending and no hand's, and owes its parts
   pub record IsTaken (hand : ℕ) (old new : CoreData F) (task : TaskData F) : Type 0 where

@@ -33,7 +33,8 @@ pub enum Claimed<P: Problem> {
 }
 
 impl<P: Problem> Core<P> {
-    /// Claims a pending key that no hand has claimed.
+    /// Claims a pending key that no hand has claimed. The work of the task that it answers is not
+    /// stale: it is the hand's claim, with no part done.
     ///
     /// Refusals, in this order: `Limit` where the hand's number is over 63; `NoProgram`; `Busy`
     /// where the hand has a claim; `NoMemory`. A key that stands at no node of the graph, which no run

@@ -5,9 +5,9 @@ ghost use Rattle.std.specs.Map.{keys_of};
 ghost use Rattle.std.specs.Option.{is_some};
 ghost use Rattle.ide_steps.specs.Core.{is_loaded};
 ghost use Rattle.ide_steps.specs.Drain.{ArePaid, GoesOnPaid, potential};
-ghost use Rattle.ide_steps.specs.Going.{GoesOn, GoesOnBy, IsOutside, IsWorking};
+ghost use Rattle.ide_steps.specs.Going.{GoesOn, GoesOnBy, IsOutside};
 ghost use Rattle.ide_steps.specs.Room.{AreTasksFew};
-ghost use Rattle.ide_steps.specs.Steps.{progress_at};
+ghost use Rattle.ide_steps.specs.Steps.{IsCurrent, progress_at};
 ghost use Rattle.ide_tasks.specs.Task.{TaskData};
 ghost use Rattle.ide_wire.specs.Key.{same_key};
 ghost use Rattle.ide_worklist.specs.Worklist.{claim_at, ends_key, IsFree};
@@ -149,7 +149,7 @@ impl<P: Problem> Core<P> {
         ensures falls { OnOk result (potential P.F.edge self.new < potential P.F.edge self.old) }
         ensures done { OnOk result (claim_at self.new.pile 0 ≡ None) }
         ensures others { (h : ℕ) → nat_eq 0 h ≡ false → claim_at self.old.pile h ≡ None → claim_at self.new.pile h ≡ None }
-        ensures goes { (lowerings : ℕ) × (IsWorking P.L.algebra P.F.edge P.targets self.old 0 work → GoesOnBy P.L.algebra P.F.edge P.targets 0 0 lowerings 0 self.old self.new) × OnOk result (ArePaid P.F.edge 1 lowerings self.old self.new) }
+        ensures goes { (lowerings : ℕ) × (IsCurrent P.targets P.F.edge self.old 0 work → GoesOnBy P.L.algebra P.F.edge P.targets 0 0 lowerings 0 self.old self.new) × OnOk result (ArePaid P.F.edge 1 lowerings self.old self.new) }
     {
         while self.next_part(DRAINING, &mut work)? != Parted::NoPart {}
         self.end_claim(DRAINING);

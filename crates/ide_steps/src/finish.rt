@@ -6,13 +6,13 @@ ghost use Rattle.ide_theory.specs.Invariant.{unclaimed};
 ghost use Rattle.ide_theory.specs.State.{finished, with_claim};
 ghost use Rattle.ide_worklist.specs.Worklist.{claim_at, ends_key, put_hand};
 ghost use Rattle.ide_worklist.specs.declared.claim.Claim.{Claim as Held};
-ghost use Rattle.ide_steps.specs.Core.{is_claim_of_work, IsSameProblem};
+ghost use Rattle.ide_steps.specs.Core.{IsSameProblem};
 ghost use Rattle.ide_steps.specs.State.{state_of, claim_of};
-ghost use Rattle.ide_steps.specs.Steps.{IsCurrent};
+ghost use Rattle.ide_steps.specs.Steps.{IsClaimOfWork, IsCurrent};
 
 use crate::machine::Core;
 use ide_problem::Problem;
-use ide_tasks::{Partners, Work};
+use ide_tasks::Work;
 use ide_wire::Refused;
 
 impl<P: Problem> Core<P> {
@@ -21,7 +21,7 @@ impl<P: Problem> Core<P> {
     ///
     /// Refusal: `Stale` where the work is not the hand's claim as it stands, or parts are left.
     pub fn finish(&mut self, hand: usize, work: &Work<P>) -> Result<(), Refused>
-        ensures stale { (result ≡ Err Refused.Stale) ↔ ((is_claim_of_work P.F.eq ⟦<Partners<P::F> as PartialEq>⟧.eq work.now (claim_at self.old.pile hand) ≡ false) ⊎ (work.now.done < length work.now.parts)) }
+        ensures stale { (result ≡ Err Refused.Stale) ↔ (¬ (IsClaimOfWork work.now (claim_at self.old.pile hand)) ⊎ (work.now.done < length work.now.parts)) }
         ensures refused { IfErr result (λ e. e ≡ Refused.Stale) }
         ensures current { OnOk result (IsCurrent P.targets P.F.edge self.old hand work.now) }
         ensures finished { OnOk result ((held : Held (TaskData P.F)) × (claim_at self.old.pile hand ≡ Some held) × ((claim_of P.targets P.F.edge held).parts ≡ []) × (state_of P.targets P.F.edge self.new ≡ finished (state_of P.targets P.F.edge self.old) hand (claim_of P.targets P.F.edge held))) }

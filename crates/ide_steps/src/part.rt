@@ -2,17 +2,16 @@
 ghost use Rattle.ide_worklist.specs.Worklist.{claim_at, ends_key};
 ghost use Rattle.ide_steps.specs.Drain.{IsPaidBy, lowerings_by, potential};
 ghost use Rattle.std.specs.Prelude.{◌≡◌, ℕ, ◌<◌, ◌+◌, ◌-◌, ◌↔◌, ◌⊎◌, true, false, None, Ok, Err, Some, IfErr, IfOk, OnErr, OnOk, length, min, IsTrue};
-ghost use Rattle.std.specs.Option.{IsSomeAnd};
 ghost use Rattle.ide_tasks.specs.Parts.{owed};
 ghost use Rattle.ide_tasks.specs.Task.{TaskData};
 ghost use Rattle.ide_steps.specs.State.{state_of};
-ghost use Rattle.ide_steps.specs.Steps.{ArePartsDone, IsCurrent, IsLowered, IsSkipped, KeepTasks, progress_at};
-ghost use Rattle.ide_steps.specs.Core.{IsSameProblem, IsUnchanged, is_claim_of_work};
+ghost use Rattle.ide_steps.specs.Steps.{ArePartsDone, IsClaimOfWork, IsCurrent, IsLowered, IsSkipped, KeepTasks, progress_at};
+ghost use Rattle.ide_steps.specs.Core.{IsSameProblem, IsUnchanged};
 
 use crate::machine::Core;
 use ide_problem::Problem;
 use ide_tables::Change;
-use ide_tasks::{Partners, Work};
+use ide_tasks::Work;
 use ide_wire::Refused;
 
 /// What a part did.
@@ -29,15 +28,15 @@ pub enum Parted {
 impl<P: Problem> Core<P> {
     /// Does the next part of the hand's work.
     ///
-    /// Refusals, in this order: `Stale` where the hand has no claim, or the work's task or count
-    /// of parts done is not the claim's; `NoMemory`. Telling whether the work is the claim's takes
+    /// Refusals, in this order: `Stale` exactly where the hand has no claim, or the work's task or
+    /// count of parts done is not the claim's; `NoMemory`. Telling whether the work is the claim's takes
     /// time in proportion to its site and partners.
     pub fn part(&mut self, hand: usize, work: &mut Work<P>) -> Result<Parted, Refused>
-        ensures stale { (result ≡ Err Refused.Stale) ↔ (is_claim_of_work P.F.eq ⟦<Partners<P::F> as PartialEq>⟧.eq work.old (claim_at self.old.pile hand) ≡ false) }
+        ensures stale { (result ≡ Err Refused.Stale) ↔ ¬ (IsClaimOfWork work.old (claim_at self.old.pile hand)) }
         ensures refused { IfErr result (λ e. (e ≡ Refused.Stale) ⊎ (e ≡ Refused.NoMemory)) }
         ensures current { OnOk result (IsCurrent P.targets P.F.edge self.old hand work.old) }
         ensures no_part { result ≡ Ok Parted.NoPart → (work.old.done ≡ length work.old.parts) × (self.new ≡ self.old) × (work.new ≡ work.old) }
-        ensures all_done { is_claim_of_work P.F.eq ⟦<Partners<P::F> as PartialEq>⟧.eq work.old (claim_at self.old.pile hand) ≡ true → work.old.done ≡ length work.old.parts → result ≡ Ok Parted.NoPart }
+        ensures all_done { IsClaimOfWork work.old (claim_at self.old.pile hand) → work.old.done ≡ length work.old.parts → result ≡ Ok Parted.NoPart }
         ensures lowered { result ≡ Ok Parted.Lowered → IsLowered P.F.edge (state_of P.targets P.F.edge self.old) (state_of P.targets P.F.edge self.new) hand work.old work.new }
         ensures same { result ≡ Ok Parted.Same → IsSkipped P.F.edge (state_of P.targets P.F.edge self.old) (state_of P.targets P.F.edge self.new) hand work.old work.new }
         ensures tasks { OnOk result (KeepTasks hand work.new.done self.old.pile self.new.pile) }
@@ -57,7 +56,7 @@ impl<P: Problem> Core<P> {
     /// and the work counts them. Whether the work is the claim's is told once for all of these parts:
     /// that takes time in proportion to its site and partners once, and then that of each part.
     pub fn parts(&mut self, hand: usize, work: &mut Work<P>, most: usize) -> Result<usize, Refused>
-        ensures stale { (result ≡ Err Refused.Stale) ↔ (is_claim_of_work P.F.eq ⟦<Partners<P::F> as PartialEq>⟧.eq work.old (claim_at self.old.pile hand) ≡ false) }
+        ensures stale { (result ≡ Err Refused.Stale) ↔ ¬ (IsClaimOfWork work.old (claim_at self.old.pile hand)) }
         ensures refused { IfErr result (λ e. (e ≡ Refused.Stale) ⊎ (e ≡ Refused.NoMemory)) }
         ensures current { (result ≡ Err Refused.Stale) ⊎ IsCurrent P.targets P.F.edge self.old hand work.old }
         ensures count { IfOk result (λ n. n ≡ min most (length work.old.parts - work.old.done)) }
@@ -79,8 +78,7 @@ impl<P: Problem> Core<P> {
     /// Whether the work is the hand's claim as it stands: its task, with as many parts done. It
     /// takes time in proportion to the site and the partners of the task.
     pub fn is_current(&self, hand: usize, work: &Work<P>) -> bool
-        ensures current { result ≡ is_claim_of_work P.F.eq ⟦<Partners<P::F> as PartialEq>⟧.eq work.now (claim_at self.now.pile hand) }
-        ensures far { IsTrue result → IsSomeAnd (claim_at self.now.pile hand) (λ held. (held.done ≡ work.now.done) × (owed P.targets P.F.edge held.task ≡ owed P.targets P.F.edge work.now.task)) }
+        ensures current { IsTrue result ↔ IsClaimOfWork work.now (claim_at self.now.pile hand) }
         ensures owed { IsTrue result → work.now.parts ≡ owed P.targets P.F.edge work.now.task }
     {
         match self.worklist.claim(hand) {

@@ -1,5 +1,5 @@
 -- The parts that a task owes, by its key, its site and its partners.
-use Rattle.std.specs.Prelude.{◌≡◌, ℕ, Bool, true, List, [], ◌++◌, Option, None, Some, map, slice_get}
+use Rattle.std.specs.Prelude.{ℕ, List, [], ◌++◌, Option, None, Some, map, slice_get}
 use Rattle.std.specs.List.{flat_map}
 use Rattle.ide_lattice.specs.Algebra.{EdgeAlgebra}
 use Rattle.ide_problem.specs.Flow.{Targets}
@@ -12,7 +12,7 @@ use Rattle.ide_wire.specs.declared.key.Key.TheVariants.{Jump, Summary}
 use Rattle.ide_tasks.specs.declared.partners.Partners.{Partners}
 use Rattle.ide_tasks.specs.declared.partners.Partners.TheVariants.{Entries, Callers}
 use Rattle.ide_tasks.specs.declared.partners.Reaching.{Reaching}
-use Rattle.ide_tasks.specs.Task.{TaskData, same_task}
+use Rattle.ide_tasks.specs.Task.{TaskData}
 
 module _ {F L : Type 0} (targets : Targets F) (B : EdgeAlgebra F L) where
   -- over an edge: the function goes on to each target of the fact
@@ -44,19 +44,14 @@ module _ {F L : Type 0} (targets : Targets F) (B : EdgeAlgebra F L) where
 
   -- what a key owes at a site with those partners
   abbrev pub parts_at : Key → F → Site → Partners F → List (Key × F)
-  parts_at (Jump n from to) function (Normal edges) partners = flat_map (flat_parts from to function) edges.items
+  parts_at (Jump n from to) function (Normal edges) partners = flat_map (flat_parts from to function) edges
   parts_at (Jump n from to) function (Call calls along) (Entries summaries) =
-      flat_map (seed_parts to) calls.items ++ flat_parts from to function along ++ after_parts along.end from function summaries
+      flat_map (seed_parts to) calls ++ flat_parts from to function along ++ after_parts along.end from function summaries
   parts_at (Jump n from to) function (Exit start callers) (Callers reaching) =
-      flat_map (λ source. exit_parts to function source (slice_get callers.items source.caller)) reaching
+      flat_map (λ source. exit_parts to function source (slice_get callers source.caller)) reaching
   parts_at (Summary c from to) summary (Call calls along) (Entries jumps) = resumed_parts along.end to summary jumps
   parts_at key function site partners = []
 
   -- the parts that the task owes
   abbrev pub owed : TaskData F → List (Key × F)
   owed task = parts_at task.key task.function task.site task.partners
-
-  -- tasks that are the same, by the code's `==` on functions and partners, have one key and owe one list
-  abbrev pub SameTasksOweTheSame : (F → F → Bool) → (Partners F → Partners F → Bool) → Type 0
-  SameTasksOweTheSame same_function same_partners =
-      (x y : TaskData F) → same_task same_function same_partners x y ≡ true → (x.key ≡ y.key) × (owed x ≡ owed y)

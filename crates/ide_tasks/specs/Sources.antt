@@ -31,7 +31,7 @@ sources_from targets facts index (caller ∷ callers) =
 abbrev pub sources_at : {F : Type 0} → Targets F → ℕ → Site → List (Source F)
 sources_at targets facts (Normal edges) = []
 sources_at targets facts (Call calls along) = []
-sources_at targets facts (Exit start callers) = sources_from targets facts 0 callers.items
+sources_at targets facts (Exit start callers) = sources_from targets facts 0 callers
 
 -- those of the sources that reach the fact
 abbrev pub reaching_of : {F : Type 0} → ℕ → List (Source F) → List (Reaching F)

@@ -18,5 +18,5 @@ mod work;
 
 pub use partners::{Partners, Reaching};
 pub use sources::Sources;
-pub use task::{Task, same_tasks_owe_the_same};
+pub use task::Task;
 pub use work::Work;

@@ -1,7 +1,5 @@
 //! A claimed key with all that its parts depend on.
-ghost use Rattle.std.specs.Prelude.{◌≡◌, IfOk, IsTrue};
-ghost use Rattle.ide_tasks.specs.Parts.{owed, SameTasksOweTheSame};
-ghost use Rattle.ide_tasks.specs.Task.{same_site, same_task};
+ghost use Rattle.std.specs.Prelude.{◌≡◌, ◌↔◌, IfOk, IsTrue};
 
 use crate::partners::Partners;
 use ide_graph::Site;
@@ -48,11 +46,7 @@ impl<P: Problem> Task<P> {
     /// Whether the tasks are the same: key, function, site and partners. It takes time in
     /// proportion to site and partners.
     pub fn is_same(&self, other: &Task<P>) -> bool
-        ensures same { result ≡ same_task P.F.eq ⟦<Partners<P::F> as PartialEq>⟧.eq self.now other.now }
-        ensures key { IsTrue result → self.now.key ≡ other.now.key }
-        ensures function { IsTrue result → self.now.function ≡ other.now.function }
-        ensures partners { IsTrue result → self.now.partners ≡ other.now.partners }
-        ensures owed { IsTrue result → owed P.targets P.F.edge self.now ≡ owed P.targets P.F.edge other.now }
+        ensures { IsTrue result ↔ (self.now ≡ other.now) }
     {
         self.key == other.key
             && self.function == other.function
@@ -63,21 +57,14 @@ impl<P: Problem> Task<P> {
 
 /// Whether two partners are the same.
 fn is_same_partners<F: EdgeFn>(one: &Partners<F>, other: &Partners<F>) -> bool
-    ensures same { result ≡ ⟦<Partners<F> as PartialEq>⟧.eq one.now other.now }
-    ensures exact { IsTrue result → one.now ≡ other.now }
+    ensures { IsTrue result ↔ (one.now ≡ other.now) }
 {
     *one == *other
 }
 
 /// Whether two sites are the same.
-#[tactic(auto, unfolding(crate::specs::Task::same_site))]
 fn is_same_site(one: &Site, other: &Site) -> bool
-    ensures { result ≡ same_site one.now other.now }
+    ensures { IsTrue result ↔ (one.now ≡ other.now) }
 {
     *one == *other
 }
-
-/// Tasks that `==` of their parts calls the same have the same key and owe the same parts.
-pub fn same_tasks_owe_the_same<P: Problem>()
-    ensures { SameTasksOweTheSame P.targets P.F.edge P.F.eq ⟦<Partners<P::F> as PartialEq>⟧.eq }
-{}

@@ -30,7 +30,8 @@ impl<P: Problem> Model for Work<P> {
 }
 
 impl<P: Problem> Work<P> {
-    /// The work of a task, with no part done. Where memory is wanting, the task comes back.
+    /// The work of a task, with no part done: that of the claim which gave the task, as it stands
+    /// then. Where memory is wanting, the task comes back.
     pub fn of(alloc: Global, task: Task<P>) -> Result<Work<P>, (Refused, Task<P>)>
         ensures task { IfOk result (λ work. work.task ≡ task) }
         ensures parts { IfOk result (λ work. work.parts ≡ owed P.targets P.F.edge task) }

@@ -18,9 +18,9 @@ pub record IsEdgeOf (facts : ℕ) (edge : EdgeData) : Type 0 where
 
 -- each edge of the site is
 abbrev pub HasEdgesOf : ℕ → Site → Type 0
-HasEdgesOf facts (Normal edges) = Each (IsEdgeOf facts) edges.items
-HasEdgesOf facts (Call calls along) = Each (IsEdgeOf facts) calls.items × IsEdgeOf facts along
-HasEdgesOf facts (Exit start callers) = Each (λ caller. IsEdgeOf facts caller.call × IsEdgeOf facts caller.back) callers.items
+HasEdgesOf facts (Normal edges) = Each (IsEdgeOf facts) edges
+HasEdgesOf facts (Call calls along) = Each (IsEdgeOf facts) calls × IsEdgeOf facts along
+HasEdgesOf facts (Exit start callers) = Each (λ caller. IsEdgeOf facts caller.call × IsEdgeOf facts caller.back) callers
 
 -- the edge that leaves the node
 abbrev pub edge_from : (facts n : ℕ) (edge : EdgeData) → IsEdgeOf facts edge → Edge facts
@@ -38,10 +38,10 @@ callers_at facts n (caller ∷ callers) all =
 
 -- what stands at the node n by its site
 abbrev pub edges_at : (facts n : ℕ) (site : Site) → HasEdgesOf facts site → NodeEdges (Edge facts)
-edges_at facts n (Normal edges) all = record { calls = []; flat = edges_from facts n edges.items all; return_sites = []; callers = [] }
+edges_at facts n (Normal edges) all = record { calls = []; flat = edges_from facts n edges all; return_sites = []; callers = [] }
 edges_at facts n (Call calls along) all =
-    record { calls = edges_from facts n calls.items all.0; flat = edge_from facts n along all.1 ∷ []; return_sites = along.end ∷ []; callers = [] }
-edges_at facts n (Exit start callers) all = record { calls = []; flat = []; return_sites = []; callers = callers_at facts n callers.items all }
+    record { calls = edges_from facts n calls all.0; flat = edge_from facts n along all.1 ∷ []; return_sites = along.end ∷ []; callers = [] }
+edges_at facts n (Exit start callers) all = record { calls = []; flat = []; return_sites = []; callers = callers_at facts n callers all }
 
 -- the sites have edges of a program with so many facts
 abbrev pub HaveEdgesOf : ℕ → List Site → Type 0

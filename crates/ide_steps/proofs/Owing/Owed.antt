@@ -1,6 +1,5 @@
 -- A task owes the listed parts of its key, and so what a claim of the key does.
-use Rattle.std.proofs.Common.{◌≡◌, ℕ, ◌+◌, ◌≤◌, ◌^◌, List, [], ◌∷◌, ◌++◌, Option, Some, None, Vec, sym, subst, ap, ◌∙◌, refl, arith, append_assoc, append-nil}
-use Rattle.std.specs.Global.{Global}
+use Rattle.std.proofs.Common.{◌≡◌, ℕ, ◌+◌, ◌≤◌, ◌^◌, List, [], ◌∷◌, ◌++◌, Option, Some, None, sym, subst, ap, ◌∙◌, refl, arith, append_assoc, append-nil}
 use Rattle.std.specs.Prelude.{slice_get}
 use Rattle.std.specs.List.{flat_map}
 use Rattle.std.proofs.lemmas.Option.{none-some}
@@ -64,19 +63,19 @@ module _ {F L : Type 0} (A : LatticeAlgebra L) (B : EdgeAlgebra F L) (targets : 
       partners-same (λ a. Jump c a b) table jumps are graph.facts few (λ a f present. (ranged (Jump c a b) f present).0)
       (λ a f. (Jump m a d, B.compose f s))
 
-  call-same : (n a b : ℕ) (f : F) (calls : Vec EdgeData Global) (along : EdgeData) (own : HasEdgesOf graph.facts (Call calls along)) (summaries : List (ℕ × F))
+  call-same : (n a b : ℕ) (f : F) (calls : List EdgeData) (along : EdgeData) (own : HasEdgesOf graph.facts (Call calls along)) (summaries : List (ℕ × F))
       → ArePartners (λ d. Summary n b d) table summaries
       → HaveSame (parts_at targets B (Jump n a b) f (Call calls along) (Entries summaries)) (jump_parts K (found table) (edges_at graph.facts n (Call calls along) own) n a b f)
   call-same n a b f calls along own summaries are =
-      let seeds : List (Key × F) = flat_map (seed_parts targets B b) calls.items in
-      let seeds_listed : List (Key × F) = flat_map (λ e. seed_listed K (found table) e b) (edges_from graph.facts n calls.items own.0) in
+      let seeds : List (Key × F) = flat_map (seed_parts targets B b) calls in
+      let seeds_listed : List (Key × F) = flat_map (λ e. seed_listed K (found table) e b) (edges_from graph.facts n calls own.0) in
       let flats : List (Key × F) = flat_parts targets B a b f along in
       let afters : List (Key × F) = after_parts targets B along.end a f summaries in
       let afters_listed : List (Key × F) = after_listed K (found table) n a b f along.end in
       let listed : List (Key × F) = seeds_listed ++ ((flats ++ []) ++ ((afters_listed ++ []) ++ [])) in
       subst (λ ps. HaveSame ps listed) (sym (append_assoc seeds flats afters))
       (same-append seeds seeds_listed (flats ++ afters) ((flats ++ []) ++ ((afters_listed ++ []) ++ []))
-      (same-of seeds seeds_listed (seeds-same n b calls.items own.0))
+      (same-of seeds seeds_listed (seeds-same n b calls own.0))
       (same-append flats (flats ++ []) afters ((afters_listed ++ []) ++ [])
       (same-of flats (flats ++ []) (sym (append-nil flats)))
       (same-nil afters (afters_listed ++ []) (same-nil afters afters_listed (over-same n a b f along.end summaries are)))))
@@ -85,19 +84,19 @@ module _ {F L : Type 0} (A : LatticeAlgebra L) (B : EdgeAlgebra F L) (targets : 
       → ArePartnersOf targets B graph table (Jump n a b) site partners
       → HaveSame (parts_at targets B (Jump n a b) f site partners) (jump_parts K (found table) (edges_at graph.facts n site own) n a b f)
   jump-same n a b f (Normal edges) own partners are =
-      let flats : List (Key × F) = flat_map (flat_parts targets B a b f) edges.items in
-      let listed : List (Key × F) = flat_map (λ e. flat_listed K (found table) e a b f) (edges_from graph.facts n edges.items own) in
-      same-nil flats listed (same-of flats listed (flats-same n a b f edges.items own))
+      let flats : List (Key × F) = flat_map (flat_parts targets B a b f) edges in
+      let listed : List (Key × F) = flat_map (λ e. flat_listed K (found table) e a b f) (edges_from graph.facts n edges own) in
+      same-nil flats listed (same-of flats listed (flats-same n a b f edges own))
   jump-same n a b f (Call calls along) own (Entries summaries) are = call-same n a b f calls along own summaries are
   jump-same n a b f (Call calls along) own (Callers reaching) are = elim are [ ]
   jump-same n a b f (Exit start callers) own (Entries entries) are = elim are [ ]
   jump-same n a b f (Exit start callers) own (Callers reaching) are =
-      let exits : List (Key × F) = flat_map (λ source. exit_parts targets B b f source (slice_get callers.items source.caller)) reaching in
-      let listed : List (Key × F) = flat_map (exit_listed K (found table) a b f) (callers_at graph.facts n callers.items own) in
+      let exits : List (Key × F) = flat_map (λ source. exit_parts targets B b f source (slice_get callers source.caller)) reaching in
+      let listed : List (Key × F) = flat_map (exit_listed K (found table) a b f) (callers_at graph.facts n callers own) in
       same-of exits listed
-      (ap (flat_map (λ source. exit_parts targets B b f source (slice_get callers.items source.caller))) are
-      ∙ callers-same A B targets (edges_of graph.facts graph.sites all (start_at graph)) (found table) n a b f (slice_get callers.items) 0 callers.items own
-      (λ k. let same : 0 + k ≡ k = omega arith in ap (slice_get callers.items) same))
+      (ap (flat_map (λ source. exit_parts targets B b f source (slice_get callers source.caller))) are
+      ∙ callers-same A B targets (edges_of graph.facts graph.sites all (start_at graph)) (found table) n a b f (slice_get callers) 0 callers own
+      (λ k. let same : 0 + k ≡ k = omega arith in ap (slice_get callers) same))
 
   summary-same : (c b d : ℕ) (s : F) (site : Site) (own : HasEdgesOf graph.facts site) (partners : Partners F)
       → ArePartnersOf targets B graph table (Summary c b d) site partners

@@ -23,12 +23,12 @@ module _ (p : Program) (lawful : AreLawful p) (facts : ℕ) (counted : facts ≡
 
   pub site-lawful : (n : ℕ) (s : Site) → IsSiteOf p n s → HasEdgesOf facts s
   site-lawful n (Normal edges) is =
-      each-all (IsNormal p n) (IsEdgeOf facts) (λ e normal. edge-is e (lawful.normal n e normal)) edges.items is.1.each
+      each-all (IsNormal p n) (IsEdgeOf facts) (λ e normal. edge-is e (lawful.normal n e normal)) edges is.1.each
   site-lawful n (Call calls along) is = (
-    each-all (IsCallFrom p n) (IsEdgeOf facts) (λ e call. edge-is e (lawful.call n call.0 e call.1)) calls.items is.0.each,
+    each-all (IsCallFrom p n) (IsEdgeOf facts) (λ e call. edge-is e (lawful.call n call.0 e call.1)) calls is.0.each,
     edge-is along (lawful.along n along is.1),
   )
   site-lawful n (Exit begin callers) is =
       each-all (IsCallerOf p is.index) (λ caller. IsEdgeOf facts caller.call × IsEdgeOf facts caller.back)
       (λ c caller. (edge-is c.call (lawful.call c.call_node is.index c.call caller.0), edge-is c.back (lawful.back c.call_node is.index c.back caller.1)))
-      callers.items is.listed.each
+      callers is.listed.each

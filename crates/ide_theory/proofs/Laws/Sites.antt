@@ -83,7 +83,7 @@ module _ (facts n : ℕ) where
       → (e.from ≡ n) × SiteWith o (λ s. HasFlat s e.edge)
   of-flat None all e is = elim (not-in-empty is) [ ]
   of-flat (Some (Normal edges)) all e is =
-      let found : (e.from ≡ n) × IsIn e.edge edges.items = of-edges_from edges.items (all (Normal edges) refl) e is in
+      let found : (e.from ≡ n) × IsIn e.edge edges = of-edges_from edges (all (Normal edges) refl) e is in
       (found.0, (Normal edges, refl, contains-in found.1))
   of-flat (Some (Call calls along)) all e is = (ap (λ f. f.from) (in-one is), (Call calls along, refl, ap (λ f. f.edge) (in-one is)))
   of-flat (Some (Exit start callers)) all e is = elim (not-in-empty is) [ ]
@@ -93,7 +93,7 @@ module _ (facts n : ℕ) where
   of-calls None all e is = elim (not-in-empty is) [ ]
   of-calls (Some (Normal edges)) all e is = elim (not-in-empty is) [ ]
   of-calls (Some (Call calls along)) all e is =
-      let found : (e.from ≡ n) × IsIn e.edge calls.items = of-edges_from calls.items (all (Call calls along) refl).0 e is in
+      let found : (e.from ≡ n) × IsIn e.edge calls = of-edges_from calls (all (Call calls along) refl).0 e is in
       (found.0, (Call calls along, refl, contains-in found.1))
   of-calls (Some (Exit start callers)) all e is = elim (not-in-empty is) [ ]
 
@@ -102,8 +102,8 @@ module _ (facts n : ℕ) where
   in-calls None all e from with_it = elim (none-some with_it.1) [ ]
   in-calls (Some (Normal edges)) all e from with_it = elim (subst (λ s. HasCall s e.edge) (sym (some-inj with_it.1)) with_it.2) [ ]
   in-calls (Some (Call calls along)) all e from with_it =
-      in-edges_from calls.items (all (Call calls along) refl).0 e from e.edge refl
-      (in-contains calls.items e.edge (subst (λ s. HasCall s e.edge) (sym (some-inj with_it.1)) with_it.2))
+      in-edges_from calls (all (Call calls along) refl).0 e from e.edge refl
+      (in-contains calls e.edge (subst (λ s. HasCall s e.edge) (sym (some-inj with_it.1)) with_it.2))
   in-calls (Some (Exit start callers)) all e from with_it = elim (subst (λ s. HasCall s e.edge) (sym (some-inj with_it.1)) with_it.2) [ ]
 
   -- each call of the site is one of those listed
@@ -112,7 +112,7 @@ module _ (facts n : ℕ) where
   call-listed None all d with_it = elim (none-some with_it.1) [ ]
   call-listed (Some (Normal edges)) all d with_it = elim (subst (λ s. HasCall s d) (sym (some-inj with_it.1)) with_it.2) [ ]
   call-listed (Some (Call calls along)) all d with_it =
-      edge-listed calls.items (all (Call calls along) refl).0 d (in-contains calls.items d (subst (λ s. HasCall s d) (sym (some-inj with_it.1)) with_it.2))
+      edge-listed calls (all (Call calls along) refl).0 d (in-contains calls d (subst (λ s. HasCall s d) (sym (some-inj with_it.1)) with_it.2))
   call-listed (Some (Exit start callers)) all d with_it = elim (subst (λ s. HasCall s d) (sym (some-inj with_it.1)) with_it.2) [ ]
 
   pub of-sites : (o : Option Site) (all : (s : Site) → o ≡ Some s → HasEdgesOf facts s) (m : ℕ) → IsIn m (edges_found facts n o all).return_sites
@@ -137,8 +137,8 @@ module _ (facts n : ℕ) where
   of-callers (Some (Normal edges)) all e f is = elim (not-in-empty is) [ ]
   of-callers (Some (Call calls along)) all e f is = elim (not-in-empty is) [ ]
   of-callers (Some (Exit start callers)) all e f is =
-      let found : (c : Caller) × IsIn c callers.items × (e.from ≡ c.call_node) × (e.edge ≡ c.call) × (f.from ≡ n) × (f.edge ≡ c.back) =
-      of-callers_at callers.items (all (Exit start callers) refl) e f is in
+      let found : (c : Caller) × IsIn c callers × (e.from ≡ c.call_node) × (e.edge ≡ c.call) × (f.from ≡ n) × (f.edge ≡ c.back) =
+      of-callers_at callers (all (Exit start callers) refl) e f is in
       (found.0, (Exit start callers, refl, contains-in found.1), found.2, found.3, found.4, found.5)
 
   pub in-callers : (o : Option Site) (all : (s : Site) → o ≡ Some s → HasEdgesOf facts s) (c : Caller) → SiteWith o (λ s. HasCaller s c)
@@ -148,8 +148,8 @@ module _ (facts n : ℕ) where
   in-callers (Some (Normal edges)) all c with_it e from is = elim (subst (λ s. HasCaller s c) (sym (some-inj with_it.1)) with_it.2) [ ]
   in-callers (Some (Call calls along)) all c with_it e from is = elim (subst (λ s. HasCaller s c) (sym (some-inj with_it.1)) with_it.2) [ ]
   in-callers (Some (Exit start callers)) all c with_it e from is =
-      in-callers_at callers.items (all (Exit start callers) refl) c
-      (in-contains callers.items c (subst (λ s. HasCaller s c) (sym (some-inj with_it.1)) with_it.2)) e from is
+      in-callers_at callers (all (Exit start callers) refl) c
+      (in-contains callers c (subst (λ s. HasCaller s c) (sym (some-inj with_it.1)) with_it.2)) e from is
 
 module _ (facts : ℕ) (sites : List Site) (all : HaveEdgesOf facts sites) (start_of : ℕ → ℕ) (joined : AreJoined sites start_of) where
   abbrev G : Edges

@@ -17,8 +17,8 @@ returns g c =
           let sound = c.runs_are_sound.ensures (edges_of graph.facts graph.sites all (start_at graph)) made.0 (state_of targets B old) run in
           let present = sound.present task.key taken.pending in
           c.tasks_owe_their_parts.ensures graph all fit.joined fit.few old.table task (owes graph is fit.exits (ap is_some present.1)) sound.ranged.keys);
-      lower = λ hand old new work after same current is. goes-lowered A B targets old new hand work after same current is;
-      skip = λ hand old new work after same current is. goes-skipped A B targets old new hand work after same current is;
+      lower = λ hand old new work after task same progress parts is. goes-lowered A B targets old new hand work after task same progress parts is;
+      skip = λ hand old new work after task same progress parts is. goes-skipped A B targets old new hand work after task same progress parts is;
       finish = λ hand old new held same has over state. goes-ended A B targets old new hand held same has over state;
       release = λ hand old new held same has state. goes-back A B targets old new hand held same has state;
     }

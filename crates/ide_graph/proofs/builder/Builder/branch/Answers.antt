@@ -1,4 +1,4 @@
-use Rattle.std.proofs.Common.{◌≡◌, ◌<◌, ◌∷◌, [], arith}
+use Rattle.std.proofs.Common.{◌≡◌, ◌<◌, ◌∷◌, [], ◌∙◌, arith}
 use Rattle.ide_graph.specs.Building.{node_count}
 use Rattle.ide_graph.specs.declared.edge.EdgeKind.TheVariants as kind
 use Rattle.ide_graph.specs.declared.edge.Effect.TheVariants.{Nothing}
@@ -16,4 +16,4 @@ returns-clause-exact c = λ p is next label.
     let items : c.push-2.new.self.items ≡ edge_of p c.min.result (kind.Normal Nothing) ∷ edge_of p c.max.result (kind.Normal Nothing) ∷ [] =
     two_pushed c.in_ok-edges.edges.items c.push.new.self.items c.push-2.new.self.items c.edge.result c.edge-2.result _ _
     c.in_ok-edges.ensures.items c.in_ok-push.ensures.items c.in_ok-push-2.ensures.items first second in
-    lesser_first p c.args.next c.args.label c.min.result c.max.result c.if-next-label.false c.min.ensures c.max.ensures c.push-2.new.self.items items
+    lesser_first p c.args.next c.args.label c.min.result c.max.result c.if-next-label.false c.min.ensures c.max.ensures c.of.result (c.of.ensures ∙ items)

@@ -44,7 +44,8 @@ returns-clause-exact c = λ p is call.
     let edge = c.edge.ensures.exact p is (rw end next) in
     let all : take c.loop-callee.callee-index c.args.call.now.callees.items ≡ c.args.call.now.callees.items =
     take_all c.loop-callee.callee-index c.args.call.now.callees.items (omega (arith, c.loop-callee-test.false, ap length c.deref-callee-items.ensures.value)) in (
-      calls_listed p c.args.call.now.node call.at c.args.call.now.callees.items c.loop-callee.calls.items call.callees (rw all at (c.loop-callee.invariant.exact p is call)),
+      calls_listed p c.args.call.now.node call.at c.args.call.now.callees.items c.of.result call.callees
+          (rw c.of.ensures (rw all at (c.loop-callee.invariant.exact p is call))),
       record {
         call = call.at;
         target = c.args.call.now.target;

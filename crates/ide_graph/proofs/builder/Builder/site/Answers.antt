@@ -60,14 +60,14 @@ returns-in-Exit-clause-exact c = λ p q is stands from.
     let here : Stands p c.args.node i q exit = subst (λ place. Stands p c.args.node i q (spot_value place)) c.in-Exit.is stands in
     let lists = c.args.callers.now.items in
     let within : i < length lists = omega (arith, c.requires.procedure, c.requires.whole) in
-    let old : slice_get lists i ≡ Some c.index_mut.result.now = slice_get_read lists (length lists) i c.index_mut.result.now refl within c.index_mut.ensures.value in
-    let listed = from i c.index_mut.result.now old (omega (arith, exit_is p c.args.node i q here)) in
+    let old : slice_get lists i ≡ Some c.index_mut-owner.result.now = slice_get_read lists (length lists) i c.index_mut-owner.result.now refl within c.index_mut-owner.ensures.value in
+    let listed = from i c.index_mut-owner.result.now old (omega (arith, exit_is p c.args.node i q here)) in
     let scope = c.scope-scope.ensures.exact p q is here.owner in
     record {
       index = i;
       node = here.node;
       begins = scope.layout.start;
-      listed = subst (λ (v : Vec Caller). Lists (IsCallerOf p i) (λ caller. caller.call_node) v.items) (sym c.replace.ensures.value) listed;
+      listed = rw c.of.ensures (subst (λ (v : Vec Caller). Lists (IsCallerOf p i) (λ caller. caller.call_node) v.items) (sym c.replace.ensures.value) listed);
     }
 
 pub returns-in-Exit-clause-left : goal.returns-in-Exit-clause-left

@@ -7,8 +7,9 @@ use Rattle.ide_steps.specs.Core.{CoreData}
 use Rattle.ide_steps.specs.declared.part.Parted.{Parted}
 use Rattle.ide_steps.specs.declared.part.Parted.TheVariants.{Lowered, Same}
 use Rattle.ide_steps.specs.Drain.{IsPaidBy, left_by, lowerings_by, potential}
-use Rattle.ide_steps.specs.Going.{GoesOnBy, IsWorking}
-use Rattle.ide_steps.proofs.Going.{goes-then, goes-finish, goes-lowered, goes-same, goes-skipped, goes-unchanged, parted-is, working-current, works-on}
+use Rattle.ide_steps.specs.Going.{GoesOnBy}
+use Rattle.ide_steps.specs.Steps.{IsCurrent}
+use Rattle.ide_steps.proofs.Going.{goes-then, goes-finish, goes-lowered, goes-same, goes-skipped, goes-unchanged, parted-is, works-on}
 use Rattle.ide_steps.proofs.machine.Core.run.Goals as goal
 
 -- the end of a task takes at most its key out, and takes it out where the flag says so
@@ -67,7 +68,7 @@ returns-clause-goes g c =
           goes-then A B targets start core over
           (subst (GoesOnBy A B targets 0 0 c.loop-work.invariant.0 0 start) (sym done.1) now.1)
           (goes-finish A B targets core over 0 work c.end_claim.ensures.stays
-          (subst (λ s. IsWorking A B targets s 0 work) (sym done.1) now.0) done.0 c.end_claim.ensures.finished),
+          (subst (λ s. IsCurrent targets B s 0 work) (sym done.1) now.0) done.0 c.end_claim.ensures.finished),
       record { keys = omega (arith, paid); ranks = omega (arith, ranks, same) },
     )
 
@@ -130,9 +131,9 @@ loop-work-preserved g c =
             ],
             λ working.
                 let now = c.loop-work.invariant.2 working in
-                let part = ensures.lowered is work.task now.0.progress in (
-                  works-on A B targets new 0 work after part.counted now.0.parts (ensures.progress work.task now.0.progress),
-                  goes-then A B targets start old new now.1 (goes-lowered A B targets old new 0 work after ensures.stays (working-current A B targets old 0 work now.0) part),
+                let part = ensures.lowered is work.task now.0.claim in (
+                  works-on A B targets new 0 work after part.counted now.0.parts (ensures.progress work.task now.0.claim),
+                  goes-then A B targets start old new now.1 (goes-lowered A B targets old new 0 work after work.task ensures.stays now.0.claim now.0.parts part),
                 ),
             pays Lowered lowered,
             others,
@@ -148,9 +149,9 @@ loop-work-preserved g c =
               ],
               λ working.
                   let now = c.loop-work.invariant.2 working in
-                  let part = ensures.same is work.task now.0.progress in (
-                    works-on A B targets new 0 work after part.counted now.0.parts (ensures.progress work.task now.0.progress),
-                    goes-then A B targets start old new now.1 (goes-skipped A B targets old new 0 work after ensures.stays (working-current A B targets old 0 work now.0) part),
+                  let part = ensures.same is work.task now.0.claim in (
+                    works-on A B targets new 0 work after part.counted now.0.parts (ensures.progress work.task now.0.claim),
+                    goes-then A B targets start old new now.1 (goes-skipped A B targets old new 0 work after work.task ensures.stays now.0.claim now.0.parts part),
                   ),
               pays Same same,
               others,

@@ -25,7 +25,7 @@ returns-in-Ok-clause-claims g c =
     (paid-task A B targets c.run.result c.args.self.now c.take_next.new.self c.run.new.self c.in_ok-task.ensures.same.0 c.in_ok-task.ensures.same.1
     (subst (λ o. GoesOnBy A B targets 0 (cond (is_some o) 1 0) 0 0 c.args.self.now c.take_next.new.self) c.in-Some.is c.in_ok-task.ensures.claims)
     (ran.1 (record {
-      progress = progress ∙ (λ i. Some (sym task i, sym c.in-Ok.ensures.none_done i));
+      claim = progress ∙ (λ i. Some (sym task i, sym c.in-Ok.ensures.none_done i));
       parts = c.in-Ok.ensures.parts ∙ ap (owed targets B) (sym task);
     }))
     ran.2)
@@ -39,6 +39,6 @@ returns-in-Ok-clause-goes g c =
     let progress = c.in_ok-task.ensures.progress c.in-Some.task (ap Ok c.in-Some.is) in
     goes-on-then A B targets c.args.self.now c.take_next.new.self c.run.new.self c.take_next.ensures.goes
     (goes-on A B targets c.take_next.new.self c.run.new.self (c.run.ensures.goes.1 (record {
-      progress = progress ∙ (λ i. Some (sym task i, sym c.in-Ok.ensures.none_done i));
+      claim = progress ∙ (λ i. Some (sym task i, sym c.in-Ok.ensures.none_done i));
       parts = c.in-Ok.ensures.parts ∙ ap (owed targets B) (sym task);
     })))
