@@ -1,4 +1,4 @@
-use Rattle.ide_example.proofs.Asked.{answered}
+use Rattle.ide_example.proofs.Told.{answered}
 use Rattle.ide_example.proofs.asked.may_be_input.Goals as goal
 
 pub returns : goal.returns
