@@ -1,5 +1,5 @@
 -- What contracts see of a core, and when its calls are refused.
-use Rattle.std.specs.Prelude.{◌≡◌, ℕ, ◌≤◌, Bool, true, false, ◌&&◌, length, map, List, Option, None, Some, nat_eq}
+use Rattle.std.specs.Prelude.{◌≡◌, ℕ, ◌≤◌, Bool, true, false, ◌&&◌, length, List, Option, None, Some, nat_eq}
 use Rattle.std.specs.Option.{is_some}
 use Rattle.ide_graph.specs.Supergraph.{Supergraph}
 use Rattle.ide_problem.specs.Flow.{Targets}
@@ -10,7 +10,6 @@ use Rattle.ide_tasks.specs.Task.{TaskData, same_task}
 use Rattle.ide_tasks.specs.Work.{WorkData}
 use Rattle.ide_tasks.specs.declared.partners.Partners.{Partners}
 use Rattle.ide_text.specs.Value.{ProgramValue}
-use Rattle.ide_theory.specs.Within.{is_call}
 use Rattle.ide_wire.specs.Key.{node_of}
 use Rattle.ide_wire.specs.declared.key.Key.{Key}
 use Rattle.ide_worklist.specs.declared.claim.Claim.{Claim}
@@ -59,9 +58,7 @@ pub record HasKeyOutside {F : Type 0} (core : CoreData F) : Type 0 where
   pub is : core.graph ≡ Some graph
   pub outside : graph.nodes ≤ node_of key
 
--- what is kept of a loaded program: each node has a site, the sources are those of the graph, and the
--- tables watch the call nodes
-pub record IsProgramKept {F : Type 0} (targets : Targets F) (graph : Supergraph) (sources : List (List (Source F))) (table : Table F) : Type 0 where
+-- what is kept of a loaded program: each node has a site, and the sources are those of the graph
+pub record IsProgramKept {F : Type 0} (targets : Targets F) (graph : Supergraph) (sources : List (List (Source F))) : Type 0 where
   pub sited : length graph.sites ≡ graph.nodes
   pub inverse : AreSourcesOf targets graph sources
-  pub watched : table.watched ≡ map is_call graph.sites

@@ -100,7 +100,7 @@ fn take_task<P: Problem>(
     requires pending { is_pending worklist.old key ≡ true }
     requires unclaimed { is_claimed worklist.old key ≡ false }
     ensures key { IfOk result (λ task. task.key ≡ key) }
-    ensures is_task { IsProgramKept P.targets loaded.now.graph loaded.now.sources tables.now → AreExitsOwned loaded.now.graph → IsSome (found tables.now key) → IfOk result (IsTaskOf P.targets P.F.edge loaded.now.graph tables.now) }
+    ensures is_task { IsProgramKept P.targets loaded.now.graph loaded.now.sources → AreExitsOwned loaded.now.graph → IsSome (found tables.now key) → IfOk result (IsTaskOf P.targets P.F.edge loaded.now.graph tables.now) }
     ensures refused { IfErr result (λ e. (e ≡ Refused.NoMemory) ⊎ ((e ≡ Refused.OutOfRange) × (loaded.now.graph.nodes ≤ node_of key))) }
     ensures pending { worklist.new.pending ≡ worklist.old.pending }
     ensures claims { IfOk result (λ task. (h : ℕ) → claim_at worklist.new h ≡ put_hand (claim_at worklist.old) hand (Some (record { key = key; task = task; done = 0; lowered = false })) h) }
@@ -119,7 +119,7 @@ fn task_of<P: Problem>(
     key: Key,
 ) -> Result<Task<P>, Refused>
     ensures key { IfOk result (λ task. task.key ≡ key) }
-    ensures is_task { IsProgramKept P.targets loaded.now.graph loaded.now.sources tables.now → AreExitsOwned loaded.now.graph → IsSome (found tables.now key) → IfOk result (IsTaskOf P.targets P.F.edge loaded.now.graph tables.now) }
+    ensures is_task { IsProgramKept P.targets loaded.now.graph loaded.now.sources → AreExitsOwned loaded.now.graph → IsSome (found tables.now key) → IfOk result (IsTaskOf P.targets P.F.edge loaded.now.graph tables.now) }
     ensures refused { IfErr result (λ e. (e ≡ Refused.NoMemory) ⊎ ((e ≡ Refused.OutOfRange) × (loaded.now.graph.nodes ≤ node_of key))) }
 {
     let node = key.node();
@@ -147,7 +147,7 @@ fn partners_of<P: Problem>(
     procedure: usize,
     site: &Site,
 ) -> Result<Partners<P::F>, Refused>
-    ensures partners { IsProgramKept P.targets loaded.now.graph loaded.now.sources tables.now → AreExitsOwned loaded.now.graph → slice_get loaded.now.graph.sites (node_of key) ≡ Some site.now → procedure ≡ slice_index loaded.now.graph.owners (node_of key) → procedure < loaded.now.graph.procedures → IfOk result (ArePartnersOf P.targets P.F.edge loaded.now.graph tables.now key site.now) }
+    ensures partners { IsProgramKept P.targets loaded.now.graph loaded.now.sources → AreExitsOwned loaded.now.graph → slice_get loaded.now.graph.sites (node_of key) ≡ Some site.now → procedure ≡ slice_index loaded.now.graph.owners (node_of key) → procedure < loaded.now.graph.procedures → IfOk result (ArePartnersOf P.targets P.F.edge loaded.now.graph tables.now key site.now) }
     ensures refused { IfErr result (λ e. e ≡ Refused.NoMemory) }
 {
     match (key, site) {

@@ -50,7 +50,7 @@ impl<P: Problem> Model for Core<P> {
 
     ghost view = { λ c. record { program = option_map (λ loaded. value_of (arc_value {X = Loaded P P.L P.F} loaded).program) c.loaded; graph = option_map (λ loaded. (arc_value {X = Loaded P P.L P.F} loaded).graph) c.loaded; roots = c.roots.items; table = c.tables; pile = c.worklist } };
 
-    ghost invariant = { λ c. (loaded : Loaded P P.L P.F) → option_map (arc_value {X = Loaded P P.L P.F}) c.loaded ≡ Some loaded → IsProgramKept P.targets loaded.graph loaded.sources c.tables };
+    ghost invariant = { λ c. (loaded : Loaded P P.L P.F) → option_map (arc_value {X = Loaded P P.L P.F}) c.loaded ≡ Some loaded → IsProgramKept P.targets loaded.graph loaded.sources };
 }
 
 impl<P: Problem> Core<P> {
@@ -134,8 +134,8 @@ impl<P: Problem> Core<P> {
     }
 
     /// The function at a key; an absent one stands for the always-top function.
-    pub fn get(&self, key: Key) -> Option<&P::F>
-        ensures { option_copied result ≡ found self.now.table key }
+    pub fn get(&self, key: Key) -> Option<P::F>
+        ensures { result ≡ found self.now.table key }
     {
         self.tables.get(key)
     }

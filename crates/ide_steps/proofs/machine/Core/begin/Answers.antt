@@ -3,20 +3,8 @@ use Rattle.std.specs.List.{list_any}
 use Rattle.std.specs.Map.{keys_of}
 use Rattle.ide_wire.specs.Key.{same_key}
 use Rattle.ide_steps.specs.Rooted.{marked_all}
-use Rattle.ide_tables.specs.Tables.{Table}
 use Rattle.ide_steps.proofs.Entries.{state-with}
 use Rattle.ide_steps.proofs.machine.Core.begin.Goals as goal
-
--- `search` would try long at these before it gave up: an invariant is a function into a record
-pub invariant_of-self-in_err-set_all : goal.invariant_of-self-in_err-set_all
-invariant_of-self-in_err-set_all g c = λ loaded is.
-    let kept = c.self.invariant loaded is in
-    record { sited = kept.sited; inverse = kept.inverse; watched = ap (λ (t : Table g.row.P-F.Denot). t.watched) c.in_err-set_all.ensures.err ∙ kept.watched }
-
-pub invariant_of-self-2 : goal.invariant_of-self-2
-invariant_of-self-2 g c = λ loaded is.
-    let kept = c.self.invariant loaded is in
-    record { sited = kept.sited; inverse = kept.inverse; watched = c.in_ok-set_all.ensures.sets.watched ∙ kept.watched }
 
 pub returns-clause-state : goal.returns-clause-state
 returns-clause-state g c =

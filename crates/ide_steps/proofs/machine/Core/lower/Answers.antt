@@ -4,40 +4,10 @@ use Rattle.ide_steps.proofs.Potential.{at-most-one, falls, push-pays}
 use Rattle.ide_steps.proofs.machine.Core.lower.Goals as goal
 use Rattle.std.specs.Prelude.{◌||◌}
 use Rattle.std.specs.List.{list_any}
-use Rattle.ide_tables.specs.Tables.{Table, found}
+use Rattle.ide_tables.specs.Tables.{found}
 use Rattle.ide_wire.specs.Key.{same_key}
 use Rattle.ide_worklist.specs.Worklist.{claim_at, marked}
-use Rattle.ide_steps.proofs.States.{changes-of, or_top-unwrap, state-lowered, watched-kept}
-
--- `search` would try long at these before it gave up: an invariant is a function into a record
-pub invariant_of-self-in_err-change : goal.invariant_of-self-in_err-change
-invariant_of-self-in_err-change g c = λ loaded is.
-    let kept = c.self.invariant loaded is in
-    record { sited = kept.sited; inverse = kept.inverse; watched = ap (λ (t : Table g.row.P-F.Denot). t.watched) c.in_err-change.ensures.err ∙ kept.watched }
-
-pub invariant_of-self-then-eq : goal.invariant_of-self-then-eq
-invariant_of-self-then-eq g c = λ loaded is.
-    let kept = c.self.invariant loaded is in
-    record {
-      sited = kept.sited;
-      inverse = kept.inverse;
-      watched =
-          watched-kept g.P.Problem.targets g.P.F.EdgeFn.edge c.self.inside.tables c.lower.new.self c.args.key c.args.function c.in_ok-change.change
-          c.in_ok-change.ensures.lowered c.in_ok-change.ensures.same
-          ∙ kept.watched;
-    }
-
-pub invariant_of-self-else-eq : goal.invariant_of-self-else-eq
-invariant_of-self-else-eq g c = λ loaded is.
-    let kept = c.self.invariant loaded is in
-    record {
-      sited = kept.sited;
-      inverse = kept.inverse;
-      watched =
-          watched-kept g.P.Problem.targets g.P.F.EdgeFn.edge c.self.inside.tables c.lower.new.self c.args.key c.args.function c.in_ok-change.change
-          c.in_ok-change.ensures.lowered c.in_ok-change.ensures.same
-          ∙ kept.watched;
-    }
+use Rattle.ide_steps.proofs.States.{changes-of, or_top-unwrap, state-lowered}
 
 pub returns-then-eq-clause-falls : goal.returns-then-eq-clause-falls
 returns-then-eq-clause-falls g c is =

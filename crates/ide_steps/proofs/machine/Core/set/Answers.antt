@@ -8,8 +8,3 @@ pub set_pending-requires-clause-unclaimed : goal.set_pending-requires-clause-unc
 set_pending-requires-clause-unclaimed g c =
     ap (list_any (is_claim_of c.args.key)) c.in_ok-reserve.ensures.claims
     ∙ none-claimed c.args.key c.self.inside.worklist.claims (rw (← c.self.view_is) at c.requires.unclaimed)
-
-pub invariant_of-self-2 : goal.invariant_of-self-2
-invariant_of-self-2 g c = λ loaded is.
-    let kept = c.self.invariant loaded is in
-    record { sited = kept.sited; inverse = kept.inverse; watched = c.in_ok-set.ensures.sets.watched ∙ kept.watched }
