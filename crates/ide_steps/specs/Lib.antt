@@ -1,6 +1,7 @@
 pub mod Core
 pub mod Owed
 pub mod Refusal
+pub mod CloseRefusal
 pub mod Room
 pub mod Rooted
 pub mod State

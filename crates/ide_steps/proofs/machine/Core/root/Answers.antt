@@ -1,7 +1,9 @@
 use Rattle.std.proofs.Common.{◌≡◌, ap, rules, subst, sym, ◌∙◌, Some}
 use Rattle.std.proofs.lemmas.Result.{err_from_is_err_and}
+use Rattle.ide_graph.specs.Supergraph.{Supergraph}
 use Rattle.ide_wire.specs.declared.refused.Refused.TheVariants.{NoMemory}
 use Rattle.ide_steps.specs.Refusal.{IsRootName, IsRootRefusal, RootFault, fault, memory, no_program}
+use Rattle.ide_theory.specs.Images.{seeded_below}
 use Rattle.ide_steps.specs.Rooted.{with_entries}
 use Rattle.ide_steps.specs.State.{state_of}
 use Rattle.ide_steps.proofs.Rooted.{begun}
