@@ -12,13 +12,13 @@ use Rattle.ide_lattice.specs.Algebra.{LatticeAlgebra, EdgeAlgebra}
 use Rattle.ide_problem.specs.Flow.{Targets}
 use Rattle.ide_steps.specs.CloseRefusal.{CloseFault, no_program as close_without, unfinished as waiting}
 use Rattle.ide_steps.specs.Core.{CoreData, is_loaded}
-use Rattle.ide_steps.specs.Going.{GoesOn, IsOutside}
+use Rattle.ide_steps.specs.Going.{GoesOn}
 use Rattle.ide_steps.specs.Refusal.{IsRootRefusal, fault as root_fault, memory as wants, no_program as no_program_loaded}
 use Rattle.ide_text.specs.Parsed.{IsParsed, IsRefusalOf}
 use Rattle.ide_text.specs.declared.program.Program.{Program}
 use Rattle.ide_worklist.specs.Worklist.{claim_at}
 use Rattle.ide_wire.specs.declared.refused.Refused.{Refused}
-use Rattle.ide_wire.specs.declared.refused.Refused.TheVariants.{NoMemory, Text, NoProgram, Unfinished, Busy, OutOfRange}
+use Rattle.ide_wire.specs.declared.refused.Refused.TheVariants.{NoMemory, Text, NoProgram, Unfinished, Busy}
 use Rattle.ide_values.specs.Refusal.{IsValuesRefusal, memory as values_memory, no_worker, too_many}
 use Rattle.ide_service.specs.Begun.{AreBegun}
 use Rattle.ide_service.specs.Refusal.{FirstRootFault, IsRootsRefusal, IsSolveRefusal, fault, here, later, memory, no_memory, no_program, no_root, root}
@@ -91,18 +91,16 @@ module _ {F L : Type 0} (A : LatticeAlgebra L) (B : EdgeAlgebra F L) (targets : 
   -- a core that is started is drained, but for want of memory
   pub drain-refused : (text : List ℕ) (names : List (List ℕ)) (core : CoreData F) (graph : Supergraph) (refused : Refused)
       → IsStarted A B targets text names core graph
-      → (refused ≡ NoProgram) ⊎ (refused ≡ Busy) ⊎ (refused ≡ Unfinished) ⊎ (refused ≡ NoMemory) ⊎ (refused ≡ OutOfRange)
+      → (refused ≡ NoProgram) ⊎ (refused ≡ Busy) ⊎ (refused ≡ Unfinished) ⊎ (refused ≡ NoMemory)
       → (refused ≡ NoProgram → is_loaded core ≡ false) → (refused ≡ Busy → IsSome (claim_at core.pile 0))
       → (refused ≡ Unfinished → (h : ℕ) × IsSome (claim_at core.pile h))
-      → (refused ≡ OutOfRange → IsOutside A B targets core)
       → refused ≡ NoMemory
-  drain-refused text names core graph refused is either unloaded busy unfinished out =
+  drain-refused text names core graph refused is either unloaded busy unfinished =
       elim either [
         | inl program ↦ absurd (true≢false (sym (ap is_some is.is) ∙ unloaded program))
         | inr (inl at_work) ↦ absurd (free 0 (busy at_work))
         | inr (inr (inl left)) ↦ absurd (free (unfinished left).0 (unfinished left).1)
-        | inr (inr (inr (inl wanting))) ↦ wanting
-        | inr (inr (inr (inr range))) ↦ absurd (out range graph is.is is.all is.fit is.run)
+        | inr (inr (inr wanting)) ↦ wanting
       ]
     where
       free : (h : ℕ) → IsSome (claim_at core.pile h) → ⊥

@@ -49,9 +49,3 @@ module _ {F L : Type 0} (A : LatticeAlgebra L) (B : EdgeAlgebra F L) (targets : 
   pub record IsWorking (core : CoreData F) (hand : ℕ) (work : WorkData F) : Type 0 where
     pub progress : progress_at core.pile hand ≡ Some (work.task, work.done)
     pub parts : work.parts ≡ owed targets B work.task
-
-  -- over a graph that is fit, no run came to the core's state: it has a key at no node
-  abbrev pub IsOutside : CoreData F → Type 0
-  IsOutside core =
-      (graph : Supergraph) → core.graph ≡ Some graph → (all : HaveEdgesOf graph.facts graph.sites) → IsFit graph
-      → ¬ (Run (frame_at A B targets graph all) (state_of targets B core))

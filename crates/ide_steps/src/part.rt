@@ -5,9 +5,10 @@ ghost use Rattle.std.specs.Prelude.{◌≡◌, ℕ, ◌<◌, ◌+◌, ◌-◌, �
 ghost use Rattle.std.specs.Option.{IsSomeAnd};
 ghost use Rattle.ide_tasks.specs.Parts.{owed};
 ghost use Rattle.ide_tasks.specs.Task.{TaskData};
+ghost use Rattle.ide_tasks.specs.Work.{WorkData};
 ghost use Rattle.ide_steps.specs.State.{state_of};
 ghost use Rattle.ide_steps.specs.Steps.{ArePartsDone, IsCurrent, IsLowered, IsSkipped, KeepTasks, progress_at};
-ghost use Rattle.ide_steps.specs.Core.{IsSameProblem, IsUnchanged, is_claim_of_work};
+ghost use Rattle.ide_steps.specs.Core.{AreInside, IsSameProblem, IsUnchanged, is_claim_of_work};
 
 use crate::machine::Core;
 use ide_problem::Problem;
@@ -47,6 +48,7 @@ impl<P: Problem> Core<P> {
         if !self.is_current(hand, work) {
             return Err(Refused::Stale);
         }
+        self.parts_are_inside(hand);
         self.next_part(hand, work)
     }
 
@@ -70,6 +72,7 @@ impl<P: Problem> Core<P> {
         ensures unchanged { result ≡ Err Refused.Stale → (self.new ≡ self.old) × (work.new ≡ work.old) }
     {
         if self.is_current(hand, work) {
+            self.parts_are_inside(hand);
             self.next_parts(hand, work, most)
         } else {
             Err(Refused::Stale)
@@ -89,8 +92,16 @@ impl<P: Problem> Core<P> {
         }
     }
 
+    /// It does nothing: its clause is what is known of the parts of work that is the hand's claim.
+    pub(crate) fn parts_are_inside(&self, hand: usize)
+        ensures { (work : WorkData P.F) → IsCurrent P.targets P.F.edge self.now hand work → AreInside self.now work.parts }
+    {
+        let _ = self.worklist.claim(hand);
+    }
+
     /// Does the next part of work that is the hand's claim.
     pub(crate) fn next_part(&mut self, hand: usize, work: &mut Work<P>) -> Result<Parted, Refused>
+        requires { AreInside self.old work.old.parts }
         ensures falls { result ≡ Ok Parted.Lowered → potential P.F.edge self.new < potential P.F.edge self.old }
         ensures still { result ≡ Ok Parted.Same → (potential P.F.edge self.new ≡ potential P.F.edge self.old) × (ends_key (claim_at self.new.pile hand) ≡ ends_key (claim_at self.old.pile hand)) }
         ensures paid { IfOk result (λ parted. IsPaidBy P.F.edge hand (lowerings_by parted) self.old self.new) }
@@ -120,6 +131,7 @@ impl<P: Problem> Core<P> {
 
     /// Does up to `most` of the next parts of work that is the hand's claim, and counts them.
     fn next_parts(&mut self, hand: usize, work: &mut Work<P>, most: usize) -> Result<usize, Refused>
+        requires { AreInside self.old work.old.parts }
         ensures refused { IfErr result (λ e. e ≡ Refused.NoMemory) }
         ensures count { IfOk result (λ n. n ≡ min most (length work.old.parts - work.old.done)) }
         ensures done { IfOk result (λ n. work.new ≡ record work.old { done = work.old.done + n }) }

@@ -37,6 +37,6 @@ returns-in_err-drain-clause-refused g c =
     let wanting = drain-refused g.P.L.Lattice.algebra g.P.F.EdgeFn.edge g.P.Problem.targets c.args.text.now names
     c.in_ok-core.core c.in_ok-core.ensures.started.0 refused c.in_ok-core.ensures.started.1 is.refused
     (λ same. is.no_program.0 (ap Err same)) (λ same. (is.busy.0 (ap Err same)).1)
-    (λ same. ((is.unfinished.0 (ap Err same)).2, (is.unfinished.0 (ap Err same)).4)) (λ same. is.within (ap Err same)) in
+    (λ same. ((is.unfinished.0 (ap Err same)).2, (is.unfinished.0 (ap Err same)).4)) in
     handed-on (IsSolveRefusal c.args.text.now names) c.from_residual-in_err-drain.result refused p.0 p.1 p.2
     (subst (IsSolveRefusal c.args.text.now names) (sym wanting) memory)

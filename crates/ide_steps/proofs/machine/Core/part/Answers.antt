@@ -37,3 +37,9 @@ returns-clause-tasks g c =
     subst (λ (work : WorkData g.row.P-F.Denot). KeepTasks c.args.hand work.done old.pile c.next_part.new.self.pile) (sym kept.2)
     (subst (λ (core : CoreData g.row.P-F.Denot). KeepTasks c.args.hand c.args.work.now.done old.pile core.pile) (sym kept.1)
     (tasks-here c.args.hand c.args.work.now.done there.0 old.pile there.1)))
+
+pub next_part-requires : goal.next_part-requires
+next_part-requires g c =
+    c.parts_are_inside.ensures c.args.work.now
+    (current-held g.P.Problem.targets g.P.F.EdgeFn.edge c.args.self.now c.args.hand c.args.work.now
+    (c.is_current.ensures.far c.if-not-is_current.false) (c.is_current.ensures.owed c.if-not-is_current.false))

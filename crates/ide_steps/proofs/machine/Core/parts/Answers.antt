@@ -30,3 +30,9 @@ pub returns-then-is_current-clause-current : goal.returns-then-is_current-clause
 returns-then-is_current-clause-current g c =
     inr (current-held g.P.Problem.targets g.P.F.EdgeFn.edge c.args.self.now c.args.hand c.args.work.now
     (c.is_current.ensures.far c.if-is_current.true) (c.is_current.ensures.owed c.if-is_current.true))
+
+pub next_parts-requires : goal.next_parts-requires
+next_parts-requires g c =
+    c.parts_are_inside.ensures c.args.work.now
+    (current-held g.P.Problem.targets g.P.F.EdgeFn.edge c.args.self.now c.args.hand c.args.work.now
+    (c.is_current.ensures.far c.if-is_current.true) (c.is_current.ensures.owed c.if-is_current.true))
