@@ -11,7 +11,8 @@ use Rattle.ide_graph.specs.Supergraph.{Supergraph}
 use Rattle.ide_lattice.specs.Algebra.{LatticeAlgebra, EdgeAlgebra}
 use Rattle.ide_problem.specs.Flow.{Targets}
 use Rattle.ide_steps.specs.CloseRefusal.{CloseFault, no_program as close_without, unfinished as waiting}
-use Rattle.ide_steps.specs.Core.{CoreData, is_loaded}
+use Rattle.ide_steps.specs.Core.{CoreData}
+use Rattle.ide_steps.specs.DrainRefusal.{IsDrainRefusal, busy as at_work, memory as drain_memory, no_program as drain_without, unfinished as others_at_work}
 use Rattle.ide_steps.specs.Going.{GoesOn}
 use Rattle.ide_steps.specs.Refusal.{IsRootRefusal, fault as root_fault, memory as wants, no_program as no_program_loaded}
 use Rattle.ide_text.specs.Parsed.{IsParsed, IsRefusalOf}
@@ -89,22 +90,12 @@ module _ {F L : Type 0} (A : LatticeAlgebra L) (B : EdgeAlgebra F L) (targets : 
       }
 
   -- a core that is started is drained, but for want of memory
-  pub drain-refused : (text : List ℕ) (names : List (List ℕ)) (core : CoreData F) (graph : Supergraph) (refused : Refused)
-      → IsStarted A B targets text names core graph
-      → (refused ≡ NoProgram) ⊎ (refused ≡ Busy) ⊎ (refused ≡ Unfinished) ⊎ (refused ≡ NoMemory)
-      → (refused ≡ NoProgram → is_loaded core ≡ false) → (refused ≡ Busy → IsSome (claim_at core.pile 0))
-      → (refused ≡ Unfinished → (h : ℕ) × IsSome (claim_at core.pile h))
-      → refused ≡ NoMemory
-  drain-refused text names core graph refused is either unloaded busy unfinished =
-      elim either [
-        | inl program ↦ absurd (true≢false (sym (ap is_some is.is) ∙ unloaded program))
-        | inr (inl at_work) ↦ absurd (free 0 (busy at_work))
-        | inr (inr (inl left)) ↦ absurd (free (unfinished left).0 (unfinished left).1)
-        | inr (inr (inr wanting)) ↦ wanting
-      ]
-    where
-      free : (h : ℕ) → IsSome (claim_at core.pile h) → ⊥
-      free h claimed = true≢false (sym claimed ∙ ap is_some (is.unclaimed h))
+  pub drain-refused : (text : List ℕ) (names : List (List ℕ)) (core : CoreData F) (graph : Supergraph) {refused : Refused}
+      → IsStarted A B targets text names core graph → IsDrainRefusal core refused → refused ≡ NoMemory
+  drain-refused text names core graph is (drain_without unloaded) = absurd (true≢false (sym (ap is_some is.is) ∙ unloaded))
+  drain-refused text names core graph is (at_work loaded claimed) = absurd (true≢false (sym claimed ∙ ap is_some (is.unclaimed 0)))
+  drain-refused text names core graph is (others_at_work loaded free hand other claimed) = absurd (true≢false (sym claimed ∙ ap is_some (is.unclaimed hand)))
+  drain-refused text names core graph is (drain_memory may) = refl
 
   -- and once it is quiet it is closed
   pub close-refused : (text : List ℕ) (names : List (List ℕ)) (core drained : CoreData F) (graph : Supergraph) {refused : Refused}

@@ -8,7 +8,8 @@ ghost use Rattle.ide_wire.specs.Key.{node_of};
 ghost use Rattle.ide_wire.specs.declared.key.Key.{Key};
 ghost use Rattle.ide_worklist.specs.Worklist.{claim_at, ends_key, is_pending, is_claimed, put_hand};
 ghost use Rattle.ide_tasks.specs.Task.{TaskData};
-ghost use Rattle.ide_steps.specs.Core.{is_loaded, IsProgramKept, IsSameProblem, IsUnchanged, StandsIn};
+ghost use Rattle.ide_steps.specs.ClaimRefusal.{IsClaimRefusal, MayClaim};
+ghost use Rattle.ide_steps.specs.Core.{IsProgramKept, IsSameProblem, IsUnchanged, StandsIn};
 ghost use Rattle.ide_steps.specs.State.{ArePartnersOf, IsTaskOf};
 ghost use Rattle.ide_steps.specs.Steps.{IsTaken, progress_at};
 
@@ -39,10 +40,8 @@ impl<P: Problem> Core<P> {
     /// Refusals, in this order: `Limit` where the hand's number is over 63; `NoProgram`; `Busy`
     /// where the hand has a claim; `NoMemory`.
     pub fn claim(&mut self, hand: usize) -> Result<Claimed<P>, Refused>
-        ensures limit { (result ≡ Err Refused.Limit) ↔ (64 ≤ hand) }
-        ensures no_program { (result ≡ Err Refused.NoProgram) ↔ ((hand < 64) × (is_loaded self.old ≡ false)) }
-        ensures busy { (result ≡ Err Refused.Busy) ↔ ((hand < 64) × (is_loaded self.old ≡ true) × IsSome (claim_at self.old.pile hand)) }
-        ensures refused { IfErr result (λ e. (e ≡ Refused.Limit) ⊎ (e ≡ Refused.NoProgram) ⊎ (e ≡ Refused.Busy) ⊎ (e ≡ Refused.NoMemory)) }
+        ensures may { OnOk result (MayClaim self.old hand) }
+        ensures refused { IfErr result (IsClaimRefusal self.old hand) }
         ensures quiet { result ≡ Ok Claimed.Quiet → self.old.pile.pending ≡ [] }
         ensures waiting { result ≡ Ok Claimed.Idle → self.old.pile.pending ≢ [] }
         ensures idle { result ≡ Ok Claimed.Idle → (q : Key) → is_pending self.old.pile q ≡ true → is_claimed self.old.pile q ≡ true }

@@ -4,6 +4,7 @@ ghost use Rattle.std.specs.List.{IsDistinct};
 ghost use Rattle.std.specs.Map.{keys_of};
 ghost use Rattle.std.specs.Option.{is_some};
 ghost use Rattle.ide_steps.specs.Core.{is_loaded, AreInside};
+ghost use Rattle.ide_steps.specs.DrainRefusal.{IsDrainRefusal, MayDrain};
 ghost use Rattle.ide_steps.specs.Drain.{ArePaid, GoesOnPaid, potential};
 ghost use Rattle.ide_steps.specs.Going.{GoesOn, GoesOnBy, IsWorking};
 ghost use Rattle.ide_steps.specs.Room.{AreTasksFew};
@@ -34,10 +35,8 @@ impl<P: Problem> Core<P> {
     /// one; all tested first, in this order. `NoMemory` keeps the steps done before it and releases
     /// hand 0's claim.
     pub fn drain(&mut self) -> Result<u64, Refused>
-        ensures no_program { (result ≡ Err Refused.NoProgram) ↔ (is_loaded self.old ≡ false) }
-        ensures busy { (result ≡ Err Refused.Busy) ↔ ((is_loaded self.old ≡ true) × IsSome (claim_at self.old.pile 0)) }
-        ensures unfinished { (result ≡ Err Refused.Unfinished) ↔ ((is_loaded self.old ≡ true) × (claim_at self.old.pile 0 ≡ None) × (h : ℕ) × (nat_eq 0 h ≡ false) × IsSome (claim_at self.old.pile h)) }
-        ensures refused { IfErr result (λ e. (e ≡ Refused.NoProgram) ⊎ (e ≡ Refused.Busy) ⊎ (e ≡ Refused.Unfinished) ⊎ (e ≡ Refused.NoMemory)) }
+        ensures may { OnOk result (MayDrain self.old) }
+        ensures refused { IfErr result (IsDrainRefusal self.old) }
         ensures quiet { OnOk result (self.new.pile.pending ≡ []) }
         ensures free { IsFree self.old.pile → IsFree self.new.pile }
         ensures claims { IfOk result (λ tasks. (claims : ℕ) × (tasks ≡ min claims (2 ^ 64 - 1)) × GoesOnPaid P.L.algebra P.F.edge P.targets claims self.old self.new) }

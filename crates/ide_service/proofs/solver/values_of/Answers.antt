@@ -1,4 +1,4 @@
-use Rattle.std.proofs.Common.{Some, Err, map, ap, subst, sym, ◌∙◌, arith}
+use Rattle.std.proofs.Common.{Some, map, ap, subst, sym, ◌∙◌, arith}
 use Rattle.std.proofs.lemmas.Result.{IfErr-weaker, err_from_is_err_and}
 use Rattle.ide_graph.specs.Joined.{start_at}
 use Rattle.ide_theory.specs.Sites.{edges_of}
@@ -33,10 +33,7 @@ returns-in_err-drain-clause-refused g c =
     let p = err_from_is_err_and c.from_residual-in_err-drain.result c.from_residual-in_err-drain.ensures.1 in
     let names = map (λ name. name.now) c.args.roots.now in
     let refused = c.in_err-drain.field-0.0 in
-    let is = c.in_err-drain.ensures in
     let wanting = drain-refused g.P.L.Lattice.algebra g.P.F.EdgeFn.edge g.P.Problem.targets c.args.text.now names
-    c.in_ok-core.core c.in_ok-core.ensures.started.0 refused c.in_ok-core.ensures.started.1 is.refused
-    (λ same. is.no_program.0 (ap Err same)) (λ same. (is.busy.0 (ap Err same)).1)
-    (λ same. ((is.unfinished.0 (ap Err same)).2, (is.unfinished.0 (ap Err same)).4)) in
+    c.in_ok-core.core c.in_ok-core.ensures.started.0 c.in_ok-core.ensures.started.1 c.in_err-drain.ensures.refused in
     handed-on (IsSolveRefusal c.args.text.now names) c.from_residual-in_err-drain.result refused p.0 p.1 p.2
     (subst (IsSolveRefusal c.args.text.now names) (sym wanting) memory)

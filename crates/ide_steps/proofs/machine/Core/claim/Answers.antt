@@ -1,12 +1,15 @@
 use Rattle.std.proofs.Common.{◌≡◌, ℕ, Option, Some, false, subst, sym, ap, ◌∙◌, rules}
 use Rattle.std.proofs.lemmas.Option.{same_Some}
+use Rattle.std.proofs.lemmas.Result.{err_from_is_err_and}
 use Rattle.ide_graph.specs.Edges.{EdgesWithin}
 use Rattle.ide_tasks.specs.Parts.{owed}
 use Rattle.ide_tasks.specs.Task.{TaskData}
 use Rattle.ide_theory.specs.State.{new_claim, with_claim}
 use Rattle.ide_worklist.specs.declared.claim.Claim.{Claim as Held}
 use Rattle.ide_steps.proofs.Nodes.{kept-put, kept-unchanged, parts-within}
-use Rattle.ide_steps.proofs.States.{state-at, state-claimed, taken-ends, taken-progress, unchanged-err}
+use Rattle.ide_wire.specs.declared.refused.Refused.TheVariants.{NoMemory}
+use Rattle.ide_steps.specs.ClaimRefusal.{IsClaimRefusal, busy, limit, memory, no_program}
+use Rattle.ide_steps.proofs.States.{handed-on, state-at, state-claimed, taken-ends, taken-progress, unchanged-err}
 use Rattle.ide_steps.proofs.machine.Core.claim.Goals as goal
 
 pub take_task-requires-clause-place : goal.take_task-requires-clause-place
@@ -69,3 +72,18 @@ returns-clause-progress g c = λ task is.
     taken-progress {F = g.row.P-F.Denot} c.self.inside.worklist c.take_task.new.worklist c.args.hand
     (record { key = c.in-Some-unclaimed.key; task = c.in_ok-task.task; done = 0; lowered = false }) c.in_ok-task.ensures.claims
     ∙ ap there same
+
+pub returns-then-hand-ge-HANDS-clause-refused : goal.returns-then-hand-ge-HANDS-clause-refused
+returns-then-hand-ge-HANDS-clause-refused g c = limit (search rules)
+
+pub returns-in_default-clause-refused : goal.returns-in_default-clause-refused
+returns-in_default-clause-refused g c = no_program (search rules) (search rules)
+
+pub returns-then-is_some-clause-refused : goal.returns-then-is_some-clause-refused
+returns-then-is_some-clause-refused g c = busy (search rules) (search rules) (search rules)
+
+pub returns-in_err-task-clause-refused : goal.returns-in_err-task-clause-refused
+returns-in_err-task-clause-refused g c =
+    let p = err_from_is_err_and c.from_residual.result c.from_residual.ensures.1 in
+    handed-on (IsClaimRefusal {F = g.row.P-F.Denot} c.args.self.now c.args.hand) c.from_residual.result NoMemory p.0 p.1 (p.2 ∙ c.in_err-task.ensures.refused)
+    (memory (record { within = search rules; loaded = search rules; free = search rules }) c.in-Some-unclaimed.key (search rules) (search rules))

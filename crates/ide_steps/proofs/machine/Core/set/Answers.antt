@@ -1,6 +1,5 @@
 use Rattle.std.proofs.Common.{◌∙◌, ap, cond, subst, sym}
 use Rattle.std.specs.Option.{IsSomeAnd}
-use Rattle.ide_tables.specs.Tables.{Table}
 use Rattle.ide_wire.specs.Key.{same_key}
 use Rattle.ide_steps.specs.Core.{CoreData}
 use Rattle.ide_steps.specs.Items.{IsKeyOf}

@@ -1,6 +1,9 @@
-use Rattle.std.proofs.Common.{ap, Ok}
-use Rattle.ide_steps.proofs.Free.{some-unclaimed}
+use Rattle.std.proofs.Common.{◌≡◌, ap, Ok}
+use Rattle.std.proofs.lemmas.Result.{err_from_is_err_and}
+use Rattle.ide_wire.specs.declared.refused.Refused.TheVariants.{NoMemory}
+use Rattle.ide_steps.proofs.Free.{claim-wants, some-unclaimed}
 use Rattle.ide_steps.proofs.Going.{goes-on, goes-same, goes-unchanged}
+use Rattle.ide_steps.proofs.States.{handed-on}
 use Rattle.ide_steps.proofs.machine.Core.take_next.Goals as goal
 
 pub returns-in_err-task-clause-goes : goal.returns-in_err-task-clause-goes
@@ -38,3 +41,9 @@ returns-in-Quiet-clause-claims g c =
 pub returns-in-Quiet-clause-goes : goal.returns-in-Quiet-clause-goes
 returns-in-Quiet-clause-goes g c =
     goes-on g.P.L.Lattice.algebra g.P.F.EdgeFn.edge g.P.Problem.targets c.args.self.now c.claim.new.self (returns-in-Quiet-clause-claims g c)
+
+pub returns-in_err-task-clause-refused : goal.returns-in_err-task-clause-refused
+returns-in_err-task-clause-refused g c =
+    let p = err_from_is_err_and c.from_residual.result c.from_residual.ensures.1 in
+    handed-on (λ e. e ≡ NoMemory) c.from_residual.result c.in_err-task.field-0.0 p.0 p.1 p.2
+    (claim-wants {F = g.row.P-F.Denot} c.args.self.now c.requires.loaded c.requires.free c.in_err-task.ensures.refused)
