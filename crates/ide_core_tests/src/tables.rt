@@ -37,7 +37,7 @@ fn tasks_of_the_empty_main(rt: HostRuntime) -> Result<(), Fail> {
 /// Whether the function at a key is the identity.
 fn is_identity<P: Problem>(core: &Core<P>, key: Key) -> bool {
     match core.get(key) {
-        Some(function) => *function == P::F::id(),
+        Some(function) => function == P::F::id(),
         None => false,
     }
 }

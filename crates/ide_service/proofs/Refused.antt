@@ -10,14 +10,17 @@ use Rattle.ide_graph.specs.GraphOfText.{IsGraphOfText}
 use Rattle.ide_graph.specs.Supergraph.{Supergraph}
 use Rattle.ide_lattice.specs.Algebra.{LatticeAlgebra, EdgeAlgebra}
 use Rattle.ide_problem.specs.Flow.{Targets}
-use Rattle.ide_steps.specs.Core.{CoreData, is_loaded}
-use Rattle.ide_steps.specs.Going.{GoesOn, IsOutside}
+use Rattle.ide_steps.specs.CloseRefusal.{CloseFault, no_program as close_without, unfinished as waiting}
+use Rattle.ide_steps.specs.Core.{CoreData}
+use Rattle.ide_steps.specs.DrainRefusal.{IsDrainRefusal, busy as at_work, memory as drain_memory, no_program as drain_without, unfinished as others_at_work}
+use Rattle.ide_steps.specs.Going.{GoesOn}
 use Rattle.ide_steps.specs.Refusal.{IsRootRefusal, fault as root_fault, memory as wants, no_program as no_program_loaded}
 use Rattle.ide_text.specs.Parsed.{IsParsed, IsRefusalOf}
 use Rattle.ide_text.specs.declared.program.Program.{Program}
 use Rattle.ide_worklist.specs.Worklist.{claim_at}
 use Rattle.ide_wire.specs.declared.refused.Refused.{Refused}
-use Rattle.ide_wire.specs.declared.refused.Refused.TheVariants.{NoMemory, Text, NoProgram, Unfinished, Busy, Limit, OutOfRange}
+use Rattle.ide_wire.specs.declared.refused.Refused.TheVariants.{NoMemory, Text, NoProgram, Unfinished, Busy}
+use Rattle.ide_values.specs.Refusal.{IsValuesRefusal, memory as values_memory, no_worker, too_many}
 use Rattle.ide_service.specs.Begun.{AreBegun}
 use Rattle.ide_service.specs.Refusal.{FirstRootFault, IsRootsRefusal, IsSolveRefusal, fault, here, later, memory, no_memory, no_program, no_root, root}
 use Rattle.ide_service.specs.Solve.{AreRootNames, none, then}
@@ -47,14 +50,11 @@ wants-memory text names (Ok x) is = is
 wants-memory text names (Err e) is = subst (IsSolveRefusal text names) (sym is) memory
 
 -- values by as many workers as may be
-pub values-refused : {T : Type 0} (text : List ℕ) (names : List (List ℕ)) (workers : ℕ) (result : Result T Refused) → 0 < workers → workers ≤ 64
-    → ((result ≡ Err Limit) ↔ ((workers ≡ 0) ⊎ (64 < workers))) → IfErr result (λ e. (e ≡ Limit) ⊎ (e ≡ NoMemory)) → IfErr result (IsSolveRefusal text names)
-values-refused text names workers (Ok x) some few limit is = is
-values-refused text names workers (Err e) some few limit is =
-    elim is [
-      | inl past ↦ elim (limit.0 (ap Err past)) [ inl no_worker ↦ absurd (omega (arith, no_worker, some)) | inr many ↦ absurd (omega (arith, many, few)) ]
-      | inr wanting ↦ subst (IsSolveRefusal text names) (sym wanting) memory
-    ]
+pub values-refused : (text : List ℕ) (names : List (List ℕ)) (workers : ℕ) {refused : Refused} → 0 < workers → workers ≤ 64
+    → IsValuesRefusal workers refused → IsSolveRefusal text names refused
+values-refused text names workers some few (no_worker none) = absurd (omega (arith, none, some))
+values-refused text names workers some few (too_many past) = absurd (omega (arith, past, few))
+values-refused text names workers some few (values_memory are) = memory
 
 -- what `root` refuses is the fault of its name, which is the first
 pub root-refused : (graph : Option Supergraph) (roots name : List ℕ) (names : List (List ℕ)) {refused : Refused}
@@ -90,33 +90,17 @@ module _ {F L : Type 0} (A : LatticeAlgebra L) (B : EdgeAlgebra F L) (targets : 
       }
 
   -- a core that is started is drained, but for want of memory
-  pub drain-refused : (text : List ℕ) (names : List (List ℕ)) (core : CoreData F) (graph : Supergraph) (refused : Refused)
-      → IsStarted A B targets text names core graph
-      → (refused ≡ NoProgram) ⊎ (refused ≡ Busy) ⊎ (refused ≡ Unfinished) ⊎ (refused ≡ NoMemory) ⊎ (refused ≡ OutOfRange)
-      → (refused ≡ NoProgram → is_loaded core ≡ false) → (refused ≡ Busy → IsSome (claim_at core.pile 0))
-      → (refused ≡ Unfinished → (h : ℕ) × IsSome (claim_at core.pile h))
-      → (refused ≡ OutOfRange → IsOutside A B targets core)
-      → refused ≡ NoMemory
-  drain-refused text names core graph refused is either unloaded busy unfinished out =
-      elim either [
-        | inl program ↦ absurd (true≢false (sym (ap is_some is.is) ∙ unloaded program))
-        | inr (inl at_work) ↦ absurd (free 0 (busy at_work))
-        | inr (inr (inl left)) ↦ absurd (free (unfinished left).0 (unfinished left).1)
-        | inr (inr (inr (inl wanting))) ↦ wanting
-        | inr (inr (inr (inr range))) ↦ absurd (out range graph is.is is.all is.fit is.run)
-      ]
-    where
-      free : (h : ℕ) → IsSome (claim_at core.pile h) → ⊥
-      free h claimed = true≢false (sym claimed ∙ ap is_some (is.unclaimed h))
+  pub drain-refused : (text : List ℕ) (names : List (List ℕ)) (core : CoreData F) (graph : Supergraph) {refused : Refused}
+      → IsStarted A B targets text names core graph → IsDrainRefusal core refused → refused ≡ NoMemory
+  drain-refused text names core graph is (drain_without unloaded) = absurd (true≢false (sym (ap is_some is.is) ∙ unloaded))
+  drain-refused text names core graph is (at_work loaded claimed) = absurd (true≢false (sym claimed ∙ ap is_some (is.unclaimed 0)))
+  drain-refused text names core graph is (others_at_work loaded free hand other claimed) = absurd (true≢false (sym claimed ∙ ap is_some (is.unclaimed hand)))
+  drain-refused text names core graph is (drain_memory may) = refl
 
   -- and once it is quiet it is closed
-  pub close-refused : (text : List ℕ) (names : List (List ℕ)) (core drained : CoreData F) (graph : Supergraph) (refused : Refused)
+  pub close-refused : (text : List ℕ) (names : List (List ℕ)) (core drained : CoreData F) (graph : Supergraph) {refused : Refused}
       → IsStarted A B targets text names core graph → GoesOn A B targets 0 core drained → drained.pile.pending ≡ []
-      → (refused ≡ NoProgram) ⊎ (refused ≡ Unfinished)
-      → (refused ≡ NoProgram → is_loaded drained ≡ false) → (refused ≡ Unfinished → drained.pile.pending ≢ [])
+      → CloseFault drained refused
       → ⊥
-  close-refused text names core drained graph refused is goes quiet either unloaded unfinished =
-      elim either [
-        | inl program ↦ true≢false (sym (ap is_some (goes.by.same.graph ∙ is.is)) ∙ unloaded program)
-        | inr left ↦ unfinished left quiet
-      ]
+  close-refused text names core drained graph is goes quiet (close_without unloaded) = true≢false (sym (ap is_some (goes.by.same.graph ∙ is.is)) ∙ unloaded)
+  close-refused text names core drained graph is goes quiet (waiting loaded left) = left quiet

@@ -2,6 +2,7 @@
 use Rattle.std.proofs.Common.{◌≡◌, ℕ, ◌+◌, suc, ◌<◌, ◌≤◌, add-one, refl, sym, ap, ◌∙◌, subst, arith, List, [], ◌∷◌, ◌++◌, length, take, get_or, Option, Some, None, Bool, true, false, cond, ◌||◌}
 use Rattle.std.proofs.lemmas.Bool.Decides.{nat_tests}
 use Rattle.std.proofs.lemmas.List.{take_more}
+use Rattle.std.proofs.lemmas.List.Elements.{All-nil, All-push}
 use Rattle.std.specs.Prelude.{option_map}
 use Rattle.std.specs.List.{list_any}
 use Rattle.std.specs.Map.{keys_of}
@@ -11,13 +12,13 @@ use Rattle.ide_problem.specs.Flow.{Targets}
 use Rattle.ide_tables.specs.Tables.{Table, SetsAll, last_of}
 use Rattle.ide_tasks.specs.Task.{TaskData}
 use Rattle.ide_theory.specs.State.{Claim, State, marked, seeded, with_function}
-use Rattle.ide_wire.specs.Key.{same_key, same_key_symm}
+use Rattle.ide_wire.specs.Key.{node_of, same_key, same_key_symm}
 use Rattle.ide_wire.specs.declared.key.Key.{Key}
 use Rattle.ide_wire.specs.declared.key.Key.TheVariants.{Jump}
 use Rattle.ide_worklist.specs.Worklist.{Pile, claim_at, is_pending, marked as marked_claim}
 use Rattle.ide_worklist.specs.declared.claim.Claim.{Claim as Held}
 use Rattle.ide_theory.specs.Images.{seeded_below, seeded_once}
-use Rattle.ide_steps.specs.Rooted.{marked_all, marked_by, with_entries}
+use Rattle.ide_steps.specs.Rooted.{AllAt, marked_all, marked_by, with_entries}
 use Rattle.ide_steps.specs.State.{claim_of}
 use Rattle.ide_steps.proofs.States.{or-cond, state-at}
 
@@ -133,6 +134,13 @@ before-more r n es f before d less =
 
 pub before-later : {F : Type 0} (r n : ℕ) (es : List (Key × F)) → AreBefore r n es → AreBefore r (n + 1) es
 before-later r n es before d less = before d (omega (arith, less))
+
+-- one entry more at the node
+pub at-none : {F : Type 0} (node : ℕ) → AllAt {F = F} node []
+at-none {F} node = All-nil (λ (e : Key × F). node_of e.0 ≡ node)
+
+pub at-more : {F : Type 0} (node : ℕ) (es : List (Key × F)) (key : Key) (f : F) → node_of key ≡ node → AllAt node es → AllAt node (es ++ (key, f) ∷ [])
+at-more {F} node es key f at all = All-push (λ (e : Key × F). node_of e.0 ≡ node) es (key, f) all at
 
 module _ {F L : Type 0} (B : EdgeAlgebra F L) (targets : Targets F) (r n : ℕ) (s : State F) (es : List (Key × F)) (before : AreBefore r n es) where
   -- the entries before leave the fact's own

@@ -26,7 +26,7 @@ use Rattle.ide_steps.specs.declared.part.Parted.{Parted}
 use Rattle.ide_steps.specs.declared.part.Parted.TheVariants.{Lowered, Same, NoPart}
 use Rattle.ide_steps.specs.Core.{CoreData, IsSameProblem, IsUnchanged}
 use Rattle.ide_steps.specs.Drain.{ArePaid, GoesOnPaid}
-use Rattle.ide_steps.specs.Going.{GoesOn, GoesOnBy, IsFit, IsOutside}
+use Rattle.ide_steps.specs.Going.{GoesOn, GoesOnBy, IsFit}
 use Rattle.ide_steps.specs.State.{state_of, claim_of}
 use Rattle.ide_steps.specs.Steps.{IsCurrent, IsLowered, IsOneMore, IsSkipped, IsTaken, progress_at}
 
@@ -215,11 +215,6 @@ module _ {F L : Type 0} (A : LatticeAlgebra L) (B : EdgeAlgebra F L) (targets : 
       → IfOk r (λ more. GoesOnPaid A B targets (cond more 1 0) old new)
   goes-more (Ok flag) old new is goes = subst (λ b. GoesOnPaid A B targets (cond b 1 0) old new) (sym is) goes
   goes-more (Err e) old new is goes = tt
-
-  -- no run came to a core's state, where none comes to the state after its steps
-  pub outside-before : (old new : CoreData F) → GoesOn A B targets 0 old new → IsOutside A B targets new → IsOutside A B targets old
-  outside-before old new goes outside = λ g is all fit run.
-      outside g (goes.by.same.graph ∙ is) all fit (run-goes (frame_at A B targets g all) run (goes.by.steps g is all fit run).0)
 
   -- an image, pending keys and claims that are as they were are the same state
   pub state-unchanged : (old new : CoreData F) → IsUnchanged old new → state_of targets B new ≡ state_of targets B old

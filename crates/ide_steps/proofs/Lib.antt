@@ -9,3 +9,4 @@ pub mod Free
 pub mod Going
 pub mod Listed
 pub mod Entries
+pub mod Nodes

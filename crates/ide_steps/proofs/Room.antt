@@ -14,9 +14,11 @@ use Rattle.ide_theory.specs.Member.{IsIn, first, later}
 use Rattle.ide_theory.specs.Members.{in-flat_map, in-left, in-map, in-range_below, in-right}
 use Rattle.ide_theory.specs.Parts.{IsKeyInRange}
 use Rattle.ide_theory.specs.Within.{IsPlaced, is_some_call}
-use Rattle.ide_wire.specs.Key.{node_of, same_key, same_key_laws, same_key_refl}
+use Rattle.ide_wire.specs.Key.{same_key, same_key_laws, same_key_refl}
 use Rattle.ide_wire.specs.declared.key.Key.{Key}
 use Rattle.ide_wire.specs.declared.key.Key.TheVariants.{Jump, Summary}
+use Rattle.ide_steps.specs.Core.{StandsIn}
+use Rattle.ide_steps.specs.Items.{StandsAt}
 use Rattle.ide_steps.specs.Room.{calls_of, key_space}
 
 -- a node with a site is a node of the graph
@@ -27,9 +29,9 @@ site-within graph sited n call = by-site (slice_get graph.sites n) refl call
     by-site None same never = absurd (cc (never))
     by-site (Some site) same is = subst (λ m. n < m) sited (slice_get_within graph.sites n site same)
 
-pub placed-within : (graph : Supergraph) → length graph.sites ≡ graph.nodes → (key : Key) → IsPlaced graph key → node_of key < graph.nodes
-placed-within graph sited (Jump n a b) within = within
-placed-within graph sited (Summary n a b) call = site-within graph sited n call
+pub key-stands : (graph : Supergraph) → length graph.sites ≡ graph.nodes → (key : Key) → StandsAt graph key → StandsIn graph key
+key-stands graph sited (Jump n a b) within = within
+key-stands graph sited (Summary n a b) call = site-within graph sited n call
 
 in-filter : {T : Type 0} (test : T → Bool) {x : T} {xs : List T} → IsIn x xs → test x ≡ true → IsIn x (filter test xs)
 in-filter test {x} (first {xs = xs}) is = subst (λ b. IsIn x (cond b (x ∷ filter test xs) (filter test xs))) (sym is) first

@@ -8,8 +8,6 @@ use Rattle.std.specs.List.{list_any}
 use Rattle.ide_lattice.specs.Algebra.{EdgeAlgebra}
 use Rattle.ide_problem.specs.Flow.{Targets}
 use Rattle.ide_tables.specs.Tables.{Table, Falls, Lowers, found, function_at, or_top, lowered_by as lowered_in}
-use Rattle.ide_tables.specs.declared.tables.Change.{Change}
-use Rattle.ide_tables.specs.declared.tables.Change.TheVariants.{Lowered, Same}
 use Rattle.ide_tasks.specs.Parts.{owed}
 use Rattle.ide_tasks.specs.Task.{TaskData}
 use Rattle.ide_tasks.specs.Work.{WorkData}
@@ -77,14 +75,6 @@ module _ {F L : Type 0} (targets : Targets F) (B : EdgeAlgebra F L) where
         falls = λ same. let rank = ap B.rank same in omega (arith, less, rank);
         present = λ same. let rank = ap B.rank same in omega (arith, less, most, rank, top);
       }
-
-  -- a table that is lowered, or stays as it was, watches the nodes that it watched
-  pub watched-kept : {E : Type 0} (table new_table : Table F) (key : Key) (g : F) (change : Change)
-      → (◌≡◌ {A = Result Change E} (Ok change) (Ok Lowered) → Lowers B table new_table key g)
-      → (◌≡◌ {A = Result Change E} (Ok change) (Ok Same) → new_table ≡ table)
-      → new_table.watched ≡ table.watched
-  watched-kept table new_table key g Lowered lowers same = (lowers refl).watched
-  watched-kept table new_table key g Same lowers same = ap (λ (t : Table F). t.watched) (same refl)
 
   -- empty tables with nothing pending or claimed
   pub state-nothing : (table : Table F) (pile : Pile (TaskData F)) → table.entries ≡ [] → pile.pending ≡ [] → pile.claims ≡ []

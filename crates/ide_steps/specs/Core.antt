@@ -1,14 +1,16 @@
 -- What contracts see of a core, and when its calls are refused.
-use Rattle.std.specs.Prelude.{◌≡◌, ℕ, ◌≤◌, Bool, true, length, map, List, Option, Some}
+use Rattle.std.specs.Prelude.{◌≡◌, ℕ, ◌<◌, Bool, true, length, List, Option, Some, IfSome}
+use Rattle.std.specs.List.{All}
 use Rattle.std.specs.Option.{is_some}
 use Rattle.ide_graph.specs.Supergraph.{Supergraph}
+use Rattle.ide_lattice.specs.Algebra.{EdgeAlgebra}
 use Rattle.ide_problem.specs.Flow.{Targets}
+use Rattle.ide_tasks.specs.Parts.{owed}
 use Rattle.ide_tasks.specs.Sources.{AreSourcesOf}
 use Rattle.ide_tasks.specs.declared.sources.Source.{Source}
 use Rattle.ide_tables.specs.Tables.{Table}
 use Rattle.ide_tasks.specs.Task.{TaskData}
 use Rattle.ide_text.specs.Value.{ProgramValue}
-use Rattle.ide_theory.specs.Within.{is_call}
 use Rattle.ide_wire.specs.Key.{node_of}
 use Rattle.ide_wire.specs.declared.key.Key.{Key}
 use Rattle.ide_worklist.specs.Worklist.{Pile, claim_at, is_pending}
@@ -42,17 +44,30 @@ module _ {F : Type 0} where
     pub pending : new.pile.pending ≡ old.pile.pending
     pub claims : (hand : ℕ) → claim_at new.pile hand ≡ claim_at old.pile hand
 
--- a key is pending that stands at no node of the graph
-pub record HasKeyOutside {F : Type 0} (core : CoreData F) : Type 0 where
-  pub key : Key
-  pub pending : is_pending core.pile key ≡ true
-  pub graph : Supergraph
-  pub is : core.graph ≡ Some graph
-  pub outside : graph.nodes ≤ node_of key
+-- the key stands at a node of the graph
+abbrev pub StandsIn : Supergraph → Key → Type 0
+StandsIn graph key = node_of key < graph.nodes
 
--- what is kept of a loaded program: each node has a site, the sources are those of the graph, and the
--- tables watch the call nodes
-pub record IsProgramKept {F : Type 0} (targets : Targets F) (graph : Supergraph) (sources : List (List (Source F))) (table : Table F) : Type 0 where
+-- the key of each entry stands at a node of the graph
+abbrev pub AllStandIn : {F : Type 0} → Supergraph → List (Key × F) → Type 0
+AllStandIn graph entries = All (λ entry. StandsIn graph entry.0) entries
+
+module _ {F : Type 0} (core : CoreData F) where
+  -- where a program is loaded, the key stands at a node of its graph
+  abbrev pub IsInside : Key → Type 0
+  IsInside key = (graph : Supergraph) → core.graph ≡ Some graph → StandsIn graph key
+
+  -- and so does the key of each entry
+  abbrev pub AreInside : List (Key × F) → Type 0
+  AreInside entries = (graph : Supergraph) → core.graph ≡ Some graph → AllStandIn graph entries
+
+-- what is kept of a loaded program: each node has a site, and the sources are those of the graph
+pub record IsProgramKept {F : Type 0} (targets : Targets F) (graph : Supergraph) (sources : List (List (Source F))) : Type 0 where
   pub sited : length graph.sites ≡ graph.nodes
   pub inverse : AreSourcesOf targets graph sources
-  pub watched : table.watched ≡ map is_call graph.sites
+
+-- no key stands outside of the graph: each pending key stands at a node of it, and so does the key of each part
+-- that the task of a claim owes
+pub record AreKeysKept {F L : Type 0} (targets : Targets F) (B : EdgeAlgebra F L) (graph : Supergraph) (pile : Pile (TaskData F)) : Type 0 where
+  pub pending : (key : Key) → is_pending pile key ≡ true → StandsIn graph key
+  pub claims : (hand : ℕ) → IfSome (claim_at pile hand) (λ held. AllStandIn graph (owed targets B held.task))

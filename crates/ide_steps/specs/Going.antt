@@ -42,8 +42,3 @@ module _ {F L : Type 0} (A : LatticeAlgebra L) (B : EdgeAlgebra F L) (targets : 
     pub releases : ℕ
     pub by : GoesOnBy hand claims lowerings releases old new
 
-  -- over a graph that is fit, no run came to the core's state: it has a key at no node
-  abbrev pub IsOutside : CoreData F → Type 0
-  IsOutside core =
-      (graph : Supergraph) → core.graph ≡ Some graph → (all : HaveEdgesOf graph.facts graph.sites) → IsFit graph
-      → ¬ (Run (frame_at A B targets graph all) (state_of targets B core))

@@ -1,6 +1,9 @@
 pub mod Core
 pub mod Owed
 pub mod Refusal
+pub mod ClaimRefusal
+pub mod CloseRefusal
+pub mod DrainRefusal
 pub mod Room
 pub mod Rooted
 pub mod State

@@ -1,6 +1,6 @@
 -- What a call of `root` does: one procedure more is a root, and the absent entries of its start become the identity.
 use Rattle.std.specs.Prelude.{◌≡◌, ℕ, ◌<◌, ◌≤◌, ◌++◌, ◌||◌, List, [], ◌∷◌, Option, Some, None, option_map, slice_index}
-use Rattle.std.specs.List.{list_any}
+use Rattle.std.specs.List.{All, list_any}
 use Rattle.std.specs.Map.{keys_of}
 use Rattle.ide_graph.specs.Joined.{AreJoined, start_at}
 use Rattle.ide_graph.specs.Supergraph.{Supergraph}
@@ -12,7 +12,7 @@ use Rattle.ide_theory.specs.Run.{Run, Steps}
 use Rattle.ide_theory.specs.Sites.{HaveEdgesOf}
 use Rattle.ide_theory.specs.Images.{seeded_below}
 use Rattle.ide_theory.specs.State.{Claim, State}
-use Rattle.ide_wire.specs.Key.{same_key}
+use Rattle.ide_wire.specs.Key.{node_of, same_key}
 use Rattle.ide_wire.specs.declared.key.Key.{Key}
 use Rattle.ide_wire.specs.declared.key.Key.TheVariants.{Jump}
 use Rattle.ide_worklist.specs.declared.claim.Claim.{Claim as Held}
@@ -38,6 +38,10 @@ with_entries s entries = record {
   pending = λ q. list_any (same_key q) (keys_of entries) || s.pending q;
   claims = λ h. option_map (marked_by (keys_of entries)) (s.claims h);
 }
+
+-- each of the entries is of a key at the node
+abbrev pub AllAt : {F : Type 0} → ℕ → List (Key × F) → Type 0
+AllAt node entries = All (λ entry. node_of entry.0 ≡ node) entries
 
 -- the procedure of the name is a root now, and each absent entry of its start is the identity; in a run
 -- those were steps, and each entry of the start is below the identity then

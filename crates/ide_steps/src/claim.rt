@@ -1,5 +1,6 @@
 //! Claims: a hand takes a pending key with its task.
 ghost use Rattle.std.specs.Prelude.{◌≡◌, ◌≢◌, ℕ, nat_eq, ◌<◌, ◌≤◌, ◌↔◌, ◌⊎◌, [], true, false, None, Some, Ok, Err, slice_get, slice_index, IsSome, IfErr, IfOk, OnErr, OnOk};
+ghost use Rattle.ide_graph.specs.Edges.{EdgesWithin};
 ghost use Rattle.ide_graph.specs.Exits.{AreExitsOwned};
 ghost use Rattle.ide_graph.specs.Supergraph.{Supergraph};
 ghost use Rattle.ide_tables.specs.Tables.{found};
@@ -7,7 +8,8 @@ ghost use Rattle.ide_wire.specs.Key.{node_of};
 ghost use Rattle.ide_wire.specs.declared.key.Key.{Key};
 ghost use Rattle.ide_worklist.specs.Worklist.{claim_at, ends_key, is_pending, is_claimed, put_hand};
 ghost use Rattle.ide_tasks.specs.Task.{TaskData};
-ghost use Rattle.ide_steps.specs.Core.{is_loaded, HasKeyOutside, IsProgramKept, IsSameProblem, IsUnchanged};
+ghost use Rattle.ide_steps.specs.ClaimRefusal.{IsClaimRefusal, MayClaim};
+ghost use Rattle.ide_steps.specs.Core.{IsProgramKept, IsSameProblem, IsUnchanged, StandsIn};
 ghost use Rattle.ide_steps.specs.State.{ArePartnersOf, IsTaskOf};
 ghost use Rattle.ide_steps.specs.Steps.{IsTaken, progress_at};
 
@@ -37,14 +39,10 @@ impl<P: Problem> Core<P> {
     /// stale: it is the hand's claim, with no part done.
     ///
     /// Refusals, in this order: `Limit` where the hand's number is over 63; `NoProgram`; `Busy`
-    /// where the hand has a claim; `NoMemory`. A key that stands at no node of the graph, which no run
-    /// over the graph of a text leads to, is refused by `OutOfRange`.
+    /// where the hand has a claim; `NoMemory`.
     pub fn claim(&mut self, hand: usize) -> Result<Claimed<P>, Refused>
-        ensures limit { (result ≡ Err Refused.Limit) ↔ (64 ≤ hand) }
-        ensures no_program { (result ≡ Err Refused.NoProgram) ↔ ((hand < 64) × (is_loaded self.old ≡ false)) }
-        ensures busy { (result ≡ Err Refused.Busy) ↔ ((hand < 64) × (is_loaded self.old ≡ true) × IsSome (claim_at self.old.pile hand)) }
-        ensures refused { IfErr result (λ e. (e ≡ Refused.Limit) ⊎ (e ≡ Refused.NoProgram) ⊎ (e ≡ Refused.Busy) ⊎ (e ≡ Refused.NoMemory) ⊎ (e ≡ Refused.OutOfRange)) }
-        ensures out_of_range { result ≡ Err Refused.OutOfRange → HasKeyOutside self.old }
+        ensures may { OnOk result (MayClaim self.old hand) }
+        ensures refused { IfErr result (IsClaimRefusal self.old hand) }
         ensures quiet { result ≡ Ok Claimed.Quiet → self.old.pile.pending ≡ [] }
         ensures waiting { result ≡ Ok Claimed.Idle → self.old.pile.pending ≢ [] }
         ensures idle { result ≡ Ok Claimed.Idle → (q : Key) → is_pending self.old.pile q ≡ true → is_claimed self.old.pile q ≡ true }
@@ -96,13 +94,15 @@ fn take_task<P: Problem>(
     hand: usize,
     key: Key,
 ) -> Result<Task<P>, Refused>
+    requires place { StandsIn loaded.now.graph key }
     requires hand_in { hand < 64 }
     requires free { claim_at worklist.old hand ≡ None }
     requires pending { is_pending worklist.old key ≡ true }
     requires unclaimed { is_claimed worklist.old key ≡ false }
     ensures key { IfOk result (λ task. task.key ≡ key) }
-    ensures is_task { IsProgramKept P.targets loaded.now.graph loaded.now.sources tables.now → AreExitsOwned loaded.now.graph → IsSome (found tables.now key) → IfOk result (IsTaskOf P.targets P.F.edge loaded.now.graph tables.now) }
-    ensures refused { IfErr result (λ e. (e ≡ Refused.NoMemory) ⊎ ((e ≡ Refused.OutOfRange) × (loaded.now.graph.nodes ≤ node_of key))) }
+    ensures is_task { IsProgramKept P.targets loaded.now.graph loaded.now.sources → AreExitsOwned loaded.now.graph → IsSome (found tables.now key) → IfOk result (IsTaskOf P.targets P.F.edge loaded.now.graph tables.now) }
+    ensures edges { IfOk result (λ task. EdgesWithin loaded.now.graph.nodes task.site) }
+    ensures refused { IfErr result (λ e. e ≡ Refused.NoMemory) }
     ensures pending { worklist.new.pending ≡ worklist.old.pending }
     ensures claims { IfOk result (λ task. (h : ℕ) → claim_at worklist.new h ≡ put_hand (claim_at worklist.old) hand (Some (record { key = key; task = task; done = 0; lowered = false })) h) }
     ensures err { OnErr result ((h : ℕ) → claim_at worklist.new h ≡ claim_at worklist.old h) }
@@ -119,14 +119,13 @@ fn task_of<P: Problem>(
     tables: &Tables<P::F>,
     key: Key,
 ) -> Result<Task<P>, Refused>
+    requires { StandsIn loaded.now.graph key }
     ensures key { IfOk result (λ task. task.key ≡ key) }
-    ensures is_task { IsProgramKept P.targets loaded.now.graph loaded.now.sources tables.now → AreExitsOwned loaded.now.graph → IsSome (found tables.now key) → IfOk result (IsTaskOf P.targets P.F.edge loaded.now.graph tables.now) }
-    ensures refused { IfErr result (λ e. (e ≡ Refused.NoMemory) ⊎ ((e ≡ Refused.OutOfRange) × (loaded.now.graph.nodes ≤ node_of key))) }
+    ensures is_task { IsProgramKept P.targets loaded.now.graph loaded.now.sources → AreExitsOwned loaded.now.graph → IsSome (found tables.now key) → IfOk result (IsTaskOf P.targets P.F.edge loaded.now.graph tables.now) }
+    ensures edges { IfOk result (λ task. EdgesWithin loaded.now.graph.nodes task.site) }
+    ensures refused { IfErr result (λ e. e ≡ Refused.NoMemory) }
 {
     let node = key.node();
-    if node as usize >= loaded.graph.node_count() {
-        return Err(Refused::OutOfRange);
-    }
     let site = loaded.graph.shared_site(node)?;
     let procedure = loaded.graph.procedure_of(node);
     let partners = partners_of(alloc, loaded, tables, key, procedure, &*site)?;
@@ -148,7 +147,7 @@ fn partners_of<P: Problem>(
     procedure: usize,
     site: &Site,
 ) -> Result<Partners<P::F>, Refused>
-    ensures partners { IsProgramKept P.targets loaded.now.graph loaded.now.sources tables.now → AreExitsOwned loaded.now.graph → slice_get loaded.now.graph.sites (node_of key) ≡ Some site.now → procedure ≡ slice_index loaded.now.graph.owners (node_of key) → procedure < loaded.now.graph.procedures → IfOk result (ArePartnersOf P.targets P.F.edge loaded.now.graph tables.now key site.now) }
+    ensures partners { IsProgramKept P.targets loaded.now.graph loaded.now.sources → AreExitsOwned loaded.now.graph → slice_get loaded.now.graph.sites (node_of key) ≡ Some site.now → procedure ≡ slice_index loaded.now.graph.owners (node_of key) → procedure < loaded.now.graph.procedures → IfOk result (ArePartnersOf P.targets P.F.edge loaded.now.graph tables.now key site.now) }
     ensures refused { IfErr result (λ e. e ≡ Refused.NoMemory) }
 {
     match (key, site) {

@@ -1,8 +1,8 @@
 //! A quiet image, frozen.
-ghost use Rattle.std.specs.Prelude.{◌≡◌, ◌≢◌, ◌↔◌, ◌⊎◌, [], true, false, Err, Some, IfErr, IfOk, IsErrAnd};
+ghost use Rattle.std.specs.Prelude.{◌≡◌, [], Some, IfErr, IfOk};
 ghost use Rattle.std.specs.Arc.{arc_value};
 ghost use Rattle.ide_steps.specs.declared.loaded.Loaded.{Loaded};
-ghost use Rattle.ide_steps.specs.Core.{is_loaded};
+ghost use Rattle.ide_steps.specs.CloseRefusal.{CloseFault, IsFreezeRefusal};
 ghost use Rattle.ide_text.specs.Program.{value_of};
 
 use crate::loaded::Loaded;
@@ -26,9 +26,7 @@ impl<P: Problem> Core<P> {
     ///
     /// Refusals, in this order: `NoProgram`; `Unfinished` where some key is pending; `NoMemory`.
     pub fn freeze(&self) -> Result<Closed<P>, Refused>
-        ensures no_program { (result ≡ Err Refused.NoProgram) ↔ (is_loaded self.now ≡ false) }
-        ensures unfinished { (result ≡ Err Refused.Unfinished) ↔ ((is_loaded self.now ≡ true) × (self.now.pile.pending ≢ [])) }
-        ensures refused { IfErr result (λ e. (e ≡ Refused.NoProgram) ⊎ (e ≡ Refused.Unfinished) ⊎ (e ≡ Refused.NoMemory)) }
+        ensures refused { IfErr result (IsFreezeRefusal self.now) }
         ensures program { IfOk result (λ closed. self.now.program ≡ Some (value_of (arc_value {X = Loaded P P.L P.F} closed.loaded).program)) }
         ensures graph { IfOk result (λ closed. self.now.graph ≡ Some (arc_value {X = Loaded P P.L P.F} closed.loaded).graph) }
         ensures table { IfOk result (λ closed. closed.tables ≡ self.now.table) }
@@ -52,14 +50,12 @@ impl<P: Problem> Core<P> {
     ///
     /// Refusals, in this order: `NoProgram`; `Unfinished` where some key is pending.
     pub fn close(self) -> Result<Closed<P>, (Refused, Core<P>)>
-        ensures no_program { IsErrAnd result (λ e. e.0 ≡ Refused.NoProgram) ↔ (is_loaded self ≡ false) }
-        ensures unfinished { IsErrAnd result (λ e. e.0 ≡ Refused.Unfinished) ↔ ((is_loaded self ≡ true) × (self.pile.pending ≢ [])) }
         ensures program { IfOk result (λ closed. self.program ≡ Some (value_of (arc_value {X = Loaded P P.L P.F} closed.loaded).program)) }
         ensures graph { IfOk result (λ closed. self.graph ≡ Some (arc_value {X = Loaded P P.L P.F} closed.loaded).graph) }
         ensures table { IfOk result (λ closed. closed.tables ≡ self.table) }
         ensures roots { IfOk result (λ closed. closed.roots.items ≡ self.roots) }
         ensures quiet { IfOk result (λ _. self.pile.pending ≡ []) }
-        ensures refused { IfErr result (λ e. (e.0 ≡ Refused.NoProgram) ⊎ (e.0 ≡ Refused.Unfinished)) }
+        ensures refused { IfErr result (λ e. CloseFault self e.0) }
         ensures unchanged { IfErr result (λ e. e.1 ≡ self) }
     {
         if self.loaded.is_none() {

@@ -3,9 +3,10 @@ ghost use Rattle.std.specs.Prelude.{◌≡◌, ℕ, ◌-◌, ◌^◌, ◌<◌, �
 ghost use Rattle.std.specs.List.{IsDistinct};
 ghost use Rattle.std.specs.Map.{keys_of};
 ghost use Rattle.std.specs.Option.{is_some};
-ghost use Rattle.ide_steps.specs.Core.{is_loaded};
+ghost use Rattle.ide_steps.specs.Core.{is_loaded, AreInside};
+ghost use Rattle.ide_steps.specs.DrainRefusal.{IsDrainRefusal, MayDrain};
 ghost use Rattle.ide_steps.specs.Drain.{ArePaid, GoesOnPaid, potential};
-ghost use Rattle.ide_steps.specs.Going.{GoesOn, GoesOnBy, IsOutside};
+ghost use Rattle.ide_steps.specs.Going.{GoesOn, GoesOnBy};
 ghost use Rattle.ide_steps.specs.Room.{AreTasksFew};
 ghost use Rattle.ide_steps.specs.Steps.{IsCurrent, progress_at};
 ghost use Rattle.ide_tasks.specs.Task.{TaskData};
@@ -18,7 +19,6 @@ use crate::machine::Core;
 use crate::part::Parted;
 use ide_problem::Problem;
 use ide_tasks::{Task, Work};
-use ide_theory::{keys_stand_at_nodes, runs_are_sound, sites_make_a_graph};
 use ide_wire::Refused;
 
 /// The hand that drains.
@@ -33,20 +33,16 @@ impl<P: Problem> Core<P> {
     ///
     /// Refusals: `NoProgram`; `Busy` where hand 0 has a claim; `Unfinished` where another hand has
     /// one; all tested first, in this order. `NoMemory` keeps the steps done before it and releases
-    /// hand 0's claim. So does `OutOfRange`, where a key to claim stands at no node of the graph,
-    /// which no run over the graph of a text leads to.
+    /// hand 0's claim.
     pub fn drain(&mut self) -> Result<u64, Refused>
-        ensures no_program { (result ≡ Err Refused.NoProgram) ↔ (is_loaded self.old ≡ false) }
-        ensures busy { (result ≡ Err Refused.Busy) ↔ ((is_loaded self.old ≡ true) × IsSome (claim_at self.old.pile 0)) }
-        ensures unfinished { (result ≡ Err Refused.Unfinished) ↔ ((is_loaded self.old ≡ true) × (claim_at self.old.pile 0 ≡ None) × (h : ℕ) × (nat_eq 0 h ≡ false) × IsSome (claim_at self.old.pile h)) }
-        ensures refused { IfErr result (λ e. (e ≡ Refused.NoProgram) ⊎ (e ≡ Refused.Busy) ⊎ (e ≡ Refused.Unfinished) ⊎ (e ≡ Refused.NoMemory) ⊎ (e ≡ Refused.OutOfRange)) }
-        ensures within { result ≡ Err Refused.OutOfRange → IsOutside P.L.algebra P.F.edge P.targets self.old }
+        ensures may { OnOk result (MayDrain self.old) }
+        ensures refused { IfErr result (IsDrainRefusal self.old) }
         ensures quiet { OnOk result (self.new.pile.pending ≡ []) }
         ensures free { IsFree self.old.pile → IsFree self.new.pile }
         ensures claims { IfOk result (λ tasks. (claims : ℕ) × (tasks ≡ min claims (2 ^ 64 - 1)) × GoesOnPaid P.L.algebra P.F.edge P.targets claims self.old self.new) }
         ensures few { IfOk result (λ tasks. AreTasksFew P.L.algebra P.F.edge P.targets tasks self.old) }
         ensures goes { GoesOn P.L.algebra P.F.edge P.targets 0 self.old self.new }
-        ensures unchanged { IfErr result (λ e. (e ≡ Refused.NoMemory) ⊎ (e ≡ Refused.OutOfRange) ⊎ (self.new ≡ self.old)) }
+        ensures unchanged { IfErr result (λ e. (e ≡ Refused.NoMemory) ⊎ (self.new ≡ self.old)) }
     {
         if self.loaded.is_none() {
             return Err(Refused::NoProgram);
@@ -77,8 +73,7 @@ impl<P: Problem> Core<P> {
     fn run_all(&mut self) -> Result<u64, Refused>
         requires loaded { is_loaded self.old ≡ true }
         requires free { IsFree self.old.pile }
-        ensures refused { IfErr result (λ e. (e ≡ Refused.NoMemory) ⊎ (e ≡ Refused.OutOfRange)) }
-        ensures within { result ≡ Err Refused.OutOfRange → IsOutside P.L.algebra P.F.edge P.targets self.old }
+        ensures refused { IfErr result (λ e. e ≡ Refused.NoMemory) }
         ensures quiet { OnOk result (self.new.pile.pending ≡ []) }
         ensures free { OnOk result (IsFree self.new.pile) }
         ensures others { (h : ℕ) → nat_eq 0 h ≡ false → claim_at self.new.pile h ≡ None }
@@ -96,8 +91,7 @@ impl<P: Problem> Core<P> {
     fn run_next(&mut self) -> Result<bool, Refused>
         requires loaded { is_loaded self.old ≡ true }
         requires free { IsFree self.old.pile }
-        ensures refused { IfErr result (λ e. (e ≡ Refused.NoMemory) ⊎ (e ≡ Refused.OutOfRange)) }
-        ensures within { result ≡ Err Refused.OutOfRange → IsOutside P.L.algebra P.F.edge P.targets self.old }
+        ensures refused { IfErr result (λ e. e ≡ Refused.NoMemory) }
         ensures quiet { result ≡ Ok false → self.new.pile.pending ≡ [] }
         ensures falls { result ≡ Ok true → potential P.F.edge self.new < potential P.F.edge self.old }
         ensures free { OnOk result (IsFree self.new.pile) }
@@ -109,7 +103,10 @@ impl<P: Problem> Core<P> {
             return Ok(false);
         };
         match Work::of(self.alloc, task) {
-            Ok(work) => self.run(work),
+            Ok(work) => {
+                self.parts_are_inside(DRAINING);
+                self.run(work)
+            }
             Err((refused, _)) => Err(refused),
         }
     }
@@ -119,8 +116,7 @@ impl<P: Problem> Core<P> {
     fn take_next(&mut self) -> Result<Option<Task<P>>, Refused>
         requires loaded { is_loaded self.old ≡ true }
         requires free { IsFree self.old.pile }
-        ensures refused { IfErr result (λ e. (e ≡ Refused.NoMemory) ⊎ (e ≡ Refused.OutOfRange)) }
-        ensures within { result ≡ Err Refused.OutOfRange → IsOutside P.L.algebra P.F.edge P.targets self.old }
+        ensures refused { IfErr result (λ e. e ≡ Refused.NoMemory) }
         ensures quiet { result ≡ Ok None → self.new.pile.pending ≡ [] }
         ensures same { (self.new.table ≡ self.old.table) × (self.new.pile.pending ≡ self.old.pile.pending) }
         ensures fresh { (task : TaskData P.F) → result ≡ Ok (Some task) → ends_key (claim_at self.new.pile 0) ≡ true }
@@ -130,9 +126,6 @@ impl<P: Problem> Core<P> {
         ensures claims { IfOk result (λ task. GoesOnBy P.L.algebra P.F.edge P.targets 0 (if is_some task then 1 else 0) 0 0 self.old self.new) }
         ensures goes { GoesOn P.L.algebra P.F.edge P.targets 0 self.old self.new }
     {
-        runs_are_sound::<P>();
-        keys_stand_at_nodes::<P>();
-        sites_make_a_graph::<P>();
         calls_are_steps::<P>();
         match self.claim(DRAINING)? {
             Claimed::Task(task) => Ok(Some(task)),
@@ -143,7 +136,8 @@ impl<P: Problem> Core<P> {
 
     /// Does all parts of the work that was claimed last, and finishes it.
     fn run(&mut self, mut work: Work<P>) -> Result<bool, Refused>
-        requires { ends_key (claim_at self.old.pile 0) ≡ true }
+        requires fresh { ends_key (claim_at self.old.pile 0) ≡ true }
+        requires inside { AreInside self.old work.parts }
         ensures refused { IfErr result (λ e. e ≡ Refused.NoMemory) }
         ensures more { IfOk result (λ more. more ≡ true) }
         ensures falls { OnOk result (potential P.F.edge self.new < potential P.F.edge self.old) }

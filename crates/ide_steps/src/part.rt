@@ -4,9 +4,10 @@ ghost use Rattle.ide_steps.specs.Drain.{IsPaidBy, lowerings_by, potential};
 ghost use Rattle.std.specs.Prelude.{◌≡◌, ℕ, ◌<◌, ◌+◌, ◌-◌, ◌↔◌, ◌⊎◌, true, false, None, Ok, Err, Some, IfErr, IfOk, OnErr, OnOk, length, min, IsTrue};
 ghost use Rattle.ide_tasks.specs.Parts.{owed};
 ghost use Rattle.ide_tasks.specs.Task.{TaskData};
+ghost use Rattle.ide_tasks.specs.Work.{WorkData};
 ghost use Rattle.ide_steps.specs.State.{state_of};
 ghost use Rattle.ide_steps.specs.Steps.{ArePartsDone, IsClaimOfWork, IsCurrent, IsLowered, IsSkipped, KeepTasks, progress_at};
-ghost use Rattle.ide_steps.specs.Core.{IsSameProblem, IsUnchanged};
+ghost use Rattle.ide_steps.specs.Core.{AreInside, IsSameProblem, IsUnchanged};
 
 use crate::machine::Core;
 use ide_problem::Problem;
@@ -46,6 +47,7 @@ impl<P: Problem> Core<P> {
         if !self.is_current(hand, work) {
             return Err(Refused::Stale);
         }
+        self.parts_are_inside(hand);
         self.next_part(hand, work)
     }
 
@@ -69,6 +71,7 @@ impl<P: Problem> Core<P> {
         ensures unchanged { result ≡ Err Refused.Stale → (self.new ≡ self.old) × (work.new ≡ work.old) }
     {
         if self.is_current(hand, work) {
+            self.parts_are_inside(hand);
             self.next_parts(hand, work, most)
         } else {
             Err(Refused::Stale)
@@ -87,8 +90,16 @@ impl<P: Problem> Core<P> {
         }
     }
 
+    /// It does nothing: its clause is what is known of the parts of work that is the hand's claim.
+    pub(crate) fn parts_are_inside(&self, hand: usize)
+        ensures { (work : WorkData P.F) → IsCurrent P.targets P.F.edge self.now hand work → AreInside self.now work.parts }
+    {
+        let _ = self.worklist.claim(hand);
+    }
+
     /// Does the next part of work that is the hand's claim.
     pub(crate) fn next_part(&mut self, hand: usize, work: &mut Work<P>) -> Result<Parted, Refused>
+        requires { AreInside self.old work.old.parts }
         ensures falls { result ≡ Ok Parted.Lowered → potential P.F.edge self.new < potential P.F.edge self.old }
         ensures still { result ≡ Ok Parted.Same → (potential P.F.edge self.new ≡ potential P.F.edge self.old) × (ends_key (claim_at self.new.pile hand) ≡ ends_key (claim_at self.old.pile hand)) }
         ensures paid { IfOk result (λ parted. IsPaidBy P.F.edge hand (lowerings_by parted) self.old self.new) }
@@ -118,6 +129,7 @@ impl<P: Problem> Core<P> {
 
     /// Does up to `most` of the next parts of work that is the hand's claim, and counts them.
     fn next_parts(&mut self, hand: usize, work: &mut Work<P>, most: usize) -> Result<usize, Refused>
+        requires { AreInside self.old work.old.parts }
         ensures refused { IfErr result (λ e. e ≡ Refused.NoMemory) }
         ensures count { IfOk result (λ n. n ≡ min most (length work.old.parts - work.old.done)) }
         ensures done { IfOk result (λ n. work.new ≡ record work.old { done = work.old.done + n }) }

@@ -6,9 +6,9 @@ ghost use Rattle.ide_tables.specs.Tables.{found};
 ghost use Rattle.ide_wire.specs.Key.{same_key};
 ghost use Rattle.ide_wire.specs.declared.key.Key.{Key};
 ghost use Rattle.ide_worklist.specs.Worklist.{claim_at, is_pending};
-ghost use Rattle.ide_steps.specs.Core.{IsUnchanged};
+ghost use Rattle.ide_steps.specs.Core.{AreInside, IsUnchanged};
 ghost use Rattle.ide_steps.specs.Refusal.{IsRootName, IsRootRefusal, RootFault};
-ghost use Rattle.ide_steps.specs.Rooted.{IsBegun, marked_all, with_entries};
+ghost use Rattle.ide_steps.specs.Rooted.{AllAt, IsBegun, marked_all, with_entries};
 ghost use Rattle.ide_theory.specs.Images.{seeded_below};
 ghost use Rattle.ide_steps.specs.State.{state_of};
 ghost use Rattle.ide_steps.specs.Steps.{progress_at};
@@ -57,7 +57,8 @@ impl<P: Problem> Core<P> {
     /// the identity.
     fn absent_jumps(&self, start: Node, entries: usize) -> Result<Vec<(Key, P::F)>, AllocError>
         requires few { entries ≤ 2 ^ 16 }
-        ensures { IfOk result (λ jumps. seeded_below P.F.edge (state_of P.targets P.F.edge self.now) start entries ≡ with_entries (state_of P.targets P.F.edge self.now) jumps.items) }
+        ensures place { IfOk result (λ jumps. AllAt start jumps.items) }
+        ensures entered { IfOk result (λ jumps. seeded_below P.F.edge (state_of P.targets P.F.edge self.now) start entries ≡ with_entries (state_of P.targets P.F.edge self.now) jumps.items) }
     {
         let mut jumps = Vec::new(self.alloc);
         for fact in 0..entries {
@@ -80,6 +81,7 @@ impl<P: Problem> Core<P> {
     /// Makes the procedure a root, whose jumps at its start have these functions now and are
     /// pending. It makes its room first, and so leaves all as it was where memory is wanting.
     fn begin(&mut self, procedure: usize, jumps: &[(Key, P::F)]) -> Result<(), Refused>
+        requires { AreInside self.old jumps.now }
         ensures program { self.new.program ≡ self.old.program }
         ensures graph { self.new.graph ≡ self.old.graph }
         ensures roots { OnOk result (self.new.roots ≡ self.old.roots ++ procedure ∷ []) }

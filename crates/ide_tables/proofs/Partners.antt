@@ -18,7 +18,7 @@ use Rattle.ide_wire.specs.declared.key.Key.{Key}
 use Rattle.ide_wire.specs.declared.key.Key.TheVariants.{Jump, Summary}
 use Rattle.ide_wire.specs.Key.{same_key}
 use Rattle.ide_wire.specs.KeyOrder.{key_cmp}
-use Rattle.ide_tables.specs.Tables.{Table, ArePartners, IsIndex, found, partner_of, place_of, listed_fact, is_noted}
+use Rattle.ide_tables.specs.Tables.{Table, ArePartners, IsPlaced, found, partner_of, place_of, listed_fact}
 
 pub fact_exact : (a b : ℕ) → is_at (nat_cmp a) b ≡ true → a ≡ b
 fact_exact a b e = grind (arith, nat_tests)
@@ -129,15 +129,15 @@ module _ {F : Type 0} (cmp : Key → Key → Ordering) (at : ℕ → Key) (test 
       ] refl
 
 pub are_partners : {F : Type 0} (cmp : Key → Key → Ordering) (at : ℕ → Key) (test : Key → Bool) → Picks cmp at test
-    → (table : Table F) (places : List Key) → IsStrictlySortedBy cmp places → IsIndex cmp table places
-    → ((d : ℕ) → is_noted table.watched (at d) ≡ true) → ((d : ℕ) → d < 2 ^ 16 → test (place_of (at d)) ≡ true)
+    → (table : Table F) (places : List Key) → IsStrictlySortedBy cmp places
+    → ((d : ℕ) → IsPlaced cmp table.entries places (at d)) → ((d : ℕ) → d < 2 ^ 16 → test (place_of (at d)) ≡ true)
     → ArePartners at table (filter_map (partner_of table.entries) (filter test places))
-are_partners cmp at test picks table places s index noted reached = record {
+are_partners cmp at test picks table places s placed reached = record {
   ascending = ascending cmp at test picks table.entries places s;
   within = within cmp at test picks table.entries places;
   exact = λ d l.
       exact cmp at test picks table.entries places d (reached d l)
-      ∙ cond-placed (list_any (is_at (cmp (place_of (at d)))) places) (found table (at d)) (index (at d) (noted d));
+      ∙ cond-placed (list_any (is_at (cmp (place_of (at d)))) places) (found table (at d)) (placed d);
 }
 
 pub key_cmp_exact : (x y : Key) → is_at (key_cmp x) y ≡ true → x ≡ y
@@ -180,17 +180,18 @@ within_jumps call fact d l = grind (arith, nat_tests)
 pub within_summaries : (call fact d : ℕ) → d < 2 ^ 16 → summaries_range call fact (Summary call fact d) ≡ true
 within_summaries call fact d l = grind (arith, nat_tests)
 
-pub jump_partners : {F : Type 0} (call fact : ℕ) (table : Table F) (places : List Key) → IsStrictlySortedBy key_cmp places → IsIndex key_cmp table places
-    → is_noted table.watched (Jump call fact fact) ≡ true
+pub jump_partners : {F : Type 0} (call fact : ℕ) (table : Table F) (places : List Key) → IsStrictlySortedBy key_cmp places
+    → ((d : ℕ) → IsPlaced key_cmp table.entries places (Jump call d fact))
     → ArePartners (λ d. Jump call d fact) table (filter_map (partner_of table.entries) (filter (jumps_range call fact) places))
-jump_partners call fact table places s index watched =
+jump_partners call fact table places s placed =
     are_partners key_cmp (λ d. Jump call d fact) (jumps_range call fact)
     (record { picked = in_jumps_range call fact; orders = jump_order call fact; same = key_cmp_exact; few = few_jumps call fact })
-    table places s index (λ d. watched) (within_jumps call fact)
+    table places s placed (within_jumps call fact)
 
-pub summary_partners : {F : Type 0} (call fact : ℕ) (table : Table F) (places : List Key) → IsStrictlySortedBy key_cmp places → IsIndex key_cmp table places
+pub summary_partners : {F : Type 0} (call fact : ℕ) (table : Table F) (places : List Key) → IsStrictlySortedBy key_cmp places
+    → ((d : ℕ) → IsPlaced key_cmp table.entries places (Summary call fact d))
     → ArePartners (Summary call fact) table (filter_map (partner_of table.entries) (filter (summaries_range call fact) places))
-summary_partners call fact table places s index =
+summary_partners call fact table places s placed =
     are_partners key_cmp (Summary call fact) (summaries_range call fact)
     (record { picked = in_summaries_range call fact; orders = summary_order call fact; same = key_cmp_exact; few = few_summaries call fact })
-    table places s index (λ d. refl) (within_summaries call fact)
+    table places s placed (within_summaries call fact)

@@ -9,7 +9,7 @@ use Rattle.std.proofs.lemmas.List.Folds.{list_any-append}
 use Rattle.indexmap.specs.IndexMap.{insert_all, insert_entry}
 use Rattle.ide_wire.specs.declared.key.Key.{Key}
 use Rattle.ide_wire.specs.Key.{same_key, same_key_exact, same_key_symm}
-use Rattle.ide_tables.specs.Tables.{Table, IsIndex, KeepsPlaces, NotesAll, found, has_place, is_noted, last_of}
+use Rattle.ide_tables.specs.Tables.{IsIndex, KeepsPlaces, NotesAll, has_place, is_noted, last_of}
 
 module _ {F : Type 0} where
   -- the function that is found at a key, once another's entry is set behind a first entry
@@ -51,16 +51,15 @@ module _ {F : Type 0} where
       present-before xs q f (subst (λ b. is_some (last_of xs q (cond b (Some x.1) f)) ≡ true) (same_key_symm x.0 q ∙ off) some) rest
 
   -- the index is one of the entries that are set, where it notes their keys
-  pub index-of-all : (cmp : Key → Key → Ordering) (old new : Table F) (entries : List (Key × F)) (places places_new : List Key)
-      → IsIndex cmp old places → new.entries ≡ insert_all same_key old.entries entries → new.watched ≡ old.watched
-      → NotesAll cmp old.watched places_new (keys_of entries) → KeepsPlaces cmp places places_new → IsIndex cmp new places_new
-  index-of-all cmp old new entries places places_new index set watched noted kept key is some =
-      let notes : is_noted old.watched key ≡ true = subst (λ w. is_noted w key ≡ true) watched is in
-      let after : is_some (last_of entries key (found old key)) ≡ true =
-      subst (λ f. is_some f ≡ true) (ap (lookup (same_key key)) set ∙ found-insert_all old.entries entries key) some in
+  pub index-of-all : (cmp : Key → Key → Ordering) (watched : List Bool) (old new entries : List (Key × F)) (places places_new : List Key)
+      → IsIndex cmp watched old places → new ≡ insert_all same_key old entries
+      → NotesAll cmp watched places_new (keys_of entries) → KeepsPlaces cmp places places_new → IsIndex cmp watched new places_new
+  index-of-all cmp watched old new entries places places_new index set noted kept key is some =
+      let after : is_some (last_of entries key (lookup (same_key key) old)) ≡ true =
+      subst (λ f. is_some f ≡ true) (ap (lookup (same_key key)) set ∙ found-insert_all old entries key) some in
       elim (list_any (same_key key) (keys_of entries)) as (λ b. list_any (same_key key) (keys_of entries) ≡ b → has_place cmp places_new key ≡ true) [
-        | true ↦ λ one. noted key notes one
-        | false ↦ λ apart. kept key (index key notes (present-before entries key (found old key) after apart))
+        | true ↦ λ one. noted key is one
+        | false ↦ λ apart. kept key (index key is (present-before entries key (lookup (same_key key) old) after apart))
       ] refl
 
 -- one key more is noted
@@ -78,3 +77,26 @@ noted-more cmp watched old new entries index e within at kept here before q is a
           let same : q ≡ e.0 = same_key_exact q e.0 (grind (arith, s)) in
           subst (λ k. has_place cmp new k ≡ true) (sym same) (here (subst (λ k. is_noted watched k ≡ true) same is))
     ] refl split
+
+-- the place of the next key is added, if it is the one that is asked for
+pub placed-next : (cmp : Key → Key → Ordering) (old new rest next : List Key) (e q : Key)
+    → rest ≡ e ∷ next → KeepsPlaces cmp old new → has_place cmp new e ≡ true
+    → (has_place cmp old q || list_any (same_key q) rest) ≡ true → (has_place cmp new q || list_any (same_key q) next) ≡ true
+placed-next cmp old new rest next e q is kept here before =
+    let split : (has_place cmp old q || (same_key q e || list_any (same_key q) next)) ≡ true =
+    subst (λ ks. (has_place cmp old q || list_any (same_key q) ks) ≡ true) is before in
+    elim (has_place cmp old q) as (λ b. has_place cmp old q ≡ b → (b || (same_key q e || list_any (same_key q) next)) ≡ true → (has_place cmp new q || list_any (same_key q) next) ≡ true) [
+      | true ↦ λ one s. ap (λ b. b || list_any (same_key q) next) (kept q one)
+      | false ↦ λ none s.
+          elim (same_key q e) as (λ b. same_key q e ≡ b → (b || list_any (same_key q) next) ≡ true → (has_place cmp new q || list_any (same_key q) next) ≡ true) [
+            | true ↦ λ same s. ap (λ b. b || list_any (same_key q) next) (ap (has_place cmp new) (same_key_exact q e same) ∙ here)
+            | false ↦ λ other s. elim (has_place cmp new q) as (λ b. (b || list_any (same_key q) next) ≡ true) [ true ↦ refl | false ↦ s ]
+          ] refl s
+    ] refl split
+
+-- no key is left
+pub placed-all : (cmp : Key → Key → Ordering) (places rest : List Key) (q : Key)
+    → rest ≡ [] → (has_place cmp places q || list_any (same_key q) rest) ≡ true → has_place cmp places q ≡ true
+placed-all cmp places rest q is before =
+    elim (has_place cmp places q) as (λ b. (b || list_any (same_key q) []) ≡ true → b ≡ true) [ true ↦ λ h. refl | false ↦ λ h. h ]
+    (subst (λ ks. (has_place cmp places q || list_any (same_key q) ks) ≡ true) is before)

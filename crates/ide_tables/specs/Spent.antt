@@ -1,5 +1,5 @@
 -- How far the functions of a table have fallen.
-use Rattle.std.specs.Prelude.{ℕ, ◌+◌, ◌-◌, List, [], ◌∷◌}
+use Rattle.std.specs.Prelude.{ℕ, ◌+◌, ◌-◌, List, [], ◌∷◌, Option, None, Some}
 use Rattle.ide_lattice.specs.Algebra.{EdgeAlgebra}
 use Rattle.ide_wire.specs.declared.key.Key.{Key}
 
@@ -12,3 +12,8 @@ module _ {F L : Type 0} (B : EdgeAlgebra F L) where
   abbrev pub spent : List (Key × F) → ℕ
   spent [] = 0
   spent (e ∷ es) = fallen e.1 + spent es
+
+  -- how far the function has fallen, if there is one
+  abbrev pub spent_by : Option F → ℕ
+  spent_by None = 0
+  spent_by (Some f) = fallen f

@@ -1,5 +1,5 @@
--- What a table says in contracts: the function of each present key, and which nodes it watches.
-use Rattle.std.specs.Prelude.{◌≡◌, ℕ, ◌<◌, ◌≤◌, ◌^◌, Bool, true, false, List, [], ◌∷◌, Option, None, Some, if◌then◌else◌}
+-- What a table says in contracts: the function of each present key.
+use Rattle.std.specs.Prelude.{◌≡◌, ℕ, ◌<◌, ◌≤◌, ◌^◌, Bool, true, false, ◌&&◌, nat_eq, List, [], ◌∷◌, Option, None, Some, if◌then◌else◌}
 use Rattle.std.specs.List.{AllByRecursion, list_any, slice_index_or}
 use Rattle.std.specs.List.Sorted.{IsStrictlySortedBy}
 use Rattle.std.specs.Map.{lookup, keys_of}
@@ -12,23 +12,17 @@ use Rattle.ide_wire.specs.declared.key.Key.{Key}
 use Rattle.ide_wire.specs.declared.key.Key.TheVariants.{Jump, Summary}
 use Rattle.ide_wire.specs.Key.{same_key}
 
--- a table: its present keys with their functions, in the table's order, and for each node whether it is watched
+-- a table: its present keys with their functions. Their order is the one in which a walk meets them, and means nothing else
 pub record Table (F : Type 0) : Type 0 where
   pub entries : List (Key × F)
-  pub watched : List Bool
 
 -- the function of the key, if it is present
 abbrev pub found : {F : Type 0} → Table F → Key → Option F
 found table key = lookup (same_key key) table.entries
 
--- whether the node is watched
-abbrev pub is_watched : {F : Type 0} → Table F → ℕ → Bool
-is_watched table node = slice_index_or table.watched node false
-
 -- the key's function is f, and every other entry stays
 pub record Sets {F : Type 0} (old new : Table F) (key : Key) (f : F) : Type 0 where
   pub entries : (q : Key) → found new q ≡ (if same_key key q then Some f else found old q)
-  pub watched : new.watched ≡ old.watched
 
 -- the last function that the entries have for the key, or f where they have none
 abbrev pub last_of : {F : Type 0} → List (Key × F) → Key → Option F → Option F
@@ -38,7 +32,6 @@ last_of (e ∷ es) key f = last_of es key (if same_key e.0 key then Some e.1 els
 -- the entries of the list are set one after the other, and every other entry stays
 pub record SetsAll {F : Type 0} (old new : Table F) (list : List (Key × F)) : Type 0 where
   pub entries : (q : Key) → found new q ≡ last_of list q (found old q)
-  pub watched : new.watched ≡ old.watched
 
 -- the keys are the present ones, ascending
 pub record AreKeys {F : Type 0} (cmp : Key → Key → Ordering) (table : Table F) (keys : List Key) : Type 0 where
@@ -88,7 +81,12 @@ listed_fact (Summary n a b) = b
 abbrev pub partner_of : {F : Type 0} → List (Key × F) → Key → Option (ℕ × F)
 partner_of entries place = option_map (λ f. (listed_fact place, f)) (lookup (same_key (place_of place)) entries)
 
--- whether the index notes the key: a summary, or a jump at a watched node
+-- whether the key is of a jump at the node to the fact
+abbrev pub is_jump_to : ℕ → ℕ → Key → Bool
+is_jump_to node fact (Jump n a b) = nat_eq n node && nat_eq b fact
+is_jump_to node fact (Summary n a b) = false
+
+-- whether the index notes the key: a summary, or a jump at a node that the table watches
 abbrev pub is_noted : List Bool → Key → Bool
 is_noted watched (Jump n a b) = slice_index_or watched n false
 is_noted watched (Summary n a b) = true
@@ -97,9 +95,13 @@ is_noted watched (Summary n a b) = true
 abbrev pub has_place : (Key → Key → Ordering) → List Key → Key → Bool
 has_place cmp places key = list_any (is_at (cmp (place_of key))) places
 
+-- the places have that of the key, if it is present
+abbrev pub IsPlaced : {F : Type 0} → (Key → Key → Ordering) → List (Key × F) → List Key → Key → Type 0
+IsPlaced cmp entries places key = is_some (lookup (same_key key) entries) ≡ true → has_place cmp places key ≡ true
+
 -- the index has the place of each present key that it notes; the place of an absent key lists nothing
-abbrev pub IsIndex : {F : Type 0} → (Key → Key → Ordering) → Table F → List Key → Type 0
-IsIndex cmp table places = (key : Key) → is_noted table.watched key ≡ true → is_some (found table key) ≡ true → has_place cmp places key ≡ true
+abbrev pub IsIndex : {F : Type 0} → (Key → Key → Ordering) → List Bool → List (Key × F) → List Key → Type 0
+IsIndex cmp watched entries places = (key : Key) → is_noted watched key ≡ true → IsPlaced cmp entries places key
 
 -- the index keeps its places
 abbrev pub KeepsPlaces : (Key → Key → Ordering) → List Key → List Key → Type 0

@@ -2,16 +2,17 @@
 //!
 //! A key's place is the key itself, but that a jump's facts change places: so the jumps to one
 //! fact at a node, and the summaries from one fact at a call, stand side by side.
-ghost use Rattle.std.specs.Prelude.{◌≡◌, true, false, filter, IfOk, OnOk};
+ghost use Rattle.std.specs.Prelude.{◌≡◌, ℕ, true, false, filter, IfOk, OnOk};
 ghost use Rattle.std.specs.Map.{keys_of};
 ghost use Rattle.std.specs.BTreeMap.Range.{IsLeBy, range_contains};
 ghost use Rattle.std.specs.List.{filter_map, slice_index_or};
 ghost use Rattle.std.specs.List.Sorted.{IsStrictlySortedBy};
 ghost use Rattle.std.specs.declared.ops.Bound.TheVariants.{Included};
-ghost use Rattle.ide_tables.specs.Tables.{place_of, listed_fact, partner_of, is_noted, has_place, KeepsPlaces, NotesAll};
+ghost use Rattle.ide_tables.specs.Tables.{place_of, listed_fact, partner_of, is_jump_to, is_noted, has_place, IsPlaced, KeepsPlaces, NotesAll};
+ghost use Rattle.ide_wire.specs.declared.key.Key.{Key};
 
 use ide_lattice::EdgeFn;
-use ide_wire::{Fact, Key};
+use ide_wire::{Fact, Key, Node};
 use indexmap::IndexMap;
 use std::alloc::{AllocError, Global};
 use std::collections::BTreeSet;
@@ -37,7 +38,7 @@ fn is_noted(watched: &[bool], key: Key) -> bool
 }
 
 // Whether the node is watched.
-fn is_watched(watched: &[bool], node: usize) -> bool
+pub(crate) fn is_watched(watched: &[bool], node: usize) -> bool
     ensures { result ≡ slice_index_or watched.now node false }
 {
     match watched.get(node) {
@@ -52,9 +53,46 @@ pub(crate) fn note(places: &mut BTreeSet<Key>, watched: &[bool], key: Key) -> Re
     ensures kept { KeepsPlaces ⟦<Key as Ord>⟧.cmp places.old.keys places.new.keys }
 {
     if is_noted(watched, key) {
-        places.insert(place_of(key))?;
+        add(places, key)?;
     }
     Ok(())
+}
+
+// Adds the key's place.
+fn add(places: &mut BTreeSet<Key>, key: Key) -> Result<(), AllocError>
+    ensures added { OnOk result (has_place ⟦<Key as Ord>⟧.cmp places.new.keys key ≡ true) }
+    ensures kept { KeepsPlaces ⟦<Key as Ord>⟧.cmp places.old.keys places.new.keys }
+{
+    places.insert(place_of(key))?;
+    Ok(())
+}
+
+// The places of the present jumps at the node to the fact. It looks at every present key.
+pub(crate) fn jump_places<F: EdgeFn>(
+    alloc: Global,
+    functions: &IndexMap<Key, F>,
+    node: Node,
+    fact: Fact,
+) -> Result<BTreeSet<Key>, AllocError>
+    ensures { IfOk result (λ places. (d : ℕ) → IsPlaced ⟦<Key as Ord>⟧.cmp functions.now.entries places.keys (Key.Jump node d fact)) }
+{
+    let mut places = BTreeSet::new(alloc);
+    for key in functions.keys() {
+        if is_jump_to(*key, node, fact) {
+            add(&mut places, *key)?;
+        }
+    }
+    Ok(places)
+}
+
+// Whether the key is of a jump at the node to the fact.
+fn is_jump_to(key: Key, node: Node, fact: Fact) -> bool
+    ensures { result ≡ is_jump_to node fact key }
+{
+    match key {
+        Key::Jump(at, _, to) => at == node && to == fact,
+        Key::Summary(_, _, _) => false,
+    }
 }
 
 // Notes the places of those of the entries' keys that the index notes. Where memory is wanting it

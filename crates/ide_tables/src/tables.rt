@@ -1,15 +1,15 @@
 //! The map from keys to functions.
-ghost use Rattle.std.specs.Prelude.{◌≡◌, ℕ, ◌+◌, ◌<◌, ◌≤◌, ◌^◌, [], true, false, length, slice_get, if◌then◌else◌, IfSome, IfOk, IfErr, OnOk, OnErr};
+ghost use Rattle.std.specs.Prelude.{◌≡◌, ℕ, ◌+◌, ◌<◌, ◌≤◌, ◌^◌, [], true, false, length, slice_get, if◌then◌else◌, ◌↔◌, None, IfSome, IfOk, IfErr, OnOk, OnErr};
 ghost use Rattle.std.specs.List.{IsDistinct};
 ghost use Rattle.std.specs.Map.{keys_of};
-ghost use Rattle.std.specs.Option.{option_copied};
+ghost use Rattle.std.specs.Option.{is_some};
 ghost use Rattle.ide_wire.specs.declared.refused.Refused.TheVariants.{NoMemory};
 ghost use Rattle.indexmap.specs.IndexMap.{insert_all, insert_entry, spare, get};
 ghost use Rattle.ide_wire.specs.declared.key.Key.{Key};
 ghost use Rattle.ide_wire.specs.Key.{same_key};
 ghost use Rattle.ide_wire.specs.KeyOrder.{key_cmp};
-ghost use Rattle.ide_tables.specs.Spent.{spent};
-ghost use Rattle.ide_tables.specs.Tables.{Table, Falls, IsIndex, AreKeys, ArePartners, found, function_at, lowered_by, is_watched, Sets, SetsAll, Lowers};
+ghost use Rattle.ide_tables.specs.Spent.{fallen, spent, spent_by};
+ghost use Rattle.ide_tables.specs.Tables.{Table, Falls, IsIndex, IsPlaced, AreKeys, ArePartners, found, function_at, lowered_by, Sets, SetsAll, Lowers};
 
 use crate::index;
 use ide_lattice::EdgeFn;
@@ -40,17 +40,16 @@ pub struct Tables<F: EdgeFn> {
 impl<F: EdgeFn> Model for Tables<F> {
     ghost Value = { Table F };
 
-    ghost view = { λ t. record { entries = t.functions.entries; watched = t.watched.items } };
+    ghost view = { λ t. record { entries = t.functions.entries } };
 
-    ghost invariant = { λ t. IsIndex ⟦<Key as Ord>⟧.cmp (record { entries = t.functions.entries; watched = t.watched.items }) t.places.keys };
+    ghost invariant = { λ t. IsIndex ⟦<Key as Ord>⟧.cmp t.watched.items t.functions.entries t.places.keys };
 }
 
 impl<F: EdgeFn> Tables<F> {
-    /// A table with no present key, which watches the nodes whose place in `watched` says so. It
-    /// allocates nothing.
+    /// A table with no present key, which watches the nodes whose place in `watched` says so: it
+    /// indexes the jumps at those. It allocates nothing.
     pub fn new(alloc: Global, watched: Vec<bool>) -> Self
         ensures entries { result.entries ≡ [] }
-        ensures watched { result.watched ≡ watched.items }
     {
         Tables {
             functions: IndexMap::new(alloc),
@@ -60,10 +59,10 @@ impl<F: EdgeFn> Tables<F> {
     }
 
     /// The key's function, if the key is present.
-    pub fn get(&self, key: Key) -> Option<&F>
-        ensures { option_copied result ≡ found self.now key }
+    pub fn get(&self, key: Key) -> Option<F>
+        ensures { result ≡ found self.now key }
     {
-        self.functions.get(&key)
+        self.functions.get(&key).copied()
     }
 
     /// The function that the key stands for: always top, if it is not present.
@@ -71,7 +70,7 @@ impl<F: EdgeFn> Tables<F> {
         ensures { result ≡ function_at F.edge self.now key }
     {
         match self.get(key) {
-            Some(function) => *function,
+            Some(function) => function,
             None => F::all_top(),
         }
     }
@@ -84,9 +83,11 @@ impl<F: EdgeFn> Tables<F> {
         self.functions.len()
     }
 
-    /// The entry at `index`, in an order that stays while the table is not changed.
+    /// The entry at `index`, in an order of which nothing is said but that it stays while the
+    /// table is not changed: so indices up to the count of keys meet each entry once.
     pub fn entry_at(&self, index: usize) -> Option<(Key, F)>
         ensures entry { result ≡ slice_get self.now.entries index }
+        ensures end { (result ≡ None) ↔ (length self.now.entries ≤ index) }
         ensures present { IfSome result (λ entry. found self.now entry.0 ≡ Some entry.1) }
     {
         let (key, function) = self.functions.get_index(index)?;
@@ -104,15 +105,18 @@ impl<F: EdgeFn> Tables<F> {
     }
 
     /// The jumps at the call node to the fact: for each the fact at the start of its procedure,
-    /// and its function, ascending by fact. They are read from the index, so that they are the
-    /// present ones if the node is watched.
+    /// and its function, ascending by fact. They are read from the index, if the node is watched;
+    /// else each present key is looked at, and those that are found are sorted.
     pub fn jumps_at(&self, alloc: Global, call: Node, fact: Fact) -> Result<Vec<(Fact, F)>, Refused>
-        ensures partners { is_watched self.now call ≡ true → IfOk result (λ list. ArePartners (λ d. Key.Jump call d fact) self.now list.items) }
+        ensures partners { IfOk result (λ list. ArePartners (λ d. Key.Jump call d fact) self.now list.items) }
         ensures refused { IfErr result (λ e. e ≡ NoMemory) }
     {
-        let first = Key::Jump(call, fact, 0);
-        let last = Key::Jump(call, fact, Fact::MAX);
-        let partners = index::partners(alloc, &self.functions, &self.places, first, last)?;
+        if index::is_watched(&self.watched, call as usize) {
+            let partners = jumps_in(alloc, &self.functions, &self.places, call, fact)?;
+            return Ok(partners);
+        }
+        let places = index::jump_places(alloc, &self.functions, call, fact)?;
+        let partners = jumps_in(alloc, &self.functions, &places, call, fact)?;
         Ok(partners)
     }
 
@@ -133,7 +137,7 @@ impl<F: EdgeFn> Tables<F> {
         Ok(partners)
     }
 
-    /// A table with the same entries, in the same order, that watches the same nodes.
+    /// A table with the same entries, in the same order. It watches the same nodes.
     pub fn copy(&self, alloc: Global) -> Result<Tables<F>, Refused>
         ensures ok { IfOk result (λ copy. copy ≡ self.now) }
         ensures refused { IfErr result (λ e. e ≡ NoMemory) }
@@ -170,11 +174,11 @@ impl<F: EdgeFn> Tables<F> {
         Ok(Change::Lowered)
     }
 
-    /// Makes `f` the key's function, whatever that was: it is replaced in its place, or goes last.
-    /// `NoMemory` leaves the table as it was.
+    /// Makes `f` the key's function, whatever that was. `NoMemory` leaves the table as it was.
     pub fn set(&mut self, key: Key, f: F) -> Result<(), Refused>
         ensures sets { OnOk result (Sets self.old self.new key f) }
-        ensures order { OnOk result (self.new.entries ≡ insert_entry same_key self.old.entries key f) }
+        ensures spent { OnOk result (spent F.edge self.new.entries + spent_by F.edge (found self.old key) ≡ spent F.edge self.old.entries + fallen F.edge f) }
+        ensures count { OnOk result (length self.new.entries ≡ length self.old.entries + (if is_some (found self.old key) then 0 else 1)) }
         ensures few { OnOk result (length self.new.entries < 2 ^ 64) }
         ensures err { OnErr result (self.new ≡ self.old) }
         ensures refused { IfErr result (λ e. e ≡ NoMemory) }
@@ -197,6 +201,22 @@ impl<F: EdgeFn> Tables<F> {
         put_all(&mut self.functions, entries);
         Ok(())
     }
+}
+
+// The present jumps at the node to the fact, ascending by fact, if the places have theirs.
+fn jumps_in<F: EdgeFn>(
+    alloc: Global,
+    functions: &IndexMap<Key, F>,
+    places: &BTreeSet<Key>,
+    node: Node,
+    fact: Fact,
+) -> Result<Vec<(Fact, F)>, AllocError>
+    requires { (d : ℕ) → IsPlaced ⟦<Key as Ord>⟧.cmp functions.now.entries places.now.keys (Key.Jump node d fact) }
+    ensures { IfOk result (λ list. ArePartners (λ d. Key.Jump node d fact) (record { entries = functions.now.entries }) list.items) }
+{
+    let first = Key::Jump(node, fact, 0);
+    let last = Key::Jump(node, fact, Fact::MAX);
+    index::partners(alloc, functions, places, first, last)
 }
 
 // The meet of both: it is of smaller rank, where it is another function.

@@ -1,16 +1,33 @@
 -- Values that come of others by steps.
-use Rattle.std.proofs.Common.{◌≡◌, ℕ, ◌<◌, List, Some, None, length, subst, sym, arith}
+use Rattle.std.proofs.Common.{◌≡◌, ℕ, ◌<◌, List, [], ◌∷◌, Some, None, true, false, cond, length, refl, subst, sym, arith}
 use Rattle.std.specs.Prelude.{slice_get}
+use Rattle.std.specs.Map.{lookup}
+use Rattle.ide_theory.specs.Member.{Each}
+use Rattle.ide_wire.specs.Key.{same_key, same_key_exact}
+use Rattle.ide_wire.specs.declared.key.Key.{Key}
 use Rattle.ide_values.specs.Pass.{Goes, stays, then}
 use Rattle.ide_values.proofs.Filled.{none_past}
 
-module _ {X V : Type 0} (step : V → X → V) (xs : List X) where
-  pub goes_trans : {u v w : V} → Goes step xs u v → Goes step xs v w → Goes step xs u w
+module _ {X V : Type 0} (step : V → X → V) (IsAmong : X → Type 0) where
+  pub goes_trans : {u v w : V} → Goes step IsAmong u v → Goes step IsAmong v w → Goes step IsAmong u w
   goes_trans first stays = first
-  goes_trans first (then more i x is) = then (goes_trans first more) i x is
+  goes_trans first (then more x is) = then (goes_trans first more) x is
 
-  pub goes_by : {u v w : V} → Goes step xs u v → (i : ℕ) (x : X) → slice_get xs i ≡ Some x → w ≡ step v x → Goes step xs u w
-  goes_by {u} so_far i x is e = subst (Goes step xs u) (sym e) (then so_far i x is)
+  pub goes_by : {u v w : V} → Goes step IsAmong u v → (x : X) → IsAmong x → w ≡ step v x → Goes step IsAmong u w
+  goes_by {u} so_far x is e = subst (Goes step IsAmong u) (sym e) (then so_far x is)
+
+-- what holds of each entry holds of each present key with its function
+pub each_found : {F : Type 0} (P : Key × F → Type 0) (entries : List (Key × F)) (key : Key) (f : F)
+    → Each P entries → lookup (same_key key) entries ≡ Some f → P (key, f)
+each_found P [] key f all is = absurd (cc)
+each_found {F} P (e ∷ es) key f all is =
+    elim (same_key key e.0) as (λ b. same_key key e.0 ≡ b → cond b (Some e.1) (lookup (same_key key) es) ≡ Some f → P (key, f)) [
+      | true ↦ λ same here.
+          let own : key ≡ e.0 = same_key_exact key e.0 same in
+          let value : e.1 ≡ f = cc (here) in
+          subst (λ k. P (k, f)) (sym own) (subst (λ v. P (e.0, v)) value all.0)
+      | false ↦ λ other there. each_found P es key f all.1 there
+    ] refl is
 
 -- below the length something stands
 pub none_within : {X : Type 0} (xs : List X) (i : ℕ) → slice_get xs i ≡ None → i < length xs → ⊥

@@ -8,3 +8,4 @@ pub mod Filled
 pub mod Lines
 pub mod Passing
 pub mod Places
+pub mod Refused

@@ -192,10 +192,9 @@ module _ {F L : Type 0} (A : LatticeAlgebra L) (laws : IsLattice A) (B : EdgeAlg
       us keeps)
       vs sound
 
-  pub sound_comes : IsDistinct same_key (keys_of table.entries) → {us vs : List L} → ComesTo A B targets graph table us vs → IsSound us → IsSound vs
-  sound_comes distinct stays sound = sound
-  sound_comes distinct (then {v = ws} more i e is) sound =
-      sound_entry ws e.0 e.1 (lookup_from_place same_key_laws table.entries i e.0 e.1 distinct is) (sound_comes distinct more sound)
+  pub sound_comes : {us vs : List L} → ComesTo A B targets graph table us vs → IsSound us → IsSound vs
+  sound_comes stays sound = sound
+  sound_comes (then {v = ws} more e is) sound = sound_entry ws e.0 e.1 is (sound_comes more sound)
 
   -- the value at a place of the rows as they begin
   pub entered_is : (p k : ℕ) → p < graph.procedures → k < graph.facts

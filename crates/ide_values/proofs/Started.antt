@@ -37,12 +37,6 @@ pub meet_of_same : {L : Type 0} (A : LatticeAlgebra L) (f g : ℕ → L) → ((k
 meet_of_same A f g same zero = refl
 meet_of_same A f g same (suc n) = ap₂ A.meet (meet_of_same A f g same n) (same n)
 
--- what stands at a place of a list is in it
-pub in_at : {T : Type 0} (xs : List T) (i : ℕ) (x : T) → slice_get xs i ≡ Some x → IsIn x xs
-in_at [] i x is = cc
-in_at (y ∷ xs) zero x is = let same : x ≡ y = cc in subst (λ z. IsIn z (y ∷ xs)) (sym same) first
-in_at (y ∷ xs) (suc i) x is = later (in_at xs i x is)
-
 -- what a map's list has is mapped from the list
 pub of_map : {S T : Type 0} (f : S → T) (y : T) (xs : List S) → IsIn y (map f xs) → (x : S) × IsIn x xs × (f x ≡ y)
 of_map f y [] is = elim (none_in is) [ ]
@@ -120,10 +114,7 @@ module _ {F L : Type 0} (A : LatticeAlgebra L) (laws : IsLattice A) (B : EdgeAlg
       → IsIn edge (calls_of graph n) → IsIn {T = ℕ × F} (c, g) (targets edge b) → IsTrue (B.proper g)
       → IsBelow A (start edge.end c) (B.apply g (B.apply f (start (start_at graph n) a)))
   below_handed n a b c f g edge h1 h2 present call target proper =
-      let (i, key, stands, same) = place_from_lookup (same_key (Jump n a b)) table.entries f present in
-      let entry : IsIn {T = Key × F} (Jump n a b, f) table.entries =
-      in_at table.entries i (Jump n a b, f) (stands ∙ ap (λ q. Some (q, f)) (sym (same_key_exact (Jump n a b) key same))) in
-      let calm : IsSteadyBy A B graph targets vs (Jump n a b) f = each_in (λ e. IsSteadyBy A B graph targets vs e.0 e.1) table.entries steady (Jump n a b, f) entry in
+      let calm : IsSteadyBy A B graph targets vs (Jump n a b) f = steady (Jump n a b) f present in
       let over : IsSteadyOver A B graph targets n a b f vs edge = each_in (IsSteadyOver A B graph targets n a b f vs) (calls_of graph n) calm edge call in
       let same_values : to_target A B graph n a f edge.end vs (c, g) ≡ vs = each_in (λ t. to_target A B graph n a f edge.end vs t ≡ vs) (targets edge b) over (c, g) target in
       let led = leads A laws B functions targets flow graph table roots all joined edges closed image n edge call in

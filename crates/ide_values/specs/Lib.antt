@@ -6,6 +6,7 @@ pub mod Enter
 pub mod Falling
 pub mod Fill
 pub mod Pass
+pub mod Refusal
 pub mod Settled
 pub mod Start
 pub mod Values

@@ -59,7 +59,7 @@ pub record Passes {X V : Type 0} (step : V → X → V) (IsSteady : V → X → 
   pub before : fallen ≡ false → fell ≡ false
   pub steady : fallen ≡ false → Each (IsSteady old) xs
 
--- steps by elements of a list, in any order, any number of times
-pub data Goes {X V : Type 0} (step : V → X → V) (xs : List X) : V → V → Type 0 where
-  stays : {v : V} → Goes step xs v v
-  then : {u v : V} → Goes step xs u v → (i : ℕ) (x : X) → slice_get xs i ≡ Some x → Goes step xs u (step v x)
+-- steps by elements that are among some, in any order, any number of times
+pub data Goes {X V : Type 0} (step : V → X → V) (IsAmong : X → Type 0) : V → V → Type 0 where
+  stays : {v : V} → Goes step IsAmong v v
+  then : {u v : V} → Goes step IsAmong u v → (x : X) → IsAmong x → Goes step IsAmong u (step v x)

@@ -1,22 +1,21 @@
 -- What the start values come to.
-use Rattle.std.specs.Prelude.{ℕ, List}
+use Rattle.std.specs.Prelude.{◌≡◌, ℕ, List, Some}
 use Rattle.ide_graph.specs.Supergraph.{Supergraph}
 use Rattle.ide_lattice.specs.Algebra.{LatticeAlgebra, EdgeAlgebra}
 use Rattle.ide_problem.specs.Flow.{Targets}
-use Rattle.ide_tables.specs.Tables.{Table}
-use Rattle.ide_theory.specs.Member.{Each}
+use Rattle.ide_tables.specs.Tables.{Table, found}
 use Rattle.ide_wire.specs.declared.key.Key.{Key}
 use Rattle.ide_values.specs.Enter.{entered_rows}
 use Rattle.ide_values.specs.Pass.{Goes, IsSteadyBy, by_entry}
 
 module _ {F L : Type 0} (A : LatticeAlgebra L) (B : EdgeAlgebra F L) (targets : Targets F) (graph : Supergraph) (table : Table F) where
-  -- values come of others by what entries of the table hand on
+  -- values come of others by what functions of present keys hand on
   abbrev pub ComesTo : List L → List L → Type 0
-  ComesTo old new = Goes (λ values (e : Key × F). by_entry A B graph targets values e.0 e.1) table.entries old new
+  ComesTo old new = Goes (λ values (e : Key × F). by_entry A B graph targets values e.0 e.1) (λ e. found table e.0 ≡ Some e.1) old new
 
-  -- no entry of the table hands anything on that would change the values
+  -- the function of no present key hands anything on that would change the values
   abbrev pub IsSteady : List L → Type 0
-  IsSteady values = Each (λ e. IsSteadyBy A B graph targets values e.0 e.1) table.entries
+  IsSteady values = (key : Key) (f : F) → found table key ≡ Some f → IsSteadyBy A B graph targets values key f
 
   -- the start values for the roots
   pub record AreStarts (roots : List ℕ) (starts : List L) : Type 0 where

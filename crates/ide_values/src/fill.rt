@@ -1,8 +1,6 @@
 //! The fill: each jump function lowers the value where it ends.
 ghost use Rattle.std.specs.Prelude.{◌≡◌, ◌≢◌, ℕ, ◌+◌, ◌-◌, ◌*◌, ◌^◌, ◌<◌, min, IfOk, IsTrue, length, slice_index, slice_index_or};
-ghost use Rattle.std.specs.List.{All, IsDistinct};
-ghost use Rattle.std.specs.Map.{keys_of};
-ghost use Rattle.ide_wire.specs.Key.{same_key};
+ghost use Rattle.std.specs.List.{All};
 ghost use Rattle.ide_tables.specs.Tables.{found};
 ghost use Rattle.ide_values.specs.Start.{value_before};
 ghost use Rattle.ide_values.specs.Fill.{AreFilled, IsImage, lowered};
@@ -23,7 +21,6 @@ pub fn fill<F: EdgeFn>(
     starts: &[F::L],
 ) -> Result<Vec<F::L>, AllocError>
     ensures filled { IfOk result (λ values. IsImage F.edge graph.now (found tables.now) → All (λ v. IsTrue (F.L.algebra.proper v)) starts.now → AreFilled F.L.algebra F.edge graph.now (found tables.now) starts.now values.items) }
-    ensures distinct { IfOk result (λ _. IsDistinct same_key (keys_of tables.now.entries)) }
     ensures count { IfOk result (λ values. length values.items ≡ graph.now.nodes * graph.now.facts) }
 {
     let mut values = tops(alloc, graph.node_count() * graph.fact_count())?;

@@ -1,10 +1,11 @@
 //! The values of a program.
-ghost use Rattle.std.specs.Prelude.{◌≡◌, ◌<◌, ◌≤◌, ◌⊎◌, ◌↔◌, Err, IfErr, IfOk};
+ghost use Rattle.std.specs.Prelude.{◌≡◌, ◌≤◌, ◌⊎◌, ◌↔◌, Err, IfErr, IfOk, OnOk};
 ghost use Rattle.std.specs.Arc.{arc_value};
 ghost use Rattle.ide_steps.specs.declared.loaded.Loaded.{Loaded};
 ghost use Rattle.ide_text.specs.Program.{value_of as program_value};
 ghost use Rattle.ide_values.specs.Best.{AreBest};
 ghost use Rattle.ide_values.specs.Closed.{FollowFrom};
+ghost use Rattle.ide_values.specs.Refusal.{AreWorkers, IsValuesRefusal};
 ghost use Rattle.ide_values.specs.Values.{AreValues, value_of};
 
 use crate::fill::fill;
@@ -54,8 +55,8 @@ pub trait ValuePhase<P: Problem> {
 
 impl<P: Problem> ValuePhase<P> for Closed<P> {
     fn values(&self, alloc: Global, workers: usize) -> Result<Values<P>, Refused>
-        ensures limit { (result ≡ Err Refused.Limit) ↔ ((workers ≡ 0) ⊎ (64 < workers)) }
-        ensures refused { IfErr result (λ e. (e ≡ Refused.Limit) ⊎ (e ≡ Refused.NoMemory)) }
+        ensures workers { OnOk result (AreWorkers workers) }
+        ensures refused { IfErr result (IsValuesRefusal workers) }
         ensures program { IfOk result (λ values. values.program ≡ program_value (arc_value {X = Loaded P P.L P.F} self.now.loaded).program) }
         ensures graph { IfOk result (λ values. values.graph ≡ (arc_value {X = Loaded P P.L P.F} self.now.loaded).graph) }
         ensures roots { IfOk result (λ values. values.roots ≡ self.now.roots.items) }

@@ -1,5 +1,5 @@
-use Rattle.std.proofs.Common.{Some, Err, map, ap, subst, sym, ◌∙◌, arith}
-use Rattle.std.proofs.lemmas.Result.{err_from_is_err_and}
+use Rattle.std.proofs.Common.{Some, map, ap, subst, sym, ◌∙◌, arith}
+use Rattle.std.proofs.lemmas.Result.{IfErr-weaker, err_from_is_err_and}
 use Rattle.ide_graph.specs.Joined.{start_at}
 use Rattle.ide_theory.specs.Sites.{edges_of}
 use Rattle.ide_service.specs.Refusal.{IsSolveRefusal, memory}
@@ -20,24 +20,20 @@ returns-in-Ok-clause-solved g c =
 
 pub returns-in-Ok-clause-refused : goal.returns-in-Ok-clause-refused
 returns-in-Ok-clause-refused g c =
-    values-refused c.args.text.now (map (λ name. name.now) c.args.roots.now) 1 c.values.result (omega arith) (omega arith) c.values.ensures.limit c.values.ensures.refused
+    IfErr-weaker c.values.result _ _ (λ refused is. values-refused c.args.text.now (map (λ name. name.now) c.args.roots.now) 1 (omega arith) (omega arith) is) c.values.ensures.refused
 
 pub returns-clause-refused : goal.returns-clause-refused
 returns-clause-refused g c =
-    let is = c.in-Err.ensures in
     elim (close-refused g.P.L.Lattice.algebra g.P.F.EdgeFn.edge g.P.Problem.targets c.args.text.now (map (λ name. name.now) c.args.roots.now)
-    c.in_ok-core.core c.drain.new.self c.in_ok-core.ensures.started.0 _ c.in_ok-core.ensures.started.1 c.in_ok-drain.ensures.goes c.in_ok-drain.ensures.quiet
-    is.refused (λ same. is.no_program.0 same) (λ same. (is.unfinished.0 same).1)) [ ]
+    c.in_ok-core.core c.drain.new.self c.in_ok-core.ensures.started.0 c.in_ok-core.ensures.started.1 c.in_ok-drain.ensures.goes c.in_ok-drain.ensures.quiet
+    c.in-Err.ensures.refused) [ ]
 
 pub returns-in_err-drain-clause-refused : goal.returns-in_err-drain-clause-refused
 returns-in_err-drain-clause-refused g c =
     let p = err_from_is_err_and c.from_residual-in_err-drain.result c.from_residual-in_err-drain.ensures.1 in
     let names = map (λ name. name.now) c.args.roots.now in
     let refused = c.in_err-drain.field-0.0 in
-    let is = c.in_err-drain.ensures in
     let wanting = drain-refused g.P.L.Lattice.algebra g.P.F.EdgeFn.edge g.P.Problem.targets c.args.text.now names
-    c.in_ok-core.core c.in_ok-core.ensures.started.0 refused c.in_ok-core.ensures.started.1 is.refused
-    (λ same. is.no_program.0 (ap Err same)) (λ same. (is.busy.0 (ap Err same)).1)
-    (λ same. ((is.unfinished.0 (ap Err same)).2, (is.unfinished.0 (ap Err same)).4)) (λ same. is.within (ap Err same)) in
+    c.in_ok-core.core c.in_ok-core.ensures.started.0 c.in_ok-core.ensures.started.1 c.in_err-drain.ensures.refused in
     handed-on (IsSolveRefusal c.args.text.now names) c.from_residual-in_err-drain.result refused p.0 p.1 p.2
     (subst (IsSolveRefusal c.args.text.now names) (sym wanting) memory)

@@ -30,7 +30,7 @@ returns-clause-follow g c = record {
       subst (AreStarts g.P.L.Lattice.algebra g.P.F.EdgeFn.edge g.P.Problem.targets c.args.graph.now c.args.tables.now c.args.roots.now)
       (sym c.as_slice.ensures.value) (c.in_ok-starts.ensures closed.is_closed.sited) in
       let sound : IsSound g.P.L.Lattice.algebra g.met.P.L.Lattice.lawful g.P.F.EdgeFn.edge g.met.P.F.EdgeFn.lawful g.P.Problem.targets g.met.P.Problem.lawful c.args.graph.now c.args.tables.now c.args.roots.now all joined edges closed image c.as_slice.result.now =
-      sound_comes g.P.L.Lattice.algebra g.met.P.L.Lattice.lawful g.P.F.EdgeFn.edge g.met.P.F.EdgeFn.lawful g.P.Problem.targets g.met.P.Problem.lawful c.args.graph.now c.args.tables.now c.args.roots.now all joined edges closed image c.in_ok-values.ensures.distinct are.comes (sound_entered g.P.L.Lattice.algebra g.met.P.L.Lattice.lawful g.P.F.EdgeFn.edge g.met.P.F.EdgeFn.lawful g.P.Problem.targets g.met.P.Problem.lawful c.args.graph.now c.args.tables.now c.args.roots.now all joined edges closed image) in
+      sound_comes g.P.L.Lattice.algebra g.met.P.L.Lattice.lawful g.P.F.EdgeFn.edge g.met.P.F.EdgeFn.lawful g.P.Problem.targets g.met.P.Problem.lawful c.args.graph.now c.args.tables.now c.args.roots.now all joined edges closed image are.comes (sound_entered g.P.L.Lattice.algebra g.met.P.L.Lattice.lawful g.P.F.EdgeFn.edge g.met.P.F.EdgeFn.lawful g.P.Problem.targets g.met.P.Problem.lawful c.args.graph.now c.args.tables.now c.args.roots.now all joined edges closed image) in
       let proper : All (λ v. IsTrue (g.P.L.Lattice.algebra.proper v)) c.as_slice.result.now =
       All-from_get_or (λ v. IsTrue (g.P.L.Lattice.algebra.proper v)) c.as_slice.result.now g.P.L.Lattice.algebra.top (λ i h. sound.proper i) in (
         start_value g.P.L.Lattice.algebra c.args.graph.now c.as_slice.result.now,

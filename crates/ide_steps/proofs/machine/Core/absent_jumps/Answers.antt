@@ -1,13 +1,13 @@
-use Rattle.std.proofs.Common.{◌≡◌, ◌+◌, sym, ap, ◌∙◌, subst, [], ◌∷◌, ◌++◌}
+use Rattle.std.proofs.Common.{◌≡◌, ◌+◌, refl, sym, ap, ◌∙◌, subst, [], ◌∷◌, ◌++◌}
 use Rattle.std.proofs.lemmas.Bool.{both_ways}
 use Rattle.std.specs.List.{list_any}
 use Rattle.std.specs.Map.{keys_of}
 use Rattle.ide_wire.specs.Key.{same_key}
 use Rattle.ide_wire.specs.declared.key.Key.TheVariants.{Jump}
 use Rattle.ide_theory.specs.Images.{seeded_below}
-use Rattle.ide_steps.specs.Rooted.{with_entries}
+use Rattle.ide_steps.specs.Rooted.{AllAt, with_entries}
 use Rattle.ide_steps.specs.State.{state_of}
-use Rattle.ide_steps.proofs.Entries.{AreBefore, before-later, before-more, entered-absent, entered-present, with-none}
+use Rattle.ide_steps.proofs.Entries.{AreBefore, at-more, at-none, before-later, before-more, entered-absent, entered-present, with-none}
 use Rattle.ide_steps.proofs.machine.Core.absent_jumps.Goals as goal
 use Rattle.ide_steps.proofs.machine.Core.absent_jumps.Goals.{then-is_absent+in_ok-push, else-is_absent}
 
@@ -17,6 +17,7 @@ loop-fact-init g c =
     record {
       entered = sym (ap (with_entries s) c.new-jumps.ensures.items ∙ with-none s);
       before = λ d less. ap (λ entries. list_any (same_key (Jump c.args.start d d)) (keys_of entries)) c.new-jumps.ensures.items;
+      place = subst (AllAt {F = g.row.P-F.Denot} c.args.start) (sym c.new-jumps.ensures.items) (at-none c.args.start);
     }
 
 pub loop-fact-preserved : goal.loop-fact-preserved
@@ -36,6 +37,7 @@ loop-fact-preserved g c =
                 subst (λ es. seeded_below B s start (fact + 1) ≡ with_entries s es) (sym items)
                 (entered-absent B targets start fact s entries was.before w.id.result w.id.ensures (c.is_absent.ensures.0 w.if-is_absent.true) was.entered);
             before = subst (AreBefore start (fact + 1)) (sym items) (before-more start fact entries w.id.result was.before);
+            place = subst (AllAt {F = g.row.P-F.Denot} start) (sym items) (at-more start entries (Jump start fact fact) w.id.result refl was.place);
           }
       | else-is_absent w ↦
           let items : c.if-is_absent.jumps.items ≡ entries = λ i. (w.jumps-is i).items in
@@ -45,5 +47,6 @@ loop-fact-preserved g c =
                 (entered-present B targets start fact s entries was.before
                 (λ empty. both_ways c.is_absent.result w.if-is_absent.false (c.is_absent.ensures.1 empty)) was.entered);
             before = subst (AreBefore start (fact + 1)) (sym items) (before-later start fact entries was.before);
+            place = subst (AllAt {F = g.row.P-F.Denot} start) (sym items) was.place;
           }
     ]

@@ -1,9 +1,44 @@
-use Rattle.std.proofs.Common.{◌≡◌, ℕ, Option, Some, false, sym, ap, ◌∙◌, inl, inr, rules}
+use Rattle.std.proofs.Common.{◌≡◌, ℕ, Option, Some, false, subst, sym, ap, ◌∙◌, rules}
+use Rattle.std.proofs.lemmas.Option.{same_Some}
+use Rattle.std.proofs.lemmas.Result.{err_from_is_err_and}
+use Rattle.ide_graph.specs.Edges.{EdgesWithin}
 use Rattle.ide_tasks.specs.Parts.{owed}
 use Rattle.ide_tasks.specs.Task.{TaskData}
 use Rattle.ide_theory.specs.State.{new_claim, with_claim}
-use Rattle.ide_steps.proofs.States.{state-at, state-claimed, taken-ends, taken-progress, unchanged-err}
+use Rattle.ide_worklist.specs.declared.claim.Claim.{Claim as Held}
+use Rattle.ide_steps.proofs.Nodes.{kept-put, kept-unchanged, parts-within}
+use Rattle.ide_wire.specs.declared.refused.Refused.TheVariants.{NoMemory}
+use Rattle.ide_steps.specs.ClaimRefusal.{IsClaimRefusal, busy, limit, memory, no_program}
+use Rattle.ide_steps.proofs.States.{handed-on, state-at, state-claimed, taken-ends, taken-progress, unchanged-err}
 use Rattle.ide_steps.proofs.machine.Core.claim.Goals as goal
+
+pub take_task-requires-clause-place : goal.take_task-requires-clause-place
+take_task-requires-clause-place g c =
+    (c.self.invariant c.deref.result.now (search rules)).1.pending c.in-Some-unclaimed.key c.in-Some-unclaimed.ensures.pending
+
+pub invariant_of-self : goal.invariant_of-self
+invariant_of-self g c = λ loaded is.
+    let kept = c.self.invariant loaded is in (
+      kept.0,
+      kept-unchanged g.P.Problem.targets g.P.F.EdgeFn.edge loaded.graph c.self.inside.worklist c.take_task.new.worklist kept.1
+          c.take_task.ensures.pending c.in_err-task.ensures.err,
+    )
+
+-- the edges of the task's site end at nodes
+pub invariant_of-self-2 : goal.invariant_of-self-2
+invariant_of-self-2 g c = λ loaded is.
+    let kept = c.self.invariant loaded is in
+    let task = c.in_ok-task.task in
+    let held : Held (TaskData g.row.P-F.Denot) = record { key = c.in-Some-unclaimed.key; task = task; done = 0; lowered = false } in
+    let there : _ ≡ Some c.deref.result.now = search rules in
+    let same : c.deref.result.now ≡ loaded = same_Some _ _ (sym there ∙ is) in (
+      kept.0,
+      kept-put g.P.Problem.targets g.P.F.EdgeFn.edge loaded.graph c.self.inside.worklist c.take_task.new.worklist kept.1 c.args.hand (Some held)
+          c.take_task.ensures.pending
+          (parts-within g.P.Problem.targets g.P.F.EdgeFn.edge loaded.graph.nodes task.key task.function task.site task.partners
+          (subst (λ l. EdgesWithin l.graph.nodes task.site) same c.in_ok-task.ensures.edges))
+          c.in_ok-task.ensures.claims,
+    )
 
 pub returns-clause-task : goal.returns-clause-task
 returns-clause-task g c = λ task is.
@@ -25,19 +60,6 @@ pub returns-in_err-task-clause-unchanged : goal.returns-in_err-task-clause-uncha
 returns-in_err-task-clause-unchanged g c =
     unchanged-err {F = g.row.P-F.Denot} c.from_residual.result _ c.args.self.now c.take_task.new.worklist c.self.view_is c.take_task.ensures.pending c.in_err-task.ensures.err
 
-pub returns-in_err-task-clause-out_of_range : goal.returns-in_err-task-clause-out_of_range
-returns-in_err-task-clause-out_of_range g c = λ is.
-    elim c.in_err-task.ensures.refused [
-      | inl memory ↦ absurd (search rules)
-      | inr out ↦ rw (← c.self.view_is) (record {
-        key = c.in-Some-unclaimed.key;
-        pending = c.in-Some-unclaimed.ensures.pending;
-        graph = c.deref.result.now.graph;
-        is = search rules;
-        outside = out.1;
-      })
-    ]
-
 pub returns-clause-fresh : goal.returns-clause-fresh
 returns-clause-fresh g c = λ task is.
     taken-ends {F = g.row.P-F.Denot} c.self.inside.worklist c.take_task.new.worklist c.args.hand
@@ -50,3 +72,18 @@ returns-clause-progress g c = λ task is.
     taken-progress {F = g.row.P-F.Denot} c.self.inside.worklist c.take_task.new.worklist c.args.hand
     (record { key = c.in-Some-unclaimed.key; task = c.in_ok-task.task; done = 0; lowered = false }) c.in_ok-task.ensures.claims
     ∙ ap there same
+
+pub returns-then-hand-ge-HANDS-clause-refused : goal.returns-then-hand-ge-HANDS-clause-refused
+returns-then-hand-ge-HANDS-clause-refused g c = limit (search rules)
+
+pub returns-in_default-clause-refused : goal.returns-in_default-clause-refused
+returns-in_default-clause-refused g c = no_program (search rules) (search rules)
+
+pub returns-then-is_some-clause-refused : goal.returns-then-is_some-clause-refused
+returns-then-is_some-clause-refused g c = busy (search rules) (search rules) (search rules)
+
+pub returns-in_err-task-clause-refused : goal.returns-in_err-task-clause-refused
+returns-in_err-task-clause-refused g c =
+    let p = err_from_is_err_and c.from_residual.result c.from_residual.ensures.1 in
+    handed-on (IsClaimRefusal {F = g.row.P-F.Denot} c.args.self.now c.args.hand) c.from_residual.result NoMemory p.0 p.1 (p.2 ∙ c.in_err-task.ensures.refused)
+    (memory (record { within = search rules; loaded = search rules; free = search rules }) c.in-Some-unclaimed.key (search rules) (search rules))

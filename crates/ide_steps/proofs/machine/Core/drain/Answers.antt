@@ -1,5 +1,7 @@
-use Rattle.std.proofs.Common.{None, ap, cond, refl, ◌∙◌}
+use Rattle.std.proofs.Common.{None, ap, cond, refl, rules, subst, sym, ◌∙◌}
+use Rattle.std.proofs.lemmas.Result.{IfErr-weaker}
 use Rattle.ide_worklist.specs.Worklist.{claim_at}
+use Rattle.ide_steps.specs.DrainRefusal.{IsDrainRefusal, busy, memory, no_program, unfinished}
 use Rattle.ide_steps.proofs.Free.{free-without}
 use Rattle.ide_steps.proofs.Going.{goes-on, goes-on-then, goes-released, goes-same}
 use Rattle.ide_steps.proofs.Bounded.{few-of}
@@ -31,3 +33,26 @@ pub returns-else-is_err-clause-few : goal.returns-else-is_err-clause-few
 returns-else-is_err-clause-few g c =
     few-of g.P.L.Lattice.algebra g.P.F.EdgeFn.edge g.P.Problem.targets (c.images_have_room.ensures) c.run_all-drained.result c.args.self.now c.run_all-drained.new.self
     c.keys_are_distinct.ensures c.run_all-drained.ensures.claims
+
+pub returns-then-is_none-clause-refused : goal.returns-then-is_none-clause-refused
+returns-then-is_none-clause-refused g c = no_program (search rules)
+
+pub returns-then-is_some-clause-refused : goal.returns-then-is_some-clause-refused
+returns-then-is_some-clause-refused g c = busy (search rules) (search rules)
+
+pub returns-then-claimed_elsewhere-clause-refused : goal.returns-then-claimed_elsewhere-clause-refused
+returns-then-claimed_elsewhere-clause-refused g c =
+    let other = c.claimed_elsewhere.ensures.some c.if-claimed_elsewhere.true in
+    unfinished (search rules) (search rules) other.0 other.1 (rw (← c.self.view_is) other.2)
+
+pub returns-then-is_err-clause-refused : goal.returns-then-is_err-clause-refused
+returns-then-is_err-clause-refused g c =
+    IfErr-weaker c.run_all-drained.result _ _
+    (λ refused is. subst (IsDrainRefusal {F = g.row.P-F.Denot} c.args.self.now) (sym is) (memory (record { loaded = search rules; free = search rules })))
+    c.run_all-drained.ensures.refused
+
+pub returns-else-is_err-clause-refused : goal.returns-else-is_err-clause-refused
+returns-else-is_err-clause-refused g c =
+    IfErr-weaker c.run_all-drained.result _ _
+    (λ refused is. subst (IsDrainRefusal {F = g.row.P-F.Denot} c.args.self.now) (sym is) (memory (record { loaded = search rules; free = search rules })))
+    c.run_all-drained.ensures.refused

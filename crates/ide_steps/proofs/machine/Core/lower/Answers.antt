@@ -1,43 +1,45 @@
-use Rattle.std.proofs.Common.{◌≡◌, ◌+◌, ◌≤◌, length, subst, ap, ◌∙◌, get_or, arith, None}
+use Rattle.std.proofs.Common.{◌≡◌, ◌+◌, ◌≤◌, length, subst, ap, sym, ◌∙◌, get_or, arith, None}
 use Rattle.ide_steps.specs.Drain.{left_by}
 use Rattle.ide_steps.proofs.Potential.{at-most-one, falls, push-pays}
 use Rattle.ide_steps.proofs.machine.Core.lower.Goals as goal
 use Rattle.std.specs.Prelude.{◌||◌}
 use Rattle.std.specs.List.{list_any}
-use Rattle.ide_tables.specs.Tables.{Table, found}
+use Rattle.ide_tables.specs.Tables.{found}
 use Rattle.ide_wire.specs.Key.{same_key}
 use Rattle.ide_worklist.specs.Worklist.{claim_at, marked}
-use Rattle.ide_steps.proofs.States.{changes-of, or_top-unwrap, state-lowered, watched-kept}
+use Rattle.ide_steps.specs.Core.{CoreData}
+use Rattle.ide_steps.proofs.Nodes.{kept-pushed, kept-same, through}
+use Rattle.ide_steps.proofs.States.{changes-of, or_top-unwrap, state-lowered}
 
 -- `search` would try long at these before it gave up: an invariant is a function into a record
+pub invariant_of-self : goal.invariant_of-self
+invariant_of-self g c = λ loaded is.
+    let kept = c.self.invariant loaded is in
+    (kept.0, kept-same g.P.Problem.targets g.P.F.EdgeFn.edge loaded.graph c.self.inside.worklist c.reserve.new.self kept.1 c.reserve.ensures.pending c.reserve.ensures.claims)
+
 pub invariant_of-self-in_err-change : goal.invariant_of-self-in_err-change
 invariant_of-self-in_err-change g c = λ loaded is.
-    let kept = c.self.invariant loaded is in
-    record { sited = kept.sited; inverse = kept.inverse; watched = ap (λ (t : Table g.row.P-F.Denot). t.watched) c.in_err-change.ensures.err ∙ kept.watched }
+    let kept = c.self.invariant loaded is in (
+      kept.0,
+      kept-same g.P.Problem.targets g.P.F.EdgeFn.edge loaded.graph c.self.inside.worklist c.reserve.new.self kept.1 c.in_ok-reserve.ensures.pending c.in_ok-reserve.ensures.claims,
+    )
 
 pub invariant_of-self-then-eq : goal.invariant_of-self-then-eq
 invariant_of-self-then-eq g c = λ loaded is.
     let kept = c.self.invariant loaded is in
-    record {
-      sited = kept.sited;
-      inverse = kept.inverse;
-      watched =
-          watched-kept g.P.Problem.targets g.P.F.EdgeFn.edge c.self.inside.tables c.lower.new.self c.args.key c.args.function c.in_ok-change.change
-          c.in_ok-change.ensures.lowered c.in_ok-change.ensures.same
-          ∙ kept.watched;
-    }
+    let graph = ap (λ (core : CoreData g.row.P-F.Denot). core.graph) (sym c.self.view_is) ∙ through _ c.self.inside.loaded loaded is (λ l. l.graph) in (
+      kept.0,
+      kept-pushed g.P.Problem.targets g.P.F.EdgeFn.edge loaded.graph c.self.inside.worklist c.push.new.self kept.1 c.args.key (c.requires loaded.graph graph)
+          (λ q. c.push.ensures.pending q ∙ ap (λ keys. same_key c.args.key q || list_any (same_key q) keys) c.in_ok-reserve.ensures.pending)
+          (λ h. c.push.ensures.claims h ∙ ap (λ claims. marked c.args.key (get_or claims h None)) c.in_ok-reserve.ensures.claims),
+    )
 
 pub invariant_of-self-else-eq : goal.invariant_of-self-else-eq
 invariant_of-self-else-eq g c = λ loaded is.
-    let kept = c.self.invariant loaded is in
-    record {
-      sited = kept.sited;
-      inverse = kept.inverse;
-      watched =
-          watched-kept g.P.Problem.targets g.P.F.EdgeFn.edge c.self.inside.tables c.lower.new.self c.args.key c.args.function c.in_ok-change.change
-          c.in_ok-change.ensures.lowered c.in_ok-change.ensures.same
-          ∙ kept.watched;
-    }
+    let kept = c.self.invariant loaded is in (
+      kept.0,
+      kept-same g.P.Problem.targets g.P.F.EdgeFn.edge loaded.graph c.self.inside.worklist c.reserve.new.self kept.1 c.in_ok-reserve.ensures.pending c.in_ok-reserve.ensures.claims,
+    )
 
 pub returns-then-eq-clause-falls : goal.returns-then-eq-clause-falls
 returns-then-eq-clause-falls g c is =

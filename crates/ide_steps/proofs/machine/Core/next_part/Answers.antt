@@ -5,6 +5,8 @@ use Rattle.ide_tables.specs.declared.tables.Change.{Change}
 use Rattle.ide_theory.specs.State.{part_done}
 use Rattle.ide_steps.specs.Steps.{KeepTasks}
 use Rattle.ide_steps.proofs.States.{state-counted, tasks-counted}
+use Rattle.ide_steps.specs.Core.{StandsIn}
+use Rattle.ide_steps.proofs.Nodes.{at-found, kept-done}
 use Rattle.ide_steps.proofs.machine.Core.next_part.Goals as goal
 use Rattle.ide_steps.proofs.machine.Core.next_part.Goals.{in-Lowered, in-Same}
 
@@ -72,3 +74,12 @@ returns-clause-tasks g c = λ _.
     subst (λ n. KeepTasks c.args.hand n c.args.self.now.pile c.set_done.new.self) c.done.ensures
     (tasks-counted {F = g.row.P-F.Denot} c.args.hand c.done.result c.args.self.now.pile c.self.inside.worklist c.set_done.new.self
     (rw (← c.self.view_is) at c.in_ok-change.ensures.progress) c.set_done.ensures.claims)
+
+pub lower-requires : goal.lower-requires
+lower-requires g c = λ graph is.
+    at-found (λ part. StandsIn graph part.0) c.args.work.now.parts c.args.work.now.done c.in-Some.part (c.requires graph is) (sym c.in-Some.ensures.next)
+
+pub invariant_of-self : goal.invariant_of-self
+invariant_of-self g c = λ loaded is.
+    let kept = c.self.invariant loaded is in
+    (kept.0, kept-done g.P.Problem.targets g.P.F.EdgeFn.edge loaded.graph c.self.inside.worklist c.set_done.new.self kept.1 c.args.hand c.done.result c.set_done.ensures.pending c.set_done.ensures.claims)

@@ -9,6 +9,7 @@ use Rattle.ide_steps.specs.State.{state_of}
 use Rattle.ide_steps.specs.Steps.{ArePartsDone, IsLowered, IsSkipped, KeepTasks, none_yet, then_lowered, then_skipped}
 use Rattle.ide_steps.proofs.Going.{same-problem, state-unchanged}
 use Rattle.ide_steps.proofs.States.{tasks-here, tasks-then, tasks-unchanged}
+use Rattle.ide_steps.specs.Core.{AllStandIn}
 use Rattle.ide_steps.proofs.machine.Core.next_parts.Goals as goal
 
 -- work with no part more, and with one more than those counted
@@ -104,3 +105,8 @@ returns-then-eq-clause-tasks g c = λ task at.
     subst (λ (work : WorkData g.row.P-F.Denot). KeepTasks c.args.hand work.done c.args.self.now.pile c.next_part.new.self.pile) (sym kept.2)
     (subst (λ (core : CoreData g.row.P-F.Denot). KeepTasks c.args.hand c.loop-count.work.done c.args.self.now.pile core.pile) (sym kept.1)
     (c.loop-count.invariant.tasks task at))
+
+pub next_part-requires : goal.next_part-requires
+next_part-requires g c = λ graph is.
+    subst (AllStandIn graph) (sym (ap (λ (w : WorkData g.row.P-F.Denot). w.parts) c.loop-count.invariant.done))
+    (c.requires graph (sym c.loop-count.invariant.same.graph ∙ is))

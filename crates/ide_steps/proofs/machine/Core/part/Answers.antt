@@ -26,3 +26,8 @@ returns-clause-tasks g c =
     subst (λ (work : WorkData g.row.P-F.Denot). KeepTasks c.args.hand work.done old.pile c.next_part.new.self.pile) (sym kept.2)
     (subst (λ (core : CoreData g.row.P-F.Denot). KeepTasks c.args.hand c.args.work.now.done old.pile core.pile) (sym kept.1)
     (tasks-here c.args.hand c.args.work.now.done c.args.work.now.task old.pile (c.is_current.ensures.current.0 c.if-not-is_current.false))))
+
+pub next_part-requires : goal.next_part-requires
+next_part-requires g c =
+    c.parts_are_inside.ensures c.args.work.now
+    (record { claim = c.is_current.ensures.current.0 c.if-not-is_current.false; parts = c.is_current.ensures.owed c.if-not-is_current.false })

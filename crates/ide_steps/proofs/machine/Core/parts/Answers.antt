@@ -14,3 +14,8 @@ returns-else-is_current-clause-parts g c = none_yet
 pub returns-then-is_current-clause-current : goal.returns-then-is_current-clause-current
 returns-then-is_current-clause-current g c =
     inr (record { claim = c.is_current.ensures.current.0 c.if-is_current.true; parts = c.is_current.ensures.owed c.if-is_current.true })
+
+pub next_parts-requires : goal.next_parts-requires
+next_parts-requires g c =
+    c.parts_are_inside.ensures c.args.work.now
+    (record { claim = c.is_current.ensures.current.0 c.if-is_current.true; parts = c.is_current.ensures.owed c.if-is_current.true })

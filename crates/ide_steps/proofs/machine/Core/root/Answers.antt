@@ -1,6 +1,10 @@
-use Rattle.std.proofs.Common.{◌≡◌, ap, rules, subst, sym, ◌∙◌, Some}
+use Rattle.std.proofs.Common.{◌≡◌, ◌<◌, ap, rules, subst, sym, ◌∙◌, Some}
 use Rattle.std.proofs.lemmas.Result.{err_from_is_err_and}
+use Rattle.std.proofs.lemmas.List.Elements.{All-weaker}
+use Rattle.std.proofs.lemmas.Option.{same_Some}
 use Rattle.ide_graph.specs.Supergraph.{Supergraph}
+use Rattle.ide_wire.specs.Key.{node_of}
+use Rattle.ide_steps.specs.Core.{AllStandIn, StandsIn}
 use Rattle.ide_wire.specs.declared.refused.Refused.TheVariants.{NoMemory}
 use Rattle.ide_steps.specs.Refusal.{IsRootName, IsRootRefusal, RootFault, fault, memory, no_program}
 use Rattle.ide_theory.specs.Images.{seeded_below}
@@ -41,6 +45,15 @@ returns-in_err-begin-clause-refused g c =
     (p.2 ∙ c.in_err-begin.ensures.refused)
     (memory graph c.in_ok-procedure.procedure is (subst (λ rs. IsRootName graph rs c.args.name.now c.in_ok-procedure.procedure) roots c.in_ok-procedure.ensures.root))
 
+-- the start is a node, and each of the jumps stands at it
+pub begin-requires : goal.begin-requires
+begin-requires g c = λ graph is.
+    let there : c.args.self.now.graph ≡ Some c.deref.result.now.graph = search rules in
+    let start = subst (λ g. c.start_of-start.result < g.nodes) (same_Some _ _ (sym there ∙ is)) c.start_of-start.ensures.within in
+    subst (AllStandIn graph) (sym c.deref-2.ensures.value)
+    (All-weaker (λ jump. node_of jump.0 ≡ c.start_of-start.result) (λ jump. StandsIn graph jump.0)
+    (λ jump at. subst (λ n. n < graph.nodes) (sym at) start) c.in_ok-jumps.jumps.items c.in_ok-jumps.ensures.place)
+
 pub returns-clause-begun : goal.returns-clause-begun
 returns-clause-begun g c =
     let B = g.P.F.EdgeFn.edge in
@@ -54,5 +67,5 @@ returns-clause-begun g c =
     is (subst (λ rs. IsRootName graph rs c.args.name.now c.in_ok-procedure.procedure) roots c.in_ok-procedure.ensures.root)
     c.in_ok-procedure.ensures.within (search rules) (search rules)
     c.in_ok-begin.ensures.program c.in_ok-begin.ensures.graph c.in_ok-begin.ensures.progress
-    (c.in_ok-begin.ensures.state ∙ (ap (with_entries (state_of targets B c.args.self.now)) c.deref-2.ensures.value ∙ sym c.in_ok-jumps.ensures))
+    (c.in_ok-begin.ensures.state ∙ (ap (with_entries (state_of targets B c.args.self.now)) c.deref-2.ensures.value ∙ sym c.in_ok-jumps.ensures.entered))
     c.in_ok-begin.ensures.roots

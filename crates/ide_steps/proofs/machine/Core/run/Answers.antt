@@ -3,7 +3,8 @@ use Rattle.std.specs.Prelude.{nat_eq}
 use Rattle.ide_worklist.specs.Worklist.{claim_at, ends_key}
 use Rattle.ide_tables.specs.Spent.{spent}
 use Rattle.ide_lattice.specs.Algebra.{EdgeAlgebra}
-use Rattle.ide_steps.specs.Core.{CoreData}
+use Rattle.ide_tasks.specs.Work.{WorkData}
+use Rattle.ide_steps.specs.Core.{AllStandIn, CoreData}
 use Rattle.ide_steps.specs.declared.part.Parted.{Parted}
 use Rattle.ide_steps.specs.declared.part.Parted.TheVariants.{Lowered, Same}
 use Rattle.ide_steps.specs.Drain.{IsPaidBy, left_by, lowerings_by, potential}
@@ -56,7 +57,7 @@ returns-clause-goes g c =
     let done = c.in_ok-next_part.ensures.no_part (search rules) in
     let by = subst (IsPaidBy B 0 c.loop-work.invariant.0 start) (sym done.1) c.loop-work.invariant.3 in
     let keys = by.keys in
-    let fresh : left_by (claim_at start.pile 0) ≡ 0 = ap (λ b. cond b 0 1) c.requires in
+    let fresh : left_by (claim_at start.pile 0) ≡ 0 = ap (λ b. cond b 0 1) c.requires.fresh in
     let due : length core.pile.pending + left_by (claim_at core.pile 0) ≤ length start.pile.pending + c.loop-work.invariant.0 = omega (arith, keys, fresh) in
     let paid = settled (length over.pile.pending) (length core.pile.pending) (length start.pile.pending + c.loop-work.invariant.0)
     (ends_key (claim_at core.pile 0)) c.end_claim.ensures.count due in
@@ -90,10 +91,12 @@ returns-in_err-next_part-clause-goes g c =
 pub loop-work-init : goal.loop-work-init
 loop-work-init g c = (
   0,
-  inr (refl, c.requires),
+  inr (refl, c.requires.fresh),
   λ working. (working, goes-same g.P.L.Lattice.algebra g.P.F.EdgeFn.edge g.P.Problem.targets 0 c.args.self.now c.args.self.now refl),
   record { keys = omega arith; ranks = omega arith },
   λ h other none. none,
+  refl,
+  refl,
 )
 
 -- what was paid for before a part, and the part
@@ -137,6 +140,8 @@ loop-work-preserved g c =
                 ),
             pays Lowered lowered,
             others,
+            ensures.stays.graph ∙ c.loop-work.invariant.5,
+            ap (λ (w : WorkData g.row.P-F.Denot). w.parts) (ensures.next (inl is)).1 ∙ c.loop-work.invariant.6,
           )
       | inr other ↦ elim other [
         | inl same ↦
@@ -155,7 +160,13 @@ loop-work-preserved g c =
                   ),
               pays Same same,
               others,
+              ensures.stays.graph ∙ c.loop-work.invariant.5,
+              ap (λ (w : WorkData g.row.P-F.Denot). w.parts) (ensures.next (inr is)).1 ∙ c.loop-work.invariant.6,
             )
         | inr none ↦ absurd (search rules)
       ]
     ]
+
+pub next_part-requires : goal.next_part-requires
+next_part-requires g c = λ graph is.
+    subst (AllStandIn graph) (sym c.loop-work.invariant.6) (c.requires.inside graph (sym c.loop-work.invariant.5 ∙ is))

@@ -7,7 +7,7 @@ use Rattle.ide_steps.specs.Steps.{IsCurrent}
 use Rattle.ide_steps.proofs.machine.Core.run.Given as goal
 
 -- an entry was lowered, or the end of the claim takes its key out; the parts done are steps with some
--- number of lowerings, and paid for by as many; and no other hand has made a claim
+-- number of lowerings, and paid for by as many; no other hand has made a claim; and graph and parts stay
 abbrev pub invariant-loop-work : goal.invariant-loop-work
 invariant-loop-work g l =
     (lowerings : ℕ)
@@ -18,6 +18,8 @@ invariant-loop-work g l =
     × GoesOnBy g.P.L.Lattice.algebra g.P.F.EdgeFn.edge g.P.Problem.targets 0 0 lowerings 0 l.initial.self l.self)
     × IsPaidBy g.P.F.EdgeFn.edge 0 lowerings l.initial.self l.self
     × ((h : ℕ) → nat_eq 0 h ≡ false → claim_at l.initial.self.pile h ≡ None → claim_at l.self.pile h ≡ None)
+    × (l.self.graph ≡ l.initial.self.graph)
+    × (l.work.parts ≡ l.initial.work.parts)
 
 abbrev pub decreases-loop-work : goal.decreases-loop-work
 decreases-loop-work g l = length l.work.parts - l.work.done

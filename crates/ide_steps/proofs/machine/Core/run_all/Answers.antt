@@ -1,6 +1,6 @@
 use Rattle.std.proofs.Common.{◌+◌, cond, refl, rules, subst, arith}
 use Rattle.ide_steps.specs.Drain.{GoesOnPaid}
-use Rattle.ide_steps.proofs.Going.{goes-on, goes-on-then, outside-before, paid-same, paid-then}
+use Rattle.ide_steps.proofs.Going.{goes-on, goes-on-then, paid-same, paid-then}
 use Rattle.ide_steps.proofs.machine.Core.run_all.Goals as goal
 
 pub returns-in_err-run_next-clause-goes : goal.returns-in_err-run_next-clause-goes
@@ -10,15 +10,6 @@ returns-in_err-run_next-clause-goes g c =
     let targets = g.P.Problem.targets in
     goes-on-then A B targets c.args.self.now c.loop-tasks.self c.run_next.new.self
     (goes-on A B targets c.args.self.now c.loop-tasks.self c.loop-tasks.invariant.0.2.goes) c.run_next.ensures.goes
-
-pub returns-in_err-run_next-clause-within : goal.returns-in_err-run_next-clause-within
-returns-in_err-run_next-clause-within g c = λ is.
-    let A = g.P.L.Lattice.algebra in
-    let B = g.P.F.EdgeFn.edge in
-    let targets = g.P.Problem.targets in
-    outside-before A B targets c.args.self.now c.loop-tasks.self
-    (goes-on A B targets c.args.self.now c.loop-tasks.self c.loop-tasks.invariant.0.2.goes)
-    (c.run_next.ensures.within (search rules))
 
 pub returns-clause-claims : goal.returns-clause-claims
 returns-clause-claims g c =

@@ -1,4 +1,10 @@
-use Rattle.std.proofs.Common.{◌∙◌, ap}
+use Rattle.std.proofs.Common.{◌∙◌, ap, cond, subst, sym}
+use Rattle.std.specs.Option.{IsSomeAnd}
+use Rattle.ide_wire.specs.Key.{same_key}
+use Rattle.ide_steps.specs.Core.{CoreData}
+use Rattle.ide_steps.specs.Items.{IsKeyOf}
+use Rattle.ide_steps.proofs.Nodes.{kept-same, kept-set, through}
+use Rattle.ide_steps.proofs.Room.{key-stands}
 use Rattle.std.specs.List.{list_any}
 use Rattle.ide_worklist.specs.Worklist.{is_claim_of}
 use Rattle.ide_steps.proofs.Listed.{none-claimed}
@@ -9,7 +15,26 @@ set_pending-requires-clause-unclaimed g c =
     ap (list_any (is_claim_of c.args.key)) c.in_ok-reserve.ensures.claims
     ∙ none-claimed c.args.key c.self.inside.worklist.claims (rw (← c.self.view_is) at c.requires.unclaimed)
 
+pub invariant_of-self : goal.invariant_of-self
+invariant_of-self g c = λ loaded is.
+    let kept = c.self.invariant loaded is in
+    (kept.0, kept-same g.P.Problem.targets g.P.F.EdgeFn.edge loaded.graph c.self.inside.worklist c.reserve.new.self kept.1 c.reserve.ensures.pending c.reserve.ensures.claims)
+
+pub invariant_of-self-in_err-set : goal.invariant_of-self-in_err-set
+invariant_of-self-in_err-set g c = λ loaded is.
+    let kept = c.self.invariant loaded is in (
+      kept.0,
+      kept-same g.P.Problem.targets g.P.F.EdgeFn.edge loaded.graph c.self.inside.worklist c.reserve.new.self kept.1 c.in_ok-reserve.ensures.pending c.in_ok-reserve.ensures.claims,
+    )
+
 pub invariant_of-self-2 : goal.invariant_of-self-2
 invariant_of-self-2 g c = λ loaded is.
     let kept = c.self.invariant loaded is in
-    record { sited = kept.sited; inverse = kept.inverse; watched = c.in_ok-set.ensures.sets.watched ∙ kept.watched }
+    let graph = ap (λ (core : CoreData g.row.P-F.Denot). core.graph) (sym c.self.view_is) ∙ through _ c.self.inside.loaded loaded is (λ l. l.graph) in
+    let key = subst (λ o. IsSomeAnd o (λ graph. IsKeyOf graph c.args.key)) graph c.requires.place in (
+      kept.0,
+      kept-set g.P.Problem.targets g.P.F.EdgeFn.edge loaded.graph c.self.inside.worklist c.set_pending.new.self kept.1 c.args.key c.args.pending
+          (key-stands loaded.graph kept.0.sited c.args.key key.stands)
+          (λ q. c.set_pending.ensures.pending q ∙ ap (λ keys. cond (same_key c.args.key q) c.args.pending (list_any (same_key q) keys)) c.in_ok-reserve.ensures.pending)
+          (c.set_pending.ensures.claims ∙ c.in_ok-reserve.ensures.claims),
+    )

@@ -1,32 +1,15 @@
-use Rattle.std.proofs.Common.{◌<◌, ap, arith, sym, ◌∙◌, rules, Ok}
-use Rattle.std.proofs.lemmas.Option.{same_Some}
-use Rattle.ide_graph.specs.Joined.{start_at}
-use Rattle.ide_wire.specs.Key.{node_of}
-use Rattle.ide_theory.specs.Sites.{edges_of}
-use Rattle.ide_steps.specs.State.{state_of}
-use Rattle.ide_steps.proofs.Free.{some-unclaimed}
+use Rattle.std.proofs.Common.{◌≡◌, ap, Ok}
+use Rattle.std.proofs.lemmas.Result.{err_from_is_err_and}
+use Rattle.ide_wire.specs.declared.refused.Refused.TheVariants.{NoMemory}
+use Rattle.ide_steps.proofs.Free.{claim-wants, some-unclaimed}
 use Rattle.ide_steps.proofs.Going.{goes-on, goes-same, goes-unchanged}
-use Rattle.ide_steps.proofs.Room.{placed-within}
+use Rattle.ide_steps.proofs.States.{handed-on}
 use Rattle.ide_steps.proofs.machine.Core.take_next.Goals as goal
 
 pub returns-in_err-task-clause-goes : goal.returns-in_err-task-clause-goes
 returns-in_err-task-clause-goes g c =
     goes-on g.P.L.Lattice.algebra g.P.F.EdgeFn.edge g.P.Problem.targets c.args.self.now c.claim.new.self
     (goes-unchanged g.P.L.Lattice.algebra g.P.F.EdgeFn.edge g.P.Problem.targets 0 c.args.self.now c.claim.new.self c.in_err-task.ensures.unchanged)
-
--- each pending key of a run is present, and each present one stands at a node
-pub returns-in_err-task-clause-within : goal.returns-in_err-task-clause-within
-returns-in_err-task-clause-within g c = λ is graph at all fit run.
-    let old = c.args.self.now in
-    let out = c.in_err-task.ensures.out_of_range (search rules) in
-    let made = c.sites_make_a_graph.ensures graph.facts graph.sites all (start_at graph) fit.joined in
-    let state = state_of g.P.Problem.targets g.P.F.EdgeFn.edge old in
-    let present = (c.runs_are_sound.ensures (edges_of graph.facts graph.sites all (start_at graph)) made.0 state run).present out.key out.pending in
-    let placed = (c.keys_stand_at_nodes.ensures graph fit.joined fit.ends all state run).keys out.key present.0 present.1 in
-    let within : node_of out.key < graph.nodes = placed-within graph fit.sited out.key placed in
-    let same = ap (λ graph. graph.nodes) (same_Some out.graph graph (sym out.is ∙ at)) in
-    let outside = out.outside in
-    omega (arith, within, same, outside)
 
 pub returns-in-Task-clause-claims : goal.returns-in-Task-clause-claims
 returns-in-Task-clause-claims g c =
@@ -58,3 +41,9 @@ returns-in-Quiet-clause-claims g c =
 pub returns-in-Quiet-clause-goes : goal.returns-in-Quiet-clause-goes
 returns-in-Quiet-clause-goes g c =
     goes-on g.P.L.Lattice.algebra g.P.F.EdgeFn.edge g.P.Problem.targets c.args.self.now c.claim.new.self (returns-in-Quiet-clause-claims g c)
+
+pub returns-in_err-task-clause-refused : goal.returns-in_err-task-clause-refused
+returns-in_err-task-clause-refused g c =
+    let p = err_from_is_err_and c.from_residual.result c.from_residual.ensures.1 in
+    handed-on (λ e. e ≡ NoMemory) c.from_residual.result c.in_err-task.field-0.0 p.0 p.1 p.2
+    (claim-wants {F = g.row.P-F.Denot} c.args.self.now c.requires.loaded c.requires.free c.in_err-task.ensures.refused)

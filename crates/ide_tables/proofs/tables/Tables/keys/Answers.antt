@@ -4,6 +4,6 @@ use Rattle.ide_tables.proofs.tables.Tables.keys.Goals as goal
 pub returns-clause-keys : goal.returns-clause-keys
 returns-clause-keys g c =
     rw (← c.self.view_is)
-    (are_keys {F = g.row.F.Denot} (record { entries = c.self.inside.functions.entries; watched = c.self.inside.watched.items })
+    (are_keys {F = g.row.F.Denot} (record { entries = c.self.inside.functions.entries })
     c.in_ok-keys.keys.items c.sort_unstable.new.self.items
     c.in_ok-keys.ensures.keys c.keys_of.ensures.distinct c.sort_unstable.ensures.permutation c.sort_unstable.ensures.sorted)

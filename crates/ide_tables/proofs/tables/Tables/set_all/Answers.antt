@@ -1,4 +1,4 @@
-use Rattle.std.proofs.Common.{refl, ap, subst, ◌∙◌}
+use Rattle.std.proofs.Common.{ap, subst, ◌∙◌}
 use Rattle.std.specs.Map.{keys_of, lookup}
 use Rattle.indexmap.specs.IndexMap.{insert_all}
 use Rattle.ide_wire.specs.Key.{same_key}
@@ -9,10 +9,9 @@ use Rattle.ide_tables.proofs.tables.Tables.set_all.Goals as goal
 
 pub invariant_of-self-2 : goal.invariant_of-self-2
 invariant_of-self-2 g c =
-    index-of-all {F = g.row.F.Denot} key_cmp (record { entries = c.self.inside.functions.entries; watched = c.self.inside.watched.items })
-    (record { entries = c.put_all.new.functions.entries; watched = c.self.inside.watched.items }) c.args.entries.now
+    index-of-all {F = g.row.F.Denot} key_cmp c.self.inside.watched.items c.self.inside.functions.entries c.put_all.new.functions.entries c.args.entries.now
     c.self.inside.places.keys c.note_all.new.places.keys c.self.invariant
-    (c.put_all.ensures.entries ∙ ap (λ es. insert_all same_key es c.args.entries.now) c.in_ok-reserve.ensures.entries) refl
+    (c.put_all.ensures.entries ∙ ap (λ es. insert_all same_key es c.args.entries.now) c.in_ok-reserve.ensures.entries)
     (subst (λ watched. NotesAll key_cmp watched c.note_all.new.places.keys (keys_of c.args.entries.now)) c.deref.ensures.value c.in_ok-note_all.ensures.noted)
     c.in_ok-note_all.ensures.kept
 
@@ -23,5 +22,4 @@ returns-clause-sets g c =
       entries = λ q.
           ap (lookup (same_key q)) (c.put_all.ensures.entries ∙ ap (λ es. insert_all same_key es c.args.entries.now) c.in_ok-reserve.ensures.entries)
           ∙ found-insert_all c.self.inside.functions.entries c.args.entries.now q;
-      watched = refl;
     })

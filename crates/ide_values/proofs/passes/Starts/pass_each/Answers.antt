@@ -1,5 +1,6 @@
-use Rattle.std.proofs.Common.{sym, subst, take_all, length, ◌<◌, ◌≤◌, ◌∙◌, arith}
+use Rattle.std.proofs.Common.{◌≡◌, Some, sym, subst, take_all, length, ◌<◌, ◌≤◌, ◌∙◌, arith}
 use Rattle.std.proofs.lemmas.Option.{get_or_from_slice_get}
+use Rattle.ide_tables.specs.Tables.{found}
 use Rattle.ide_values.specs.Pass.{IsSteadyBy, Passes, by_entry, stays}
 use Rattle.ide_values.proofs.Coming.{goes_by, none_within}
 use Rattle.ide_values.proofs.Falling.{falls_not, falls_then}
@@ -22,8 +23,8 @@ loop-index-preserved g c = record {
       let stands = sym c.entry_at.ensures.entry ∙ c.in-Some.is in
       let within : c.loop-index.index < length c.args.tables.now.entries = omega arith in
       record {
-        comes = goes_by (λ values e. by_entry g.P.L.Lattice.algebra g.P.F.EdgeFn.edge c.args.graph.now g.P.Problem.targets values e.0 e.1) c.args.tables.now.entries (c.loop-index.invariant.passed sited).comes
-            c.loop-index.index c.in-Some.entry stands (c.in_ok-pass_by.ensures.passed sited);
+        comes = goes_by (λ values e. by_entry g.P.L.Lattice.algebra g.P.F.EdgeFn.edge c.args.graph.now g.P.Problem.targets values e.0 e.1) (λ e. found c.args.tables.now e.0 ≡ Some e.1) (c.loop-index.invariant.passed sited).comes
+            c.in-Some.entry c.in-Some.ensures.present (c.in_ok-pass_by.ensures.passed sited);
         passes = passes_more (λ values e. by_entry g.P.L.Lattice.algebra g.P.F.EdgeFn.edge c.args.graph.now g.P.Problem.targets values e.0 e.1) (λ values e. IsSteadyBy g.P.L.Lattice.algebra g.P.F.EdgeFn.edge c.args.graph.now g.P.Problem.targets values e.0 e.1)
             c.args.tables.now.entries c.loop-index.index c.in-Some.entry
             c.args.self.now.values.items c.loop-index.self.values.items c.pass_by.new.self.values.items

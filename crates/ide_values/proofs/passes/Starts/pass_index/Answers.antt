@@ -1,4 +1,5 @@
-use Rattle.std.proofs.Common.{length, sym, ◌∙◌}
+use Rattle.std.proofs.Common.{◌≡◌, Some, length}
+use Rattle.ide_tables.specs.Tables.{found}
 use Rattle.ide_values.specs.Pass.{by_entry, stays}
 use Rattle.ide_values.proofs.Coming.{goes_by}
 use Rattle.ide_values.proofs.Falling.{falls_not}
@@ -9,8 +10,8 @@ returns-in_default-clause-comes g c = λ sited. stays
 
 pub returns-clause-comes : goal.returns-clause-comes
 returns-clause-comes g c = λ sited.
-    goes_by (λ values e. by_entry g.P.L.Lattice.algebra g.P.F.EdgeFn.edge c.args.graph.now g.P.Problem.targets values e.0 e.1) c.args.tables.now.entries stays c.args.index c.in-Some.entry
-    (sym c.entry_at.ensures.entry ∙ c.in-Some.is) (c.in_ok-pass_by.ensures.passed sited)
+    goes_by (λ values e. by_entry g.P.L.Lattice.algebra g.P.F.EdgeFn.edge c.args.graph.now g.P.Problem.targets values e.0 e.1) (λ e. found c.args.tables.now e.0 ≡ Some e.1) stays c.in-Some.entry
+    c.in-Some.ensures.present (c.in_ok-pass_by.ensures.passed sited)
 
 pub returns-in_default-clause-falls : goal.returns-in_default-clause-falls
 returns-in_default-clause-falls g c = falls_not g.P.L.Lattice.algebra c.args.self.now.values.items (length c.args.self.now.waiting.items) c.args.self.now.has_fallen

@@ -1,6 +1,8 @@
-use Rattle.std.proofs.Common.{◌≡◌, ap, arith, subst}
+use Rattle.std.proofs.Common.{◌≡◌, Some, ap, arith, subst}
+use Rattle.ide_tables.specs.Tables.{found}
 use Rattle.ide_values.specs.Falling.{ranks}
-use Rattle.ide_values.specs.Pass.{Goes, by_entry, stays}
+use Rattle.ide_values.specs.Pass.{by_entry, stays}
+use Rattle.ide_values.specs.Settled.{ComesTo}
 use Rattle.ide_values.proofs.Coming.{goes_trans}
 use Rattle.ide_values.proofs.passes.Starts.settle.Goals as goal
 
@@ -13,8 +15,8 @@ loop-place-preserved g c =
     ap (λ v. ranks g.P.L.Lattice.algebra v.items) c.leave.ensures.values in
     record {
       comes = λ sited.
-          goes_trans (λ values e. by_entry g.P.L.Lattice.algebra g.P.F.EdgeFn.edge c.args.graph.now g.P.Problem.targets values e.0 e.1) c.args.tables.now.entries (c.loop-place.invariant.comes sited)
-          (subst (λ vs. Goes (λ values e. by_entry g.P.L.Lattice.algebra g.P.F.EdgeFn.edge c.args.graph.now g.P.Problem.targets values e.0 e.1) c.args.tables.now.entries vs c.pass_from.new.self.values.items)
+          goes_trans (λ values e. by_entry g.P.L.Lattice.algebra g.P.F.EdgeFn.edge c.args.graph.now g.P.Problem.targets values e.0 e.1) (λ e. found c.args.tables.now e.0 ≡ Some e.1) (c.loop-place.invariant.comes sited)
+          (subst (λ vs. ComesTo g.P.L.Lattice.algebra g.P.F.EdgeFn.edge g.P.Problem.targets c.args.graph.now c.args.tables.now vs c.pass_from.new.self.values.items)
           (ap (λ v. v.items) c.leave.ensures.values) (c.in_ok-pass_from.ensures.comes sited));
       falls = omega (arith, kept, c.in_ok-pass_from.ensures.falls.least, c.loop-place.invariant.falls);
     }
