@@ -1,5 +1,5 @@
 -- Why a solve is refused: what its parts refuse, as a refusal of the text and the names.
-use Rattle.std.proofs.Common.{◌≡◌, ◌≢◌, ℕ, ◌<◌, ◌≤◌, ◌⊎◌, ◌↔◌, inl, inr, false, suc, true≢false, List, [], ◌∷◌, ◌++◌, length, take, drop, get_or, map, Option, Some, None, Result, Ok, Err, is_some, IsSome, refl, ap, sym, subst, ◌∙◌, arith}
+use Rattle.std.proofs.Common.{◌≡◌, ◌≢◌, ℕ, ◌<◌, ◌≤◌, false, suc, true≢false, List, [], ◌∷◌, ◌++◌, length, take, drop, get_or, map, Option, Result, Ok, Err, is_some, refl, ap, sym, subst, ◌∙◌, arith}
 use Rattle.std.specs.Prelude.{IfErr}
 use Rattle.std.specs.Option.{IsSomeAnd}
 use Rattle.std.proofs.Math.Seq.{split_at}
@@ -17,9 +17,8 @@ use Rattle.ide_steps.specs.Going.{GoesOn}
 use Rattle.ide_steps.specs.Refusal.{IsRootRefusal, fault as root_fault, memory as wants, no_program as no_program_loaded}
 use Rattle.ide_text.specs.Parsed.{IsParsed, IsRefusalOf}
 use Rattle.ide_text.specs.declared.program.Program.{Program}
-use Rattle.ide_worklist.specs.Worklist.{claim_at}
 use Rattle.ide_wire.specs.declared.refused.Refused.{Refused}
-use Rattle.ide_wire.specs.declared.refused.Refused.TheVariants.{NoMemory, Text, NoProgram, Unfinished, Busy}
+use Rattle.ide_wire.specs.declared.refused.Refused.TheVariants.{NoMemory, Text}
 use Rattle.ide_values.specs.Refusal.{IsValuesRefusal, memory as values_memory, no_worker, too_many}
 use Rattle.ide_service.specs.Begun.{AreBegun}
 use Rattle.ide_service.specs.Refusal.{FirstRootFault, IsRootsRefusal, IsSolveRefusal, fault, here, later, memory, no_memory, no_program, no_root, root}
@@ -52,7 +51,7 @@ wants-memory text names (Err e) is = subst (IsSolveRefusal text names) (sym is) 
 -- values by as many workers as may be
 pub values-refused : (text : List ℕ) (names : List (List ℕ)) (workers : ℕ) {refused : Refused} → 0 < workers → workers ≤ 64
     → IsValuesRefusal workers refused → IsSolveRefusal text names refused
-values-refused text names workers some few (no_worker none) = absurd (omega (arith, none, some))
+values-refused text names workers some few (no_worker nobody) = absurd (omega (arith, nobody, some))
 values-refused text names workers some few (too_many past) = absurd (omega (arith, past, few))
 values-refused text names workers some few (values_memory are) = memory
 

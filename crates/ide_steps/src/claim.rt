@@ -1,5 +1,5 @@
 //! Claims: a hand takes a pending key with its task.
-ghost use Rattle.std.specs.Prelude.{◌≡◌, ◌≢◌, ℕ, nat_eq, ◌<◌, ◌≤◌, ◌↔◌, ◌⊎◌, [], true, false, None, Some, Ok, Err, slice_get, slice_index, IsSome, IfErr, IfOk, OnErr, OnOk};
+ghost use Rattle.std.specs.Prelude.{◌≡◌, ◌≢◌, ℕ, nat_eq, ◌<◌, [], true, false, None, Some, Ok, slice_get, slice_index, IsSome, IfErr, IfOk, OnErr, OnOk};
 ghost use Rattle.ide_graph.specs.Edges.{EdgesWithin};
 ghost use Rattle.ide_graph.specs.Exits.{AreExitsOwned};
 ghost use Rattle.ide_graph.specs.Supergraph.{Supergraph};

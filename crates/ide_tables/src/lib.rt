@@ -1,9 +1,9 @@
 //! The tables of a solver: a finite map from keys to functions.
 //!
 //! A [`Tables`] holds a function for each present key; an absent key stands for the function that
-//! always gives top. Entries only fall: [`Tables::lower`] meets one entry with a function. For the
-//! nodes that it watches a table lists the jumps to a fact, and it lists the summaries from a fact,
-//! both from an ordered index.
+//! always gives top. Entries only fall: [`Tables::lower`] meets one entry with a function. A table
+//! lists the summaries from a fact and the jumps to a fact: from an ordered index, but for jumps at
+//! a node that it does not watch, where it looks at each key.
 #![tactic(auto)]
 
 mod index;
