@@ -49,7 +49,7 @@ module _ (facts n : ℕ) where
       → (e : Edge facts) × IsIn e (edges_found facts n site all).calls × (e.edge ≡ d)
   call_edge None all d is = elim (none_in is) [ ]
   call_edge (Some (Normal edges)) all d is = elim (none_in is) [ ]
-  call_edge (Some (Call calls along)) all d is = listed calls.items (all (Call calls along) refl).0 d is
+  call_edge (Some (Call calls along)) all d is = listed calls (all (Call calls along) refl).0 d is
   call_edge (Some (Exit start callers)) all d is = elim (none_in is) [ ]
 
   -- and each such edge has data of a call
@@ -57,7 +57,7 @@ module _ (facts n : ℕ) where
       → IsIn e (edges_found facts n site all).calls → IsIn e.edge (calls_in site)
   call_data None all e is = elim (none_in is) [ ]
   call_data (Some (Normal edges)) all e is = elim (none_in is) [ ]
-  call_data (Some (Call calls along)) all e is = data_of calls.items (all (Call calls along) refl).0 e is
+  call_data (Some (Call calls along)) all e is = data_of calls (all (Call calls along) refl).0 e is
   call_data (Some (Exit start callers)) all e is = elim (none_in is) [ ]
 
 -- what stands in a list is contained in it

@@ -15,7 +15,7 @@ use Rattle.ide_values.specs.Start.{value_before}
 abbrev pub calls_in : Option Site → List EdgeData
 calls_in None = []
 calls_in (Some (Normal edges)) = []
-calls_in (Some (Call calls along)) = calls.items
+calls_in (Some (Call calls along)) = calls
 calls_in (Some (Exit start callers)) = []
 
 -- the call edges at a node
