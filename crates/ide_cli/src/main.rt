@@ -5,6 +5,7 @@
 #![tactic(auto)]
 
 mod counts;
+mod explain;
 mod run;
 mod words;
 

@@ -5,6 +5,7 @@ ghost use Rattle.ide_cli.specs.Dump.{IsDump};
 ghost use Rattle.ide_text.specs.Parsed.{IsRefusalOf};
 
 use crate::counts::append_counts;
+use crate::explain::meaning_of;
 use crate::words::{Instance, Words, read_words};
 use clap::error::ErrorKind;
 use ide_graph::Graph;
@@ -121,7 +122,15 @@ fn answer<'a, R: Files + AllocGlobal>(
             let text = read_file(rt, file)?;
             check(rt.alloc(), text.as_slice(), out)?;
         }
+        Words::Explain { name } => explain(name, out)?,
     }
+    Ok(())
+}
+
+/// Appends what the name of a refusal or a fault means.
+fn explain(name: &str, out: &mut Vec<u8>) -> Result<(), Refused> {
+    out.extend_from_slice(meaning_of(name).as_bytes())?;
+    out.extend_from_slice(b"\n")?;
     Ok(())
 }
 

@@ -1,4 +1,5 @@
 //! The words of the command line.
+use crate::explain::NAMES;
 use clap::{Arg, ArgAction, ArgMatches, Command, Error};
 use std::alloc::Global;
 use std::convert::AsStr;
@@ -16,6 +17,10 @@ pub(crate) enum Words<'a> {
     Check {
         file: &'a str,
     },
+    /// `explain NAME`
+    Explain {
+        name: &'a str,
+    },
 }
 
 /// The analyses that a command line may name.
@@ -31,6 +36,17 @@ pub(crate) enum Instance {
 
 /// The names of the analyses.
 static INSTANCES: [&str; 3] = ["uninit", "copy", "shift"];
+
+/// What stands below the list of commands.
+const HELP: &str = "Example: idesolve once copy FILE main
+
+Status 0: the answer is on the standard output. Status 1: refused, for the reason on the standard
+error, or the output could not be written. Status 2: the words are no command.";
+
+/// What stands below the words of `once`.
+const ANALYSES: &str = "uninit  variables that may be read before they are written
+copy    constants, through numbers and copies
+shift   constants, through sums and differences with a number too";
 
 impl Instance {
     /// The analysis of that name, one of [`INSTANCES`].
@@ -48,15 +64,21 @@ impl Instance {
 pub(crate) fn read_words<'a, S: AsStr>(alloc: Global, line: &'a [S]) -> Result<Words<'a>, Error> {
     let command = Command::new(alloc, "idesolve")
         .about("Solves interprocedural distributive environment problems")
+        .version("0.1.0")
+        .after_help(HELP)
         .subcommand_required(true)
         .subcommand(once(alloc)?)?
-        .subcommand(check(alloc)?)?;
+        .subcommand(check(alloc)?)?
+        .subcommand(explain(alloc)?)?;
     let matches = command.try_get_matches_from(line)?;
     match matches.subcommand() {
         Some(("once", given)) => Ok(Words::Once {
             instance: Instance::of(text_of(given, "INSTANCE")),
             file: text_of(given, "FILE"),
             procedure: text_of(given, "PROC"),
+        }),
+        Some(("explain", given)) => Ok(Words::Explain {
+            name: text_of(given, "NAME"),
         }),
         Some((_, given)) => Ok(Words::Check {
             file: text_of(given, "FILE"),
@@ -71,6 +93,7 @@ fn once<'a>(alloc: Global) -> Result<Command<'a>, Error> {
     Ok(
         Command::new(alloc, "once")
             .about("Solves a program text in memory and prints the values")
+            .after_help(ANALYSES)
             .arg(instance)?
             .arg(required(alloc, "FILE", "The program text"))?
             .arg(required(alloc, "PROC", "The root procedure"))?,
@@ -83,6 +106,16 @@ fn check<'a>(alloc: Global) -> Result<Command<'a>, Error> {
         Command::new(alloc, "check")
             .about("Reads a program text and prints its counts, or its first fault")
             .arg(required(alloc, "FILE", "The program text"))?,
+    )
+}
+
+/// `explain NAME`
+fn explain<'a>(alloc: Global) -> Result<Command<'a>, Error> {
+    let name = required(alloc, "NAME", "E1 to E16, or F1 to F9").value_parser(NAMES.as_slice());
+    Ok(
+        Command::new(alloc, "explain")
+            .about("Prints what a refusal or a fault means")
+            .arg(name)?,
     )
 }
 
