@@ -1,6 +1,6 @@
 -- That no key stands outside of the graph, whatever a call does.
-use Rattle.std.proofs.Common.{◌≡◌, ◌<◌, ◌≤◌, ℕ, ap, sym, subst, ◌∙◌, refl, arith, ◌⊎◌, Bool, true, false, cond, ◌||◌, List, [], ◌∷◌, ◌++◌, length, map, get_or, Option, None, Some, IfSome}
-use Rattle.std.specs.Prelude.{◌&&◌, IsTrue, not, slice_get, nat_eq, option_map}
+use Rattle.std.proofs.Common.{◌≡◌, ◌<◌, ℕ, ap, sym, subst, ◌∙◌, refl, Bool, true, false, cond, ◌||◌, List, [], ◌∷◌, ◌++◌, get_or, Option, None, Some, IfSome}
+use Rattle.std.specs.Prelude.{◌&&◌, not, slice_get, nat_eq, option_map}
 use Rattle.std.specs.List.{All, flat_map, list_any}
 use Rattle.std.specs.Map.{keys_of}
 use Rattle.std.proofs.lemmas.List.Elements.{All-append, All-head, All-map, All-nil, All-tail}
@@ -12,7 +12,7 @@ use Rattle.ide_graph.specs.Edges.{EdgesWithin, IsCallerWithin}
 use Rattle.ide_graph.specs.Supergraph.{Supergraph}
 use Rattle.ide_lattice.specs.Algebra.{EdgeAlgebra}
 use Rattle.ide_problem.specs.Flow.{Targets}
-use Rattle.ide_tasks.specs.Parts.{after_parts, exit_parts, flat_parts, owed, parts_at, resumed_parts, seed_parts, summary_parts}
+use Rattle.ide_tasks.specs.Parts.{after_parts, exit_parts, flat_parts, owed, parts_at, seed_parts}
 use Rattle.ide_tasks.specs.Task.{TaskData}
 use Rattle.ide_tasks.specs.Work.{WorkData}
 use Rattle.ide_tasks.specs.declared.partners.Partners.{Partners}

@@ -2,12 +2,10 @@ use Rattle.std.proofs.Common.{◌≡◌, ◌<◌, ap, rules, subst, sym, ◌∙�
 use Rattle.std.proofs.lemmas.Result.{err_from_is_err_and}
 use Rattle.std.proofs.lemmas.List.Elements.{All-weaker}
 use Rattle.std.proofs.lemmas.Option.{same_Some}
-use Rattle.ide_graph.specs.Supergraph.{Supergraph}
 use Rattle.ide_wire.specs.Key.{node_of}
 use Rattle.ide_steps.specs.Core.{AllStandIn, StandsIn}
 use Rattle.ide_wire.specs.declared.refused.Refused.TheVariants.{NoMemory}
 use Rattle.ide_steps.specs.Refusal.{IsRootName, IsRootRefusal, RootFault, fault, memory, no_program}
-use Rattle.ide_theory.specs.Images.{seeded_below}
 use Rattle.ide_steps.specs.Rooted.{with_entries}
 use Rattle.ide_steps.specs.State.{state_of}
 use Rattle.ide_steps.proofs.Rooted.{begun}

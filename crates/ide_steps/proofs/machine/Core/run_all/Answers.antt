@@ -1,4 +1,4 @@
-use Rattle.std.proofs.Common.{◌+◌, cond, refl, rules, subst, arith}
+use Rattle.std.proofs.Common.{◌+◌, cond, refl, subst, arith}
 use Rattle.ide_steps.specs.Drain.{GoesOnPaid}
 use Rattle.ide_steps.proofs.Going.{goes-on, goes-on-then, paid-same, paid-then}
 use Rattle.ide_steps.proofs.machine.Core.run_all.Goals as goal
