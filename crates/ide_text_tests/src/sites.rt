@@ -55,6 +55,7 @@ impl Call {
     fn stands_at(self, site: &Site) -> bool {
         match site {
             Site::Call { calls, along } => {
+                let calls = calls.as_slice();
                 calls.len() == 1 && self.is_entered_by(&calls[0]) && self.is_passed_by(along)
             }
             _ => false,
@@ -81,7 +82,10 @@ fn is_normal(edge: &EdgeData, end: Node, effect: Effect) -> bool {
 /// Whether the site has one edge, a normal one to that end with that effect.
 fn is_step(site: &Site, end: Node, effect: Effect) -> bool {
     match site {
-        Site::Normal(edges) => edges.len() == 1 && is_normal(&edges[0], end, effect),
+        Site::Normal(edges) => {
+            let edges = edges.as_slice();
+            edges.len() == 1 && is_normal(&edges[0], end, effect)
+        }
         _ => false,
     }
 }
@@ -90,6 +94,7 @@ fn is_step(site: &Site, end: Node, effect: Effect) -> bool {
 fn is_fork(site: &Site, first: Node, second: Node) -> bool {
     match site {
         Site::Normal(edges) => {
+            let edges = edges.as_slice();
             edges.len() == 2
                 && is_normal(&edges[0], first, Effect::Nothing)
                 && is_normal(&edges[1], second, Effect::Nothing)
@@ -105,6 +110,7 @@ fn is_exit(site: &Site, start: Node, calls: &[Call]) -> bool {
             start: own,
             callers,
         } => {
+            let callers = callers.as_slice();
             *own == start
                 && callers.len() == calls.len()
                 && callers
