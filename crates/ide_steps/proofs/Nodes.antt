@@ -61,17 +61,17 @@ module _ {F L : Type 0} (targets : Targets F) (B : EdgeAlgebra F L) (n : ℕ) wh
   -- a task owes keys at nodes, where the edges of its site are within them
   pub parts-within : (key : Key) (f : F) (site : Site) (partners : Partners F) → EdgesWithin n site → All Within (parts_at targets B key f site partners)
   parts-within (Jump m from to) f (Normal edges) partners within =
-      all-flat Within (flat_parts targets B from to f) edges.items (λ k d less. All-map Within _ (targets (get_or edges.items k d) to) (all-of _ _ (λ t. within k d less)))
+      all-flat Within (flat_parts targets B from to f) edges (λ k d less. All-map Within _ (targets (get_or edges k d) to) (all-of _ _ (λ t. within k d less)))
   parts-within (Jump m from to) f (Call calls along) (Entries summaries) within =
-      All-append Within (flat_map (seed_parts targets B to) calls.items ++ flat_parts targets B from to f along) (after_parts targets B along.end from f summaries)
-      (All-append Within (flat_map (seed_parts targets B to) calls.items) (flat_parts targets B from to f along)
-      (all-flat Within (seed_parts targets B to) calls.items (λ k d less. All-map Within _ (targets (get_or calls.items k d) to) (all-of _ _ (λ t. within.0 k d less))))
+      All-append Within (flat_map (seed_parts targets B to) calls ++ flat_parts targets B from to f along) (after_parts targets B along.end from f summaries)
+      (All-append Within (flat_map (seed_parts targets B to) calls) (flat_parts targets B from to f along)
+      (all-flat Within (seed_parts targets B to) calls (λ k d less. All-map Within _ (targets (get_or calls k d) to) (all-of _ _ (λ t. within.0 k d less))))
       (All-map Within _ (targets along to) (all-of _ _ (λ t. within.1))))
       (All-map Within _ summaries (all-of _ _ (λ s. within.1)))
   parts-within (Jump m from to) f (Call calls along) (Callers reaching) within = All-nil Within
   parts-within (Jump m from to) f (Exit start callers) (Callers reaching) within =
-      all-flat Within (λ source. exit_parts targets B to f source (slice_get callers.items source.caller)) reaching
-      (all-of _ _ (λ source. exit-within to f source (slice_get callers.items source.caller) (found-all (IsCallerWithin n) callers.items source.caller within.1)))
+      all-flat Within (λ source. exit_parts targets B to f source (slice_get callers source.caller)) reaching
+      (all-of _ _ (λ source. exit-within to f source (slice_get callers source.caller) (found-all (IsCallerWithin n) callers source.caller within.1)))
   parts-within (Jump m from to) f (Exit start callers) (Entries summaries) within = All-nil Within
   parts-within (Summary c from to) f (Normal edges) partners within = All-nil Within
   parts-within (Summary c from to) f (Call calls along) (Entries jumps) within = All-map Within _ jumps (all-of _ _ (λ j. within.1))

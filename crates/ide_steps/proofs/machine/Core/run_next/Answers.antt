@@ -45,9 +45,9 @@ returns-in-Ok-clause-goes g c =
 
 pub run-requires-clause-inside : goal.run-requires-clause-inside
 run-requires-clause-inside g c =
+    let task = c.in-Ok.ensures.task in
     let progress = c.in_ok-task.ensures.progress c.in-Some.task (ap Ok c.in-Some.is) in
     c.parts_are_inside.ensures c.in-Ok.work (record {
-      task = c.in-Some.task;
-      progress = progress ∙ (λ i. Some (c.in-Some.task, sym c.in-Ok.ensures.none_done i));
-      parts = c.in-Ok.ensures.parts;
+      claim = progress ∙ (λ i. Some (sym task i, sym c.in-Ok.ensures.none_done i));
+      parts = c.in-Ok.ensures.parts ∙ ap (owed g.P.Problem.targets g.P.F.EdgeFn.edge) (sym task);
     })
