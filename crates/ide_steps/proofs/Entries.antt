@@ -9,7 +9,7 @@ use Rattle.std.specs.Map.{keys_of}
 use Rattle.std.specs.Option.{is_some}
 use Rattle.ide_lattice.specs.Algebra.{EdgeAlgebra}
 use Rattle.ide_problem.specs.Flow.{Targets}
-use Rattle.ide_tables.specs.Tables.{Table, SetsAll, last_of}
+use Rattle.ide_tables.specs.Tables.{Table, SetsAll, found, last_of}
 use Rattle.ide_tasks.specs.Task.{TaskData}
 use Rattle.ide_theory.specs.State.{Claim, State, marked, seeded, with_function}
 use Rattle.ide_wire.specs.Key.{node_of, same_key, same_key_symm}
@@ -18,7 +18,8 @@ use Rattle.ide_wire.specs.declared.key.Key.TheVariants.{Jump}
 use Rattle.ide_worklist.specs.Worklist.{Pile, claim_at, is_pending, marked as marked_claim}
 use Rattle.ide_worklist.specs.declared.claim.Claim.{Claim as Held}
 use Rattle.ide_theory.specs.Images.{seeded_below, seeded_once}
-use Rattle.ide_steps.specs.Rooted.{AllAt, marked_all, marked_by, with_entries}
+use Rattle.ide_steps.specs.Core.{CoreData}
+use Rattle.ide_steps.specs.Rooted.{AllAbsent, AllAt, marked_all, marked_by, with_entries}
 use Rattle.ide_steps.specs.State.{claim_of}
 use Rattle.ide_steps.proofs.States.{or-cond, state-at}
 
@@ -50,6 +51,14 @@ module _ {F : Type 0} where
       elim (same_key held.key e.0) as (λ b. cond b (Some (record held { lowered = true })) (Some (record held { lowered = list_any (same_key held.key) (keys_of es) || held.lowered }))
       ≡ Some (record held { lowered = (b || list_any (same_key held.key) (keys_of es)) || held.lowered })) [ true ↦ refl | false ↦ refl ]
       ∙ ap (λ b. Some (record held { lowered = b || held.lowered })) (sym (any-more (same_key held.key) es e))
+
+  -- whether a key is one of the first entries', or of one more
+  pub any-taken : (q : Key) (es : List (Key × F)) (index : ℕ) (e : Key × F) → index < length es → e ≡ get_or es index e
+      → (same_key e.0 q || list_any (same_key q) (keys_of (take index es))) ≡ list_any (same_key q) (keys_of (take (index + 1) es))
+  any-taken q es index e within at =
+      ap (λ b. b || list_any (same_key q) (keys_of (take index es))) (same_key_symm e.0 q)
+      ∙ sym (any-more (same_key q) (take index es) e)
+      ∙ ap (λ xs. list_any (same_key q) (keys_of xs)) (ap (λ x. take index es ++ x ∷ []) at ∙ sym (take_more es index e within))
 
   -- one key more is pushed
   pub pushed-pending : {T : Type 0} (es : List (Key × F)) (index : ℕ) (e : Key × F) (old mid new : Pile T) → index < length es → e ≡ get_or es index e
@@ -141,6 +150,14 @@ at-none {F} node = All-nil (λ (e : Key × F). node_of e.0 ≡ node)
 
 pub at-more : {F : Type 0} (node : ℕ) (es : List (Key × F)) (key : Key) (f : F) → node_of key ≡ node → AllAt node es → AllAt node (es ++ (key, f) ∷ [])
 at-more {F} node es key f at all = All-push (λ (e : Key × F). node_of e.0 ≡ node) es (key, f) all at
+
+-- one entry more of an absent key
+pub absent-none : {F : Type 0} (core : CoreData F) → AllAbsent core []
+absent-none {F} core = All-nil (λ (e : Key × F). found core.table e.0 ≡ None)
+
+pub absent-more : {F : Type 0} (core : CoreData F) (es : List (Key × F)) (key : Key) (f : F) → found core.table key ≡ None → AllAbsent core es
+    → AllAbsent core (es ++ (key, f) ∷ [])
+absent-more {F} core es key f at all = All-push (λ (e : Key × F). found core.table e.0 ≡ None) es (key, f) all at
 
 module _ {F L : Type 0} (B : EdgeAlgebra F L) (targets : Targets F) (r n : ℕ) (s : State F) (es : List (Key × F)) (before : AreBefore r n es) where
   -- the entries before leave the fact's own

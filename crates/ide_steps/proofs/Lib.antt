@@ -10,3 +10,4 @@ pub mod Going
 pub mod Listed
 pub mod Entries
 pub mod Nodes
+pub mod Noted

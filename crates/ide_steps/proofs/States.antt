@@ -202,6 +202,7 @@ module _ {F : Type 0} where
     table = ap (λ (c : CoreData F). c.table) same;
     pending = pending ∙ ap (λ (c : CoreData F). c.pile.pending) same;
     claims = λ h. claims h ∙ ap (λ (c : CoreData F). claim_at c.pile h) same;
+    changes = ap (λ (c : CoreData F). c.changes) same;
   }
 
   module _ (pile new_pile : Pile (TaskData F)) (hand : ℕ) (held : Held (TaskData F))

@@ -13,16 +13,19 @@ use Rattle.ide_tasks.specs.Task.{TaskData}
 use Rattle.ide_text.specs.Value.{ProgramValue}
 use Rattle.ide_wire.specs.Key.{node_of}
 use Rattle.ide_wire.specs.declared.key.Key.{Key}
+use Rattle.ide_steps.specs.declared.changes.Entry.{Entry}
 use Rattle.ide_worklist.specs.Worklist.{Pile, claim_at, is_pending}
 
 -- what the loaded program says, and its graph, if one is loaded; the roots, as indices of procedures; the tables;
--- and the pending keys with the claims
+-- the pending keys with the claims; and, if somebody asked for changes, for each key that changed since, the entry
+-- that it had then
 pub record CoreData (F : Type 0) : Type 0 where
   pub program : Option ProgramValue
   pub graph : Option Supergraph
   pub roots : List ℕ
   pub table : Table F
   pub pile : Pile (TaskData F)
+  pub changes : Option (List (Key × Entry F))
 
 module _ {F : Type 0} where
   -- whether a program is loaded
@@ -35,7 +38,7 @@ module _ {F : Type 0} where
     pub graph : new.graph ≡ old.graph
     pub roots : new.roots ≡ old.roots
 
-  -- the image, the pending keys and each hand's claim are as they were
+  -- the image, the pending keys, each hand's claim and what is noted are as they were
   pub record IsUnchanged (old new : CoreData F) : Type 0 where
     pub program : new.program ≡ old.program
     pub graph : new.graph ≡ old.graph
@@ -43,6 +46,7 @@ module _ {F : Type 0} where
     pub table : new.table ≡ old.table
     pub pending : new.pile.pending ≡ old.pile.pending
     pub claims : (hand : ℕ) → claim_at new.pile hand ≡ claim_at old.pile hand
+    pub changes : new.changes ≡ old.changes
 
 -- the key stands at a node of the graph
 abbrev pub StandsIn : Supergraph → Key → Type 0

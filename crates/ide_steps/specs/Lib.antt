@@ -1,3 +1,4 @@
+pub mod Changed
 pub mod Core
 pub mod Owed
 pub mod Refusal

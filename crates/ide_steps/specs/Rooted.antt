@@ -6,7 +6,7 @@ use Rattle.ide_graph.specs.Joined.{AreJoined, start_at}
 use Rattle.ide_graph.specs.Supergraph.{Supergraph}
 use Rattle.ide_lattice.specs.Algebra.{LatticeAlgebra, EdgeAlgebra}
 use Rattle.ide_problem.specs.Flow.{Targets}
-use Rattle.ide_tables.specs.Tables.{last_of}
+use Rattle.ide_tables.specs.Tables.{found, last_of}
 use Rattle.ide_theory.specs.Graphs.{frame_at}
 use Rattle.ide_theory.specs.Run.{Run, Steps}
 use Rattle.ide_theory.specs.Sites.{HaveEdgesOf}
@@ -42,6 +42,10 @@ with_entries s entries = record {
 -- each of the entries is of a key at the node
 abbrev pub AllAt : {F : Type 0} → ℕ → List (Key × F) → Type 0
 AllAt node entries = All (λ entry. node_of entry.0 ≡ node) entries
+
+-- each of the entries is of an absent key
+abbrev pub AllAbsent : {F : Type 0} → CoreData F → List (Key × F) → Type 0
+AllAbsent core entries = All (λ entry. found core.table entry.0 ≡ None) entries
 
 -- the procedure of the name is a root now, and each absent entry of its start is the identity; in a run
 -- those were steps, and each entry of the start is below the identity then

@@ -49,6 +49,7 @@ impl<P: Problem> Core<P> {
         ensures stays { IsSameProblem self.old self.new }
         ensures table { self.new.table ≡ self.old.table }
         ensures pending { self.new.pile.pending ≡ self.old.pile.pending }
+        ensures changes { self.new.changes ≡ self.old.changes }
         ensures others { (h : ℕ) → nat_eq hand h ≡ false → claim_at self.new.pile h ≡ claim_at self.old.pile h }
         ensures fresh { (task : TaskData P.F) → result ≡ Ok (Claimed.Task task) → ends_key (claim_at self.new.pile hand) ≡ true }
         ensures task { (task : TaskData P.F) → result ≡ Ok (Claimed.Task task) → IsTaken P.targets P.F.edge hand self.old self.new task }

@@ -70,6 +70,7 @@ impl<P: Problem> Core<P> {
             roots,
             tables,
             worklist,
+            changes,
         } = self;
         match loaded {
             Some(loaded) => Ok(Closed {
@@ -85,6 +86,7 @@ impl<P: Problem> Core<P> {
                     roots,
                     tables,
                     worklist,
+                    changes,
                 },
             )),
         }

@@ -3,6 +3,7 @@ ghost use Rattle.std.specs.Prelude.{◌≡◌, ℕ, ◌-◌, ◌^◌, ◌<◌, �
 ghost use Rattle.std.specs.List.{IsDistinct};
 ghost use Rattle.std.specs.Map.{keys_of};
 ghost use Rattle.std.specs.Option.{is_some};
+ghost use Rattle.ide_steps.specs.Changed.{Remembers};
 ghost use Rattle.ide_steps.specs.Core.{is_loaded, AreInside};
 ghost use Rattle.ide_steps.specs.DrainRefusal.{IsDrainRefusal, MayDrain};
 ghost use Rattle.ide_steps.specs.Drain.{ArePaid, GoesOnPaid, potential};
@@ -42,6 +43,7 @@ impl<P: Problem> Core<P> {
         ensures claims { IfOk result (λ tasks. (claims : ℕ) × (tasks ≡ min claims (2 ^ 64 - 1)) × GoesOnPaid P.L.algebra P.F.edge P.targets claims self.old self.new) }
         ensures few { IfOk result (λ tasks. AreTasksFew P.L.algebra P.F.edge P.targets tasks self.old) }
         ensures goes { GoesOn P.L.algebra P.F.edge P.targets 0 self.old self.new }
+        ensures remembers { Remembers self.old self.new }
         ensures unchanged { IfErr result (λ e. (e ≡ Refused.NoMemory) ⊎ (self.new ≡ self.old)) }
     {
         if self.loaded.is_none() {
@@ -79,6 +81,7 @@ impl<P: Problem> Core<P> {
         ensures others { (h : ℕ) → nat_eq 0 h ≡ false → claim_at self.new.pile h ≡ None }
         ensures claims { IfOk result (λ tasks. (claims : ℕ) × (tasks ≡ min claims (2 ^ 64 - 1)) × GoesOnPaid P.L.algebra P.F.edge P.targets claims self.old self.new) }
         ensures goes { GoesOn P.L.algebra P.F.edge P.targets 0 self.old self.new }
+        ensures remembers { Remembers self.old self.new }
     {
         let mut tasks = 0_u64;
         while self.run_next()? {
@@ -98,6 +101,7 @@ impl<P: Problem> Core<P> {
         ensures others { (h : ℕ) → nat_eq 0 h ≡ false → claim_at self.new.pile h ≡ None }
         ensures claims { IfOk result (λ more. GoesOnPaid P.L.algebra P.F.edge P.targets (if more then 1 else 0) self.old self.new) }
         ensures goes { GoesOn P.L.algebra P.F.edge P.targets 0 self.old self.new }
+        ensures remembers { Remembers self.old self.new }
     {
         let Some(task) = self.take_next()? else {
             return Ok(false);
@@ -125,6 +129,7 @@ impl<P: Problem> Core<P> {
         ensures none { result ≡ Ok None → IsFree self.new.pile }
         ensures claims { IfOk result (λ task. GoesOnBy P.L.algebra P.F.edge P.targets 0 (if is_some task then 1 else 0) 0 0 self.old self.new) }
         ensures goes { GoesOn P.L.algebra P.F.edge P.targets 0 self.old self.new }
+        ensures remembers { Remembers self.old self.new }
     {
         calls_are_steps::<P>();
         match self.claim(DRAINING)? {
@@ -143,10 +148,11 @@ impl<P: Problem> Core<P> {
         ensures falls { OnOk result (potential P.F.edge self.new < potential P.F.edge self.old) }
         ensures done { OnOk result (claim_at self.new.pile 0 ≡ None) }
         ensures others { (h : ℕ) → nat_eq 0 h ≡ false → claim_at self.old.pile h ≡ None → claim_at self.new.pile h ≡ None }
+        ensures remembers { Remembers self.old self.new }
         ensures goes { (lowerings : ℕ) × (IsCurrent P.targets P.F.edge self.old 0 work → GoesOnBy P.L.algebra P.F.edge P.targets 0 0 lowerings 0 self.old self.new) × OnOk result (ArePaid P.F.edge 1 lowerings self.old self.new) }
     {
         while self.next_part(DRAINING, &mut work)? != Parted::NoPart {}
-        self.end_claim(DRAINING);
+        self.end_claim(DRAINING)?;
         Ok(true)
     }
 }

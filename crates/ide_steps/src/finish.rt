@@ -1,15 +1,17 @@
 //! The end of a claim: finished or released.
-ghost use Rattle.std.specs.Prelude.{◌≡◌, ℕ, [], filter, ◌<◌, ◌+◌, ◌↔◌, ◌⊎◌, if◌then◌else◌, true, false, None, Some, Err, IfErr, OnErr, OnOk, length};
+ghost use Rattle.std.specs.Prelude.{◌≡◌, ◌≢◌, ℕ, [], filter, ◌<◌, ◌+◌, ◌↔◌, ◌⊎◌, if◌then◌else◌, true, false, None, Some, Err, IfErr, IsOk, OnErr, OnOk, length};
 ghost use Rattle.ide_tasks.specs.Task.{TaskData};
 ghost use Rattle.std.specs.Option.{is_some};
 ghost use Rattle.ide_theory.specs.Invariant.{unclaimed};
 ghost use Rattle.ide_theory.specs.State.{finished, with_claim};
 ghost use Rattle.ide_worklist.specs.Worklist.{claim_at, ends_key, put_hand};
 ghost use Rattle.ide_worklist.specs.declared.claim.Claim.{Claim as Held};
+ghost use Rattle.ide_steps.specs.Changed.{ended_key, Notes, Remembers};
 ghost use Rattle.ide_steps.specs.Core.{IsSameProblem};
 ghost use Rattle.ide_steps.specs.State.{state_of, claim_of};
 ghost use Rattle.ide_steps.specs.Steps.{IsClaimOfWork, IsCurrent};
 
+use crate::changes;
 use crate::machine::Core;
 use ide_problem::Problem;
 use ide_tasks::Work;
@@ -17,12 +19,16 @@ use ide_wire::Refused;
 
 impl<P: Problem> Core<P> {
     /// Ends the hand's claim with all its parts done: the key is no longer pending, unless it was
-    /// lowered since the claim. It takes no memory.
+    /// lowered since the claim. It takes memory only where changes are noted.
     ///
-    /// Refusal: `Stale` where the work is not the hand's claim as it stands, or parts are left.
+    /// Refusals, in this order: `Stale` where the work is not the hand's claim as it stands, or parts
+    /// are left; `NoMemory`, which never comes where nobody asked for changes.
     pub fn finish(&mut self, hand: usize, work: &Work<P>) -> Result<(), Refused>
         ensures stale { (result ≡ Err Refused.Stale) ↔ (¬ (IsClaimOfWork work.now (claim_at self.old.pile hand)) ⊎ (work.now.done < length work.now.parts)) }
-        ensures refused { IfErr result (λ e. e ≡ Refused.Stale) }
+        ensures refused { IfErr result (λ e. (e ≡ Refused.Stale) ⊎ (e ≡ Refused.NoMemory)) }
+        ensures nobody { self.old.changes ≡ None → result ≢ Err Refused.NoMemory }
+        ensures notes { OnOk result (Notes self.old self.new (ended_key (claim_at self.old.pile hand))) }
+        ensures remembers { Remembers self.old self.new }
         ensures current { OnOk result (IsCurrent P.targets P.F.edge self.old hand work.now) }
         ensures finished { OnOk result ((held : Held (TaskData P.F)) × (claim_at self.old.pile hand ≡ Some held) × ((claim_of P.targets P.F.edge held).parts ≡ []) × (state_of P.targets P.F.edge self.new ≡ finished (state_of P.targets P.F.edge self.old) hand (claim_of P.targets P.F.edge held))) }
         ensures claims { OnOk result ((h : ℕ) → claim_at self.new.pile h ≡ put_hand (claim_at self.old.pile) hand None h) }
@@ -36,19 +42,26 @@ impl<P: Problem> Core<P> {
         if work.next().is_some() {
             return Err(Refused::Stale);
         }
-        self.end_claim(hand);
+        self.end_claim(hand)?;
         Ok(())
     }
 
-    /// Ends the hand's claim.
-    pub(crate) fn end_claim(&mut self, hand: usize)
-        ensures finished { (held : Held (TaskData P.F)) → claim_at self.old.pile hand ≡ Some held → state_of P.targets P.F.edge self.new ≡ finished (state_of P.targets P.F.edge self.old) hand (claim_of P.targets P.F.edge held) }
+    /// Ends the hand's claim, and notes the entry of the key that this takes out.
+    pub(crate) fn end_claim(&mut self, hand: usize) -> Result<(), Refused>
+        ensures finished { OnOk result ((held : Held (TaskData P.F)) → claim_at self.old.pile hand ≡ Some held → state_of P.targets P.F.edge self.new ≡ finished (state_of P.targets P.F.edge self.old) hand (claim_of P.targets P.F.edge held)) }
+        ensures notes { OnOk result (Notes self.old self.new (ended_key (claim_at self.old.pile hand))) }
+        ensures remembers { Remembers self.old self.new }
+        ensures refused { IfErr result (λ e. e ≡ Refused.NoMemory) }
+        ensures nobody { self.old.changes ≡ None → IsOk result }
+        ensures unchanged { OnErr result (self.new ≡ self.old) }
         ensures stays { IsSameProblem self.old self.new }
         ensures table { self.new.table ≡ self.old.table }
-        ensures claims { (h : ℕ) → claim_at self.new.pile h ≡ put_hand (claim_at self.old.pile) hand None h }
-        ensures count { length self.new.pile.pending + (if ends_key (claim_at self.old.pile hand) then 1 else 0) ≡ length self.old.pile.pending }
+        ensures claims { OnOk result ((h : ℕ) → claim_at self.new.pile h ≡ put_hand (claim_at self.old.pile) hand None h) }
+        ensures count { OnOk result (length self.new.pile.pending + (if ends_key (claim_at self.old.pile hand) then 1 else 0) ≡ length self.old.pile.pending) }
     {
+        changes::note_end(&mut self.changes, &self.tables, &self.worklist, hand)?;
         self.worklist.finish(hand);
+        Ok(())
     }
 
     /// Gives the hand's claim back: the key is pending for any hand, and parts that were done
@@ -64,6 +77,7 @@ impl<P: Problem> Core<P> {
         ensures stays { IsSameProblem self.old self.new }
         ensures table { self.new.table ≡ self.old.table }
         ensures pending { self.new.pile.pending ≡ self.old.pile.pending }
+        ensures changes { self.new.changes ≡ self.old.changes }
     {
         match self.worklist.release(hand) {
             Some(_) => Ok(()),
@@ -78,6 +92,7 @@ impl<P: Problem> Core<P> {
         ensures stays { IsSameProblem self.old self.new }
         ensures table { self.new.table ≡ self.old.table }
         ensures pending { self.new.pile.pending ≡ self.old.pile.pending }
+        ensures changes { self.new.changes ≡ self.old.changes }
         ensures state { state_of P.targets P.F.edge self.new ≡ unclaimed (state_of P.targets P.F.edge self.old) }
     {
         self.worklist.release_all()

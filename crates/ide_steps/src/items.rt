@@ -1,14 +1,16 @@
 //! The image as a list, and an image made from one.
-ghost use Rattle.std.specs.Prelude.{◌≡◌, ◌<◌, ℕ, ◌↔◌, false, true, length, slice_get, IfErr, IfOk, IsTrue, OnErr, OnOk, map, if◌then◌else◌};
+ghost use Rattle.std.specs.Prelude.{◌≡◌, ◌<◌, ℕ, ◌↔◌, Some, false, true, length, slice_get, IfErr, IfOk, IsTrue, OnErr, OnOk, map, if◌then◌else◌};
 ghost use Rattle.std.specs.Option.{IsSomeAnd};
 ghost use Rattle.ide_tables.specs.Tables.{Sets};
 ghost use Rattle.ide_theory.specs.Within.{is_some_call};
 ghost use Rattle.ide_wire.specs.Key.{same_key};
 ghost use Rattle.ide_wire.specs.declared.key.Key.{Key};
 ghost use Rattle.ide_worklist.specs.Worklist.{claim_at, is_pending, IsFree};
+ghost use Rattle.ide_steps.specs.Changed.{Notes, Remembers};
 ghost use Rattle.ide_steps.specs.Core.{IsSameProblem, IsUnchanged};
 ghost use Rattle.ide_steps.specs.Items.{AreItems, IsKeyOf, item_of};
 
+use crate::changes;
 use crate::loaded::is_call;
 use crate::machine::Core;
 use ide_graph::Graph;
@@ -66,11 +68,16 @@ impl<P: Problem> Core<P> {
         ensures pending { OnOk result ((q : Key) → is_pending self.new.pile q ≡ (if same_key key q then pending else is_pending self.old.pile q)) }
         ensures stays { IsSameProblem self.old self.new }
         ensures claims { (h : ℕ) → claim_at self.new.pile h ≡ claim_at self.old.pile h }
+        ensures notes { OnOk result (Notes self.old self.new (Some key)) }
+        ensures remembers { Remembers self.old self.new }
         ensures refused { IfErr result (λ e. e ≡ Refused.NoMemory) }
         ensures unchanged { OnErr result (IsUnchanged self.old self.new) }
     {
         self.worklist.reserve(1)?;
+        changes::make_room(&mut self.changes, 1)?;
+        let before = changes::standing(&self.changes, &self.tables, &self.worklist, key);
         self.tables.set(key, function)?;
+        changes::note(&mut self.changes, key, before);
         self.worklist.set_pending(key, pending);
         Ok(())
     }

@@ -7,6 +7,7 @@
 //! makes an image again from such a list, is the one call that is no step.
 #![tactic(auto)]
 
+mod changes;
 mod claim;
 mod closed;
 mod drain;
@@ -18,6 +19,7 @@ mod machine;
 mod part;
 mod root;
 
+pub use changes::Entry;
 pub use claim::Claimed;
 pub use closed::Closed;
 pub use laws::{calls_are_steps, images_have_room, tasks_owe_their_parts};

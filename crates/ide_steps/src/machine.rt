@@ -1,17 +1,23 @@
 //! The core: its state and what may be asked of it.
 ghost use Rattle.ide_graph.specs.GraphOf.{IsGraphOf};
 ghost use Rattle.ide_graph.specs.ProgramEdges.{HasEdgesOf};
+ghost use Rattle.ide_steps.specs.Changed.{Notes, Remembers, entry_of, entry_then, noted, noted_count};
 ghost use Rattle.ide_steps.specs.Core.{IsInside, IsSameProblem, IsUnchanged};
 ghost use Rattle.ide_steps.specs.Drain.{IsPaidBy, potential};
-ghost use Rattle.std.specs.Prelude.{◌≡◌, ℕ, ◌<◌, ◌↔◌, [], None, Some, Ok, length, IsTrue, IfErr, OnOk, OnErr};
+ghost use Rattle.std.specs.Prelude.{◌≡◌, ℕ, ◌<◌, ◌↔◌, [], None, Some, Ok, length, unwrap_or, IsSome, IsTrue, IfErr, OnOk, OnErr};
+ghost use Rattle.std.specs.List.{IsDistinct};
+ghost use Rattle.std.specs.Map.{keys_of, lookup};
+ghost use Rattle.ide_wire.specs.Key.{same_key};
+ghost use Rattle.ide_wire.specs.declared.key.Key.{Key};
 ghost use Rattle.ide_steps.specs.State.{state_of};
 ghost use Rattle.ide_steps.specs.Steps.{Changes, IsBelow, progress_at};
 ghost use Rattle.ide_theory.specs.State.{nothing_done, lowered_by};
-ghost use Rattle.std.specs.Option.{option_copied, option_map, IsSomeAnd};
+ghost use Rattle.std.specs.Option.{is_some, option_copied, option_map, IsSomeAnd};
 ghost use Rattle.ide_tables.specs.Tables.{found};
 ghost use Rattle.ide_text.specs.Program.{value_of};
 ghost use Rattle.ide_worklist.specs.Worklist.{claim_at, is_pending};
 
+use crate::changes::{self, Entry};
 use crate::loaded::Loaded;
 use ide_graph::Graph;
 use ide_problem::Problem;
@@ -20,8 +26,10 @@ use ide_tasks::Task;
 use ide_text::Program;
 use ide_wire::{Key, Refused};
 use ide_worklist::{Claim, Worklist};
+use indexmap::IndexMap;
 use std::alloc::Global;
 use std::marker::Model;
+use std::mem;
 use std::sync::Arc;
 
 /// The most hands that may have a claim: they are numbered from 0.
@@ -36,6 +44,9 @@ pub struct Core<P: Problem> {
     pub(crate) roots: Vec<usize>,
     pub(crate) tables: Tables<P::F>,
     pub(crate) worklist: Worklist<Task<P>>,
+    /// For each key that changed since changes were last asked for, the entry that it had then:
+    /// none where nobody asked.
+    pub(crate) changes: Option<IndexMap<Key, Entry<P::F>>>,
 }
 
 impl<P: Problem> Model for Core<P> {
@@ -44,11 +55,12 @@ impl<P: Problem> Model for Core<P> {
     ghost use Rattle.std.specs.Arc.{arc_value};
     ghost use Rattle.ide_steps.specs.declared.loaded.Loaded.{Loaded};
     ghost use Rattle.std.specs.Prelude.{◌≡◌, Some};
+    ghost use Rattle.ide_steps.specs.Changed.{notes_of};
     ghost use Rattle.ide_steps.specs.Core.{AreKeysKept, CoreData, IsProgramKept};
 
     ghost Value = { CoreData P.F };
 
-    ghost view = { λ c. record { program = option_map (λ loaded. value_of (arc_value {X = Loaded P P.L P.F} loaded).program) c.loaded; graph = option_map (λ loaded. (arc_value {X = Loaded P P.L P.F} loaded).graph) c.loaded; roots = c.roots.items; table = c.tables; pile = c.worklist } };
+    ghost view = { λ c. record { program = option_map (λ loaded. value_of (arc_value {X = Loaded P P.L P.F} loaded).program) c.loaded; graph = option_map (λ loaded. (arc_value {X = Loaded P P.L P.F} loaded).graph) c.loaded; roots = c.roots.items; table = c.tables; pile = c.worklist; changes = notes_of c.changes } };
 
     ghost invariant = { λ c. (loaded : Loaded P P.L P.F) → option_map (arc_value {X = Loaded P P.L P.F}) c.loaded ≡ Some loaded → IsProgramKept P.targets loaded.graph loaded.sources × AreKeysKept P.targets P.F.edge loaded.graph c.worklist };
 }
@@ -63,6 +75,7 @@ impl<P: Problem> Core<P> {
         ensures entries { result.table.entries ≡ [] }
         ensures pending { result.pile.pending ≡ [] }
         ensures claims { result.pile.claims ≡ [] }
+        ensures changes { result.changes ≡ None }
     {
         Core {
             alloc,
@@ -70,10 +83,12 @@ impl<P: Problem> Core<P> {
             roots: Vec::new(alloc),
             tables: Tables::new(alloc, Vec::new(alloc)),
             worklist: Worklist::new(alloc),
+            changes: None,
         }
     }
 
-    /// Loads a program: the tables are then empty, nothing is a root, pending or claimed. It takes
+    /// Loads a program: the tables are then empty, nothing is a root, pending or claimed, and where
+    /// changes are noted, none is. It takes
     /// time in proportion to the facts at each call. Where memory is wanting (`NoMemory`), the
     /// program is dropped and the core as it was.
     pub fn load(&mut self, program: Program) -> Result<(), Refused>
@@ -85,6 +100,7 @@ impl<P: Problem> Core<P> {
         ensures entries { OnOk result (self.new.table.entries ≡ []) }
         ensures pending { OnOk result (self.new.pile.pending ≡ []) }
         ensures claims { OnOk result (self.new.pile.claims ≡ []) }
+        ensures changes { OnOk result (self.new.changes ≡ option_map (λ _. []) self.old.changes) }
         ensures refused { IfErr result (λ e. e ≡ Refused.NoMemory) }
         ensures unchanged { OnErr result (self.new ≡ self.old) }
     {
@@ -95,6 +111,7 @@ impl<P: Problem> Core<P> {
         self.tables = Tables::new(self.alloc, call_nodes);
         self.worklist.clear();
         self.roots.clear();
+        changes::begin_anew(self.alloc, &mut self.changes);
         Ok(())
     }
 
@@ -154,6 +171,44 @@ impl<P: Problem> Core<P> {
         self.tables.key_count()
     }
 
+    /// Hands out, for each key that changed since this was last called, the entry that the key had
+    /// then: none the first time. From now on changes are noted.
+    pub fn take_changes(&mut self) -> IndexMap<Key, Entry<P::F>>
+        ensures once { IsDistinct same_key (keys_of result.entries) }
+        ensures list { result.entries ≡ unwrap_or self.old.changes [] }
+        ensures entries { IsSome self.old.changes → (key : Key) → entry_then self.old key ≡ unwrap_or (lookup (same_key key) result.entries) (entry_of self.new key) }
+        ensures anew { (key : Key) → entry_then self.new key ≡ entry_of self.new key }
+        ensures stays { self.new ≡ record self.old { changes = Some [] } }
+    {
+        let anew = Some(IndexMap::new(self.alloc));
+        let noted = match mem::replace(&mut self.changes, anew) {
+            Some(noted) => noted,
+            None => IndexMap::new(self.alloc),
+        };
+        let _ = noted.len();
+        noted
+    }
+
+    /// How many keys are noted to have changed.
+    pub fn changed_count(&self) -> usize
+        ensures { result ≡ noted_count self.now.changes }
+    {
+        match &self.changes {
+            Some(noted) => noted.len(),
+            None => 0,
+        }
+    }
+
+    /// Whether the key is noted to have changed.
+    pub fn is_changed(&self, key: Key) -> bool
+        ensures { result ≡ is_some (noted self.now.changes key) }
+    {
+        match &self.changes {
+            Some(noted) => noted.contains_key(&key),
+            None => false,
+        }
+    }
+
     /// Meets one entry with a function. An entry that changed is pending then, and a claim of its
     /// key is marked as lowered.
     pub(crate) fn lower(&mut self, key: Key, function: P::F) -> Result<Change, Refused>
@@ -162,6 +217,8 @@ impl<P: Problem> Core<P> {
         ensures falls { result ≡ Ok Change.Lowered → potential P.F.edge self.new < potential P.F.edge self.old }
         ensures paid { result ≡ Ok Change.Lowered → (h : ℕ) → IsPaidBy P.F.edge h 1 self.old self.new }
         ensures still { result ≡ Ok Change.Same → IsUnchanged self.old self.new }
+        ensures notes { result ≡ Ok Change.Lowered → Notes self.old self.new (Some key) }
+        ensures remembers { Remembers self.old self.new }
         ensures lowered { result ≡ Ok Change.Lowered → state_of P.targets P.F.edge self.new ≡ lowered_by P.F.edge (state_of P.targets P.F.edge self.old) key function }
         ensures changes { result ≡ Ok Change.Lowered → Changes P.F.edge (state_of P.targets P.F.edge self.old) key function }
         ensures same { result ≡ Ok Change.Same → state_of P.targets P.F.edge self.new ≡ state_of P.targets P.F.edge self.old }
@@ -171,8 +228,11 @@ impl<P: Problem> Core<P> {
         ensures unchanged { OnErr result (IsUnchanged self.old self.new) }
     {
         self.worklist.reserve(1)?;
+        changes::make_room(&mut self.changes, 1)?;
+        let before = changes::standing(&self.changes, &self.tables, &self.worklist, key);
         let change = self.tables.lower(key, function)?;
         if change == Change::Lowered {
+            changes::note(&mut self.changes, key, before);
             self.worklist.push(key);
         }
         Ok(change)

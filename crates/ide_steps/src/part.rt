@@ -1,12 +1,14 @@
 //! Parts: a hand gives what its task owes to the tables, one part a call.
+ghost use Rattle.ide_wire.specs.declared.key.Key.{Key};
 ghost use Rattle.ide_worklist.specs.Worklist.{claim_at, ends_key};
 ghost use Rattle.ide_steps.specs.Drain.{IsPaidBy, lowerings_by, potential};
-ghost use Rattle.std.specs.Prelude.{◌≡◌, ℕ, ◌<◌, ◌+◌, ◌-◌, ◌↔◌, ◌⊎◌, true, false, None, Ok, Err, Some, IfErr, IfOk, OnErr, OnOk, length, min, IsTrue};
+ghost use Rattle.std.specs.Prelude.{◌≡◌, ℕ, ◌<◌, ◌+◌, ◌-◌, ◌↔◌, ◌⊎◌, true, false, None, Ok, Err, Some, IfErr, IfOk, OnErr, OnOk, length, min, slice_get, IsTrue};
 ghost use Rattle.ide_tasks.specs.Parts.{owed};
 ghost use Rattle.ide_tasks.specs.Task.{TaskData};
 ghost use Rattle.ide_tasks.specs.Work.{WorkData};
 ghost use Rattle.ide_steps.specs.State.{state_of};
 ghost use Rattle.ide_steps.specs.Steps.{ArePartsDone, IsClaimOfWork, IsCurrent, IsLowered, IsSkipped, KeepTasks, progress_at};
+ghost use Rattle.ide_steps.specs.Changed.{Notes, Remembers};
 ghost use Rattle.ide_steps.specs.Core.{AreInside, IsSameProblem, IsUnchanged};
 
 use crate::machine::Core;
@@ -41,6 +43,9 @@ impl<P: Problem> Core<P> {
         ensures lowered { result ≡ Ok Parted.Lowered → IsLowered P.F.edge (state_of P.targets P.F.edge self.old) (state_of P.targets P.F.edge self.new) hand work.old work.new }
         ensures same { result ≡ Ok Parted.Same → IsSkipped P.F.edge (state_of P.targets P.F.edge self.old) (state_of P.targets P.F.edge self.new) hand work.old work.new }
         ensures tasks { OnOk result (KeepTasks hand work.new.done self.old.pile self.new.pile) }
+        ensures notes { result ≡ Ok Parted.Lowered → (part : Key × P.F) → slice_get work.old.parts work.old.done ≡ Some part → Notes self.old self.new (Some part.0) }
+        ensures notes_none { result ≡ Ok Parted.Same → self.new.changes ≡ self.old.changes }
+        ensures remembers { Remembers self.old self.new }
         ensures stays { IsSameProblem self.old self.new }
         ensures unchanged { OnErr result (IsUnchanged self.old self.new × (work.new ≡ work.old)) }
     {
@@ -66,6 +71,7 @@ impl<P: Problem> Core<P> {
         ensures parts { ArePartsDone P.F.edge hand (state_of P.targets P.F.edge self.old) work.old (state_of P.targets P.F.edge self.new) work.new }
         ensures kept { (work.new.task ≡ work.old.task) × (work.new.parts ≡ work.old.parts) }
         ensures tasks { (result ≡ Err Refused.Stale) ⊎ KeepTasks hand work.new.done self.old.pile self.new.pile }
+        ensures remembers { Remembers self.old self.new }
         ensures stays { IsSameProblem self.old self.new }
         ensures free { (h : ℕ) → claim_at self.old.pile h ≡ None → claim_at self.new.pile h ≡ None }
         ensures unchanged { result ≡ Err Refused.Stale → (self.new ≡ self.old) × (work.new ≡ work.old) }
@@ -112,6 +118,9 @@ impl<P: Problem> Core<P> {
         ensures same { result ≡ Ok Parted.Same → (task : TaskData P.F) → progress_at self.old.pile hand ≡ Some (task, work.old.done) → IsSkipped P.F.edge (state_of P.targets P.F.edge self.old) (state_of P.targets P.F.edge self.new) hand work.old work.new }
         ensures progress { OnOk result ((task : TaskData P.F) → progress_at self.old.pile hand ≡ Some (task, work.old.done) → progress_at self.new.pile hand ≡ Some (task, work.new.done)) }
         ensures tasks { (result ≡ Ok Parted.Lowered) ⊎ (result ≡ Ok Parted.Same) → KeepTasks hand work.new.done self.old.pile self.new.pile }
+        ensures notes { result ≡ Ok Parted.Lowered → (part : Key × P.F) → slice_get work.old.parts work.old.done ≡ Some part → Notes self.old self.new (Some part.0) }
+        ensures notes_none { result ≡ Ok Parted.Same → self.new.changes ≡ self.old.changes }
+        ensures remembers { Remembers self.old self.new }
         ensures stays { IsSameProblem self.old self.new }
         ensures unchanged { OnErr result (IsUnchanged self.old self.new × (work.new ≡ work.old)) }
     {
@@ -135,6 +144,7 @@ impl<P: Problem> Core<P> {
         ensures done { IfOk result (λ n. work.new ≡ record work.old { done = work.old.done + n }) }
         ensures parts { (task : TaskData P.F) → progress_at self.old.pile hand ≡ Some (task, work.old.done) → ArePartsDone P.F.edge hand (state_of P.targets P.F.edge self.old) work.old (state_of P.targets P.F.edge self.new) work.new }
         ensures kept { (work.new.task ≡ work.old.task) × (work.new.parts ≡ work.old.parts) }
+        ensures remembers { Remembers self.old self.new }
         ensures tasks { (task : TaskData P.F) → progress_at self.old.pile hand ≡ Some (task, work.old.done) → KeepTasks hand work.new.done self.old.pile self.new.pile }
         ensures stays { IsSameProblem self.old self.new }
         ensures free { (h : ℕ) → claim_at self.old.pile h ≡ None → claim_at self.new.pile h ≡ None }

@@ -6,13 +6,15 @@ ghost use Rattle.ide_tables.specs.Tables.{found};
 ghost use Rattle.ide_wire.specs.Key.{same_key};
 ghost use Rattle.ide_wire.specs.declared.key.Key.{Key};
 ghost use Rattle.ide_worklist.specs.Worklist.{claim_at, is_pending};
+ghost use Rattle.ide_steps.specs.Changed.{Remembers};
 ghost use Rattle.ide_steps.specs.Core.{AreInside, IsUnchanged};
 ghost use Rattle.ide_steps.specs.Refusal.{IsRootName, IsRootRefusal, RootFault};
-ghost use Rattle.ide_steps.specs.Rooted.{AllAt, IsBegun, marked_all, with_entries};
+ghost use Rattle.ide_steps.specs.Rooted.{AllAbsent, AllAt, IsBegun, marked_all, with_entries};
 ghost use Rattle.ide_theory.specs.Images.{seeded_below};
 ghost use Rattle.ide_steps.specs.State.{state_of};
 ghost use Rattle.ide_steps.specs.Steps.{progress_at};
 
+use crate::changes;
 use crate::machine::Core;
 use ide_graph::Graph;
 use ide_lattice::EdgeFn;
@@ -33,6 +35,7 @@ impl<P: Problem> Core<P> {
         ensures refused { IfErr result (IsRootRefusal self.old.graph self.old.roots name.now) }
         ensures same { IfErr result (λ e. (e ≡ Refused.NoMemory) ⊎ (self.new ≡ self.old)) }
         ensures unchanged { OnErr result (IsUnchanged self.old self.new) }
+        ensures remembers { Remembers self.old self.new }
         ensures begun { OnOk result (IsBegun P.L.algebra P.F.edge P.targets self.old self.new name.now) }
     {
         sites_make_a_graph::<P>();
@@ -58,6 +61,7 @@ impl<P: Problem> Core<P> {
     fn absent_jumps(&self, start: Node, entries: usize) -> Result<Vec<(Key, P::F)>, AllocError>
         requires few { entries ≤ 2 ^ 16 }
         ensures place { IfOk result (λ jumps. AllAt start jumps.items) }
+        ensures absent { IfOk result (λ jumps. AllAbsent self.now jumps.items) }
         ensures entered { IfOk result (λ jumps. seeded_below P.F.edge (state_of P.targets P.F.edge self.now) start entries ≡ with_entries (state_of P.targets P.F.edge self.now) jumps.items) }
     {
         let mut jumps = Vec::new(self.alloc);
@@ -81,18 +85,22 @@ impl<P: Problem> Core<P> {
     /// Makes the procedure a root, whose jumps at its start have these functions now and are
     /// pending. It makes its room first, and so leaves all as it was where memory is wanting.
     fn begin(&mut self, procedure: usize, jumps: &[(Key, P::F)]) -> Result<(), Refused>
-        requires { AreInside self.old jumps.now }
+        requires inside { AreInside self.old jumps.now }
+        requires absent { AllAbsent self.old jumps.now }
         ensures program { self.new.program ≡ self.old.program }
         ensures graph { self.new.graph ≡ self.old.graph }
         ensures roots { OnOk result (self.new.roots ≡ self.old.roots ++ procedure ∷ []) }
         ensures state { OnOk result (state_of P.targets P.F.edge self.new ≡ with_entries (state_of P.targets P.F.edge self.old) jumps.now) }
         ensures progress { OnOk result ((h : ℕ) → progress_at self.new.pile h ≡ progress_at self.old.pile h) }
+        ensures remembers { Remembers self.old self.new }
         ensures refused { IfErr result (λ e. e ≡ Refused.NoMemory) }
         ensures unchanged { OnErr result (IsUnchanged self.old self.new) }
     {
         self.roots.reserve(1)?;
         self.worklist.reserve(jumps.len())?;
+        changes::make_room(&mut self.changes, jumps.len())?;
         self.tables.set_all(jumps)?;
+        changes::note_absent(&mut self.changes, &self.worklist, jumps);
         push_each(&mut self.worklist, jumps);
         self.roots.push_reserved(procedure);
         Ok(())

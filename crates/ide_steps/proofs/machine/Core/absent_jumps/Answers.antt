@@ -5,9 +5,9 @@ use Rattle.std.specs.Map.{keys_of}
 use Rattle.ide_wire.specs.Key.{same_key}
 use Rattle.ide_wire.specs.declared.key.Key.TheVariants.{Jump}
 use Rattle.ide_theory.specs.Images.{seeded_below}
-use Rattle.ide_steps.specs.Rooted.{AllAt, with_entries}
+use Rattle.ide_steps.specs.Rooted.{AllAbsent, AllAt, with_entries}
 use Rattle.ide_steps.specs.State.{state_of}
-use Rattle.ide_steps.proofs.Entries.{AreBefore, at-more, at-none, before-later, before-more, entered-absent, entered-present, with-none}
+use Rattle.ide_steps.proofs.Entries.{AreBefore, absent-more, absent-none, at-more, at-none, before-later, before-more, entered-absent, entered-present, with-none}
 use Rattle.ide_steps.proofs.machine.Core.absent_jumps.Goals as goal
 use Rattle.ide_steps.proofs.machine.Core.absent_jumps.Goals.{then-is_absent+in_ok-push, else-is_absent}
 
@@ -18,6 +18,7 @@ loop-fact-init g c =
       entered = sym (ap (with_entries s) c.new-jumps.ensures.items ∙ with-none s);
       before = λ d less. ap (λ entries. list_any (same_key (Jump c.args.start d d)) (keys_of entries)) c.new-jumps.ensures.items;
       place = subst (AllAt {F = g.row.P-F.Denot} c.args.start) (sym c.new-jumps.ensures.items) (at-none c.args.start);
+      absent = subst (AllAbsent c.args.self.now) (sym c.new-jumps.ensures.items) (absent-none c.args.self.now);
     }
 
 pub loop-fact-preserved : goal.loop-fact-preserved
@@ -38,6 +39,9 @@ loop-fact-preserved g c =
                 (entered-absent B targets start fact s entries was.before w.id.result w.id.ensures (c.is_absent.ensures.0 w.if-is_absent.true) was.entered);
             before = subst (AreBefore start (fact + 1)) (sym items) (before-more start fact entries w.id.result was.before);
             place = subst (AllAt {F = g.row.P-F.Denot} start) (sym items) (at-more start entries (Jump start fact fact) w.id.result refl was.place);
+            absent =
+                subst (AllAbsent c.args.self.now) (sym items)
+                (absent-more c.args.self.now entries (Jump start fact fact) w.id.result (c.is_absent.ensures.0 w.if-is_absent.true) was.absent);
           }
       | else-is_absent w ↦
           let items : c.if-is_absent.jumps.items ≡ entries = λ i. (w.jumps-is i).items in
@@ -48,5 +52,6 @@ loop-fact-preserved g c =
                 (λ empty. both_ways c.is_absent.result w.if-is_absent.false (c.is_absent.ensures.1 empty)) was.entered);
             before = subst (AreBefore start (fact + 1)) (sym items) (before-later start fact entries was.before);
             place = subst (AllAt {F = g.row.P-F.Denot} start) (sym items) was.place;
+            absent = subst (AllAbsent c.args.self.now) (sym items) was.absent;
           }
     ]

@@ -1,6 +1,6 @@
 use Rattle.std.proofs.Common.{◌≡◌}
 use Rattle.ide_theory.specs.Images.{seeded_below}
-use Rattle.ide_steps.specs.Rooted.{AllAt, with_entries}
+use Rattle.ide_steps.specs.Rooted.{AllAbsent, AllAt, with_entries}
 use Rattle.ide_steps.specs.State.{state_of}
 use Rattle.ide_steps.proofs.Entries.{AreBefore}
 use Rattle.ide_steps.proofs.machine.Core.absent_jumps.Given as goal
@@ -13,4 +13,5 @@ invariant-loop-fact g l = record {
       ≡ with_entries (state_of g.P.Problem.targets g.P.F.EdgeFn.edge l.self) l.jumps.items;
   before : AreBefore l.start l.fact l.jumps.items;
   place : AllAt l.start l.jumps.items;
+  absent : AllAbsent l.self l.jumps.items;
 }

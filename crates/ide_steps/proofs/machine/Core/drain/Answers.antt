@@ -5,6 +5,7 @@ use Rattle.ide_steps.specs.DrainRefusal.{IsDrainRefusal, busy, memory, no_progra
 use Rattle.ide_steps.proofs.Free.{free-without}
 use Rattle.ide_steps.proofs.Going.{goes-on, goes-on-then, goes-released, goes-same}
 use Rattle.ide_steps.proofs.Bounded.{few-of}
+use Rattle.ide_steps.proofs.Noted.{remembers-on, remembers-same}
 use Rattle.ide_steps.proofs.machine.Core.drain.Goals as goal
 
 pub returns-then-is_some-clause-goes : goal.returns-then-is_some-clause-goes
@@ -56,3 +57,16 @@ returns-else-is_err-clause-refused g c =
     IfErr-weaker c.run_all-drained.result _ _
     (λ refused is. subst (IsDrainRefusal {F = g.row.P-F.Denot} c.args.self.now) (sym is) (memory (record { loaded = search rules; free = search rules })))
     c.run_all-drained.ensures.refused
+
+pub returns-then-is_none-clause-remembers : goal.returns-then-is_none-clause-remembers
+returns-then-is_none-clause-remembers g c = remembers-same _ _ refl refl refl
+
+pub returns-then-is_some-clause-remembers : goal.returns-then-is_some-clause-remembers
+returns-then-is_some-clause-remembers g c = remembers-same _ _ refl refl refl
+
+pub returns-then-claimed_elsewhere-clause-remembers : goal.returns-then-claimed_elsewhere-clause-remembers
+returns-then-claimed_elsewhere-clause-remembers g c = remembers-same _ _ refl refl refl
+
+pub returns-then-is_err-clause-remembers : goal.returns-then-is_err-clause-remembers
+returns-then-is_err-clause-remembers g c =
+    remembers-on _ c.run_all-drained.new.self _ c.release.ensures.changes c.release.ensures.table c.release.ensures.pending c.run_all-drained.ensures.remembers

@@ -1,7 +1,10 @@
-use Rattle.std.proofs.Common.{◌≡◌, ◌+◌, ◌≤◌, length, subst, ap, sym, ◌∙◌, get_or, arith, None}
+use Rattle.std.proofs.Common.{◌≡◌, ◌+◌, ◌≤◌, length, subst, ap, sym, ◌∙◌, get_or, arith, refl, None, Some, Ok, rules}
 use Rattle.ide_steps.specs.Drain.{left_by}
 use Rattle.ide_steps.proofs.Potential.{at-most-one, falls, push-pays}
-use Rattle.ide_steps.proofs.machine.Core.lower.Goals as goal
+use Rattle.ide_tables.specs.declared.tables.Change.{Change}
+use Rattle.ide_steps.specs.Changed.{entry_at, notes_of}
+use Rattle.ide_steps.proofs.Noted.{entry-other, noted-once, notes-change, remembers-change, remembers-same}
+use Rattle.ide_steps.proofs.States.{or-cond, changes-of, or_top-unwrap, state-lowered}
 use Rattle.std.specs.Prelude.{◌||◌}
 use Rattle.std.specs.List.{list_any}
 use Rattle.ide_tables.specs.Tables.{found}
@@ -9,13 +12,18 @@ use Rattle.ide_wire.specs.Key.{same_key}
 use Rattle.ide_worklist.specs.Worklist.{claim_at, marked}
 use Rattle.ide_steps.specs.Core.{CoreData}
 use Rattle.ide_steps.proofs.Nodes.{kept-pushed, kept-same, through}
-use Rattle.ide_steps.proofs.States.{changes-of, or_top-unwrap, state-lowered}
+use Rattle.ide_steps.proofs.machine.Core.lower.Goals as goal
 
 -- `search` would try long at these before it gave up: an invariant is a function into a record
 pub invariant_of-self : goal.invariant_of-self
 invariant_of-self g c = λ loaded is.
     let kept = c.self.invariant loaded is in
     (kept.0, kept-same g.P.Problem.targets g.P.F.EdgeFn.edge loaded.graph c.self.inside.worklist c.reserve.new.self kept.1 c.reserve.ensures.pending c.reserve.ensures.claims)
+
+pub invariant_of-self-in_err-make_room : goal.invariant_of-self-in_err-make_room
+invariant_of-self-in_err-make_room g c = λ loaded is.
+    let kept = c.self.invariant loaded is in
+    (kept.0, kept-same g.P.Problem.targets g.P.F.EdgeFn.edge loaded.graph c.self.inside.worklist c.reserve.new.self kept.1 c.in_ok-reserve.ensures.pending c.in_ok-reserve.ensures.claims)
 
 pub invariant_of-self-in_err-change : goal.invariant_of-self-in_err-change
 invariant_of-self-in_err-change g c = λ loaded is.
@@ -83,3 +91,42 @@ returns-then-eq-clause-changes g c = λ is.
     rw (← c.self.view_is)
     (changes-of g.P.Problem.targets g.P.F.EdgeFn.edge g.met.P.F.EdgeFn.lawful.rank_all_top c.self.inside.tables c.self.inside.worklist c.args.key c.args.function
     (c.in_ok-change.ensures.falls is))
+
+-- where the key changed, its entry of then is noted
+pub returns-then-eq-clause-notes : goal.returns-then-eq-clause-notes
+returns-then-eq-clause-notes g c = λ is.
+    rw (← c.self.view_is)
+    (notes-change _ _ (Some c.args.key)
+    (noted-once c.self.inside.tables c.self.inside.worklist c.reserve.new.self (notes_of c.self.inside.changes) (notes_of c.make_room.new.changes) (notes_of c.note.new.changes) c.args.key
+    c.in_ok-reserve.ensures.pending c.make_room.ensures.same
+    (c.note.ensures.noted (entry_at c.self.inside.tables c.reserve.new.self c.args.key) c.standing-before.ensures.entry)))
+
+pub returns-then-eq-clause-remembers : goal.returns-then-eq-clause-remembers
+returns-then-eq-clause-remembers g c =
+    let change : c.in_ok-change.change ≡ Change.Lowered = search rules in
+    rw (← c.self.view_is)
+    (remembers-change _ _ (Some c.args.key)
+    (noted-once c.self.inside.tables c.self.inside.worklist c.reserve.new.self (notes_of c.self.inside.changes) (notes_of c.make_room.new.changes) (notes_of c.note.new.changes) c.args.key
+    c.in_ok-reserve.ensures.pending c.make_room.ensures.same
+    (c.note.ensures.noted (entry_at c.self.inside.tables c.reserve.new.self c.args.key) c.standing-before.ensures.entry))
+    (λ q other. entry-other c.self.inside.tables c.lower.new.self c.self.inside.worklist c.push.new.self q (same_key c.args.key q) _ _ other
+    ((c.in_ok-change.ensures.lowered (ap Ok change)).entries q)
+    (c.push.ensures.pending q ∙ ap (λ keys. same_key c.args.key q || list_any (same_key q) keys) c.in_ok-reserve.ensures.pending
+    ∙ or-cond (same_key c.args.key q) (list_any (same_key q) c.self.inside.worklist.pending))))
+
+pub returns-else-eq-clause-remembers : goal.returns-else-eq-clause-remembers
+returns-else-eq-clause-remembers g c =
+    let change : c.in_ok-change.change ≡ Change.Same = search rules in
+    rw (← c.self.view_is) (remembers-same _ _ c.make_room.ensures.same (c.in_ok-change.ensures.same (ap Ok change)) c.in_ok-reserve.ensures.pending)
+
+pub returns-in_err-change-clause-remembers : goal.returns-in_err-change-clause-remembers
+returns-in_err-change-clause-remembers g c =
+    rw (← c.self.view_is) (remembers-same _ _ c.make_room.ensures.same c.in_err-change.ensures.err c.in_ok-reserve.ensures.pending)
+
+pub returns-in_err-make_room-clause-remembers : goal.returns-in_err-make_room-clause-remembers
+returns-in_err-make_room-clause-remembers g c =
+    rw (← c.self.view_is) (remembers-same _ _ c.make_room.ensures.same refl c.in_ok-reserve.ensures.pending)
+
+pub returns-in_err-reserve-clause-remembers : goal.returns-in_err-reserve-clause-remembers
+returns-in_err-reserve-clause-remembers g c =
+    rw (← c.self.view_is) (remembers-same _ _ refl refl c.reserve.ensures.pending)

@@ -1,12 +1,14 @@
-use Rattle.std.proofs.Common.{◌≡◌, ◌+◌, ◌<◌, sym, ap, subst, ◌∙◌, add-one, arith, Ok, Some, length}
+use Rattle.std.proofs.Common.{◌≡◌, ◌+◌, ◌<◌, sym, ap, subst, ◌∙◌, add-one, arith, Ok, Some, length, refl}
 use Rattle.std.specs.Prelude.{slice_get}
-use Rattle.std.proofs.lemmas.Option.{slice_get_within}
+use Rattle.std.proofs.lemmas.Option.{slice_get_within, same_Some}
 use Rattle.ide_tables.specs.declared.tables.Change.{Change}
 use Rattle.ide_theory.specs.State.{part_done}
 use Rattle.ide_steps.specs.Steps.{KeepTasks}
 use Rattle.ide_steps.proofs.States.{state-counted, tasks-counted}
-use Rattle.ide_steps.specs.Core.{StandsIn}
+use Rattle.ide_steps.specs.Core.{StandsIn, CoreData}
 use Rattle.ide_steps.proofs.Nodes.{at-found, kept-done}
+use Rattle.ide_steps.specs.Changed.{Notes}
+use Rattle.ide_steps.proofs.Noted.{notes-on, remembers-on, remembers-same}
 use Rattle.ide_steps.proofs.machine.Core.next_part.Goals as goal
 use Rattle.ide_steps.proofs.machine.Core.next_part.Goals.{in-Lowered, in-Same}
 
@@ -83,3 +85,28 @@ pub invariant_of-self : goal.invariant_of-self
 invariant_of-self g c = λ loaded is.
     let kept = c.self.invariant loaded is in
     (kept.0, kept-done g.P.Problem.targets g.P.F.EdgeFn.edge loaded.graph c.self.inside.worklist c.set_done.new.self kept.1 c.args.hand c.done.result c.set_done.ensures.pending c.set_done.ensures.claims)
+
+pub returns-clause-notes : goal.returns-clause-notes
+returns-clause-notes g c = λ is part at.
+    let change : c.in_ok-change.change ≡ Change.Lowered =
+    elim c.match-change.branch [ in-Lowered w ↦ w.in-Lowered.is | in-Same w ↦ absurd (cc (is, w.result-is)) ] in
+    let same : c.in-Some.part ≡ part = same_Some _ _ (c.in-Some.ensures.next ∙ at) in
+    notes-on _ c.lower.new.self _ (Some part.0) (ap (λ (core : CoreData g.row.P-F.Denot). core.changes) c.self.view_is)
+    (subst (λ p. Notes c.args.self.now c.lower.new.self (Some p.0)) same (c.in_ok-change.ensures.notes (ap Ok change)))
+
+pub returns-clause-notes_none : goal.returns-clause-notes_none
+returns-clause-notes_none g c = λ is.
+    let change : c.in_ok-change.change ≡ Change.Same =
+    elim c.match-change.branch [ in-Lowered w ↦ absurd (cc (is, w.result-is)) | in-Same w ↦ w.in-Same.is ] in
+    ap (λ (core : CoreData g.row.P-F.Denot). core.changes) c.self.view_is ∙ (c.in_ok-change.ensures.still (ap Ok change)).changes
+
+pub returns-clause-remembers : goal.returns-clause-remembers
+returns-clause-remembers g c =
+    remembers-on _ c.lower.new.self _
+    (ap (λ (core : CoreData g.row.P-F.Denot). core.changes) c.self.view_is)
+    (ap (λ (core : CoreData g.row.P-F.Denot). core.table) c.self.view_is)
+    (c.set_done.ensures.pending ∙ ap (λ (core : CoreData g.row.P-F.Denot). core.pile.pending) c.self.view_is)
+    c.lower.ensures.remembers
+
+pub returns-in_default-clause-remembers : goal.returns-in_default-clause-remembers
+returns-in_default-clause-remembers g c = remembers-same _ _ refl refl refl

@@ -2,14 +2,14 @@ use Rattle.std.proofs.Common.{◌≡◌, ◌+◌, ◌<◌, ◌⊎◌, inl, inr, 
 use Rattle.ide_lattice.specs.Algebra.{EdgeAlgebra}
 use Rattle.ide_tasks.specs.Work.{WorkData}
 use Rattle.ide_theory.specs.State.{State}
-use Rattle.ide_steps.specs.Core.{CoreData}
+use Rattle.ide_steps.specs.Core.{CoreData, AllStandIn}
 use Rattle.ide_steps.specs.declared.part.Parted.{Parted}
 use Rattle.ide_steps.specs.declared.part.Parted.TheVariants.{Lowered, Same, NoPart}
 use Rattle.ide_steps.specs.State.{state_of}
 use Rattle.ide_steps.specs.Steps.{ArePartsDone, IsLowered, IsSkipped, KeepTasks, none_yet, then_lowered, then_skipped}
 use Rattle.ide_steps.proofs.Going.{same-problem, state-unchanged}
 use Rattle.ide_steps.proofs.States.{tasks-here, tasks-then, tasks-unchanged}
-use Rattle.ide_steps.specs.Core.{AllStandIn}
+use Rattle.ide_steps.proofs.Noted.{remembers-same, remembers-then}
 use Rattle.ide_steps.proofs.machine.Core.next_parts.Goals as goal
 
 -- work with no part more, and with one more than those counted
@@ -46,6 +46,7 @@ loop-count-init g c = record {
   parts = λ task at. none_yet;
   tasks = λ task at. tasks-here c.args.hand c.args.work.now.done task c.args.self.now.pile at;
   same = record { program = refl; graph = refl; roots = refl };
+  remembers = remembers-same _ _ refl refl refl;
   free = λ h free. free;
 }
 
@@ -76,6 +77,7 @@ loop-count-preserved g c =
           tasks-then c.args.hand before.done c.next_part.new.work.done c.args.self.now.pile c.loop-count.self.pile c.next_part.new.self.pile
           (c.loop-count.invariant.tasks task at) (ensures.tasks (some-part (Ok parted) parted refl some));
       same = same-problem g.P.L.Lattice.algebra B targets c.loop-count.invariant.same ensures.stays;
+      remembers = remembers-then _ _ _ c.loop-count.invariant.remembers ensures.remembers;
       free = λ h free. ensures.free h (c.loop-count.invariant.free h free);
     }
 
@@ -110,3 +112,9 @@ pub next_part-requires : goal.next_part-requires
 next_part-requires g c = λ graph is.
     subst (AllStandIn graph) (sym (ap (λ (w : WorkData g.row.P-F.Denot). w.parts) c.loop-count.invariant.done))
     (c.requires graph (sym c.loop-count.invariant.same.graph ∙ is))
+
+pub returns-in_err-next_part-clause-remembers : goal.returns-in_err-next_part-clause-remembers
+returns-in_err-next_part-clause-remembers g c = remembers-then _ _ _ c.loop-count.invariant.remembers c.next_part.ensures.remembers
+
+pub returns-then-eq-clause-remembers : goal.returns-then-eq-clause-remembers
+returns-then-eq-clause-remembers g c = remembers-then _ _ _ c.loop-count.invariant.remembers c.next_part.ensures.remembers

@@ -1,6 +1,7 @@
 use Rattle.std.proofs.Common.{◌≡◌, ◌+◌, ◌-◌, ◌≤◌, ℕ, None, Some, length}
 use Rattle.ide_tasks.specs.Task.{TaskData}
 use Rattle.ide_worklist.specs.Worklist.{claim_at}
+use Rattle.ide_steps.specs.Changed.{Remembers}
 use Rattle.ide_steps.specs.Core.{IsSameProblem}
 use Rattle.ide_steps.specs.State.{state_of}
 use Rattle.ide_steps.specs.Steps.{ArePartsDone, KeepTasks, progress_at}
@@ -20,5 +21,6 @@ invariant-loop-count g l = record {
   tasks : (task : TaskData g.row.P-F.Denot) → progress_at l.initial.self.pile l.hand ≡ Some (task, l.initial.work.done)
       → KeepTasks l.hand l.work.done l.initial.self.pile l.self.pile;
   same : IsSameProblem l.initial.self l.self;
+  remembers : Remembers l.initial.self l.self;
   free : (h : ℕ) → claim_at l.initial.self.pile h ≡ None → claim_at l.self.pile h ≡ None;
 }

@@ -1,8 +1,9 @@
-use Rattle.std.proofs.Common.{subst, sym}
+use Rattle.std.proofs.Common.{subst, sym, refl}
 use Rattle.ide_tasks.specs.Work.{WorkData}
 use Rattle.ide_steps.specs.Core.{CoreData}
 use Rattle.ide_steps.specs.Steps.{KeepTasks}
 use Rattle.ide_steps.proofs.States.{after-part, at-ok, tasks-here}
+use Rattle.ide_steps.proofs.Noted.{remembers-same}
 use Rattle.ide_steps.proofs.machine.Core.part.Goals as goal
 
 pub returns-clause-lowered : goal.returns-clause-lowered
@@ -31,3 +32,6 @@ pub next_part-requires : goal.next_part-requires
 next_part-requires g c =
     c.parts_are_inside.ensures c.args.work.now
     (record { claim = c.is_current.ensures.current.0 c.if-not-is_current.false; parts = c.is_current.ensures.owed c.if-not-is_current.false })
+
+pub returns-then-not-is_current-clause-remembers : goal.returns-then-not-is_current-clause-remembers
+returns-then-not-is_current-clause-remembers g c = remembers-same _ _ refl refl refl

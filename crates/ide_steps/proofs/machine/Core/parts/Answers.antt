@@ -1,5 +1,6 @@
-use Rattle.std.proofs.Common.{inr}
+use Rattle.std.proofs.Common.{inr, refl}
 use Rattle.ide_steps.specs.Steps.{none_yet}
+use Rattle.ide_steps.proofs.Noted.{remembers-same}
 use Rattle.ide_steps.proofs.machine.Core.parts.Goals as goal
 
 pub returns-then-is_current-clause-parts : goal.returns-then-is_current-clause-parts
@@ -19,3 +20,6 @@ pub next_parts-requires : goal.next_parts-requires
 next_parts-requires g c =
     c.parts_are_inside.ensures c.args.work.now
     (record { claim = c.is_current.ensures.current.0 c.if-is_current.true; parts = c.is_current.ensures.owed c.if-is_current.true })
+
+pub returns-else-is_current-clause-remembers : goal.returns-else-is_current-clause-remembers
+returns-else-is_current-clause-remembers g c = remembers-same _ _ refl refl refl

@@ -1,4 +1,4 @@
-use Rattle.std.proofs.Common.{◌≡◌, ◌<◌, ap, rules, subst, sym, ◌∙◌, Some}
+use Rattle.std.proofs.Common.{◌≡◌, ◌<◌, ap, rules, subst, sym, ◌∙◌, Some, refl}
 use Rattle.std.proofs.lemmas.Result.{err_from_is_err_and}
 use Rattle.std.proofs.lemmas.List.Elements.{All-weaker}
 use Rattle.std.proofs.lemmas.Option.{same_Some}
@@ -6,10 +6,11 @@ use Rattle.ide_wire.specs.Key.{node_of}
 use Rattle.ide_steps.specs.Core.{AllStandIn, StandsIn}
 use Rattle.ide_wire.specs.declared.refused.Refused.TheVariants.{NoMemory}
 use Rattle.ide_steps.specs.Refusal.{IsRootName, IsRootRefusal, RootFault, fault, memory, no_program}
-use Rattle.ide_steps.specs.Rooted.{with_entries}
+use Rattle.ide_steps.specs.Rooted.{with_entries, AllAbsent}
 use Rattle.ide_steps.specs.State.{state_of}
 use Rattle.ide_steps.proofs.Rooted.{begun}
 use Rattle.ide_steps.proofs.States.{handed-on}
+use Rattle.ide_steps.proofs.Noted.{remembers-same}
 use Rattle.ide_steps.proofs.machine.Core.root.Goals as goal
 
 pub returns-in_default-clause-refused : goal.returns-in_default-clause-refused
@@ -44,8 +45,8 @@ returns-in_err-begin-clause-refused g c =
     (memory graph c.in_ok-procedure.procedure is (subst (λ rs. IsRootName graph rs c.args.name.now c.in_ok-procedure.procedure) roots c.in_ok-procedure.ensures.root))
 
 -- the start is a node, and each of the jumps stands at it
-pub begin-requires : goal.begin-requires
-begin-requires g c = λ graph is.
+pub begin-requires-clause-inside : goal.begin-requires-clause-inside
+begin-requires-clause-inside g c = λ graph is.
     let there : c.args.self.now.graph ≡ Some c.deref.result.now.graph = search rules in
     let start = subst (λ g. c.start_of-start.result < g.nodes) (same_Some _ _ (sym there ∙ is)) c.start_of-start.ensures.within in
     subst (AllStandIn graph) (sym c.deref-2.ensures.value)
@@ -67,3 +68,15 @@ returns-clause-begun g c =
     c.in_ok-begin.ensures.program c.in_ok-begin.ensures.graph c.in_ok-begin.ensures.progress
     (c.in_ok-begin.ensures.state ∙ (ap (with_entries (state_of targets B c.args.self.now)) c.deref-2.ensures.value ∙ sym c.in_ok-jumps.ensures.entered))
     c.in_ok-begin.ensures.roots
+
+pub begin-requires-clause-absent : goal.begin-requires-clause-absent
+begin-requires-clause-absent g c = subst (AllAbsent c.args.self.now) (sym c.deref-2.ensures.value) c.in_ok-jumps.ensures.absent
+
+pub returns-in_default-clause-remembers : goal.returns-in_default-clause-remembers
+returns-in_default-clause-remembers g c = remembers-same _ _ refl refl refl
+
+pub returns-in_err-procedure-clause-remembers : goal.returns-in_err-procedure-clause-remembers
+returns-in_err-procedure-clause-remembers g c = remembers-same _ _ refl refl refl
+
+pub returns-in_err-jumps-clause-remembers : goal.returns-in_err-jumps-clause-remembers
+returns-in_err-jumps-clause-remembers g c = remembers-same _ _ refl refl refl

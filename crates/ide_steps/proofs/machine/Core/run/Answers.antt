@@ -11,6 +11,7 @@ use Rattle.ide_steps.specs.Drain.{IsPaidBy, left_by, lowerings_by, potential}
 use Rattle.ide_steps.specs.Going.{GoesOnBy}
 use Rattle.ide_steps.specs.Steps.{IsCurrent}
 use Rattle.ide_steps.proofs.Going.{goes-then, goes-finish, goes-lowered, goes-same, goes-skipped, goes-unchanged, parted-is, works-on}
+use Rattle.ide_steps.proofs.Noted.{remembers-same, remembers-then}
 use Rattle.ide_steps.proofs.machine.Core.run.Goals as goal
 
 -- the end of a task takes at most its key out, and takes it out where the flag says so
@@ -32,7 +33,7 @@ returns-clause-falls g c =
     let core = c.next_part.new.self in
     let here = (c.in_ok-next_part.ensures.no_part (search rules)).1 in
     let less = ended (2 * (2 ^ 64 * B.height - spent B core.table.entries)) (length c.end_claim.new.self.pile.pending) (length core.pile.pending)
-    (potential B c.args.self.now) (ends_key (claim_at core.pile 0)) c.end_claim.ensures.count
+    (potential B c.args.self.now) (ends_key (claim_at core.pile 0)) c.in_ok-end_claim.ensures.count
     (subst (λ core. (potential B core < potential B c.args.self.now)
     ⊎ ((potential B core ≡ potential B c.args.self.now) × (ends_key (claim_at core.pile 0) ≡ true)))
     (sym here) c.loop-work.invariant.1) in
@@ -41,7 +42,7 @@ returns-clause-falls g c =
 
 pub returns-clause-others : goal.returns-clause-others
 returns-clause-others g c = λ h other none.
-    c.end_claim.ensures.claims h
+    c.in_ok-end_claim.ensures.claims h
     ∙ ap (λ b. cond b None (claim_at c.next_part.new.self.pile h)) other
     ∙ c.in_ok-next_part.ensures.free h (c.loop-work.invariant.4 h other none)
 
@@ -60,7 +61,7 @@ returns-clause-goes g c =
     let fresh : left_by (claim_at start.pile 0) ≡ 0 = ap (λ b. cond b 0 1) c.requires.fresh in
     let due : length core.pile.pending + left_by (claim_at core.pile 0) ≤ length start.pile.pending + c.loop-work.invariant.0 = omega (arith, keys, fresh) in
     let paid = settled (length over.pile.pending) (length core.pile.pending) (length start.pile.pending + c.loop-work.invariant.0)
-    (ends_key (claim_at core.pile 0)) c.end_claim.ensures.count due in
+    (ends_key (claim_at core.pile 0)) c.in_ok-end_claim.ensures.count due in
     let ranks = by.ranks in
     let same = ap (λ t. spent B t.entries) c.end_claim.ensures.table in (
       c.loop-work.invariant.0 + 0,
@@ -69,7 +70,7 @@ returns-clause-goes g c =
           goes-then A B targets start core over
           (subst (GoesOnBy A B targets 0 0 c.loop-work.invariant.0 0 start) (sym done.1) now.1)
           (goes-finish A B targets core over 0 work c.end_claim.ensures.stays
-          (subst (λ s. IsCurrent targets B s 0 work) (sym done.1) now.0) done.0 c.end_claim.ensures.finished),
+          (subst (λ s. IsCurrent targets B s 0 work) (sym done.1) now.0) done.0 c.in_ok-end_claim.ensures.finished),
       record { keys = omega (arith, paid); ranks = omega (arith, ranks, same) },
     )
 
@@ -97,6 +98,7 @@ loop-work-init g c = (
   λ h other none. none,
   refl,
   refl,
+  remembers-same _ _ refl refl refl,
 )
 
 -- what was paid for before a part, and the part
@@ -123,6 +125,7 @@ loop-work-preserved g c =
     let pays : (parted : Parted) → c.in_ok-next_part.field-0 ≡ parted → IsPaidBy B 0 (before + lowerings_by parted) start new =
     λ parted is. paid-on B before (lowerings_by parted) start old new c.loop-work.invariant.3 (subst (λ p. IsPaidBy B 0 (lowerings_by p) old new) is ensures.paid) in
     let others : (h : ℕ) → nat_eq 0 h ≡ false → claim_at start.pile h ≡ None → claim_at new.pile h ≡ None = λ h other none. ensures.free h (c.loop-work.invariant.4 h other none) in
+    let remembers = remembers-then start old new c.loop-work.invariant.7 ensures.remembers in
     elim (parted-is c.in_ok-next_part.field-0) [
       | inl lowered ↦
           let is = ap Ok lowered in
@@ -142,6 +145,7 @@ loop-work-preserved g c =
             others,
             ensures.stays.graph ∙ c.loop-work.invariant.5,
             ap (λ (w : WorkData g.row.P-F.Denot). w.parts) (ensures.next (inl is)).1 ∙ c.loop-work.invariant.6,
+            remembers,
           )
       | inr other ↦ elim other [
         | inl same ↦
@@ -162,6 +166,7 @@ loop-work-preserved g c =
               others,
               ensures.stays.graph ∙ c.loop-work.invariant.5,
               ap (λ (w : WorkData g.row.P-F.Denot). w.parts) (ensures.next (inr is)).1 ∙ c.loop-work.invariant.6,
+              remembers,
             )
         | inr none ↦ absurd (search rules)
       ]
@@ -170,3 +175,36 @@ loop-work-preserved g c =
 pub next_part-requires : goal.next_part-requires
 next_part-requires g c = λ graph is.
     subst (AllStandIn graph) (sym c.loop-work.invariant.6) (c.requires.inside graph (sym c.loop-work.invariant.5 ∙ is))
+
+pub returns-in_err-end_claim-clause-others : goal.returns-in_err-end_claim-clause-others
+returns-in_err-end_claim-clause-others g c = λ h other none.
+    ap (λ (core : CoreData g.row.P-F.Denot). claim_at core.pile h) c.in_err-end_claim.ensures.unchanged
+    ∙ c.in_ok-next_part.ensures.free h (c.loop-work.invariant.4 h other none)
+
+-- a claim that could not be ended is as it was
+pub returns-in_err-end_claim-clause-goes : goal.returns-in_err-end_claim-clause-goes
+returns-in_err-end_claim-clause-goes g c =
+    let A = g.P.L.Lattice.algebra in
+    let B = g.P.F.EdgeFn.edge in
+    let targets = g.P.Problem.targets in
+    let start = c.args.self.now in
+    let core = c.next_part.new.self in
+    let done = c.in_ok-next_part.ensures.no_part (search rules) in (
+      c.loop-work.invariant.0 + 0,
+      λ working.
+          goes-then A B targets start core c.end_claim.new.self
+          (subst (GoesOnBy A B targets 0 0 c.loop-work.invariant.0 0 start) (sym done.1) (c.loop-work.invariant.2 working).1)
+          (goes-same A B targets 0 core c.end_claim.new.self c.in_err-end_claim.ensures.unchanged),
+      search rules,
+    )
+
+pub returns-in_err-end_claim-clause-remembers : goal.returns-in_err-end_claim-clause-remembers
+returns-in_err-end_claim-clause-remembers g c =
+    remembers-then _ c.next_part.new.self _ (remembers-then _ _ _ c.loop-work.invariant.7 c.next_part.ensures.remembers) c.end_claim.ensures.remembers
+
+pub returns-clause-remembers : goal.returns-clause-remembers
+returns-clause-remembers g c =
+    remembers-then _ c.next_part.new.self _ (remembers-then _ _ _ c.loop-work.invariant.7 c.next_part.ensures.remembers) c.end_claim.ensures.remembers
+
+pub returns-in_err-next_part-clause-remembers : goal.returns-in_err-next_part-clause-remembers
+returns-in_err-next_part-clause-remembers g c = remembers-then _ _ _ c.loop-work.invariant.7 c.next_part.ensures.remembers

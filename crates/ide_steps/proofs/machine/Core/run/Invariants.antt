@@ -1,6 +1,7 @@
 use Rattle.std.proofs.Common.{◌≡◌, ◌-◌, ◌<◌, ◌⊎◌, ℕ, None, true, false, length}
 use Rattle.std.specs.Prelude.{nat_eq}
 use Rattle.ide_worklist.specs.Worklist.{claim_at, ends_key}
+use Rattle.ide_steps.specs.Changed.{Remembers}
 use Rattle.ide_steps.specs.Drain.{IsPaidBy, potential}
 use Rattle.ide_steps.specs.Going.{GoesOnBy}
 use Rattle.ide_steps.specs.Steps.{IsCurrent}
@@ -20,6 +21,7 @@ invariant-loop-work g l =
     × ((h : ℕ) → nat_eq 0 h ≡ false → claim_at l.initial.self.pile h ≡ None → claim_at l.self.pile h ≡ None)
     × (l.self.graph ≡ l.initial.self.graph)
     × (l.work.parts ≡ l.initial.work.parts)
+    × Remembers l.initial.self l.self
 
 abbrev pub decreases-loop-work : goal.decreases-loop-work
 decreases-loop-work g l = length l.work.parts - l.work.done

@@ -1,6 +1,7 @@
 use Rattle.std.proofs.Common.{◌+◌, cond, refl, subst, arith}
 use Rattle.ide_steps.specs.Drain.{GoesOnPaid}
 use Rattle.ide_steps.proofs.Going.{goes-on, goes-on-then, paid-same, paid-then}
+use Rattle.ide_steps.proofs.Noted.{remembers-same, remembers-then}
 use Rattle.ide_steps.proofs.machine.Core.run_all.Goals as goal
 
 pub returns-in_err-run_next-clause-goes : goal.returns-in_err-run_next-clause-goes
@@ -32,6 +33,7 @@ pub loop-tasks-init : goal.loop-tasks-init
 loop-tasks-init g c = (
   (0, refl, paid-same g.P.L.Lattice.algebra g.P.F.EdgeFn.edge g.P.Problem.targets c.args.self.now c.args.self.now refl),
   c.requires.free,
+  remembers-same _ _ refl refl refl,
 )
 
 pub loop-tasks-preserved : goal.loop-tasks-preserved
@@ -49,4 +51,11 @@ loop-tasks-preserved g c =
             (subst (λ b. GoesOnPaid A B targets (cond b 1 0) c.loop-tasks.self c.run_next.new.self) c.if-branch.true c.in_ok-run_next.ensures.claims),
       ),
       c.in_ok-run_next.ensures.free,
+      remembers-then _ _ _ c.loop-tasks.invariant.2 c.run_next.ensures.remembers,
     )
+
+pub returns-in_err-run_next-clause-remembers : goal.returns-in_err-run_next-clause-remembers
+returns-in_err-run_next-clause-remembers g c = remembers-then _ _ _ c.loop-tasks.invariant.2 c.run_next.ensures.remembers
+
+pub returns-clause-remembers : goal.returns-clause-remembers
+returns-clause-remembers g c = remembers-then _ _ _ c.loop-tasks.invariant.2 c.run_next.ensures.remembers

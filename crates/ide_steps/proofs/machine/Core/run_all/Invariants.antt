@@ -1,6 +1,7 @@
 use Rattle.std.proofs.Common.{◌≡◌, ◌-◌, ◌^◌, ℕ}
 use Rattle.std.specs.Prelude.{min}
 use Rattle.ide_worklist.specs.Worklist.{IsFree}
+use Rattle.ide_steps.specs.Changed.{Remembers}
 use Rattle.ide_steps.specs.Drain.{GoesOnPaid, potential}
 use Rattle.ide_steps.proofs.machine.Core.run_all.Given as goal
 
@@ -10,6 +11,7 @@ abbrev pub invariant-loop-tasks : goal.invariant-loop-tasks
 invariant-loop-tasks g l =
     ((claims : ℕ) × (l.tasks ≡ min claims (2 ^ 64 - 1)) × GoesOnPaid g.P.L.Lattice.algebra g.P.F.EdgeFn.edge g.P.Problem.targets claims l.initial.self l.self)
     × IsFree l.self.pile
+    × Remembers l.initial.self l.self
 
 abbrev pub decreases-loop-tasks : goal.decreases-loop-tasks
 decreases-loop-tasks g l = potential g.P.F.EdgeFn.edge l.self

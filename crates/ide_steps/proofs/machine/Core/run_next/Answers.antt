@@ -4,6 +4,7 @@ use Rattle.ide_tasks.specs.Parts.{owed}
 use Rattle.ide_steps.specs.Going.{GoesOnBy}
 use Rattle.ide_steps.proofs.Free.{free-after}
 use Rattle.ide_steps.proofs.Going.{goes-more, goes-on, goes-on-then, paid-task}
+use Rattle.ide_steps.proofs.Noted.{remembers-then}
 use Rattle.ide_steps.proofs.machine.Core.run_next.Goals as goal
 
 pub returns-in-Ok-clause-free : goal.returns-in-Ok-clause-free
@@ -51,3 +52,6 @@ run-requires-clause-inside g c =
       claim = progress ∙ (λ i. Some (sym task i, sym c.in-Ok.ensures.none_done i));
       parts = c.in-Ok.ensures.parts ∙ ap (owed g.P.Problem.targets g.P.F.EdgeFn.edge) (sym task);
     })
+
+pub returns-in-Ok-clause-remembers : goal.returns-in-Ok-clause-remembers
+returns-in-Ok-clause-remembers g c = remembers-then _ _ _ c.take_next.ensures.remembers c.run.ensures.remembers

@@ -4,6 +4,7 @@ use Rattle.ide_wire.specs.declared.refused.Refused.TheVariants.{NoMemory}
 use Rattle.ide_steps.proofs.Free.{claim-wants, some-unclaimed}
 use Rattle.ide_steps.proofs.Going.{goes-on, goes-same, goes-unchanged}
 use Rattle.ide_steps.proofs.States.{handed-on}
+use Rattle.ide_steps.proofs.Noted.{remembers-same}
 use Rattle.ide_steps.proofs.machine.Core.take_next.Goals as goal
 
 pub returns-in_err-task-clause-goes : goal.returns-in_err-task-clause-goes
@@ -47,3 +48,15 @@ returns-in_err-task-clause-refused g c =
     let p = err_from_is_err_and c.from_residual.result c.from_residual.ensures.1 in
     handed-on (λ e. e ≡ NoMemory) c.from_residual.result c.in_err-task.field-0.0 p.0 p.1 p.2
     (claim-wants {F = g.row.P-F.Denot} c.args.self.now c.requires.loaded c.requires.free c.in_err-task.ensures.refused)
+
+pub returns-in_err-task-clause-remembers : goal.returns-in_err-task-clause-remembers
+returns-in_err-task-clause-remembers g c = remembers-same _ _ c.claim.ensures.changes c.claim.ensures.table c.claim.ensures.pending
+
+pub returns-in-Task-clause-remembers : goal.returns-in-Task-clause-remembers
+returns-in-Task-clause-remembers g c = remembers-same _ _ c.claim.ensures.changes c.claim.ensures.table c.claim.ensures.pending
+
+pub returns-in-Idle-clause-remembers : goal.returns-in-Idle-clause-remembers
+returns-in-Idle-clause-remembers g c = remembers-same _ _ c.claim.ensures.changes c.claim.ensures.table c.claim.ensures.pending
+
+pub returns-in-Quiet-clause-remembers : goal.returns-in-Quiet-clause-remembers
+returns-in-Quiet-clause-remembers g c = remembers-same _ _ c.claim.ensures.changes c.claim.ensures.table c.claim.ensures.pending

@@ -1,0 +1,262 @@
+-- That what is noted tells what each key's entry was.
+use Rattle.std.proofs.Common.{◌≡◌, ℕ, ◌+◌, ◌≤◌, refl, sym, ap, subst, ◌∙◌, arith, Bool, true, false, cond, ◌||◌, List, [], ◌∷◌, ◌++◌, length, Option, None, Some}
+use Rattle.std.specs.Prelude.{not, unwrap_or, ◌&&◌, Result, Ok, Err, OnOk, IsOk}
+use Rattle.std.specs.List.{All, list_any}
+use Rattle.std.proofs.lemmas.List.Elements.{All-head, All-tail}
+use Rattle.std.specs.Map.{keys_of, lookup}
+use Rattle.std.specs.Option.{is_some}
+use Rattle.std.proofs.lemmas.List.{length-append}
+use Rattle.indexmap.specs.IndexMap.{IndexMap, get, insert_entry}
+use Rattle.indexmap.proofs.CallerLemmas.{insert_entry-new}
+use Rattle.ide_tables.specs.Tables.{Table, found, last_of}
+use Rattle.ide_wire.specs.Key.{same_key, same_key_exact, same_key_symm}
+use Rattle.ide_wire.specs.declared.key.Key.{Key}
+use Rattle.ide_worklist.specs.Worklist.{Pile, ends, is_pending}
+use Rattle.ide_worklist.specs.declared.claim.Claim.{Claim}
+use Rattle.ide_steps.specs.declared.changes.Entry.{Entry}
+use Rattle.ide_steps.specs.Changed.{HasRoom, Notes, Remembers, ended_key, entry_at, entry_of, grows, is_touched, noted, noted_after, noted_count, or_else, with_change, with_note}
+use Rattle.ide_steps.specs.Core.{CoreData, IsUnchanged}
+use Rattle.ide_steps.proofs.Entries.{last_of-other}
+
+or-none : {X : Type 0} (o : Option X) → or_else o None ≡ o
+or-none None = refl
+or-none (Some x) = refl
+
+-- what is looked up in a list with one entry more
+lookup-more : {X : Type 0} (test : Key → Bool) (es : List (Key × X)) (key : Key) (x : X)
+    → lookup test (es ++ (key, x) ∷ []) ≡ or_else (lookup test es) (cond (test key) (Some x) None)
+lookup-more test [] key x = refl
+lookup-more test (e ∷ es) key x =
+    elim (test e.0) as (λ b. cond b (Some e.1) (lookup test (es ++ (key, x) ∷ [])) ≡ or_else (cond b (Some e.1) (lookup test es)) (cond (test key) (Some x) None)) [
+      | true ↦ refl
+      | false ↦ lookup-more test es key x
+    ]
+
+pub not-some : {X : Type 0} (o : Option X) → is_some o ≡ false → o ≡ None
+not-some None is = refl
+not-some (Some x) is = absurd (cc (is))
+
+-- what holds at Ok holds of an answer that is Ok
+pub on-ok : {T E P : Type 0} (r : Result T E) → OnOk r P → IsOk r → P
+on-ok (Ok x) p is = p
+on-ok (Err e) p is = absurd (cc (is))
+
+-- the end of a claim takes no other key out
+pub end-kept : {T : Type 0} (o : Option (Claim T)) (q : Key) (waits : Bool) → is_touched (ended_key o) q ≡ false → (not (ends o q) && waits) ≡ waits
+end-kept None q waits other = refl
+end-kept (Some claim) q waits other =
+    elim claim.lowered as (λ b. is_touched (cond b None (Some claim.key)) q ≡ false → (not (not b && same_key claim.key q) && waits) ≡ waits) [
+      | true ↦ λ _. refl
+      | false ↦ λ no. ap (λ b. not b && waits) no
+    ] other
+
+or-or : {X : Type 0} (o : Option X) (first later : Bool) (x : X)
+    → or_else (or_else o (cond first (Some x) None)) (cond later (Some x) None) ≡ or_else o (cond (later || first) (Some x) None)
+or-or (Some y) first later x = refl
+or-or None true true x = refl
+or-or None true false x = refl
+or-or None false true x = refl
+or-or None false false x = refl
+
+module _ {F : Type 0} where
+  -- a new key goes last
+  pub added : {S : Type 0} (map : IndexMap Key (Entry F) S) (entries : List (Key × Entry F)) (key : Key) (entry : Entry F) → get same_key map key ≡ None
+      → entries ≡ insert_entry same_key map.entries key entry → Some entries ≡ with_note (Some map.entries) key entry
+  added map entries key entry none is =
+      ap (λ es. Some es) (is ∙ insert_entry-new same_key map key entry none)
+      ∙ sym (ap (λ o. Some (cond (is_some o) map.entries (map.entries ++ (key, entry) ∷ []))) none)
+
+  -- the entry of the same key
+  entry-same : (key q : Key) (entry : Key → Entry F) → cond (same_key q key) (Some (entry key)) None ≡ cond (same_key key q) (Some (entry q)) None
+  entry-same key q entry =
+      ap (λ b. cond b (Some (entry key)) None) (same_key_symm q key)
+      ∙ elim (same_key key q) as (λ b. same_key key q ≡ b → cond b (Some (entry key)) None ≡ cond b (Some (entry q)) None) [
+        | true ↦ λ same. ap (λ k. Some (entry k)) (same_key_exact key q same)
+        | false ↦ λ other. refl
+      ] refl
+
+  -- one note more is one of its key
+  pub noted-with : (notes : Option (List (Key × Entry F))) (key : Key) (entry : Key → Entry F) (q : Key)
+      → noted (with_note notes key (entry key)) q ≡ noted_after notes (same_key key q) (entry q) q
+  noted-with None key entry q = refl
+  noted-with (Some list) key entry q =
+      elim (lookup (same_key key) list) as (λ o. lookup (same_key key) list ≡ o
+      → lookup (same_key q) (cond (is_some o) list (list ++ (key, entry key) ∷ [])) ≡ or_else (lookup (same_key q) list) (cond (same_key key q) (Some (entry q)) None)) [
+        | Some x ↦ λ there. known x there (same_key key q) refl
+        | None ↦ λ none. lookup-more (same_key q) list key (entry key) ∙ ap (or_else (lookup (same_key q) list)) (entry-same key q entry)
+      ] refl
+    where
+      known : (x : Entry F) → lookup (same_key key) list ≡ Some x → (b : Bool) → same_key key q ≡ b
+          → lookup (same_key q) list ≡ or_else (lookup (same_key q) list) (cond b (Some (entry q)) None)
+      known x there true same =
+          let here : lookup (same_key q) list ≡ Some x = ap (λ k. lookup (same_key k) list) (sym (same_key_exact key q same)) ∙ there in
+          here ∙ sym (ap (λ o. or_else o (Some (entry q))) here)
+      known x there false other = sym (or-none (lookup (same_key q) list))
+
+  -- nothing is noted later
+  after-none : (notes : Option (List (Key × Entry F))) (entry : Entry F) (q : Key) → noted notes q ≡ noted_after notes false entry q
+  after-none None entry q = refl
+  after-none (Some list) entry q = sym (or-none (lookup (same_key q) list))
+
+  change-noted : (notes : Option (List (Key × Entry F))) (changed : Option Key) (entry : Key → Entry F) (q : Key)
+      → noted (with_change notes changed entry) q ≡ noted_after notes (is_touched changed q) (entry q) q
+  change-noted notes None entry q = after-none notes (entry q) q
+  change-noted notes (Some key) entry q = noted-with notes key entry q
+
+  noting-with : (notes : Option (List (Key × Entry F))) (key : Key) (entry : Entry F) → is_some (with_note notes key entry) ≡ is_some notes
+  noting-with None key entry = refl
+  noting-with (Some list) key entry = refl
+
+  change-noting : (notes : Option (List (Key × Entry F))) (changed : Option Key) (entry : Key → Entry F) → is_some (with_change notes changed entry) ≡ is_some notes
+  change-noting notes None entry = refl
+  change-noting notes (Some key) entry = noting-with notes key (entry key)
+
+  change-counted : (notes : Option (List (Key × Entry F))) (changed : Option Key) (entry : Key → Entry F)
+      → noted_count (with_change notes changed entry) ≡ noted_count notes + grows notes changed
+  change-counted notes None entry = omega arith
+  change-counted None (Some key) entry = omega arith
+  change-counted (Some list) (Some key) entry =
+      elim (is_some (lookup (same_key key) list)) as (λ b. length (cond b list (list ++ (key, entry key) ∷ [])) ≡ length list + cond b 0 1) [
+        | true ↦ omega arith
+        | false ↦ length-append list ((key, entry key) ∷ [])
+      ]
+
+  -- the key that changes is noted
+  pub notes-change : (old new : CoreData F) (changed : Option Key) → new.changes ≡ with_change old.changes changed (entry_of old) → Notes old new changed
+  notes-change old new changed is = record { changes = is; count = ap noted_count is ∙ change-counted old.changes changed (entry_of old) }
+
+  after-keeps : (notes : Option (List (Key × Entry F))) (later : Bool) (entry : Entry F) (q : Key) → is_some (noted notes q) ≡ true
+      → is_some (noted_after notes later entry q) ≡ true
+  after-keeps None later entry q is = is
+  after-keeps (Some list) later entry q is =
+      elim (lookup (same_key q) list) as (λ o. is_some o ≡ true → is_some (or_else o (cond later (Some entry) None)) ≡ true) [
+        | Some x ↦ λ _. refl
+        | None ↦ λ no. absurd (cc (no))
+      ] is
+
+  after-entry : (notes : Option (List (Key × Entry F))) (later : Bool) (before now : Entry F) (q : Key) → is_some notes ≡ true → (later ≡ false → now ≡ before)
+      → unwrap_or (noted_after notes later before q) now ≡ unwrap_or (noted notes q) before
+  after-entry None later before now q some stays = absurd (cc (some))
+  after-entry (Some list) later before now q some stays =
+      elim (lookup (same_key q) list) as (λ o. unwrap_or (or_else o (cond later (Some before) None)) now ≡ unwrap_or o before) [
+        | Some x ↦ refl
+        | None ↦ elim later as (λ b. (b ≡ false → now ≡ before) → unwrap_or (cond b (Some before) None) now ≡ before) [ true ↦ λ _. refl | false ↦ λ is. is refl ] stays
+      ]
+
+  -- entries that change are noted as they were
+  pub remembers-noted : (old new : CoreData F) (later : Key → Bool) → is_some new.changes ≡ is_some old.changes
+      → ((q : Key) → noted new.changes q ≡ noted_after old.changes (later q) (entry_of old q) q)
+      → ((q : Key) → later q ≡ false → entry_of new q ≡ entry_of old q) → Remembers old new
+  remembers-noted old new later noting is stays = record {
+    noting = noting;
+    keeps = λ q there. subst (λ o. is_some o ≡ true) (sym (is q)) (after-keeps old.changes (later q) (entry_of old q) q there);
+    entries = λ some q.
+        ap (λ o. unwrap_or o (entry_of new q)) (is q) ∙ after-entry old.changes (later q) (entry_of old q) (entry_of new q) q some (stays q);
+  }
+
+  pub remembers-change : (old new : CoreData F) (changed : Option Key) → new.changes ≡ with_change old.changes changed (entry_of old)
+      → ((q : Key) → is_touched changed q ≡ false → entry_of new q ≡ entry_of old q) → Remembers old new
+  remembers-change old new changed is stays =
+      remembers-noted old new (is_touched changed) (ap is_some is ∙ change-noting old.changes changed (entry_of old))
+      (λ q. ap (λ notes. noted notes q) is ∙ change-noted old.changes changed (entry_of old) q) stays
+
+  -- an image and notes that are as they were
+  pub remembers-same : (old new : CoreData F) → new.changes ≡ old.changes → new.table ≡ old.table → new.pile.pending ≡ old.pile.pending → Remembers old new
+  remembers-same old new changes table pending =
+      remembers-change old new None changes (λ q _. λ i. record { function = found (table i) q; pending = list_any (same_key q) (pending i) })
+
+  pub remembers-unchanged : (old new : CoreData F) → IsUnchanged old new → Remembers old new
+  remembers-unchanged old new is = remembers-same old new is.changes is.table is.pending
+
+  pub remembers-equal : (old new : CoreData F) → new ≡ old → Remembers old new
+  remembers-equal old new is =
+      remembers-same old new (ap (λ (c : CoreData F). c.changes) is) (ap (λ (c : CoreData F). c.table) is) (ap (λ (c : CoreData F). c.pile.pending) is)
+
+  pub remembers-then : (old mid new : CoreData F) → Remembers old mid → Remembers mid new → Remembers old new
+  remembers-then old mid new first next = record {
+    noting = next.noting ∙ first.noting;
+    keeps = λ key there. next.keeps key (first.keeps key there);
+    entries = λ some key. next.entries (first.noting ∙ some) key ∙ first.entries some key;
+  }
+
+  -- what is noted and the image are as they were from then on
+  pub remembers-on : (old mid new : CoreData F) → new.changes ≡ mid.changes → new.table ≡ mid.table → new.pile.pending ≡ mid.pile.pending
+      → Remembers old mid → Remembers old new
+  remembers-on old mid new changes table pending first = remembers-then old mid new first (remembers-same mid new changes table pending)
+
+  pub notes-on : (old mid new : CoreData F) (changed : Option Key) → new.changes ≡ mid.changes → Notes old mid changed → Notes old new changed
+  notes-on old mid new changed changes is = record { changes = changes ∙ is.changes; count = ap noted_count changes ∙ is.count }
+
+  -- an entry that is noted once there is room
+  pub noted-once : {T : Type 0} (table : Table F) (pile mid : Pile T) (start room new : Option (List (Key × Entry F))) (key : Key) → mid.pending ≡ pile.pending
+      → room ≡ start → new ≡ with_note room key (entry_at table mid key) → new ≡ with_note start key (entry_at table pile key)
+  noted-once table pile mid start room new key pending same is =
+      is ∙ (λ i. with_note (same i) key (record { function = found table key; pending = list_any (same_key key) (pending i) }))
+
+  -- another key than the one that changes
+  pub entry-other : {T : Type 0} (table new_table : Table F) (pile new_pile : Pile T) (q : Key) (here : Bool) (f : Option F) (waits : Bool) → here ≡ false
+      → found new_table q ≡ cond here f (found table q) → is_pending new_pile q ≡ cond here waits (is_pending pile q)
+      → entry_at new_table new_pile q ≡ entry_at table pile q
+  entry-other table new_table pile new_pile q here f waits other function pending =
+      let functions : found new_table q ≡ found table q = function ∙ ap (λ b. cond b f (found table q)) other in
+      let waiting : is_pending new_pile q ≡ is_pending pile q = pending ∙ ap (λ b. cond b waits (is_pending pile q)) other in
+      λ i. record { function = functions i; pending = waiting i }
+
+  -- a later note of an entry that was
+  pub after-same : (notes : Option (List (Key × Entry F))) (later : Bool) (e f : Entry F) (q : Key) → (later ≡ true → e ≡ f)
+      → noted_after notes later e q ≡ noted_after notes later f q
+  after-same None later e f q same = refl
+  after-same (Some list) later e f q same =
+      elim later as (λ b. (b ≡ true → e ≡ f) → or_else (lookup (same_key q) list) (cond b (Some e) None) ≡ or_else (lookup (same_key q) list) (cond b (Some f) None)) [
+        | true ↦ λ is. ap (λ x. or_else (lookup (same_key q) list) (Some x)) (is refl)
+        | false ↦ λ _. refl
+      ] same
+
+  -- a key among absent ones is absent
+  pub absent-among : (table : Table F) (es : List (Key × F)) (q : Key) → All (λ e. found table e.0 ≡ None) es → list_any (same_key q) (keys_of es) ≡ true
+      → found table q ≡ None
+  absent-among table [] q absent is = absurd (cc (is))
+  absent-among table (e ∷ es) q absent is =
+      elim (same_key q e.0) as (λ b. same_key q e.0 ≡ b → (b || list_any (same_key q) (keys_of es)) ≡ true → found table q ≡ None) [
+        | true ↦ λ same _. ap (found table) (same_key_exact q e.0 same) ∙ All-head (λ (e : Key × F). found table e.0 ≡ None) e es absent
+        | false ↦ λ _ rest. absent-among table es q (All-tail (λ (e : Key × F). found table e.0 ≡ None) e es absent) rest
+      ] refl is
+
+  -- keys that were absent are noted so, and no other entry changes
+  pub remembers-entered : {T : Type 0} (table : Table F) (pile mid : Pile T) (start room : Option (List (Key × Entry F))) (es : List (Key × F)) (new : Option (List (Key × Entry F)))
+      → All (λ e. found table e.0 ≡ None) es → mid.pending ≡ pile.pending → room ≡ start
+      → ((q : Key) → noted new q ≡ noted_after room (list_any (same_key q) (keys_of es)) (record { function = None; pending = is_pending mid q }) q)
+      → (q : Key) → noted new q ≡ noted_after start (list_any (same_key q) (keys_of es)) (entry_at table pile q) q
+  remembers-entered table pile mid start room es new absent pending same is q =
+      is q ∙ (λ i. noted_after (same i) (list_any (same_key q) (keys_of es)) (record { function = None; pending = list_any (same_key q) (pending i) }) q)
+      ∙ after-same start (list_any (same_key q) (keys_of es)) (record { function = None; pending = is_pending pile q }) (entry_at table pile q) q
+      (λ among. let none : found table q ≡ None = absent-among table es q absent among in λ i. record { function = sym none i; pending = is_pending pile q })
+
+  pub entered-other : {T : Type 0} (table new_table : Table F) (pile new_pile : Pile T) (es : List (Key × F)) (q : Key) → list_any (same_key q) (keys_of es) ≡ false
+      → found new_table q ≡ last_of es q (found table q) → is_pending new_pile q ≡ (list_any (same_key q) (keys_of es) || is_pending pile q)
+      → entry_at new_table new_pile q ≡ entry_at table pile q
+  entered-other table new_table pile new_pile es q other function pending =
+      let functions : found new_table q ≡ found table q = function ∙ last_of-other es q (found table q) other in
+      let waiting : is_pending new_pile q ≡ is_pending pile q = pending ∙ ap (λ b. b || is_pending pile q) other in
+      λ i. record { function = functions i; pending = waiting i }
+
+  -- notes after notes
+  pub after-after : (start mid : Option (List (Key × Entry F))) (first later : Bool) (entry : Entry F) (q : Key) → is_some mid ≡ is_some start
+      → noted mid q ≡ noted_after start first entry q → noted_after mid later entry q ≡ noted_after start (later || first) entry q
+  after-after None None first later entry q noting is = refl
+  after-after None (Some list) first later entry q noting is = absurd (cc (noting))
+  after-after (Some list) None first later entry q noting is = absurd (cc (noting))
+  after-after (Some list) (Some more) first later entry q noting is =
+      ap (λ o. or_else o (cond later (Some entry) None)) is ∙ or-or (lookup (same_key q) list) first later entry
+
+  -- room for some is room for fewer
+  pub room-fewer : {S : Type 0} (m n : ℕ) (map : Option (IndexMap Key (Entry F) S)) → m ≤ n → HasRoom n map → HasRoom m map
+  room-fewer m n None few room = tt
+  room-fewer m n (Some map) few room = omega (arith, few, room)
+
+  -- before any
+  pub after-nothing : (start : Option (List (Key × Entry F))) (entry : Entry F) (q : Key) → noted start q ≡ noted_after start false entry q
+  after-nothing = after-none
+
+  pub noting-one : (notes : Option (List (Key × Entry F))) (key : Key) (entry : Entry F) → is_some (with_note notes key entry) ≡ is_some notes
+  noting-one = noting-with
