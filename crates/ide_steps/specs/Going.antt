@@ -41,4 +41,3 @@ module _ {F L : Type 0} (A : LatticeAlgebra L) (B : EdgeAlgebra F L) (targets : 
     pub lowerings : ℕ
     pub releases : ℕ
     pub by : GoesOnBy hand claims lowerings releases old new
-
