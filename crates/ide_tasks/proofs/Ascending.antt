@@ -1,13 +1,8 @@
--- In sources that ascend by the fact reached, those that reach one fact stand together.
-use Rattle.std.proofs.Common.{◌≡◌, ℕ, zero, suc, ◌+◌, ◌-◌, ◌<◌, ◌≤◌, true, false, cond, List, [], ◌∷◌, ◌++◌, length, get_or, take, drop, map, sym, subst, ap, ◌∙◌, refl, arith}
-use Rattle.std.specs.Prelude.{nat_eq, nat_lt, filter, Some, slice_get, slice_index, slice_index_or}
-use Rattle.std.specs.List.{All, AllWithin}
-use Rattle.std.specs.List.Sorted.{IsNonDecreasingBy}
+-- Sources of procedures, one procedure after the other.
+use Rattle.std.proofs.Common.{◌≡◌, ℕ, zero, suc, ◌+◌, ◌-◌, ◌<◌, List, [], ◌∷◌, ◌++◌, length, get_or, take, drop, sym, subst, ap, ◌∙◌, arith}
+use Rattle.std.specs.Prelude.{Some, slice_get, slice_index, slice_index_or}
 use Rattle.std.proofs.Math.Seq.{take-length}
-use Rattle.std.proofs.lemmas.Bool.Decides.{nat_tests}
-use Rattle.std.proofs.lemmas.List.{append-nil, get_or-take, get_or-drop, get_or_default, length-take-le, length-drop, take-append-drop, take_more, map-append, length-append}
-use Rattle.std.proofs.lemmas.List.Elements.{filter-append}
-use Rattle.std.proofs.lemmas.List.Sorted.{IsNonDecreasingBy-drop}
+use Rattle.std.proofs.lemmas.List.{get_or_default, length-drop, length-append}
 use Rattle.std.proofs.lemmas.Option.{get_or_from_slice_get}
 use Rattle.ide_graph.specs.Exits.{HasFewCallers}
 use Rattle.ide_graph.specs.Supergraph.{Supergraph}
@@ -15,84 +10,6 @@ use Rattle.ide_graph.specs.declared.site.Site.{Site}
 use Rattle.ide_problem.specs.Flow.{Targets}
 use Rattle.ide_tasks.specs.declared.sources.Source.{Source}
 use Rattle.ide_tasks.specs.Sources.{reaching_of, sources_at}
-
--- numbers that one order tells apart are not the same
-pub apart_below : (x fact : ℕ) → nat_lt x fact ≡ true → nat_eq x fact ≡ false
-apart_below x fact h = grind (arith, nat_tests, h)
-
-pub apart_above : (x fact : ℕ) → fact < x → nat_eq x fact ≡ false
-apart_above x fact h = grind (arith, nat_tests, h)
-
--- a number that is not below another is at least it
-pub at_least : (x fact : ℕ) → nat_lt x fact ≡ false → fact ≤ x
-at_least x fact h = grind (arith, nat_tests, h)
-
-module _ {F : Type 0} (fact : ℕ) where
-  none_reach : (xs : List (Source F)) → All (λ source. nat_eq source.reached fact ≡ false) xs → reaching_of fact xs ≡ []
-  none_reach [] apart = refl
-  none_reach (x ∷ xs) apart =
-      ap (λ b. map (λ source. source.from) (cond b (x ∷ filter (λ source. nat_eq source.reached fact) xs) (filter (λ source. nat_eq source.reached fact) xs)))
-      (apart 0 x (omega arith))
-      ∙ none_reach xs (λ k d h. apart (suc k) d (omega (arith, h)))
-
-  reaching-append : (xs ys : List (Source F)) → reaching_of fact (xs ++ ys) ≡ reaching_of fact xs ++ reaching_of fact ys
-  reaching-append xs ys =
-      ap (map (λ source. source.from)) (filter-append (λ source. nat_eq source.reached fact) xs ys)
-      ∙ map-append (λ source. source.from) (filter (λ source. nat_eq source.reached fact) xs) (filter (λ source. nat_eq source.reached fact) ys)
-
-  -- a source more that reaches the fact
-  pub reaches_more : (xs : List (Source F)) (i : ℕ) (x : Source F) → i < length xs → x ≡ get_or xs i x → nat_eq x.reached fact ≡ true
-      → reaching_of fact (take (i + 1) xs) ≡ reaching_of fact (take i xs) ++ x.from ∷ []
-  reaches_more xs i x within is reaches =
-      ap (reaching_of fact) (take_more xs i x within ∙ ap (λ y. take i xs ++ y ∷ []) (sym is))
-      ∙ reaching-append (take i xs) (x ∷ [])
-      ∙ ap (λ b. reaching_of fact (take i xs) ++ map (λ source. source.from) (cond b (x ∷ []) [])) reaches
-
-  -- what stands below the fact does not reach it
-  from_first : (xs : List (Source F)) (first : ℕ) → first ≤ length xs → AllWithin (λ source. nat_lt source.reached fact ≡ true) xs 0 first
-      → reaching_of fact xs ≡ reaching_of fact (drop first xs)
-  from_first xs first within below =
-      ap (reaching_of fact) (sym (take-append-drop first xs))
-      ∙ reaching-append (take first xs) (drop first xs)
-      ∙ ap (λ rs. rs ++ reaching_of fact (drop first xs)) (none_reach (take first xs) (λ k d h.
-      let less : k < first = subst (λ (n : ℕ). k < n) (length-take-le first xs within) h in
-      apart_below _ fact (ap (λ source. nat_lt source.reached fact) (get_or-take first xs k d less) ∙ below k d (omega arith) less)))
-
-  -- nor does what stands from one on that is past it
-  to_past : (xs : List (Source F)) (i : ℕ) (x : Source F) → IsNonDecreasingBy (λ source. source.reached) xs → i < length xs → x ≡ get_or xs i x → fact < x.reached
-      → reaching_of fact xs ≡ reaching_of fact (take i xs)
-  to_past xs i x ascending within is past =
-      ap (reaching_of fact) (sym (take-append-drop i xs))
-      ∙ reaching-append (take i xs) (drop i xs)
-      ∙ ap (λ rs. reaching_of fact (take i xs) ++ rs) (none_reach (drop i xs) (λ k d h.
-      let there : k < length xs - i = subst (λ (n : ℕ). k < n) (length-drop i xs) h in
-      let least : (get_or xs i d).reached ≤ (get_or xs (i + k) d).reached = ascending i (i + k) d (omega arith) (omega (arith, there)) in
-      let first : x.reached ≡ (get_or xs i d).reached = ap (λ source. source.reached) (is ∙ get_or_default xs i x d within) in
-      let far : fact < (get_or xs (i + k) d).reached = omega (arith, past, first, least) in
-      ap (λ source. nat_eq source.reached fact) (get_or-drop i xs k d) ∙ apart_above _ fact far))
-      ∙ append-nil (reaching_of fact (take i xs))
-
-  -- so they are what stands from the first that is not below the fact on, to the end or to one that is past it
-  pub to_end : (xs rest : List (Source F)) (first i : ℕ) → rest ≡ drop first xs → first ≤ length xs → AllWithin (λ source. nat_lt source.reached fact ≡ true) xs 0 first
-      → i ≡ length rest → reaching_of fact (take i rest) ≡ reaching_of fact xs
-  to_end xs rest first i same within below end =
-      ap (reaching_of fact) (ap (λ (n : ℕ). take n rest) end ∙ take-length rest ∙ same) ∙ sym (from_first xs first within below)
-
-  pub to_other : (xs rest : List (Source F)) (first i : ℕ) (x : Source F) → rest ≡ drop first xs → IsNonDecreasingBy (λ source. source.reached) xs
-      → first ≤ length xs → AllWithin (λ source. nat_lt source.reached fact ≡ true) xs 0 first
-      → AllWithin (λ source. nat_lt source.reached fact ≡ false) xs first (length xs)
-      → i < length rest → x ≡ get_or rest i x → nat_eq x.reached fact ≡ false
-      → reaching_of fact (take i rest) ≡ reaching_of fact xs
-  to_other xs rest first i x same ascending within below above there is other =
-      let is_at : x ≡ get_or (drop first xs) i x = is ∙ ap (λ ys. get_or ys i x) same in
-      let stands : x ≡ get_or xs (first + i) x = is_at ∙ get_or-drop first xs i x in
-      let so_many : i < length (drop first xs) = subst (λ ys. i < length ys) same there in
-      let fits : i < length xs - first = subst (λ (n : ℕ). i < n) (length-drop first xs) so_many in
-      let least : fact ≤ x.reached =
-      at_least x.reached fact (ap (λ source. nat_lt source.reached fact) stands ∙ above (first + i) x (omega arith) (omega (arith, fits))) in
-      let past : fact < x.reached = grind (arith, nat_tests, least, other) in
-      ap (λ ys. reaching_of fact (take i ys)) same
-      ∙ sym (from_first xs first within below ∙ to_past (drop first xs) i x (IsNonDecreasingBy-drop (λ source. source.reached) first xs ascending) so_many is_at past)
 
 -- a slice from an index on to the end
 pub whole_rest : {X : Type 0} (xs : List X) (first : ℕ) → take (length xs - first) (drop first xs) ≡ drop first xs

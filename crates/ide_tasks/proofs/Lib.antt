@@ -1,5 +1,9 @@
 pub mod Ascending
 pub mod Exits
+pub mod Called
 pub mod Inverse
+pub mod Lent
+pub mod OverCall
+pub mod Runs
 pub mod Same
 pub mod SameSite

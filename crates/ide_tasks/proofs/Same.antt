@@ -33,7 +33,7 @@ both_left false b h = h
 both : {a b : Bool} → a ≡ true → b ≡ true → (a && b) ≡ true
 both {a = a} {b = b} first second = ap (λ c. c && b) first ∙ second
 
-number_itself : (n : ℕ) → nat_eq n n ≡ true
+pub number_itself : (n : ℕ) → nat_eq n n ≡ true
 number_itself n = grind (arith, nat_tests)
 
 -- a list is the same as itself where each element is

@@ -1,10 +1,11 @@
 -- The inverse of call flow: which facts at callers reach a fact at a procedure's start.
-use Rattle.std.specs.Prelude.{◌≡◌, ℕ, ◌+◌, ◌<◌, length, List, [], ◌∷◌, ◌++◌, Some, map, filter, nat_eq, slice_get, slice_index, slice_index_or}
+use Rattle.std.specs.Prelude.{◌≡◌, ℕ, ◌+◌, ◌<◌, length, List, [], ◌∷◌, ◌++◌, Option, None, Some, map, filter, nat_eq, slice_get, slice_index, slice_index_or}
 use Rattle.std.specs.List.{All, flat_map, range_with_len}
 use Rattle.std.specs.List.Sorted.{IsNonDecreasingBy}
 use Rattle.ide_problem.specs.Flow.{Targets}
 use Rattle.ide_graph.specs.Exits.{HasFewCallers}
 use Rattle.ide_graph.specs.Supergraph.{Supergraph}
+use Rattle.ide_graph.specs.declared.edge.EdgeData.{EdgeData}
 use Rattle.ide_graph.specs.declared.site.Caller.{Caller}
 use Rattle.ide_graph.specs.declared.site.Site.{Site}
 use Rattle.ide_graph.specs.declared.site.Site.TheVariants.{Normal, Call, Exit}
@@ -46,3 +47,28 @@ pub record AreSourcesOf {F : Type 0} (targets : Targets F) (graph : Supergraph) 
   pub count : length procedures ≡ graph.procedures
   pub exact : (procedure : ℕ) (site : Site) → procedure < graph.procedures → slice_get graph.sites (slice_index graph.exits procedure) ≡ Some site → HasFewCallers site
       → (fact : ℕ) → reaching_of fact (slice_index_or procedures procedure []) ≡ reaching_of fact (sources_at targets graph.facts site)
+
+-- those of the sources that reach the fact from that caller
+abbrev pub from_caller : {F : Type 0} → ℕ → ℕ → List (Source F) → List (Source F)
+from_caller caller fact sources = filter (λ source. nat_eq source.from.caller caller) (filter (λ source. nat_eq source.reached fact) sources)
+
+-- the fact at the call node, with the function on the call edge
+abbrev pub fact_and_function : {F : Type 0} → Source F → ℕ × F
+fact_and_function source = (source.from.fact, source.from.function)
+
+-- the facts from which the flow over the edge reaches one, ascending, each with its function
+abbrev pub sources_over_edge : {F : Type 0} → Targets F → ℕ → ℕ → EdgeData → List (ℕ × F)
+sources_over_edge targets facts reached edge =
+    flat_map (λ fact. map (λ t. (fact, t.1)) (filter (λ t. nat_eq t.0 reached) (targets edge fact))) (range_with_len 0 facts)
+
+-- the same over the call edges of a site that end at the start: nothing where there is none
+abbrev pub sources_over_site : {F : Type 0} → Targets F → ℕ → ℕ → ℕ → Option Site → List (ℕ × F)
+sources_over_site targets facts start reached None = []
+sources_over_site targets facts start reached (Some (Normal edges)) = []
+sources_over_site targets facts start reached (Some (Call calls along)) =
+    flat_map (sources_over_edge targets facts reached) (filter (λ edge. nat_eq edge.end start) calls)
+sources_over_site targets facts start reached (Some (Exit begin callers)) = []
+
+-- what reaches the fact at the start over the call at the node
+abbrev pub sources_over_call : {F : Type 0} → Targets F → Supergraph → ℕ → ℕ → ℕ → List (ℕ × F)
+sources_over_call targets graph call start reached = sources_over_site targets graph.facts start reached (slice_get graph.sites call)

@@ -17,6 +17,6 @@ mod task;
 mod work;
 
 pub use partners::{Partners, Reaching};
-pub use sources::Sources;
+pub use sources::{Source, Sources};
 pub use task::Task;
 pub use work::Work;

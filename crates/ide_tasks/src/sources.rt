@@ -1,14 +1,21 @@
 //! The inverse of call flow.
-ghost use Rattle.std.specs.Prelude.{◌≡◌, ℕ, ◌≤◌, ◌^◌, [], ◌++◌, IfOk, OnOk, length, map, slice_index_or};
+ghost use Rattle.std.specs.Prelude.{◌≡◌, ◌≢◌, ℕ, ◌≤◌, ◌^◌, List, [], ◌++◌, Some, IfNone, IfOk, IfSome, OnOk, filter, length, map, nat_eq, slice_get, slice_index_or};
+ghost use Rattle.std.specs.List.{All};
 ghost use Rattle.std.specs.List.Sorted.{IsNonDecreasingBy};
 ghost use Rattle.ide_graph.specs.Exits.{HasFewCallers};
-ghost use Rattle.ide_tasks.specs.Sources.{AreAscending, AreSourcesOf, reaching_of, source_of, sources_at, sources_over, sources_from};
+ghost use Rattle.ide_graph.specs.GraphOf.{IsGraphOf};
+ghost use Rattle.ide_graph.specs.ProgramEdges.{HasEdgesOf};
+ghost use Rattle.ide_tasks.specs.Sources.{AreAscending, AreSourcesOf, fact_and_function, reaching_of, source_of, sources_at, sources_over, sources_over_call, sources_from};
+ghost use Rattle.ide_text.specs.declared.program.Program.{Program};
 
 use crate::partners::Reaching;
-use ide_graph::{Caller, Graph, Site};
+use ide_graph::{
+    Caller, Graph, Site, ends_of_programs_are_nodes, exits_of_programs_are_owned,
+    graphs_of_programs_are_closed, sites_of_programs_are_joined,
+};
 use ide_lattice::EdgeFn;
 use ide_problem::{Problem, TargetList};
-use ide_wire::Fact;
+use ide_wire::{Fact, Node};
 use std::alloc::{AllocError, Global};
 use std::marker::Model;
 
@@ -22,11 +29,13 @@ pub struct Sources<P: Problem> {
     procedures: Vec<Vec<Source<P::F>>>,
 }
 
-/// That the fact `reached` at the procedure's start depends on a fact at a caller.
+/// That the fact `reached` at a procedure's start depends on a fact at a caller's call node.
 #[derive(Clone, Copy)]
-struct Source<F> {
-    reached: Fact,
-    from: Reaching<F>,
+pub struct Source<F> {
+    /// The fact at the procedure's start.
+    pub reached: Fact,
+    /// The caller, the fact at its call node, and the function on the call edge.
+    pub from: Reaching<F>,
 }
 
 impl<P: Problem> Model for Sources<P> {
@@ -66,9 +75,78 @@ impl<P: Problem> Sources<P> {
             None => Ok(Vec::new(alloc)),
         }
     }
+
+    /// What reaches `fact` at the start of a procedure over a call of it, by the graph that the
+    /// sources are of: the facts at the call node, ascending, each with the function on the call
+    /// edge. Nothing does where the node is no call of a procedure that begins at `start`. It takes
+    /// logarithmic time and no memory.
+    pub fn over_call(&self, graph: &Graph, call: Node, start: Node, fact: Fact) -> &[Source<P::F>]
+        ensures { (p : Program) → IsGraphOf p graph.now → HasEdgesOf p graph.now → AreSourcesOf P.targets graph.now self.now → map fact_and_function result.now ≡ sources_over_call P.targets graph.now call start fact }
+    {
+        sites_of_programs_are_joined();
+        graphs_of_programs_are_closed();
+        exits_of_programs_are_owned();
+        ends_of_programs_are_nodes();
+        if start as usize >= graph.node_count() {
+            return &[];
+        }
+        let procedure = graph.procedure_of(start);
+        let exit = graph.site(graph.exit_of(procedure));
+        match (self.procedures.get(procedure), caller_at(exit, call, start)) {
+            (Some(sources), Some(caller)) => of_caller(of_fact(sources.as_slice(), fact), caller),
+            _ => &[],
+        }
+    }
 }
 
-/// Those of the sources that reach the fact: where they ascend, these stand together.
+/// The index of the call at that node among the callers of the procedure that begins at `start` and
+/// has that site at its exit.
+fn caller_at(exit: &Site, call: Node, start: Node) -> Option<usize>
+    ensures found { IfSome result (λ index. (callers : List Caller) × (caller : Caller) × (exit.now ≡ Site.Exit start callers) × (slice_get callers index ≡ Some caller) × (caller.call_node ≡ call)) }
+    ensures none { IfNone result ((callers : List Caller) → exit.now ≡ Site.Exit start callers → IsNonDecreasingBy (λ caller. caller.call_node) callers → All (λ caller. caller.call_node ≢ call) callers) }
+{
+    match exit {
+        Site::Exit {
+            start: own,
+            callers,
+        } if *own == start => place_of(callers.as_slice(), call),
+        _ => None,
+    }
+}
+
+/// The index of the caller at that call node, where callers ascend by it.
+fn place_of(callers: &[Caller], call: Node) -> Option<usize>
+    ensures found { IfSome result (λ index. (caller : Caller) × (slice_get callers.now index ≡ Some caller) × (caller.call_node ≡ call)) }
+    ensures none { IfNone result (IsNonDecreasingBy (λ caller. caller.call_node) callers.now → All (λ caller. caller.call_node ≢ call) callers.now) }
+{
+    let place = callers.partition_point(|caller| caller.call_node < call);
+    match callers.get(place) {
+        Some(caller) if caller.call_node == call => Some(place),
+        _ => None,
+    }
+}
+
+/// Those of the sources that reach the fact: where they ascend by it, these stand together.
+fn of_fact<F: EdgeFn>(sources: &[Source<F>], fact: Fact) -> &[Source<F>]
+    ensures { IsNonDecreasingBy (λ source. source.reached) sources.now → result.now ≡ filter (λ source. nat_eq source.reached fact) sources.now }
+{
+    let first = sources.partition_point(|source| source.reached < fact);
+    let rest = &sources[first..];
+    let count = rest.partition_point(|source| source.reached <= fact);
+    &rest[..count]
+}
+
+/// Those of the sources that are of the caller: where they ascend by it, these stand together.
+fn of_caller<F: EdgeFn>(sources: &[Source<F>], caller: usize) -> &[Source<F>]
+    ensures { IsNonDecreasingBy (λ source. source.from.caller) sources.now → result.now ≡ filter (λ source. nat_eq source.from.caller caller) sources.now }
+{
+    let first = sources.partition_point(|source| (source.from.caller as usize) < caller);
+    let rest = &sources[first..];
+    let count = rest.partition_point(|source| source.from.caller as usize <= caller);
+    &rest[..count]
+}
+
+/// Where those of the sources that reach the fact are from, where sources ascend by the fact reached.
 fn reaching_in<F: EdgeFn>(
     alloc: Global,
     sources: &[Source<F>],
@@ -76,15 +154,14 @@ fn reaching_in<F: EdgeFn>(
 ) -> Result<Vec<Reaching<F>>, AllocError>
     ensures { IsNonDecreasingBy (λ source. source.reached) sources.now → IfOk result (λ reaching. reaching.items ≡ reaching_of fact sources.now) }
 {
-    let first = sources.partition_point(|source| source.reached < fact);
-    let mut reaching = Vec::new(alloc);
-    for source in &sources[first..] {
-        if source.reached != fact {
-            break;
-        }
-        reaching.push(source.from)?;
-    }
-    Ok(reaching)
+    origins(alloc, of_fact(sources, fact))
+}
+
+/// Where the sources are from.
+fn origins<F: EdgeFn>(alloc: Global, sources: &[Source<F>]) -> Result<Vec<Reaching<F>>, AllocError>
+    ensures { IfOk result (λ origins. origins.items ≡ map (λ source. source.from) sources.now) }
+{
+    sources.iter().map(|source| source.from).collect(alloc)
 }
 
 /// The sources of each procedure.
