@@ -1,7 +1,8 @@
 -- How far the functions of a table have fallen.
-use Rattle.std.specs.Prelude.{ℕ, ◌+◌, ◌-◌, List, [], ◌∷◌, Option, None, Some}
+use Rattle.std.specs.Prelude.{◌≡◌, ℕ, ◌+◌, ◌-◌, List, [], ◌∷◌, Option, None, Some}
 use Rattle.ide_lattice.specs.Algebra.{EdgeAlgebra}
 use Rattle.ide_wire.specs.declared.key.Key.{Key}
+use Rattle.ide_tables.specs.Tables.{Table, found}
 
 module _ {F L : Type 0} (B : EdgeAlgebra F L) where
   -- how far below the always-top function it is
@@ -17,3 +18,7 @@ module _ {F L : Type 0} (B : EdgeAlgebra F L) where
   abbrev pub spent_by : Option F → ℕ
   spent_by None = 0
   spent_by (Some f) = fallen f
+
+  -- to set the key's function spends what that one has fallen, in place of what the one before had
+  abbrev pub Spends : (old new : Table F) → Key → F → Type 0
+  Spends old new key f = spent new.entries + spent_by (found old key) ≡ spent old.entries + fallen f

@@ -1,5 +1,5 @@
 -- What a table says in contracts: the function of each present key.
-use Rattle.std.specs.Prelude.{◌≡◌, ℕ, ◌<◌, ◌≤◌, ◌^◌, Bool, true, false, ◌&&◌, nat_eq, List, [], ◌∷◌, Option, None, Some, if◌then◌else◌}
+use Rattle.std.specs.Prelude.{◌≡◌, ℕ, ◌+◌, ◌<◌, ◌≤◌, ◌^◌, Bool, true, false, ◌&&◌, nat_eq, length, List, [], ◌∷◌, Option, None, Some, if◌then◌else◌}
 use Rattle.std.specs.List.{AllByRecursion, list_any, slice_index_or}
 use Rattle.std.specs.List.Sorted.{IsStrictlySortedBy}
 use Rattle.std.specs.Map.{lookup, keys_of}
@@ -23,6 +23,10 @@ found table key = lookup (same_key key) table.entries
 -- the key's function is f, and every other entry stays
 pub record Sets {F : Type 0} (old new : Table F) (key : Key) (f : F) : Type 0 where
   pub entries : (q : Key) → found new q ≡ (if same_key key q then Some f else found old q)
+
+-- the key counts among the present ones now: there is one more, if it was not among them
+abbrev pub CountsKey : {F : Type 0} → (old new : Table F) → Key → Type 0
+CountsKey old new key = length new.entries ≡ length old.entries + (if is_some (found old key) then 0 else 1)
 
 -- the last function that the entries have for the key, or f where they have none
 abbrev pub last_of : {F : Type 0} → List (Key × F) → Key → Option F → Option F
@@ -98,6 +102,10 @@ has_place cmp places key = list_any (is_at (cmp (place_of key))) places
 -- the places have that of the key, if it is present
 abbrev pub IsPlaced : {F : Type 0} → (Key → Key → Ordering) → List (Key × F) → List Key → Key → Type 0
 IsPlaced cmp entries places key = is_some (lookup (same_key key) entries) ≡ true → has_place cmp places key ≡ true
+
+-- the places have those of the present jumps at the node to the fact
+abbrev pub AreJumpsPlaced : {F : Type 0} → (Key → Key → Ordering) → List (Key × F) → List Key → ℕ → ℕ → Type 0
+AreJumpsPlaced cmp entries places node fact = (d : ℕ) → IsPlaced cmp entries places (Jump node d fact)
 
 -- the index has the place of each present key that it notes; the place of an absent key lists nothing
 abbrev pub IsIndex : {F : Type 0} → (Key → Key → Ordering) → List Bool → List (Key × F) → List Key → Type 0

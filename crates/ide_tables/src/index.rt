@@ -2,14 +2,13 @@
 //!
 //! A key's place is the key itself, but that a jump's facts change places: so the jumps to one
 //! fact at a node, and the summaries from one fact at a call, stand side by side.
-ghost use Rattle.std.specs.Prelude.{◌≡◌, ℕ, true, false, filter, IfOk, OnOk};
+ghost use Rattle.std.specs.Prelude.{◌≡◌, true, false, filter, IfOk, OnOk};
 ghost use Rattle.std.specs.Map.{keys_of};
 ghost use Rattle.std.specs.BTreeMap.Range.{IsLeBy, range_contains};
 ghost use Rattle.std.specs.List.{filter_map, slice_index_or};
 ghost use Rattle.std.specs.List.Sorted.{IsStrictlySortedBy};
 ghost use Rattle.std.specs.declared.ops.Bound.TheVariants.{Included};
-ghost use Rattle.ide_tables.specs.Tables.{place_of, listed_fact, partner_of, is_jump_to, is_noted, has_place, IsPlaced, KeepsPlaces, NotesAll};
-ghost use Rattle.ide_wire.specs.declared.key.Key.{Key};
+ghost use Rattle.ide_tables.specs.Tables.{place_of, listed_fact, partner_of, is_jump_to, is_noted, has_place, AreJumpsPlaced, KeepsPlaces, NotesAll};
 
 use ide_lattice::EdgeFn;
 use ide_wire::{Fact, Key, Node};
@@ -74,7 +73,7 @@ pub(crate) fn jump_places<F: EdgeFn>(
     node: Node,
     fact: Fact,
 ) -> Result<BTreeSet<Key>, AllocError>
-    ensures { IfOk result (λ places. (d : ℕ) → IsPlaced ⟦<Key as Ord>⟧.cmp functions.now.entries places.keys (Key.Jump node d fact)) }
+    ensures { IfOk result (λ places. AreJumpsPlaced ⟦<Key as Ord>⟧.cmp functions.now.entries places.keys node fact) }
 {
     let mut places = BTreeSet::new(alloc);
     for key in functions.keys() {

@@ -2,14 +2,13 @@
 ghost use Rattle.std.specs.Prelude.{◌≡◌, ℕ, ◌+◌, ◌<◌, ◌≤◌, ◌^◌, [], true, false, length, slice_get, if◌then◌else◌, ◌↔◌, None, IfSome, IfOk, IfErr, OnOk, OnErr};
 ghost use Rattle.std.specs.List.{IsDistinct};
 ghost use Rattle.std.specs.Map.{keys_of};
-ghost use Rattle.std.specs.Option.{is_some};
 ghost use Rattle.ide_wire.specs.declared.refused.Refused.TheVariants.{NoMemory};
 ghost use Rattle.indexmap.specs.IndexMap.{insert_all, insert_entry, spare, get};
 ghost use Rattle.ide_wire.specs.declared.key.Key.{Key};
 ghost use Rattle.ide_wire.specs.Key.{same_key};
 ghost use Rattle.ide_wire.specs.KeyOrder.{key_cmp};
-ghost use Rattle.ide_tables.specs.Spent.{fallen, spent, spent_by};
-ghost use Rattle.ide_tables.specs.Tables.{Table, Falls, IsIndex, IsPlaced, AreKeys, ArePartners, found, function_at, lowered_by, Sets, SetsAll, Lowers};
+ghost use Rattle.ide_tables.specs.Spent.{Spends, spent};
+ghost use Rattle.ide_tables.specs.Tables.{Table, Falls, IsIndex, AreJumpsPlaced, AreKeys, ArePartners, found, function_at, lowered_by, CountsKey, Sets, SetsAll, Lowers};
 
 use crate::index;
 use ide_lattice::EdgeFn;
@@ -177,8 +176,8 @@ impl<F: EdgeFn> Tables<F> {
     /// Makes `f` the key's function, whatever that was. `NoMemory` leaves the table as it was.
     pub fn set(&mut self, key: Key, f: F) -> Result<(), Refused>
         ensures sets { OnOk result (Sets self.old self.new key f) }
-        ensures spent { OnOk result (spent F.edge self.new.entries + spent_by F.edge (found self.old key) ≡ spent F.edge self.old.entries + fallen F.edge f) }
-        ensures count { OnOk result (length self.new.entries ≡ length self.old.entries + (if is_some (found self.old key) then 0 else 1)) }
+        ensures spent { OnOk result (Spends F.edge self.old self.new key f) }
+        ensures count { OnOk result (CountsKey self.old self.new key) }
         ensures few { OnOk result (length self.new.entries < 2 ^ 64) }
         ensures err { OnErr result (self.new ≡ self.old) }
         ensures refused { IfErr result (λ e. e ≡ NoMemory) }
@@ -211,7 +210,7 @@ fn jumps_in<F: EdgeFn>(
     node: Node,
     fact: Fact,
 ) -> Result<Vec<(Fact, F)>, AllocError>
-    requires { (d : ℕ) → IsPlaced ⟦<Key as Ord>⟧.cmp functions.now.entries places.now.keys (Key.Jump node d fact) }
+    requires { AreJumpsPlaced ⟦<Key as Ord>⟧.cmp functions.now.entries places.now.keys node fact }
     ensures { IfOk result (λ list. ArePartners (λ d. Key.Jump node d fact) (record { entries = functions.now.entries }) list.items) }
 {
     let first = Key::Jump(node, fact, 0);
