@@ -17,6 +17,7 @@ mod loaded;
 mod machine;
 mod part;
 mod root;
+mod sources;
 
 pub use claim::Claimed;
 pub use closed::Closed;
