@@ -138,3 +138,32 @@ fn tasks_and_quiescent_tables(rt: HostRuntime) -> Result<(), Fail> {
     let mut again = Core::new(rt.alloc());
     expect_tables(&rt, &mut core, &mut again)
 }
+
+/// Whether one fact reaches the parameter of the procedure at node 0 over a call, by the identity.
+fn is_reached_from<P: Problem>(core: &Core<P>, call: Node, fact: Fact) -> bool {
+    match core.sources(call, 0, 2) {
+        [source] => source.from.fact == fact && source.from.function == P::F::id(),
+        _ => false,
+    }
+}
+
+/// Asserts what reaches the parameter of the procedure that is called twice, and that nothing
+/// reaches it over a node that is no call, or at a start that is none.
+fn expect_sources<P: Problem>(
+    rt: &(impl Abort + AllocGlobal),
+    core: &mut Core<P>,
+) -> Result<(), Fail> {
+    assert!(rt; core.sources(6, 0, 2).is_empty());
+    load(rt.alloc(), core, TWO_CALLS)?;
+    assert!(rt; is_reached_from(core, 6, 2));
+    assert!(rt; is_reached_from(core, 8, 3));
+    assert!(rt; core.sources(7, 0, 2).is_empty());
+    assert!(rt; core.sources(6, 1, 2).is_empty());
+    Ok(())
+}
+
+#[test]
+fn sources_of_the_two_calls(rt: HostRuntime) -> Result<(), Fail> {
+    let mut core: Core<CopyConst> = Core::new(rt.alloc());
+    expect_sources(&rt, &mut core)
+}

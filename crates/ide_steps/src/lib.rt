@@ -18,6 +18,7 @@ mod loaded;
 mod machine;
 mod part;
 mod root;
+mod sources;
 
 pub use changes::Entry;
 pub use claim::Claimed;
