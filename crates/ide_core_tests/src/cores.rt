@@ -22,7 +22,7 @@ pub(crate) fn load<P: Problem>(
 }
 
 /// Makes `main` a root.
-fn root_main<P: Problem>(core: &mut Core<P>) -> Result<(), Refused> {
+pub(crate) fn root_main<P: Problem>(core: &mut Core<P>) -> Result<(), Refused> {
     core.root(b"main")?;
     Ok(())
 }

@@ -1,5 +1,5 @@
 //! The tables of the worked programs: how many tasks they take, and what is in them then.
-use crate::cores::{begin, load};
+use crate::cores::{begin, load, root_main};
 use ide_instances::{CopyConst, Uninit};
 use ide_lattice::EdgeFn;
 use ide_problem::Problem;
@@ -67,6 +67,30 @@ fn drain_two_calls<P: Problem>(
     begin(rt.alloc(), core, TWO_CALLS)?;
     drain(core)?;
     expect_two_calls(rt, core);
+    Ok(())
+}
+
+/// Asserts that each present key is told to have changed, from absent and not pending.
+fn expect_all_changed<P: Problem>(rt: &impl Abort, core: &mut Core<P>) {
+    let keys = core.key_count();
+    assert!(rt; core.changed_count() == keys);
+    let changes = core.take_changes();
+    assert!(rt; changes.len() == keys);
+    for (key, entry) in &changes {
+        assert!(rt; core.get(*key).is_some());
+        assert!(rt; entry.function.is_none() && !entry.pending);
+    }
+    assert!(rt; core.changed_count() == 0);
+}
+
+#[test]
+fn a_drained_core_tells_what_changed(rt: HostRuntime) -> Result<(), Fail> {
+    let mut core: Core<CopyConst> = Core::new(rt.alloc());
+    load(rt.alloc(), &mut core, COPIES)?;
+    assert!(rt; core.take_changes().is_empty());
+    root_main(&mut core)?;
+    drain(&mut core)?;
+    expect_all_changed(&rt, &mut core);
     Ok(())
 }
 

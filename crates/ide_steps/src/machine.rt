@@ -87,10 +87,9 @@ impl<P: Problem> Core<P> {
         }
     }
 
-    /// Loads a program: the tables are then empty, nothing is a root, pending or claimed, and where
-    /// changes are noted, none is. It takes
-    /// time in proportion to the facts at each call. Where memory is wanting (`NoMemory`), the
-    /// program is dropped and the core as it was.
+    /// Loads a program: the tables are then empty, nothing is a root, pending or claimed, and no
+    /// change is noted. It takes time in proportion to the facts at each call. Where memory is
+    /// wanting (`NoMemory`), the program is dropped and the core as it was.
     pub fn load(&mut self, program: Program) -> Result<(), Refused>
         ensures program { OnOk result (self.new.program ≡ Some (value_of program)) }
         ensures roots { OnOk result (self.new.roots ≡ []) }
@@ -209,8 +208,8 @@ impl<P: Problem> Core<P> {
         }
     }
 
-    /// Meets one entry with a function. An entry that changed is pending then, and a claim of its
-    /// key is marked as lowered.
+    /// Meets one entry with a function. An entry that changed is pending then, a claim of its key is
+    /// marked as lowered, and the entry of before is noted where somebody asked for changes.
     pub(crate) fn lower(&mut self, key: Key, function: P::F) -> Result<Change, Refused>
         requires { IsInside self.old key }
         ensures stays { IsSameProblem self.old self.new }
