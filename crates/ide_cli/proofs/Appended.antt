@@ -1,5 +1,5 @@
 -- Four texts that are appended one after the other are appended as one.
-use Rattle.std.proofs.Common.{◌≡◌, ℕ, List, ◌++◌, ap, ◌∙◌, append_assoc}
+use Rattle.std.proofs.Common.{◌≡◌, ℕ, List, ◌++◌, decimal, ap, ◌∙◌, append_assoc}
 
 pub two_appended : (old x y one all : List ℕ) → one ≡ old ++ x → all ≡ one ++ y → all ≡ old ++ (x ++ y)
 two_appended old x y one all first second = second ∙ ap (λ text. text ++ y) first ∙ append_assoc old x y
@@ -9,3 +9,7 @@ pub four_appended : (old x y z w one two three all : List ℕ) → one ≡ old +
 four_appended old x y z w one two three all first second third fourth =
     two_appended old x (y ++ (z ++ w)) one all first
     (two_appended one y (z ++ w) two all second (two_appended two z w three all third fourth))
+
+-- what is appended is the count itself
+pub count_appended : (old counted all : List ℕ) (n m : ℕ) → all ≡ old ++ (counted ++ decimal n) → n ≡ m → all ≡ old ++ (counted ++ decimal m)
+count_appended old counted all n m appended same = appended ∙ ap (λ (k : ℕ). old ++ (counted ++ decimal k)) same

@@ -3,13 +3,15 @@ use Rattle.std.specs.Prelude.{◌≡◌, ℕ, List, ◌++◌, codes, decimal}
 use Rattle.ide_graph.specs.GraphOfText.{IsGraphOfText}
 use Rattle.ide_graph.specs.Supergraph.{Supergraph}
 
+-- what is counted, and its count
+abbrev pub count_of : List ℕ → ℕ → List ℕ
+count_of counted count = counted ++ decimal count
+
 -- the line of the counts of a graph
 abbrev pub counts_of : Supergraph → List ℕ
 counts_of graph =
-    codes "ok procedures " ++ decimal graph.procedures
-    ++ codes " nodes " ++ decimal graph.nodes
-    ++ codes " facts " ++ decimal graph.facts
-    ++ codes "\n"
+    count_of (codes "ok procedures ") graph.procedures
+    ++ (count_of (codes " nodes ") graph.nodes ++ (count_of (codes " facts ") graph.facts ++ codes "\n"))
 
 -- the line of the counts of the graph of the program that the text spells stands behind what was there
 pub record AppendsCounts (text before after : List ℕ) : Type 0 where

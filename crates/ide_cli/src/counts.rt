@@ -1,6 +1,6 @@
 //! The counts of a program.
-ghost use Rattle.std.specs.Prelude.{◌≡◌, ◌++◌, decimal, OnOk};
-ghost use Rattle.ide_cli.specs.Counts.{counts_of};
+ghost use Rattle.std.specs.Prelude.{◌≡◌, ◌++◌, OnOk};
+ghost use Rattle.ide_cli.specs.Counts.{count_of, counts_of};
 
 use ide_graph::Graph;
 use itoa::Buffer;
@@ -18,7 +18,7 @@ pub(crate) fn append_counts(graph: &Graph, out: &mut Vec<u8>) -> Result<(), Allo
 
 /// Appends what is counted and its count.
 fn append_count(counted: &[u8], count: usize, out: &mut Vec<u8>) -> Result<(), AllocError>
-    ensures { OnOk result (out.new.items ≡ out.old.items ++ counted.now ++ decimal count) }
+    ensures { OnOk result (out.new.items ≡ out.old.items ++ count_of counted.now count) }
 {
     out.extend_from_slice(counted)?;
     out.extend_from_slice(Buffer::new().format(count).as_bytes())
