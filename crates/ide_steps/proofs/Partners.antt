@@ -13,6 +13,7 @@ use Rattle.ide_tasks.specs.Sources.{reaching_of}
 use Rattle.ide_tasks.specs.declared.partners.Partners.TheVariants.{Entries, Callers}
 use Rattle.ide_tasks.specs.declared.partners.Reaching.{Reaching}
 use Rattle.ide_tasks.specs.declared.sources.Source.{Source}
+use Rattle.ide_text.specs.declared.program.Program.{Program}
 use Rattle.ide_wire.specs.declared.key.Key.TheVariants.{Jump, Summary}
 use Rattle.ide_steps.specs.Core.{IsProgramKept}
 use Rattle.ide_steps.specs.State.{ArePartnersOf}
@@ -24,12 +25,12 @@ module _ {F L : Type 0} (targets : Targets F) (B : EdgeAlgebra F L) (graph : Sup
   resumed-partners c a b (Call calls along) jumps partners = partners
   resumed-partners c a b (Exit start callers) jumps partners = tt
 
-  pub exit-partners : (sources : List (List (Source F))) → IsProgramKept targets graph sources
+  pub exit-partners : (program : Program) (sources : List (List (Source F))) → IsProgramKept targets program graph sources
       → (n a b start : ℕ) (callers : List Caller) (reaching : List (Reaching F)) (procedure : ℕ) → AreExitsOwned graph
       → slice_get graph.sites n ≡ Some (Exit start callers) → procedure ≡ slice_index graph.owners n → procedure < graph.procedures
       → reaching ≡ reaching_of a (slice_index_or sources procedure [])
       → ArePartnersOf targets B graph table (Jump n a b) (Exit start callers) (Callers reaching)
-  exit-partners sources kept n a b start callers reaching procedure exits is owner within reached =
+  exit-partners program sources kept n a b start callers reaching procedure exits is owner within reached =
       reached
       ∙ kept.inverse.exact procedure (Exit start callers) within
       (ap (λ p. slice_get graph.sites (slice_index graph.exits p)) owner ∙ ap (slice_get graph.sites) (exits.owned n start callers is) ∙ is)

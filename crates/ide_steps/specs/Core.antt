@@ -2,6 +2,8 @@
 use Rattle.std.specs.Prelude.{◌≡◌, ℕ, ◌<◌, Bool, true, length, List, Option, Some, IfSome}
 use Rattle.std.specs.List.{All}
 use Rattle.std.specs.Option.{is_some}
+use Rattle.ide_graph.specs.GraphOf.{IsGraphOf}
+use Rattle.ide_graph.specs.ProgramEdges.{HasEdgesOf}
 use Rattle.ide_graph.specs.Supergraph.{Supergraph}
 use Rattle.ide_lattice.specs.Algebra.{EdgeAlgebra}
 use Rattle.ide_problem.specs.Flow.{Targets}
@@ -11,6 +13,7 @@ use Rattle.ide_tasks.specs.declared.sources.Source.{Source}
 use Rattle.ide_tables.specs.Tables.{Table}
 use Rattle.ide_tasks.specs.Task.{TaskData}
 use Rattle.ide_text.specs.Value.{ProgramValue}
+use Rattle.ide_text.specs.declared.program.Program.{Program}
 use Rattle.ide_wire.specs.Key.{node_of}
 use Rattle.ide_wire.specs.declared.key.Key.{Key}
 use Rattle.ide_steps.specs.declared.changes.Entry.{Entry}
@@ -65,8 +68,10 @@ module _ {F : Type 0} (core : CoreData F) where
   abbrev pub AreInside : List (Key × F) → Type 0
   AreInside entries = (graph : Supergraph) → core.graph ≡ Some graph → AllStandIn graph entries
 
--- what is kept of a loaded program: each node has a site, and the sources are those of the graph
-pub record IsProgramKept {F : Type 0} (targets : Targets F) (graph : Supergraph) (sources : List (List (Source F))) : Type 0 where
+-- what is kept of a loaded program: the graph is the program's, each node has a site, and the sources are those of the graph
+pub record IsProgramKept {F : Type 0} (targets : Targets F) (program : Program) (graph : Supergraph) (sources : List (List (Source F))) : Type 0 where
+  pub counted : IsGraphOf program graph
+  pub edges : HasEdgesOf program graph
   pub sited : length graph.sites ≡ graph.nodes
   pub inverse : AreSourcesOf targets graph sources
 

@@ -101,7 +101,7 @@ fn take_task<P: Problem>(
     requires pending { is_pending worklist.old key ≡ true }
     requires unclaimed { is_claimed worklist.old key ≡ false }
     ensures key { IfOk result (λ task. task.key ≡ key) }
-    ensures is_task { IsProgramKept P.targets loaded.now.graph loaded.now.sources → AreExitsOwned loaded.now.graph → IsSome (found tables.now key) → IfOk result (IsTaskOf P.targets P.F.edge loaded.now.graph tables.now) }
+    ensures is_task { IsProgramKept P.targets loaded.now.program loaded.now.graph loaded.now.sources → AreExitsOwned loaded.now.graph → IsSome (found tables.now key) → IfOk result (IsTaskOf P.targets P.F.edge loaded.now.graph tables.now) }
     ensures edges { IfOk result (λ task. EdgesWithin loaded.now.graph.nodes task.site) }
     ensures refused { IfErr result (λ e. e ≡ Refused.NoMemory) }
     ensures pending { worklist.new.pending ≡ worklist.old.pending }
@@ -122,7 +122,7 @@ fn task_of<P: Problem>(
 ) -> Result<Task<P>, Refused>
     requires { StandsIn loaded.now.graph key }
     ensures key { IfOk result (λ task. task.key ≡ key) }
-    ensures is_task { IsProgramKept P.targets loaded.now.graph loaded.now.sources → AreExitsOwned loaded.now.graph → IsSome (found tables.now key) → IfOk result (IsTaskOf P.targets P.F.edge loaded.now.graph tables.now) }
+    ensures is_task { IsProgramKept P.targets loaded.now.program loaded.now.graph loaded.now.sources → AreExitsOwned loaded.now.graph → IsSome (found tables.now key) → IfOk result (IsTaskOf P.targets P.F.edge loaded.now.graph tables.now) }
     ensures edges { IfOk result (λ task. EdgesWithin loaded.now.graph.nodes task.site) }
     ensures refused { IfErr result (λ e. e ≡ Refused.NoMemory) }
 {
@@ -148,7 +148,7 @@ fn partners_of<P: Problem>(
     procedure: usize,
     site: &Site,
 ) -> Result<Partners<P::F>, Refused>
-    ensures partners { IsProgramKept P.targets loaded.now.graph loaded.now.sources → AreExitsOwned loaded.now.graph → slice_get loaded.now.graph.sites (node_of key) ≡ Some site.now → procedure ≡ slice_index loaded.now.graph.owners (node_of key) → procedure < loaded.now.graph.procedures → IfOk result (ArePartnersOf P.targets P.F.edge loaded.now.graph tables.now key site.now) }
+    ensures partners { IsProgramKept P.targets loaded.now.program loaded.now.graph loaded.now.sources → AreExitsOwned loaded.now.graph → slice_get loaded.now.graph.sites (node_of key) ≡ Some site.now → procedure ≡ slice_index loaded.now.graph.owners (node_of key) → procedure < loaded.now.graph.procedures → IfOk result (ArePartnersOf P.targets P.F.edge loaded.now.graph tables.now key site.now) }
     ensures refused { IfErr result (λ e. e ≡ Refused.NoMemory) }
 {
     match (key, site) {

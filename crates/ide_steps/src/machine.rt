@@ -62,7 +62,7 @@ impl<P: Problem> Model for Core<P> {
 
     ghost view = { λ c. record { program = option_map (λ loaded. value_of (arc_value {X = Loaded P P.L P.F} loaded).program) c.loaded; graph = option_map (λ loaded. (arc_value {X = Loaded P P.L P.F} loaded).graph) c.loaded; roots = c.roots.items; table = c.tables; pile = c.worklist; changes = notes_of c.changes } };
 
-    ghost invariant = { λ c. (loaded : Loaded P P.L P.F) → option_map (arc_value {X = Loaded P P.L P.F}) c.loaded ≡ Some loaded → IsProgramKept P.targets loaded.graph loaded.sources × AreKeysKept P.targets P.F.edge loaded.graph c.worklist };
+    ghost invariant = { λ c. (loaded : Loaded P P.L P.F) → option_map (arc_value {X = Loaded P P.L P.F}) c.loaded ≡ Some loaded → IsProgramKept P.targets loaded.program loaded.graph loaded.sources × AreKeysKept P.targets P.F.edge loaded.graph c.worklist };
 }
 
 impl<P: Problem> Core<P> {

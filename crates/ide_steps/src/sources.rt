@@ -1,10 +1,7 @@
 //! The inverse of a call's flow.
 ghost use Rattle.std.specs.Prelude.{◌≡◌, [], None, Some, map};
-ghost use Rattle.ide_graph.specs.GraphOf.{IsGraphOf};
-ghost use Rattle.ide_graph.specs.ProgramEdges.{HasEdgesOf};
 ghost use Rattle.ide_graph.specs.Supergraph.{Supergraph};
 ghost use Rattle.ide_tasks.specs.Sources.{fact_and_function, sources_over_call};
-ghost use Rattle.ide_text.specs.declared.program.Program.{Program};
 
 use crate::machine::Core;
 use ide_problem::Problem;
@@ -16,10 +13,8 @@ impl<P: Problem> Core<P> {
     /// reaches `fact` there, ascending, each with the function on the edge: the inverse of the call's
     /// flow. There are none where the node is no call of a procedure that begins at `start`, or no
     /// program is loaded. They are lent: it takes logarithmic time and no memory.
-    ///
-    /// The graph of a loaded program is that of its text, as [`Core::load`] says, and stays so.
     pub fn sources(&self, call: Node, start: Node, fact: Fact) -> &[Source<P::F>]
-        ensures exact { (p : Program) (graph : Supergraph) → self.now.graph ≡ Some graph → IsGraphOf p graph → HasEdgesOf p graph → map fact_and_function result.now ≡ sources_over_call P.targets graph call start fact }
+        ensures exact { (graph : Supergraph) → self.now.graph ≡ Some graph → map fact_and_function result.now ≡ sources_over_call P.targets graph call start fact }
         ensures none { self.now.graph ≡ None → result.now ≡ [] }
     {
         match &self.loaded {

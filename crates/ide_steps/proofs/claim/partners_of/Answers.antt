@@ -11,7 +11,7 @@ returns-in_ok-reaching-in-Jump-Exit-clause-partners g c =
     let site : c.args.site.now ≡ Exit arm.start-1 arm.callers-1 = cc (arm.is-1) in
     rw (key, site, c.of-in-Jump-Exit.ensures)
     (λ kept exits is owner within.
-    exit-partners {F = g.row.P-F.Denot} g.P.Problem.targets g.P.F.EdgeFn.edge c.args.loaded.now.graph c.args.tables.now c.args.loaded.now.sources kept
+    exit-partners {F = g.row.P-F.Denot} g.P.Problem.targets g.P.F.EdgeFn.edge c.args.loaded.now.graph c.args.tables.now c.args.loaded.now.program c.args.loaded.now.sources kept
     arm.field-0-0 arm.from arm.field-2-0 arm.start-1 arm.callers-1 c.in_ok-reaching-in-Jump-Exit.reaching.items c.args.procedure exits is owner within
     c.in_ok-reaching-in-Jump-Exit.ensures)
 

@@ -14,7 +14,7 @@ returns-clause-state g c =
 
 pub invariant_of-self : goal.invariant_of-self
 invariant_of-self g c = λ loaded is.
-    let program : IsProgramKept g.P.Problem.targets loaded.graph loaded.sources = first_of (search rules, grind (arith, common_steps)) in
+    let program : IsProgramKept g.P.Problem.targets loaded.program loaded.graph loaded.sources = first_of (search rules, grind (arith, common_steps)) in
     (program, kept-nothing g.P.Problem.targets g.P.F.EdgeFn.edge loaded.graph c.clear.new.self c.clear.ensures.pending c.clear.ensures.claims)
 
 pub returns-clause-changes : goal.returns-clause-changes
