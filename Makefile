@@ -9,8 +9,10 @@ SOURCES := crates.txt $(shell find crates -path '*/out' -prune -o -type f \( -na
 
 build: idesolve
 
-# Proves the program with all that it stands on, and builds it.
+# Proves the program with all that it stands on, and builds it: about half an hour on four cores.
 idesolve: $(SOURCES)
+	@echo "proving the program and all that it stands on: about half an hour on four cores"
+	@echo "(make try ARGS='..' runs it unproved, in about a minute)"
 	cd crates/ide_cli && rt run -- --help > /dev/null
 	cp crates/ide_cli/out/ide_cli idesolve
 
@@ -22,7 +24,7 @@ run: idesolve
 test:
 	scripts/gate
 
-# Runs the program with no proof, in seconds: make try ARGS='once copy examples/copies.ide main'
+# Runs the program with no proof, in about a minute: make try ARGS='once copy examples/copies.ide main'
 try:
 	scripts/try $(ARGS)
 
