@@ -8,8 +8,10 @@ mod reading;
 mod record;
 mod spelling;
 mod stage;
+mod version;
 
 pub use journal::Journal;
 pub use opening::tag;
 pub use record::RawRecord;
 pub use stage::Phase;
+pub use version::Version;
