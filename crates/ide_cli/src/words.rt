@@ -1,5 +1,11 @@
 //! The words of the command line.
+ghost use Rattle.std.specs.Prelude.{◌≡◌, false, IfOk, map};
+ghost use Rattle.clap.specs.Words.{app_of, found_of, rows_of, rule_of};
+ghost use Rattle.ide_cli.specs.Line.{HasShape, IsExplain, IsIdesolve, IsOfLine, IsOnce, check, given, name_of, wanted};
+ghost use Rattle.ide_cli.specs.declared.words.Instance.{Instance};
+
 use crate::explain::NAMES;
+use clap::error::ErrorKind;
 use clap::{Arg, ArgAction, ArgMatches, Command, Error};
 use std::alloc::Global;
 use std::convert::AsStr;
@@ -50,7 +56,9 @@ shift   constants, through sums and differences with a number too";
 
 impl Instance {
     /// The analysis of that name, one of [`INSTANCES`].
-    fn of(name: &str) -> Instance {
+    fn of(name: &str) -> Instance
+        ensures { (instance : Instance) → name.now ≡ name_of instance → result ≡ instance }
+    {
         match name {
             "uninit" => Instance::Uninit,
             "shift" => Instance::Shift,
@@ -61,34 +69,48 @@ impl Instance {
 
 /// The command of a line whose first word is the program's name. Any other line is an error of
 /// `clap`, as is one that asks for help.
-pub(crate) fn read_words<'a, S: AsStr>(alloc: Global, line: &'a [S]) -> Result<Words<'a>, Error> {
-    let command = Command::new(alloc, "idesolve")
-        .about("Solves interprocedural distributive environment problems")
-        .version("0.1.0")
-        .after_help(HELP)
-        .subcommand_required(true)
-        .subcommand(once(alloc)?)?
-        .subcommand(check(alloc)?)?
-        .subcommand(explain(alloc)?)?;
-    let matches = command.try_get_matches_from(line)?;
+pub(crate) fn read_words<'a, S: AsStr>(alloc: Global, line: &'a [S]) -> Result<Words<'a>, Error>
+    // The line has no fault, and the answer is the command that it names, with its words.
+    ensures { IfOk result (IsOfLine (map S.text line.entry.now)) }
+{
+    let mut command = idesolve(alloc)?;
+    let matches = command.try_get_matches_from_mut(line)?;
     match matches.subcommand() {
         Some(("once", given)) => Ok(Words::Once {
             instance: Instance::of(text_of(given, "INSTANCE")),
             file: text_of(given, "FILE"),
             procedure: text_of(given, "PROC"),
         }),
+        Some(("check", given)) => Ok(Words::Check {
+            file: text_of(given, "FILE"),
+        }),
         Some(("explain", given)) => Ok(Words::Explain {
             name: text_of(given, "NAME"),
         }),
-        Some((_, given)) => Ok(Words::Check {
-            file: text_of(given, "FILE"),
-        }),
-        None => Ok(Words::Check { file: "" }),
+        _ => Err(command.error(ErrorKind::InvalidSubcommand, "there is no such command")?),
     }
 }
 
+/// The command line of the program.
+fn idesolve<'a>(alloc: Global) -> Result<Command<'a>, Error>
+    ensures { IfOk result (λ command. IsIdesolve (app_of command)) }
+{
+    Ok(
+        Command::new(alloc, "idesolve")
+            .about("Solves interprocedural distributive environment problems")
+            .version("0.1.0")
+            .after_help(HELP)
+            .subcommand_required(true)
+            .subcommand(once(alloc)?)?
+            .subcommand(check(alloc)?)?
+            .subcommand(explain(alloc)?)?,
+    )
+}
+
 /// `once INSTANCE FILE PROC`
-fn once<'a>(alloc: Global) -> Result<Command<'a>, Error> {
+fn once<'a>(alloc: Global) -> Result<Command<'a>, Error>
+    ensures { IfOk result IsOnce }
+{
     let instance = required(alloc, "INSTANCE", "The analysis").value_parser(INSTANCES.as_slice());
     Ok(
         Command::new(alloc, "once")
@@ -101,7 +123,9 @@ fn once<'a>(alloc: Global) -> Result<Command<'a>, Error> {
 }
 
 /// `check FILE`
-fn check<'a>(alloc: Global) -> Result<Command<'a>, Error> {
+fn check<'a>(alloc: Global) -> Result<Command<'a>, Error>
+    ensures { IfOk result (HasShape check) }
+{
     Ok(
         Command::new(alloc, "check")
             .about("Reads a program text and prints its counts, or its first fault")
@@ -110,7 +134,9 @@ fn check<'a>(alloc: Global) -> Result<Command<'a>, Error> {
 }
 
 /// `explain NAME`
-fn explain<'a>(alloc: Global) -> Result<Command<'a>, Error> {
+fn explain<'a>(alloc: Global) -> Result<Command<'a>, Error>
+    ensures { IfOk result IsExplain }
+{
     let name = required(alloc, "NAME", "E1 to E16, or F1 to F9").value_parser(NAMES.as_slice());
     Ok(
         Command::new(alloc, "explain")
@@ -120,7 +146,10 @@ fn explain<'a>(alloc: Global) -> Result<Command<'a>, Error> {
 }
 
 /// A word that has to be given.
-fn required<'a>(alloc: Global, name: &'a str, help: &'a str) -> Arg<'a> {
+fn required<'a>(alloc: Global, name: &'a str, help: &'a str) -> Arg<'a>
+    ensures rule { rule_of result ≡ wanted name.now }
+    ensures local { result.global ≡ false }
+{
     Arg::new(alloc, name)
         .help(help)
         .required(true)
@@ -128,6 +157,8 @@ fn required<'a>(alloc: Global, name: &'a str, help: &'a str) -> Arg<'a> {
 }
 
 /// The text of a word that was given.
-fn text_of<'a>(given: &ArgMatches<'a>, name: &str) -> &'a str {
-    given.get_str(name).unwrap_or("")
+fn text_of<'a>(matches: &ArgMatches<'a>, name: &str) -> &'a str
+    ensures { result.now ≡ given name.now (rows_of (found_of matches.now)) }
+{
+    matches.get_str(name).unwrap_or("")
 }
