@@ -1,9 +1,9 @@
 //! How a record is spelled.
 ghost use Rattle.std.specs.Prelude.{◌≡◌, ◌+◌, ◌≤◌, ◌<◌, [], ◌∷◌, ◌++◌, length, OnOk, IfOk, IfErr, vec_len};
-ghost use Rattle.ide_journal.specs.Format.{after_gate, padding, zeros, header};
+ghost use Rattle.ide_journal.specs.Format.{after_gate, head_of, padding, zeros, header};
 ghost use Rattle.ide_journal.specs.Lists.{entry_of};
 
-use crate::RawRecord;
+use crate::{RawRecord, Version};
 use ide_wire::Refused;
 use std::alloc::{AllocError, Global};
 
@@ -29,12 +29,12 @@ fn push_zeros(out: &mut Vec<u8>, count: usize) -> Result<(), AllocError>
 
 /// Spells the first page, and a closed gate behind it.
 #[tactic(auto, unfolding(crate::specs::Format::header))]
-pub(crate) fn spell_header(alloc: Global, tag: u8) -> Result<Vec<u8>, AllocError>
-    ensures spelled { IfOk result (λ page. page.items ≡ header tag ++ 0 ∷ []) }
+pub(crate) fn spell_header(alloc: Global, version: Version, tag: u8) -> Result<Vec<u8>, AllocError>
+    ensures spelled { IfOk result (λ page. page.items ≡ header (head_of version tag) ++ 0 ∷ []) }
     ensures length { IfOk result (λ page. length page.items ≡ 4097) }
 {
     let mut page = Vec::with_capacity(alloc, 4097)?;
-    page.extend_from_slice(b"IDEJRNL1")?;
+    page.extend_from_slice(&version.letters())?;
     page.push(tag)?;
     push_zeros(&mut page, 4087)?;
     page.push(0)?;
