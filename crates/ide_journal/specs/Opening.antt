@@ -1,5 +1,5 @@
 -- What an opening finds and leaves.
-use Rattle.std.specs.Prelude.{◌≡◌, ◌⊎◌, ℕ, List, [], ◌∷◌, ◌++◌, length, slice_index, Result, Ok, Err}
+use Rattle.std.specs.Prelude.{◌≡◌, ◌⊎◌, ℕ, ◌<◌, ◌≤◌, List, [], ◌∷◌, ◌++◌, length, slice_index, Result, Ok, Err}
 use Rattle.ide_disk.specs.Disk.{DiskState, CrashLeaves, settled}
 use Rattle.ide_disk.specs.declared.disk.Disk.{Ghosts}
 use Rattle.ide_wire.specs.declared.refused.Refused.{Refused}
@@ -21,6 +21,11 @@ pub record IsLoaded (tag : ℕ) (bytes : List ℕ) (loaded : Loaded) : Type 0 wh
   pub store : IsStore (head_read tag loaded) bytes
   pub read : AreRead (entries_of loaded.records.items) loaded.gate bytes
   pub closed : slice_index bytes loaded.gate ≡ 0
+
+-- its closed gate lies within so many bytes, and its records can be counted
+pub record FitsIn (size : ℕ) (loaded : Loaded) : Type 0 where
+  pub inside : loaded.gate < size
+  pub few : length loaded.records.items ≤ 4294967295
 
 -- the disk has these records and the closed gate behind them, and nothing else
 pub record IsFound (head : Head) (entries : List Entry) (gate : ℕ) (disk : DiskState) : Type 0 where

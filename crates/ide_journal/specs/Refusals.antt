@@ -6,6 +6,7 @@ use Rattle.ide_disk.specs.declared.disk.Disk.{Ghosts}
 use Rattle.ide_wire.specs.declared.refused.Refused.{Refused}
 use Rattle.ide_wire.specs.declared.refused.Refused.TheVariants.{NoMemory, Disk, Failed, NotAStore, WrongInstance, Damaged}
 use Rattle.ide_journal.specs.Format.{Head}
+use Rattle.ide_journal.specs.Moments.{LeavesOnly}
 use Rattle.ide_journal.specs.Reading.{IsDamagedAt, IsStore, IsStoreOf, IsNoStore}
 use Rattle.ide_journal.specs.Stands.{HasFailed}
 use Rattle.ide_journal.specs.declared.journal.Journal.{Journal}
@@ -48,3 +49,9 @@ pub data IsAdvanceRefusal {D : Type 0} {G : Ghosts D} (old new : Journal D G) : 
 pub record CountsFaults {D T : Type 0} (G : Ghosts D) (result : Result T Refused) (old new : D) : Type 0 where
   pub ok : OnOk result (G.failures new ≡ G.failures old)
   pub fault : result ≡ Err Disk → FailsOnce G old new
+
+-- disk calls were made: an honest disk stays so, a crash at any moment leaves only what P holds of, and the failures are counted
+pub record RunsOn {D T : Type 0} (G : Ghosts D) (result : Result T Refused) (old new : D) (P : List ℕ → Type 0) : Type 0 where
+  pub honest : G.honest old → G.honest new
+  pub any_moment : G.honest old → LeavesOnly G old new P
+  pub failures : CountsFaults G result old new

@@ -1,5 +1,5 @@
 //! A journal over a disk.
-ghost use Rattle.std.specs.Prelude.{◌≡◌, ◌↔◌, ◌+◌, ◌<◌, ◌≤◌, [], ◌∷◌, length, IsTrue, OnOk, OnErr, IfOk, IfErr};
+ghost use Rattle.std.specs.Prelude.{◌≡◌, ◌↔◌, ◌+◌, ◌<◌, ◌≤◌, [], length, IsTrue, OnOk, OnErr, IfOk, IfErr};
 ghost use Rattle.ide_disk.specs.Disk.{settled};
 ghost use Rattle.ide_disk.specs.Time.{failures_after};
 ghost use Rattle.ide_journal.specs.Format.{IsEntry, head_of};

@@ -1,11 +1,11 @@
 //! What an opening does to the disk.
-ghost use Rattle.std.specs.Prelude.{◌≡◌, ◌⊎◌, ◌+◌, ◌<◌, ◌≤◌, ℕ, List, [], ◌∷◌, ◌++◌, length, OnOk, IfOk, IfErr};
-ghost use Rattle.ide_disk.specs.Disk.{LeavesAfterSync, settled};
+ghost use Rattle.std.specs.Prelude.{◌≡◌, ◌⊎◌, ◌+◌, ◌<◌, length, OnOk, IfOk, IfErr};
+ghost use Rattle.ide_disk.specs.Disk.{CrashLeaves, settled};
 ghost use Rattle.ide_disk.specs.Time.{failures_after};
-ghost use Rattle.ide_journal.specs.Moments.{LeavesNoMore, OnlyLooks};
-ghost use Rattle.ide_journal.specs.Opening.{CutsBehind, IsLoaded, IsRecovered, KeepsRecords, LeavesFront};
+ghost use Rattle.ide_journal.specs.Moments.{OnlyLooks};
+ghost use Rattle.ide_journal.specs.Opening.{CutsBehind, FitsIn, IsLoaded, IsRecovered, LeavesFront, LeftOrSame};
 ghost use Rattle.ide_journal.specs.Reading.{IsStoreOf};
-ghost use Rattle.ide_journal.specs.Refusals.{CountsFaults, IsOpenRefusal, IsTagRefusal};
+ghost use Rattle.ide_journal.specs.Refusals.{CountsFaults, IsOpenRefusal, IsTagRefusal, RunsOn};
 
 use crate::reading::{Loaded, read_file, read_head};
 use ide_disk::{DeviceFault, Disk};
@@ -58,35 +58,18 @@ pub fn tag<D: Disk>(disk: &mut D) -> Result<u8, Refused>
     Ok(tag)
 }
 
-// Brings what a read gives onto the disk.
-fn settle<D: Disk>(disk: &mut D) -> Result<(), Refused>
-    ensures size { D.size disk.new ≡ D.size disk.old }
-    ensures state { D.honest disk.old → OnOk result (D.state disk.new ≡ settled (D.state disk.old).now) }
-    ensures crash { D.honest disk.old → LeavesAfterSync (D.state disk.old) (D.state disk.new) }
-    ensures honest { D.honest disk.old → D.honest disk.new }
-    ensures any_moment { D.honest disk.old → LeavesNoMore D.Disk disk.old disk.new }
-    ensures failures { CountsFaults D.Disk result disk.old disk.new }
-    ensures refused { IfErr result (λ refused. refused ≡ Refused.Disk) }
-{
-    match disk.sync() {
-        Ok(()) => Ok(()),
-        Err(_) => Err(Refused::Disk),
-    }
-}
-
 // The store with that tag that the disk holds, once what a read gives is on the disk.
 #[tactic(auto, using(crate::specs::Refusals::open_device))]
 fn load<D: Disk>(alloc: Global, disk: &mut D, tag: u8) -> Result<Loaded, Refused>
-    ensures inside { IfOk result (λ loaded. loaded.gate < D.size disk.new) }
-    ensures few { IfOk result (λ loaded. length loaded.records.items ≤ 4294967295) }
+    ensures fits { IfOk result (FitsIn (D.size disk.new)) }
     ensures loaded { D.honest disk.old → IfOk result (IsLoaded tag (D.state disk.old).now) }
     ensures state { D.honest disk.old → OnOk result (D.state disk.new ≡ settled (D.state disk.old).now) }
-    ensures honest { D.honest disk.old → D.honest disk.new }
-    ensures any_moment { D.honest disk.old → LeavesNoMore D.Disk disk.old disk.new }
-    ensures failures { CountsFaults D.Disk result disk.old disk.new }
+    ensures runs { RunsOn D.Disk result disk.old disk.new (CrashLeaves (D.state disk.old)) }
     ensures refused { D.honest disk.old → IfErr result (IsOpenRefusal D.Disk tag disk.old disk.new) }
 {
-    settle(disk)?;
+    let Ok(()) = disk.sync() else {
+        return Err(Refused::Disk);
+    };
     let bytes = read_all(alloc, disk)?;
     read_file(alloc, &bytes, tag)
 }
@@ -94,12 +77,9 @@ fn load<D: Disk>(alloc: Global, disk: &mut D, tag: u8) -> Result<Loaded, Refused
 /// The store with that tag that the disk holds. Nothing stays behind its closed gate.
 #[tactic(auto, using(crate::specs::Refusals::open_device))]
 pub(crate) fn recover<D: Disk>(alloc: Global, disk: &mut D, tag: u8) -> Result<Loaded, Refused>
-    ensures inside { IfOk result (λ loaded. loaded.gate < D.size disk.new) }
-    ensures few { IfOk result (λ loaded. length loaded.records.items ≤ 4294967295) }
+    ensures fits { IfOk result (FitsIn (D.size disk.new)) }
     ensures recovered { D.honest disk.old → IfOk result (IsRecovered D.Disk tag disk.old disk.new) }
-    ensures honest { D.honest disk.old → D.honest disk.new }
-    ensures any_moment { D.honest disk.old → KeepsRecords D.Disk disk.old disk.new }
-    ensures failures { CountsFaults D.Disk result disk.old disk.new }
+    ensures runs { RunsOn D.Disk result disk.old disk.new (LeftOrSame (D.state disk.old)) }
     ensures refused { D.honest disk.old → IfErr result (IsOpenRefusal D.Disk tag disk.old disk.new) }
 {
     let loaded = load(alloc, disk, tag)?;

@@ -1,5 +1,5 @@
 //! How records are read.
-ghost use Rattle.std.specs.Prelude.{◌≡◌, ◌≢◌, ◌↔◌, ◌+◌, ◌<◌, ◌≤◌, length, slice_index, slice_range, EachIndex, IsTrue, IfOk, IfErr, IfSome, IfNone};
+ghost use Rattle.std.specs.Prelude.{◌≡◌, ◌≢◌, ◌↔◌, ◌+◌, ◌<◌, length, slice_index, EachIndex, IsTrue, IfOk, IfErr, IfSome, IfNone};
 ghost use Rattle.std.specs.Int.{w32, w64, to_le_bytes};
 ghost use Rattle.ide_journal.specs.Format.{head_of, letters};
 ghost use Rattle.ide_journal.specs.Lists.{entry_of, entries_of};

@@ -9,8 +9,8 @@ returns-in_err-bytes-clause-refused g c honest =
     let disk = c.args.disk.now in
     let new = c.read_all.new.disk in
     let refused = c.in_err-bytes.field-0.0 in
-    let p = err_from_is_err_and c.from_residual-in_err-bytes.result c.from_residual-in_err-bytes.ensures.1 in
-    handed-on (IsOpenRefusal g.D.Disk c.args.tag disk new) c.from_residual-in_err-bytes.result refused p.0 p.1 p.2
+    let p = err_from_is_err_and c.from_residual.result c.from_residual.ensures.1 in
+    handed-on (IsOpenRefusal g.D.Disk c.args.tag disk new) c.from_residual.result refused p.0 p.1 p.2
     (read_refused g.D.Disk c.args.tag disk new refused c.in_err-bytes.ensures.refused (λ device. search (rules, device)) (search rules))
 
 pub returns-clause-refused : goal.returns-clause-refused
