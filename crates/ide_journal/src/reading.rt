@@ -9,6 +9,7 @@ ghost use Rattle.ide_journal.specs.Refusals.{IsFileRefusal, IsRecordRefusal};
 
 use crate::spelling::padding;
 use crate::{RawRecord, Version};
+use byteorder::{ByteOrder, LittleEndian};
 use ide_wire::Refused;
 use std::alloc::{AllocError, Global};
 
@@ -33,7 +34,7 @@ fn spells(bytes: &[u8], number: u64) -> bool
     requires { length bytes.now ≡ 8 }
     ensures { IsTrue result ↔ (bytes.now ≡ to_le_bytes w64 number) }
 {
-    bytes == number.to_le_bytes().as_slice()
+    LittleEndian::read_u64(bytes) == number
 }
 
 // The number that the bytes are of.
@@ -41,7 +42,7 @@ fn number_of(bytes: &[u8]) -> u32
     requires { length bytes.now ≡ 4 }
     ensures { bytes.now ≡ to_le_bytes w32 result }
 {
-    u32::from_le_bytes([bytes[0], bytes[1], bytes[2], bytes[3]])
+    LittleEndian::read_u32(bytes)
 }
 
 // How many bytes the body has of the whole record of that number that stands there.

@@ -4,6 +4,7 @@ ghost use Rattle.ide_journal.specs.Format.{after_gate, head_of, padding, zeros, 
 ghost use Rattle.ide_journal.specs.Lists.{entry_of};
 
 use crate::{RawRecord, Version};
+use byteorder::{ByteOrder, LittleEndian};
 use ide_wire::Refused;
 use std::alloc::{AllocError, Global};
 
@@ -52,9 +53,10 @@ pub(crate) fn spell(out: &mut Vec<u8>, number: u64, raw: &RawRecord) -> Result<(
     let zeros = padding(body.len());
     out.clear();
     out.reserve(14 + body.len() + zeros)?;
-    out.push(raw.kind)?;
-    out.extend_from_slice(&number.to_le_bytes())?;
-    out.extend_from_slice(&(body.len() as u32).to_le_bytes())?;
+    let mut head = [raw.kind; 13];
+    LittleEndian::write_u64(&mut head[1..], number);
+    LittleEndian::write_u32(&mut head[9..], body.len() as u32);
+    out.extend_from_slice(&head)?;
     out.extend_from_slice(body)?;
     push_zeros(out, zeros)?;
     out.push(0)?;
