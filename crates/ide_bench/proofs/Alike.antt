@@ -3,7 +3,7 @@ use Rattle.std.proofs.Common.{◌≡◌, ℕ, ◌+◌, ◌-◌, ◌≤◌, List,
 use Rattle.std.proofs.Math.Seq.{take-nil}
 use Rattle.std.proofs.lemmas.List.{length-replicate, replicate-append-replicate}
 use Rattle.ide_disk.specs.declared.disk.Disk.{Ghosts}
-use Rattle.ide_journal.specs.Format.{Entry, Holds, zeros}
+use Rattle.ide_journal.specs.Format.{Entry, Head, Holds, zeros}
 use Rattle.ide_journal.specs.Laws.{HoldsOneList}
 use Rattle.ide_journal.specs.Lists.{IsAtRest}
 use Rattle.ide_journal.specs.declared.journal.Journal.{Journal}
@@ -24,13 +24,13 @@ pub one_more : (kind size count : ℕ) → alike kind size (count + 1) ≡ alike
 one_more kind size count = sym (replicate-append-replicate count 1 (kind, zeros size))
 
 -- a journal at rest holds its records, and a file holds one list
-pub same_count : {D : Type 0} (G : Ghosts D) (one : HoldsOneList) (tag kind size count : ℕ) (journal : Journal D G) (records : List Entry)
-    → IsAtRest tag (alike kind size count) journal → Holds tag records (G.state journal.disk).now → length records ≡ count
-same_count G one tag kind size count journal records rest held =
-    ap length (sym ((one tag tag (alike kind size count) records (G.state journal.disk).now holds held).1)) ∙ length-replicate count (kind, zeros size)
+pub same_count : {D : Type 0} (G : Ghosts D) (one : HoldsOneList) (head told : Head) (kind size count : ℕ) (journal : Journal D G) (records : List Entry)
+    → IsAtRest head (alike kind size count) journal → Holds told records (G.state journal.disk).now → length records ≡ count
+same_count G one head told kind size count journal records rest held =
+    ap length (sym ((one head told (alike kind size count) records (G.state journal.disk).now holds held).1)) ∙ length-replicate count (kind, zeros size)
   where
     few : length (alike kind size count) ≤ 4294967295
     few = subst (λ n. n ≤ 4294967295) rest.next journal.numbered
 
-    holds : Holds tag (alike kind size count) (G.state journal.disk).now
+    holds : Holds head (alike kind size count) (G.state journal.disk).now
     holds = record { pages = rest.pages; rest = []; whole = rest.whole; few = few; split = ap (λ s. s.now) rest.disk }

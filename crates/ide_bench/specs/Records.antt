@@ -1,7 +1,14 @@
 -- The records that are stored: all alike.
-use Rattle.std.specs.Prelude.{ℕ, List, replicate}
-use Rattle.ide_journal.specs.Format.{Entry, zeros}
+use Rattle.std.specs.Prelude.{ℕ, List, [], ◌∷◌, ◌++◌, replicate}
+use Rattle.ide_disk.specs.declared.disk.Disk.{Ghosts}
+use Rattle.ide_journal.specs.Format.{Entry, Head, zeros}
+use Rattle.ide_journal.specs.Lists.{IsAtRest}
+use Rattle.ide_journal.specs.declared.journal.Journal.{Journal}
 
 -- so many records of that kind, each with a body of so many zeros
 abbrev pub alike : ℕ → ℕ → ℕ → List Entry
 alike kind size count = replicate count (kind, zeros size)
+
+-- the record is stored behind those that the journal has
+abbrev pub Appends : {D : Type 0} {G : Ghosts D} → Entry → Journal D G → Journal D G → Type 0
+Appends entry old new = (head : Head) → (entries : List Entry) → IsAtRest head entries old → IsAtRest head (entries ++ entry ∷ []) new

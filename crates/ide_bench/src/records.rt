@@ -1,13 +1,13 @@
 //! Records in a journal on a disk in memory, and what copying their bodies alone takes.
-ghost use Rattle.std.specs.Prelude.{◌≡◌, ◌*◌, [], ◌∷◌, ◌++◌, IfOk, List, OnOk, length};
-ghost use Rattle.ide_bench.specs.Records.{alike};
-ghost use Rattle.ide_journal.specs.Format.{Entry, zeros};
+ghost use Rattle.std.specs.Prelude.{◌≡◌, ◌*◌, IfOk, OnOk, length};
+ghost use Rattle.ide_bench.specs.Records.{Appends, alike};
+ghost use Rattle.ide_journal.specs.Format.{head_of, zeros};
 ghost use Rattle.ide_journal.specs.Lists.{IsAtRest, entry_of};
 
 use anyhow::{Result, bail, ensure};
 use ide_disk::{Disk, MemDisk};
 use ide_journal::laws::holds_one_list;
-use ide_journal::{Journal, RawRecord};
+use ide_journal::{Journal, RawRecord, Version};
 use std::alloc::Global;
 
 /// The tag of the store.
@@ -62,10 +62,10 @@ impl Sizes {
 
     /// A journal with the records.
     fn journal(self, alloc: Global) -> Result<Journal<MemDisk>>
-        ensures { IfOk result (IsAtRest TAG (alike KIND self.length self.count)) }
+        ensures { IfOk result (IsAtRest (head_of Version.Two TAG) (alike KIND self.length self.count)) }
     {
         let record = self.record(alloc)?;
-        let mut journal = match Journal::create(alloc, self.disk(alloc)?, TAG) {
+        let mut journal = match Journal::create(alloc, self.disk(alloc)?, TAG, Version::Two) {
             Ok(journal) => journal,
             Err((refused, _)) => return Err(refused.into()),
         };
@@ -78,7 +78,7 @@ impl Sizes {
 
 /// Stores a record, by four disk calls.
 fn store(journal: &mut Journal<MemDisk>, raw: &RawRecord) -> Result<()>
-    ensures { (entries : List Entry) → IsAtRest TAG entries journal.old → OnOk result (IsAtRest TAG (entries ++ entry_of raw.now ∷ []) journal.new) }
+    ensures { OnOk result (Appends (entry_of raw.now) journal.old journal.new) }
 {
     ensure!(
         journal.is_idle() && journal.count() < MOST,

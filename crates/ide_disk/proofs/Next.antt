@@ -1,34 +1,38 @@
 -- The contents after one more recorded call.
 use Rattle.std.specs.Prelude.{◌≡◌, ℕ, ◌+◌, ◌≤◌, max, List, [], ◌∷◌, ◌++◌, length, refl}
-use Rattle.std.proofs.Common.{arith, sym, subst, ap, ◌∙◌, inl}
+use Rattle.std.proofs.Common.{arith, sym, subst, ap, ◌∙◌}
 use Rattle.std.proofs.lemmas.List.{length-append, length_push, take_all}
+use Rattle.ide_disk.specs.Contents.{contents_state, contents_moment, contents_since, Records}
 use Rattle.ide_disk.specs.Disk.{Change, Wrote, Cut, DiskState, CrashLeaves, LeavesAfter, LeavesAfterSync, settled, written, cut_to, synced_now}
 use Rattle.ide_disk.specs.Kept.{keeps_left, keeps_more}
 use Rattle.ide_disk.specs.Left.{possible_after, possible_replay}
-use Rattle.ide_disk.specs.Past.{all_taken-push, replay_next, elapses}
-use Rattle.ide_disk.specs.Record.{all_taken, taken, end_of, furthest_end, after_call, replay, LeftSince}
+use Rattle.ide_disk.specs.Past.{Calls, all_taken-push, replay_next, elapses}
+use Rattle.ide_disk.specs.Record.{IsNext, all_taken, taken, end_of, furthest_end, after_call, replay, LeftSince}
 use Rattle.ide_disk.specs.Time.{Elapses}
 use Rattle.ide_disk.specs.declared.call.Call.{Call}
+use Rattle.ide_disk.specs.declared.contents.Contents.{Contents}
 use Rattle.ide_disk.specs.declared.call.Call.TheVariants.{Write, Shorten}
 
--- new is old with a call, and with its bytes
-pub record IsNext (call : Call) (more : List ℕ) (calls new_calls : List Call) (bytes new_bytes : List ℕ) : Type 0 where
-  pub calls_are : new_calls ≡ calls ++ call ∷ []
-  pub bytes_are : new_bytes ≡ bytes ++ more
-  pub counted : all_taken calls ≡ length bytes
-
 pub state_next : (call : Call) (more : List ℕ) (calls new_calls : List Call) (bytes new_bytes start : List ℕ) → IsNext call more calls new_calls bytes new_bytes
-    → replay new_calls new_bytes (settled start) ≡ after_call call more (replay calls bytes (settled start))
-state_next call more calls new_calls bytes new_bytes start next =
+    → all_taken calls ≡ length bytes → replay new_calls new_bytes (settled start) ≡ after_call call more (replay calls bytes (settled start))
+state_next call more calls new_calls bytes new_bytes start next counted =
     ap (λ (cs : List Call). replay cs new_bytes (settled start)) next.calls_are
     ∙ ap (λ (xs : List ℕ). replay (calls ++ call ∷ []) xs (settled start)) next.bytes_are
-    ∙ replay_next calls call bytes more (settled start) next.counted
+    ∙ replay_next calls call bytes more (settled start) counted
+
+-- the disk after a write
+pub written_next : (at : ℕ) (more : List ℕ) (calls new_calls : List Call) (bytes new_bytes start : List ℕ)
+    → IsNext (Write at (length more)) more calls new_calls bytes new_bytes → all_taken calls ≡ length bytes
+    → replay new_calls new_bytes (settled start) ≡ written at more (replay calls bytes (settled start))
+written_next at more calls new_calls bytes new_bytes start next counted =
+    state_next (Write at (length more)) more calls new_calls bytes new_bytes start next counted
+    ∙ ap (λ (xs : List ℕ). written at xs (replay calls bytes (settled start))) (take_all (length more) more (omega arith))
 
 pub counted_next : (call : Call) (more : List ℕ) (calls new_calls : List Call) (bytes new_bytes : List ℕ) → IsNext call more calls new_calls bytes new_bytes
-    → taken call ≡ length more → all_taken new_calls ≡ length new_bytes
-counted_next call more calls new_calls bytes new_bytes next own =
+    → all_taken calls ≡ length bytes → taken call ≡ length more → all_taken new_calls ≡ length new_bytes
+counted_next call more calls new_calls bytes new_bytes next counted own =
     ap all_taken next.calls_are ∙ all_taken-push calls call
-    ∙ omega (arith, next.counted, own, length-append bytes more, ap length next.bytes_are)
+    ∙ omega (arith, counted, own, length-append bytes more, ap length next.bytes_are)
 
 furthest_end-push : (calls : List Call) (call : Call) → furthest_end (calls ++ call ∷ []) ≡ max (furthest_end calls) (end_of call)
 furthest_end-push [] call = omega arith
@@ -39,19 +43,15 @@ pub fit_next : (call : Call) (more : List ℕ) (calls new_calls : List Call) (by
 fit_next call more calls new_calls bytes new_bytes next room old own =
     omega (arith, ap furthest_end next.calls_are, furthest_end-push calls call, old, own)
 
-pub time_next : (call : Call) (more : List ℕ) (calls new_calls : List Call) (bytes new_bytes start : List ℕ) → IsNext call more calls new_calls bytes new_bytes
-    → Elapses (length calls) (length new_calls) (LeftSince calls bytes (settled start)) (LeftSince new_calls new_bytes (settled start))
-    (CrashLeaves (replay new_calls new_bytes (settled start)))
-time_next call more calls new_calls bytes new_bytes start next =
-    rw (next.calls_are, next.bytes_are) (elapses calls call bytes more (settled start) next.counted)
-
--- with nothing recorded, it is the same moment
-pub time_stays : (now : ℕ) (past : ℕ → List ℕ → Type 0) (may_leave : List ℕ → Type 0) → Elapses now now past past may_leave
-time_stays now past may_leave = record {
-  later = omega arith;
-  nothing_else = λ t left early since. inl since;
-  keeps = λ t left early since. since;
-}
+pub time_next : (call : Call) (more : List ℕ) (old new : Contents)
+    → IsNext call more old.calls.items new.calls.items old.written.items new.written.items → new.start.items ≡ old.start.items
+    → Elapses contents_moment contents_since contents_state old new
+time_next call more old new next same =
+    let disk = settled old.start.items in
+    let time : Elapses {D = Calls} (λ past. length past.0) (λ past. LeftSince past.0 past.1 disk) (λ past. replay past.0 past.1 disk)
+    (old.calls.items, old.written.items) (new.calls.items, new.written.items) =
+    rw (next.calls_are, next.bytes_are) (elapses old.calls.items call old.written.items more disk old.counted) in
+    record { later = time.later; nothing_else = rw same time.nothing_else; keeps = rw same time.keeps }
 
 -- what a read gives is something that a crash may leave
 pub possible : (calls : List Call) (bytes start : List ℕ)
@@ -98,3 +98,13 @@ pub recorded : (call : Call) (more : List ℕ) (calls new_calls : List Call) (by
     → length new_calls + length new_bytes ≡ length calls + length bytes + length more + 1
 recorded call more calls new_calls bytes new_bytes next =
     omega (arith, ap length next.calls_are, length_push calls call, ap length next.bytes_are, length-append bytes more)
+
+pub records_next : (call : Call) (more : List ℕ) (count : ℕ) (old new : Contents)
+    → IsNext call more old.calls.items new.calls.items old.written.items new.written.items → length more ≤ count
+    → new.start.items ≡ old.start.items → new.room ≡ old.room → new.log ≡ old.log → Records count old new
+records_next call more count old new next few same room log = record {
+  room = room;
+  log = log;
+  recorded = omega (arith, recorded call more old.calls.items new.calls.items old.written.items new.written.items next);
+  time = time_next call more old new next same;
+}

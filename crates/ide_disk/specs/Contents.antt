@@ -1,10 +1,15 @@
--- What a disk in memory says of itself.
-use Rattle.std.specs.Prelude.{◌≡◌, ℕ, ◌+◌, ◌<◌, ◌≤◌, List, length}
-use Rattle.ide_disk.specs.Disk.{DiskState, settled}
+-- What the contents of a disk in memory say of themselves.
+use Rattle.std.specs.Prelude.{◌≡◌, ℕ, ◌+◌, ◌<◌, ◌≤◌, max, List, length}
+use Rattle.ide_disk.specs.Disk.{DiskState, settled, written, cut_to}
 use Rattle.ide_disk.specs.Record.{replay, LeftSince}
 use Rattle.ide_disk.specs.Leaving.{left_after}
+use Rattle.ide_disk.specs.Time.{Elapses}
 use Rattle.ide_disk.specs.declared.leave.Leave.{Leave}
 use Rattle.ide_disk.specs.declared.contents.Contents.{Contents}
+
+-- how many bytes there are
+abbrev pub contents_size : Contents → ℕ
+contents_size contents = length contents.bytes.items
 
 -- the disk after the recorded calls
 abbrev pub contents_state : Contents → DiskState
@@ -30,8 +35,28 @@ recorded_count contents = length contents.calls.items + length contents.written.
 abbrev pub HasSpace : Contents → ℕ → Type 0
 HasSpace contents count = recorded_count contents + count < contents.log
 
--- the limits stay, and no more than one call and so many bytes are recorded
+-- so can a write, which ends within the room
+abbrev pub CanHold : Contents → ℕ → ℕ → Type 0
+CanHold contents at count = (at + count ≤ contents.room) × HasSpace contents count
+
+-- the limits stay, time goes on, and no more than one call and so many bytes are recorded
 pub record Records (count : ℕ) (old new : Contents) : Type 0 where
   pub room : new.room ≡ old.room
   pub log : new.log ≡ old.log
   pub recorded : recorded_count new ≤ recorded_count old + count + 1
+  pub time : Elapses contents_moment contents_since contents_state old new
+
+-- the bytes are the same, and what a crash may leave
+pub record ShowsTheSame (old new : Contents) : Type 0 where
+  pub bytes : new.bytes.items ≡ old.bytes.items
+  pub state : contents_state new ≡ contents_state old
+
+-- the bytes were written there
+pub record HasWritten (at : ℕ) (bytes : List ℕ) (old new : Contents) : Type 0 where
+  pub size : contents_size new ≡ max (contents_size old) (at + length bytes)
+  pub state : contents_state new ≡ written at bytes (contents_state old)
+
+-- the bytes from a length on were dropped
+pub record HasCut (len : ℕ) (old new : Contents) : Type 0 where
+  pub size : contents_size new ≡ len
+  pub state : contents_state new ≡ cut_to len (contents_state old)

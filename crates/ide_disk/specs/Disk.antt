@@ -1,5 +1,5 @@
 -- What a disk holds: what was synced, what was changed since, what a read gives, and what a crash may leave.
-use Rattle.std.specs.Prelude.{◌≡◌, ◌⊎◌, ℕ, ◌+◌, ◌<◌, ◌≤◌, List, [], ◌∷◌, ◌++◌, length, take, drop, slice_index}
+use Rattle.std.specs.Prelude.{◌≡◌, ◌⊎◌, ℕ, ◌+◌, ◌<◌, ◌≤◌, List, [], ◌∷◌, ◌++◌, length, take, drop, slice_index, slice_range}
 
 -- a change since the last sync: a count of bytes written at a place, or a cut to a length
 pub data Change : Type 0 where
@@ -15,6 +15,10 @@ pub record DiskState : Type 0 where
 -- a disk on which all is synced
 abbrev pub settled : List ℕ → DiskState
 settled bytes = record { synced = bytes; changes = []; now = bytes }
+
+-- so many of the bytes that a read gives, from a place on
+abbrev pub read_at : ℕ → ℕ → DiskState → List ℕ
+read_at at count disk = slice_range disk.now at (at + count)
 
 -- the old bytes with others over them, from a place on
 abbrev pub put_at : ℕ → List ℕ → List ℕ → List ℕ

@@ -1,8 +1,12 @@
 -- What stays of the synced bytes when others are put over them, cut off or put behind them.
-use Rattle.std.specs.Prelude.{◌≡◌, ◌⊎◌, ℕ, ◌+◌, ◌<◌, ◌≤◌, List, [], ◌∷◌, ◌++◌, length, take, slice_index}
+use Rattle.std.specs.Prelude.{◌≡◌, ◌⊎◌, ℕ, ◌+◌, ◌<◌, ◌≤◌, max, List, [], ◌∷◌, ◌++◌, length, take, slice_index}
 use Rattle.std.proofs.Common.{arith, rules, inl, inr, ap, ◌∙◌}
 use Rattle.std.proofs.lemmas.List.{places, length-take, length-drop, length-append, get_or_append_left, get_or-take}
 use Rattle.ide_disk.specs.Disk.{Change, Wrote, Cut, put_at, Keeps, LeftOf}
+
+-- how many bytes there are then
+pub length-put_at : (at : ℕ) (bytes old : List ℕ) → at ≤ length old → length (put_at at bytes old) ≡ max (length old) (at + length bytes)
+length-put_at at bytes old inside = simp (length-append, length-take, length-drop) (omega (arith, inside))
 
 -- bytes that end within the room, put over others that do
 pub put_at-fits : (at : ℕ) (bytes old : List ℕ) (room : ℕ) → at + length bytes ≤ room → length old ≤ room → length (put_at at bytes old) ≤ room

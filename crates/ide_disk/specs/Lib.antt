@@ -6,6 +6,7 @@ pub mod Kept
 pub mod Leaving
 pub mod Left
 pub mod Memory
+pub mod OneCall
 pub mod Past
 pub mod Record
 pub mod Time

@@ -1,7 +1,7 @@
 -- What a disk in memory shows beside what every disk does.
-use Rattle.std.specs.Prelude.{◌≡◌, ℕ, ◌+◌, ◌<◌, ◌≤◌, List, length, Option, Result}
-use Rattle.ide_disk.specs.Disk.{DiskState, CrashLeaves}
-use Rattle.ide_disk.specs.Contents.{contents_left, contents_state, contents_moment, contents_since, recorded_count}
+use Rattle.std.specs.Prelude.{◌≡◌, ℕ, ◌+◌, ◌<◌, ◌≤◌, List, Option, Result}
+use Rattle.ide_disk.specs.Disk.{DiskState}
+use Rattle.ide_disk.specs.Contents.{contents_size, contents_left, contents_state, contents_moment, contents_since, recorded_count}
 use Rattle.ide_disk.specs.Time.{Elapses, next_count, failures_after}
 use Rattle.ide_disk.specs.Counter.{IsToldToFail}
 use Rattle.ide_disk.specs.declared.leave.Leave.{Leave}
@@ -9,11 +9,15 @@ use Rattle.ide_disk.specs.declared.memory.MemDisk.{MemDisk}
 
 -- how many bytes there are
 abbrev pub memory_size : MemDisk → ℕ
-memory_size disk = length disk.contents.bytes.items
+memory_size disk = contents_size disk.contents
 
 -- the disk after its recorded calls
 abbrev pub memory_state : MemDisk → DiskState
 memory_state disk = contents_state disk.contents
+
+-- the bytes that a read gives
+abbrev pub memory_bytes : MemDisk → List ℕ
+memory_bytes disk = (memory_state disk).now
 
 -- how many calls are recorded
 abbrev pub memory_moment : MemDisk → ℕ
@@ -71,9 +75,9 @@ pub record IsSameDisk (old new : MemDisk) : Type 0 where
   pub calls : new.counter.calls ≡ old.counter.calls
   pub failures : new.counter.failures ≡ old.counter.failures
 
--- the clock goes on; the call is counted, as a failure where it failed, and recorded with no more than so many bytes; what is told to fail and the limits stay
+-- time goes on; the call is counted, as a failure where it failed, and recorded with no more than so many bytes; what is told to fail and the limits stay
 pub record IsCounted {T E : Type 0} (result : Result T E) (count : ℕ) (old new : MemDisk) : Type 0 where
-  pub time : Elapses (memory_moment old) (memory_moment new) (memory_since old) (memory_since new) (CrashLeaves (memory_state new))
+  pub time : Elapses memory_moment memory_since memory_state old new
   pub calls : call_count new ≡ next_count (call_count old)
   pub failures : failure_count new ≡ failures_after result (failure_count old)
   pub room : room_of new ≡ room_of old

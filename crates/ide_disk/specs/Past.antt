@@ -72,10 +72,14 @@ earlier calls more_calls bytes more disk k within all =
     ap (λ (cs : List Call). replay cs (bytes ++ more) disk) (take-append-le k calls more_calls within)
     ∙ replay-more (take k calls) bytes more disk (omega (arith, all_taken-take calls k, all))
 
+-- calls, and the bytes of those that wrote
+abbrev pub Calls : Type 0
+Calls = List Call × List ℕ
+
 -- with one more call recorded, time goes on
 pub elapses : (calls : List Call) (call : Call) (bytes more : List ℕ) (disk : DiskState) → all_taken calls ≡ length bytes
-    → Elapses (length calls) (length (calls ++ call ∷ [])) (LeftSince calls bytes disk) (LeftSince (calls ++ call ∷ []) (bytes ++ more) disk)
-    (CrashLeaves (replay (calls ++ call ∷ []) (bytes ++ more) disk))
+    → Elapses {D = Calls} (λ past. length past.0) (λ past. LeftSince past.0 past.1 disk) (λ past. replay past.0 past.1 disk)
+    (calls, bytes) (calls ++ call ∷ [], bytes ++ more)
 elapses calls call bytes more disk all = record {
   later = omega (arith, length_push calls call);
   nothing_else = λ t left early (k, late, within, leaves). elim (cases_lt (length calls) k) [

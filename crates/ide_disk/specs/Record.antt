@@ -1,5 +1,5 @@
 -- A record of calls, and the disk after them.
-use Rattle.std.specs.Prelude.{ℕ, ◌+◌, ◌≤◌, max, List, [], ◌∷◌, length, take, drop}
+use Rattle.std.specs.Prelude.{◌≡◌, ℕ, ◌+◌, ◌≤◌, max, List, [], ◌∷◌, ◌++◌, length, take, drop}
 use Rattle.ide_disk.specs.Disk.{DiskState, CrashLeaves, written, cut_to, synced_now}
 use Rattle.ide_disk.specs.declared.call.Call.{Call}
 use Rattle.ide_disk.specs.declared.call.Call.TheVariants.{Look, Write, Shorten, Sync}
@@ -44,3 +44,8 @@ replay (call ∷ calls) bytes disk = replay calls (drop (taken call) bytes) (aft
 abbrev pub LeftSince : List Call → List ℕ → DiskState → ℕ → List ℕ → Type 0
 LeftSince calls bytes disk t left =
     (k : ℕ) × (t ≤ k) × (k ≤ length calls) × CrashLeaves (replay (take k calls) bytes disk) left
+
+-- one call more is recorded, and its bytes
+pub record IsNext (call : Call) (more : List ℕ) (calls new_calls : List Call) (bytes new_bytes : List ℕ) : Type 0 where
+  pub calls_are : new_calls ≡ calls ++ call ∷ []
+  pub bytes_are : new_bytes ≡ bytes ++ more

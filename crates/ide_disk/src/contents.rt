@@ -1,9 +1,8 @@
 //! The bytes of a disk in memory, with a record of all that was done to them.
 ghost use Rattle.std.specs.Prelude.{◌≡◌, ℕ, ◌+◌, ◌<◌, ◌≤◌, ◌↔◌, max, [], ◌∷◌, ◌++◌, length, slice_range, IsTrue, IfOk, vec_len, vec_capacity};
 ghost use Rattle.std.specs.Bool.{OnTrue};
-ghost use Rattle.ide_disk.specs.Disk.{Wrote, Cut, CrashLeaves, LeavesAfter, LeavesAfterSync, put_at, settled, written, cut_to, synced_now};
-ghost use Rattle.ide_disk.specs.Record.{all_taken, furthest_end, replay};
-ghost use Rattle.ide_disk.specs.Time.{Elapses};
+ghost use Rattle.ide_disk.specs.Disk.{Wrote, Cut, LeavesAfter, LeavesAfterSync, settled, synced_now};
+ghost use Rattle.ide_disk.specs.Record.{IsNext, all_taken, furthest_end, replay};
 
 use crate::Leave;
 use crate::bytes::{overwrite, replace};
@@ -38,7 +37,7 @@ pub(crate) struct Contents {
 }
 
 impl Contents {
-    ghost use Rattle.ide_disk.specs.Contents.{contents_state, contents_moment, contents_since, contents_left, recorded_count, HasSpace, Records};
+    ghost use Rattle.ide_disk.specs.Contents.{contents_size, contents_state, contents_left, recorded_count, HasSpace, CanHold, Records, ShowsTheSame, HasWritten, HasCut};
 
     /// No bytes, with room for these many, and for a record of these many calls and written bytes.
     pub(crate) fn new(alloc: Global, room: usize, log: usize) -> Result<Self, AllocError>
@@ -62,7 +61,7 @@ impl Contents {
     }
 
     pub(crate) fn len(&self) -> usize
-        ensures { result ≡ length self.now.bytes.items }
+        ensures { result ≡ contents_size self.now }
     {
         self.bytes.len()
     }
@@ -78,9 +77,7 @@ impl Contents {
     pub(crate) fn look(&mut self) -> bool
         ensures answer { IsTrue result ↔ HasSpace self.old 0 }
         ensures recorded { Records 0 self.old self.new }
-        ensures bytes { self.new.bytes.items ≡ self.old.bytes.items }
-        ensures state { contents_state self.new ≡ contents_state self.old }
-        ensures time { Elapses (contents_moment self.old) (contents_moment self.new) (contents_since self.old) (contents_since self.new) (CrashLeaves (contents_state self.new)) }
+        ensures same { ShowsTheSame self.old self.new }
     {
         if !self.has_space(0) {
             return false;
@@ -91,13 +88,11 @@ impl Contents {
 
     /// Fills the buffer with the bytes from a place on, and says whether that could be recorded.
     pub(crate) fn read(&mut self, at: usize, out: &mut [u8]) -> bool
-        requires { at + length out.old ≤ length self.old.bytes.items }
+        requires { at + length out.old ≤ contents_size self.old }
         ensures answer { IsTrue result ↔ HasSpace self.old 0 }
         ensures recorded { Records 0 self.old self.new }
         ensures read { OnTrue result (out.new ≡ slice_range self.old.bytes.items at (at + length out.old)) }
-        ensures bytes { self.new.bytes.items ≡ self.old.bytes.items }
-        ensures state { contents_state self.new ≡ contents_state self.old }
-        ensures time { Elapses (contents_moment self.old) (contents_moment self.new) (contents_since self.old) (contents_since self.new) (CrashLeaves (contents_state self.new)) }
+        ensures same { ShowsTheSame self.old self.new }
     {
         if !self.look() {
             return false;
@@ -108,14 +103,12 @@ impl Contents {
 
     /// Writes the bytes from a place on, if they fit and can be recorded.
     pub(crate) fn write_over(&mut self, at: usize, bytes: &[u8]) -> bool
-        requires { at ≤ length self.old.bytes.items }
-        ensures answer { IsTrue result ↔ (at + length bytes.now ≤ self.old.room) × HasSpace self.old (length bytes.now) }
+        requires { at ≤ contents_size self.old }
+        ensures answer { IsTrue result ↔ CanHold self.old at (length bytes.now) }
         ensures recorded { Records (length bytes.now) self.old self.new }
-        ensures grows { length self.old.bytes.items ≤ length self.new.bytes.items }
-        ensures size { OnTrue result (length self.new.bytes.items ≡ max (length self.old.bytes.items) (at + length bytes.now)) }
-        ensures state { OnTrue result (contents_state self.new ≡ written at bytes.now (contents_state self.old)) }
+        ensures grows { contents_size self.old ≤ contents_size self.new }
+        ensures written { OnTrue result (HasWritten at bytes.now self.old self.new) }
         ensures crash { LeavesAfter (Wrote at (length bytes.now)) (contents_state self.old) (contents_state self.new) }
-        ensures time { Elapses (contents_moment self.old) (contents_moment self.new) (contents_since self.old) (contents_since self.new) (CrashLeaves (contents_state self.new)) }
     {
         if at + bytes.len() > self.room {
             let _ = self.look();
@@ -136,15 +129,13 @@ impl Contents {
 
     /// Drops the bytes from a length on, if that can be recorded.
     pub(crate) fn cut_off(&mut self, len: usize) -> bool
-        requires { len ≤ length self.old.bytes.items }
+        requires { len ≤ contents_size self.old }
         ensures answer { IsTrue result ↔ HasSpace self.old 0 }
         ensures recorded { Records 0 self.old self.new }
-        ensures shrinks { length self.new.bytes.items ≤ length self.old.bytes.items }
-        ensures leaves { len ≤ length self.new.bytes.items }
-        ensures size { OnTrue result (length self.new.bytes.items ≡ len) }
-        ensures state { OnTrue result (contents_state self.new ≡ cut_to len (contents_state self.old)) }
+        ensures shrinks { contents_size self.new ≤ contents_size self.old }
+        ensures leaves { len ≤ contents_size self.new }
+        ensures cut { OnTrue result (HasCut len self.old self.new) }
         ensures crash { LeavesAfter (Cut len) (contents_state self.old) (contents_state self.new) }
-        ensures time { Elapses (contents_moment self.old) (contents_moment self.new) (contents_since self.old) (contents_since self.new) (CrashLeaves (contents_state self.new)) }
     {
         if !self.has_space(0) {
             return false;
@@ -161,7 +152,6 @@ impl Contents {
         ensures bytes { self.new.bytes.items ≡ self.old.bytes.items }
         ensures state { OnTrue result (contents_state self.new ≡ synced_now (contents_state self.old)) }
         ensures crash { LeavesAfterSync (contents_state self.old) (contents_state self.new) }
-        ensures time { Elapses (contents_moment self.old) (contents_moment self.new) (contents_since self.old) (contents_since self.new) (CrashLeaves (contents_state self.new)) }
     {
         if !self.has_space(0) {
             return false;
@@ -188,8 +178,7 @@ impl Contents {
 fn note(calls: &mut Vec<Call>, written: &mut Vec<u8>, call: Call, bytes: &[u8])
     requires calls { vec_len calls.old < vec_capacity calls.old }
     requires bytes { vec_len written.old + length bytes.now ≤ vec_capacity written.old }
-    ensures calls { calls.new.items ≡ calls.old.items ++ call ∷ [] }
-    ensures written { written.new.items ≡ written.old.items ++ bytes.now }
+    ensures next { IsNext call bytes.now calls.old.items calls.new.items written.old.items written.new.items }
     ensures calls_len { vec_len calls.new ≡ vec_len calls.old + 1 }
     ensures written_len { vec_len written.new ≡ vec_len written.old + length bytes.now }
     ensures calls_capacity { vec_capacity calls.old ≤ vec_capacity calls.new }

@@ -1,6 +1,6 @@
 //! A disk as those above it see it: what a read gives, and what a crash may leave.
-ghost use Rattle.std.specs.Prelude.{◌≡◌, ℕ, ◌+◌, ◌^◌, ◌<◌, ◌≤◌, max, List, length, slice_range, IfOk, OnOk};
-ghost use Rattle.ide_disk.specs.Disk.{DiskState, Wrote, Cut, CrashLeaves, LeavesAfter, LeavesAfterSync, written, cut_to, synced_now};
+ghost use Rattle.std.specs.Prelude.{◌≡◌, ℕ, ◌+◌, ◌^◌, ◌<◌, ◌≤◌, max, List, length, IfOk, OnOk};
+ghost use Rattle.ide_disk.specs.Disk.{DiskState, Wrote, Cut, CrashLeaves, LeavesAfter, LeavesAfterSync, read_at, written, cut_to, synced_now};
 ghost use Rattle.ide_disk.specs.Time.{Elapses, next_count, failures_after};
 
 use crate::DeviceFault;
@@ -36,18 +36,18 @@ pub trait Disk {
         ensures size { size self.new ≡ size self.old }
         ensures state { honest self.old → state self.new ≡ state self.old }
         ensures honest { honest self.old → honest self.new }
-        ensures time { honest self.old → Elapses (moment self.old) (moment self.new) (left_since self.old) (left_since self.new) (CrashLeaves (state self.new)) }
+        ensures time { honest self.old → Elapses moment left_since state self.old self.new }
         ensures calls { calls self.new ≡ next_count (calls self.old) }
         ensures failures { failures self.new ≡ failures_after result (failures self.old) };
 
     /// Fills the buffer with the bytes from a place on.
     fn read(&mut self, at: u64, out: &mut [u8]) -> Result<(), DeviceFault>
         requires { at + length out.old ≤ size self.old }
-        ensures bytes { honest self.old → OnOk result (out.new ≡ slice_range (state self.old).now at (at + length out.old)) }
+        ensures bytes { honest self.old → OnOk result (out.new ≡ read_at at (length out.old) (state self.old)) }
         ensures size { size self.new ≡ size self.old }
         ensures state { honest self.old → state self.new ≡ state self.old }
         ensures honest { honest self.old → honest self.new }
-        ensures time { honest self.old → Elapses (moment self.old) (moment self.new) (left_since self.old) (left_since self.new) (CrashLeaves (state self.new)) }
+        ensures time { honest self.old → Elapses moment left_since state self.old self.new }
         ensures calls { calls self.new ≡ next_count (calls self.old) }
         ensures failures { failures self.new ≡ failures_after result (failures self.old) };
 
@@ -60,7 +60,7 @@ pub trait Disk {
         ensures bytes { honest self.old → OnOk result (state self.new ≡ written at bytes.now (state self.old)) }
         ensures crash { honest self.old → LeavesAfter (Wrote at (length bytes.now)) (state self.old) (state self.new) }
         ensures honest { honest self.old → honest self.new }
-        ensures time { honest self.old → Elapses (moment self.old) (moment self.new) (left_since self.old) (left_since self.new) (CrashLeaves (state self.new)) }
+        ensures time { honest self.old → Elapses moment left_since state self.old self.new }
         ensures calls { calls self.new ≡ next_count (calls self.old) }
         ensures failures { failures self.new ≡ failures_after result (failures self.old) };
 
@@ -74,7 +74,7 @@ pub trait Disk {
         ensures bytes { honest self.old → OnOk result (state self.new ≡ cut_to len (state self.old)) }
         ensures crash { honest self.old → LeavesAfter (Cut len) (state self.old) (state self.new) }
         ensures honest { honest self.old → honest self.new }
-        ensures time { honest self.old → Elapses (moment self.old) (moment self.new) (left_since self.old) (left_since self.new) (CrashLeaves (state self.new)) }
+        ensures time { honest self.old → Elapses moment left_since state self.old self.new }
         ensures calls { calls self.new ≡ next_count (calls self.old) }
         ensures failures { failures self.new ≡ failures_after result (failures self.old) };
 
@@ -84,7 +84,7 @@ pub trait Disk {
         ensures bytes { honest self.old → OnOk result (state self.new ≡ synced_now (state self.old)) }
         ensures crash { honest self.old → LeavesAfterSync (state self.old) (state self.new) }
         ensures honest { honest self.old → honest self.new }
-        ensures time { honest self.old → Elapses (moment self.old) (moment self.new) (left_since self.old) (left_since self.new) (CrashLeaves (state self.new)) }
+        ensures time { honest self.old → Elapses moment left_since state self.old self.new }
         ensures calls { calls self.new ≡ next_count (calls self.old) }
         ensures failures { failures self.new ≡ failures_after result (failures self.old) };
 

@@ -1,6 +1,6 @@
 //! A disk in memory that can be told to fail, to stop and to crash.
-ghost use Rattle.std.specs.Prelude.{◌≡◌, ◌+◌, ◌≤◌, ◌↔◌, max, [], length, slice_range, refl, None, Some, IsOk, OnOk, IfOk};
-ghost use Rattle.ide_disk.specs.Disk.{Wrote, Cut, CrashLeaves, LeavesAfter, LeavesAfterSync, settled, written, cut_to, synced_now};
+ghost use Rattle.std.specs.Prelude.{◌≡◌, ◌+◌, ◌≤◌, ◌↔◌, max, [], length, refl, None, Some, IsOk, OnOk, IfOk};
+ghost use Rattle.ide_disk.specs.Disk.{Wrote, Cut, CrashLeaves, LeavesAfter, LeavesAfterSync, read_at, settled, written, cut_to, synced_now};
 
 use crate::contents::Contents;
 use crate::counter::Counter;
@@ -16,7 +16,7 @@ pub struct MemDisk {
 }
 
 impl MemDisk {
-    ghost use Rattle.ide_disk.specs.Memory.{memory_state, room_of, log_of, log_count, call_count, failure_count, crash_left, failing_call, stopped_call, IsSameDisk};
+    ghost use Rattle.ide_disk.specs.Memory.{memory_state, memory_bytes, room_of, log_of, log_count, call_count, failure_count, crash_left, failing_call, stopped_call, IsSameDisk};
 
     /// An empty disk with room for so many bytes, and for a record in which each call and each
     /// written byte counts one.
@@ -76,9 +76,9 @@ impl MemDisk {
     pub fn crash(&mut self, leave: Leave)
         // What the kind says is left, and it is one of the outcomes that the model allows.
         ensures left { memory_state self.new ≡ settled (crash_left leave self.old) }
-        ensures allowed { CrashLeaves (memory_state self.old) (memory_state self.new).now }
-        ensures old { leave ≡ Leave.Old → (memory_state self.new).now ≡ (memory_state self.old).synced }
-        ensures new { leave ≡ Leave.New → (memory_state self.new).now ≡ (memory_state self.old).now }
+        ensures allowed { CrashLeaves (memory_state self.old) (memory_bytes self.new) }
+        ensures old { leave ≡ Leave.Old → memory_bytes self.new ≡ (memory_state self.old).synced }
+        ensures new { leave ≡ Leave.New → memory_bytes self.new ≡ memory_bytes self.old }
 
         ensures room { room_of self.new ≡ room_of self.old }
         ensures log { log_of self.new ≡ log_of self.old }
@@ -133,7 +133,7 @@ impl Disk for MemDisk {
     fn read(&mut self, at: u64, out: &mut [u8]) -> Result<(), DeviceFault>
         requires { at + length out.old ≤ memory_size self.old }
         ensures answer { IsOk result ↔ CanCall self.old 0 }
-        ensures bytes { OnOk result (out.new ≡ slice_range (memory_state self.old).now at (at + length out.old)) }
+        ensures bytes { OnOk result (out.new ≡ read_at at (length out.old) (memory_state self.old)) }
         ensures size { memory_size self.new ≡ memory_size self.old }
         ensures state { memory_state self.new ≡ memory_state self.old }
         ensures counted { IsCounted result 0 self.old self.new }

@@ -5,4 +5,5 @@ pub mod Left
 pub mod Lists
 pub mod Moments
 pub mod OneList
+pub mod Refused
 pub mod Whole

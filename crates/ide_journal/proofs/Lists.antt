@@ -3,7 +3,7 @@ use Rattle.std.specs.Prelude.{◌≡◌, ◌≢◌, ℕ, suc, ◌+◌, ◌≤◌
 use Rattle.std.proofs.Common.{arith, sym, ap, subst, ◌∙◌, inl, inr}
 use Rattle.std.proofs.lemmas.List.{append_assoc, append-nil, length-append}
 use Rattle.ide_journal.specs.Bytes.{IsBefore, IsAfter, IsBeforeOrAfter}
-use Rattle.ide_journal.specs.Format.{Entry, header, after_gate, IsEntry, IsPages, Holds}
+use Rattle.ide_journal.specs.Format.{Entry, Head, header, after_gate, IsEntry, IsPages, Holds}
 use Rattle.ide_journal.specs.Lists.{HoldsWithOrWithout}
 
 -- one more record behind the others
@@ -35,9 +35,9 @@ one_page : (header pages behind rest : List ℕ) (gate : ℕ)
     → (header ++ pages) ++ gate ∷ (behind ++ 0 ∷ []) ++ rest ≡ header ++ (pages ++ gate ∷ behind) ++ 0 ∷ rest
 one_page header pages behind rest gate = simp append_assoc
 
-pub holds_before : (tag : ℕ) (entries : List Entry) (pages left : List ℕ) → IsPages 0 entries pages → length entries ≤ 4294967295
-    → IsBefore (header tag ++ pages) left → Holds tag entries left
-holds_before tag entries pages left whole few before = record {
+pub holds_before : (head : Head) (entries : List Entry) (pages left : List ℕ) → IsPages 0 entries pages → length entries ≤ 4294967295
+    → IsBefore (header head ++ pages) left → Holds head entries left
+holds_before head entries pages left whole few before = record {
   pages = pages;
   rest = before.rest;
   whole = whole;
@@ -45,23 +45,23 @@ holds_before tag entries pages left whole few before = record {
   split = before.split;
 }
 
-pub holds_after : (tag : ℕ) (entries : List Entry) (entry : Entry) (pages left : List ℕ) → IsPages 0 entries pages → IsEntry entry
+pub holds_after : (head : Head) (entries : List Entry) (entry : Entry) (pages left : List ℕ) → IsPages 0 entries pages → IsEntry entry
     → length entries + 1 ≤ 4294967295
-    → IsAfter (header tag ++ pages) (after_gate (length entries) entry ++ 0 ∷ []) left → Holds tag (entries ++ entry ∷ []) left
-holds_after tag entries entry pages left whole proper few after = record {
+    → IsAfter (header head ++ pages) (after_gate (length entries) entry ++ 0 ∷ []) left → Holds head (entries ++ entry ∷ []) left
+holds_after head entries entry pages left whole proper few after = record {
   pages = pages ++ after.gate ∷ after_gate (length entries) entry;
   rest = after.rest;
   whole = subst (λ (n : ℕ). IsPages 0 (entries ++ entry ∷ []) (pages ++ after.gate ∷ after_gate n entry)) (omega arith)
       (pages_push 0 entries entry pages after.gate whole after.opened proper);
   few = omega (arith, length-append entries (entry ∷ []));
-  split = after.split ∙ one_page (header tag) pages (after_gate (length entries) entry) after.rest after.gate;
+  split = after.split ∙ one_page (header head) pages (after_gate (length entries) entry) after.rest after.gate;
 }
 
-pub holds_either : (tag : ℕ) (entries : List Entry) (entry : Entry) (pages left : List ℕ) → IsPages 0 entries pages → IsEntry entry
+pub holds_either : (head : Head) (entries : List Entry) (entry : Entry) (pages left : List ℕ) → IsPages 0 entries pages → IsEntry entry
     → length entries + 1 ≤ 4294967295
-    → IsBeforeOrAfter (header tag ++ pages) (after_gate (length entries) entry ++ 0 ∷ []) left → HoldsWithOrWithout tag entries entry left
-holds_either tag entries entry pages left whole proper few either =
+    → IsBeforeOrAfter (header head ++ pages) (after_gate (length entries) entry ++ 0 ∷ []) left → HoldsWithOrWithout head entries entry left
+holds_either head entries entry pages left whole proper few either =
     elim either [
-      | inl before ↦ inl (holds_before tag entries pages left whole (omega arith) before)
-      | inr after ↦ inr (holds_after tag entries entry pages left whole proper few after)
+      | inl before ↦ inl (holds_before head entries pages left whole (omega arith) before)
+      | inr after ↦ inr (holds_after head entries entry pages left whole proper few after)
     ]

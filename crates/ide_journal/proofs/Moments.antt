@@ -9,7 +9,7 @@ use Rattle.ide_journal.specs.Moments.{LeavesOnly}
 -- over one call, it is what a crash before the call or after it may leave
 pub one_call : {D : Type 0} (G : Ghosts D) (old new : D) (P : List ℕ → Type 0)
     → ((left : List ℕ) → G.left_since old (G.moment old) left → CrashLeaves (G.state old) left)
-    → Elapses (G.moment old) (G.moment new) (G.left_since old) (G.left_since new) (CrashLeaves (G.state new))
+    → Elapses G.moment G.left_since G.state old new
     → ((left : List ℕ) → CrashLeaves (G.state old) left → P left)
     → ((left : List ℕ) → CrashLeaves (G.state new) left → P left)
     → LeavesOnly G old new P

@@ -4,16 +4,30 @@ use Rattle.std.specs.Int.{w32, w64, to_le_bytes, from_le_bytes}
 use Rattle.std.proofs.Common.{arith, sym, ap, subst, ◌∙◌, get_or}
 use Rattle.std.proofs.lemmas.List.{append_assoc, append_cancel_left, length-append, length-replicate}
 use Rattle.std.proofs.lemmas.Nat.{from_le_bytes-to_le_bytes_4}
-use Rattle.ide_journal.specs.Format.{Entry, letters, zeros, header, padding, after_gate, IsEntry, IsPages, Holds}
+use Rattle.ide_journal.specs.Format.{Entry, Head, head_of, letters, zeros, header, padding, after_gate, IsEntry, IsPages, Holds}
+use Rattle.ide_journal.specs.declared.version.Version.{Version}
+use Rattle.ide_journal.specs.declared.version.Version.TheVariants.{One, Two}
 use Rattle.ide_journal.specs.Laws.{HoldsOneList, HoldsTheSame}
 
 pub length-zeros : (count : ℕ) → length (zeros count) ≡ count
 unfolding zeros
 length-zeros count = length-replicate count 0
 
-pub length-header : (tag : ℕ) → length (header tag) ≡ 4096
+pub length-letters : (version : Version) → length (letters version) ≡ 8
+length-letters One = refl
+length-letters Two = refl
+
+pub length-header : (head : Head) → length (header head) ≡ 4096
 unfolding header
-length-header tag = omega (arith, length-append letters (tag ∷ zeros 4087), length-zeros 4087)
+length-header head =
+    omega (arith, length-append (letters head.version) (head.tag ∷ zeros 4087), length-letters head.version, length-zeros 4087)
+
+-- the last of the letters tells the version
+pub same_version : (version other : Version) → letters version ≡ letters other → version ≡ other
+same_version One One same = refl
+same_version One Two same = absurd (omega (arith, ap (λ (xs : List ℕ). get_or xs 7 0) same))
+same_version Two One same = absurd (omega (arith, ap (λ (xs : List ℕ). get_or xs 7 0) same))
+same_version Two Two same = refl
 
 -- fronts of one length of equal lists are equal, and so is the rest
 pub same_front : (xs ys us vs : List ℕ) → length xs ≡ length ys → xs ++ us ≡ ys ++ vs → (xs ≡ ys) × (us ≡ vs)
@@ -72,18 +86,25 @@ one_list number (entry ∷ entries) (other ∷ others) pages other_pages rest ot
     let others_are = one_list (number + 1) entries others more more' rest other_rest goes_on goes_on' firsts.1 in
     ap (λ (e : Entry). e ∷ entries) firsts.0 ∙ ap (λ (es : List Entry). other ∷ es) others_are
 
-pub holds_one_list : HoldsOneList
+-- the first page tells one version and one tag
+same_head : (head other : Head) → header head ≡ header other → head ≡ other
 unfolding header
-holds_one_list tag other entries others bytes holds other_holds =
-    let flat : header tag ++ (holds.pages ++ 0 ∷ holds.rest) ≡ header other ++ (other_holds.pages ++ 0 ∷ other_holds.rest) =
-    sym (append_assoc (header tag) holds.pages (0 ∷ holds.rest)) ∙ sym holds.split ∙ other_holds.split
+same_head head other same =
+    let parts = same_front (letters head.version) (letters other.version) _ _ (length-letters head.version ∙ sym (length-letters other.version)) same in
+    ap (λ (v : Version). head_of v head.tag) (same_version head.version other.version parts.0)
+    ∙ ap (λ (t : ℕ). head_of other.version t) (ap (λ (xs : List ℕ). get_or xs 0 0) parts.1)
+
+pub holds_one_list : HoldsOneList
+holds_one_list head other entries others bytes holds other_holds =
+    let flat : header head ++ (holds.pages ++ 0 ∷ holds.rest) ≡ header other ++ (other_holds.pages ++ 0 ∷ other_holds.rest) =
+    sym (append_assoc (header head) holds.pages (0 ∷ holds.rest)) ∙ sym holds.split ∙ other_holds.split
     ∙ append_assoc (header other) other_holds.pages (0 ∷ other_holds.rest) in
-    let fronts = same_front (header tag) (header other) _ _ (length-header tag ∙ sym (length-header other)) flat in (
-      ap (λ (xs : List ℕ). get_or xs 8 0) fronts.0,
+    let fronts = same_front (header head) (header other) _ _ (length-header head ∙ sym (length-header other)) flat in (
+      same_head head other fronts.0,
       one_list 0 entries others holds.pages other_holds.pages holds.rest other_holds.rest holds.whole other_holds.whole fronts.1,
     )
 
 pub holds_the_same : HoldsTheSame
-holds_the_same tag entries bytes left same holds =
-    let one = holds_one_list same.tag tag same.entries entries bytes same.first holds in
-    subst (λ (t : ℕ). Holds t entries left) one.0 (subst (λ (es : List Entry). Holds same.tag es left) one.1 same.second)
+holds_the_same head entries bytes left same holds =
+    let one = holds_one_list same.head head same.entries entries bytes same.first holds in
+    subst (λ (h : Head). Holds h entries left) one.0 (subst (λ (es : List Entry). Holds same.head es left) one.1 same.second)

@@ -5,10 +5,10 @@ use Rattle.std.proofs.Common.{arith, sym, ap, subst, ◌∙◌}
 use Rattle.std.proofs.lemmas.List.{append_assoc, length-append, length-take, length-drop, ext_get_or, get_or-replicate, take_at, drop_at, drop_more}
 use Rattle.std.proofs.lemmas.Nat.{from_le_bytes-to_le_bytes_4}
 use Rattle.std.proofs.lemmas.List.Folds.{drop_split}
-use Rattle.ide_journal.specs.Format.{Entry, letters, header, Holds, zeros, padding, after_gate, IsEntry, IsPages}
+use Rattle.ide_journal.specs.Format.{Entry, Head, letters, header, Holds, zeros, padding, after_gate, IsEntry, IsPages}
 use Rattle.ide_journal.specs.Reading.{AreRead, IsRead, IsStore, IsWhole}
 use Rattle.ide_journal.proofs.Lists.{pages_push}
-use Rattle.ide_journal.proofs.OneList.{length-zeros}
+use Rattle.ide_journal.proofs.OneList.{length-zeros, length-letters}
 
 -- a part between two others
 part : (xs ys zs : List ℕ) (a b : ℕ) → length xs ≡ a → a + length ys ≡ b → slice_range (xs ++ (ys ++ zs)) a b ≡ ys
@@ -148,52 +148,56 @@ read_more entries entry gate size bytes before opened read =
     }
 
 -- the first page, from its pieces
-pub store_is : (bytes : List ℕ) (tag : ℕ) → 4096 < length bytes → slice_range bytes 0 8 ≡ letters → slice_index bytes 8 ≡ tag → 0 < tag
-    → slice_range bytes 9 4096 ≡ zeros 4087 → IsStore tag bytes
+pub store_is : (bytes : List ℕ) (head : Head) → 4096 < length bytes → slice_range bytes 0 8 ≡ letters head.version → slice_index bytes 8 ≡ head.tag
+    → 0 < head.tag → slice_range bytes 9 4096 ≡ zeros 4087 → IsStore head bytes
 unfolding header
-store_is bytes tag inside named tagged some filled = record {
+store_is bytes head inside named tagged some filled = record {
   some = some;
   inside = inside;
   split =
       drop_split bytes 0 8 (omega arith)
       ∙ ap (λ (xs : List ℕ). xs ++ drop 8 bytes) named
-      ∙ ap (λ (xs : List ℕ). letters ++ xs)
+      ∙ ap (λ (xs : List ℕ). letters head.version ++ xs)
       (drop_more bytes 8 0 (omega arith)
       ∙ ap (λ (x : ℕ). x ∷ drop 9 bytes) tagged
-      ∙ ap (λ (xs : List ℕ). tag ∷ xs) (drop_split bytes 9 4096 (omega arith) ∙ ap (λ (xs : List ℕ). xs ++ drop 4096 bytes) filled))
-      ∙ sym (append_assoc letters (tag ∷ zeros 4087) (drop 4096 bytes));
+      ∙ ap (λ (xs : List ℕ). head.tag ∷ xs) (drop_split bytes 9 4096 (omega arith) ∙ ap (λ (xs : List ℕ). xs ++ drop 4096 bytes) filled))
+      ∙ sym (append_assoc (letters head.version) (head.tag ∷ zeros 4087) (drop 4096 bytes));
 }
 
 -- the pieces of the first page
-pub is_store : (bytes : List ℕ) (tag : ℕ) → IsStore tag bytes
-    → (slice_range bytes 0 8 ≡ letters) × (slice_index bytes 8 ≡ tag) × (slice_range bytes 9 4096 ≡ zeros 4087)
+pub is_store : (bytes : List ℕ) (head : Head) → IsStore head bytes
+    → (slice_range bytes 0 8 ≡ letters head.version) × (slice_index bytes 8 ≡ head.tag) × (slice_range bytes 9 4096 ≡ zeros 4087)
 unfolding header
-is_store bytes tag store =
-    let flat : bytes ≡ letters ++ (tag ∷ zeros 4087 ++ drop 4096 bytes) =
-    store.split ∙ append_assoc letters (tag ∷ zeros 4087) (drop 4096 bytes) in (
-      ap (λ (xs : List ℕ). slice_range xs 0 8) flat,
-      ap (λ (xs : List ℕ). slice_index xs 8) flat,
-      ap (λ (xs : List ℕ). slice_range xs 9 4096) flat ∙ take_at (zeros 4087) (drop 4096 bytes) 4087 (length-zeros 4087),
+is_store bytes head store =
+    let flat : bytes ≡ letters head.version ++ (head.tag ∷ zeros 4087 ++ drop 4096 bytes) =
+    store.split ∙ append_assoc (letters head.version) (head.tag ∷ zeros 4087) (drop 4096 bytes) in
+    let behind : drop 8 bytes ≡ head.tag ∷ zeros 4087 ++ drop 4096 bytes =
+    ap (λ (xs : List ℕ). drop 8 xs) flat ∙ drop_at (letters head.version) (head.tag ∷ zeros 4087 ++ drop 4096 bytes) 8 (length-letters head.version) in
+    let tagged : drop 8 bytes ≡ slice_index bytes 8 ∷ drop 9 bytes = drop_more bytes 8 0 (omega (arith, store.inside)) in
+    let both : slice_index bytes 8 ∷ drop 9 bytes ≡ head.tag ∷ (zeros 4087 ++ drop 4096 bytes) = sym tagged ∙ behind in (
+      ap (λ (xs : List ℕ). slice_range xs 0 8) flat ∙ take_at (letters head.version) (head.tag ∷ zeros 4087 ++ drop 4096 bytes) 8 (length-letters head.version),
+      ap (λ (xs : List ℕ). slice_index xs 0) both,
+      ap (λ (xs : List ℕ). take 4087 (drop 1 xs)) both ∙ take_at (zeros 4087) (drop 4096 bytes) 4087 (length-zeros 4087),
     )
 
 -- a store whose records are whole up to a closed gate: the first page, the records, the gate, and what stands behind it
-pub split_read : (tag : ℕ) (entries : List Entry) (gate : ℕ) (bytes : List ℕ) → IsStore tag bytes → AreRead entries gate bytes
-    → slice_index bytes gate ≡ 0 → bytes ≡ header tag ++ slice_range bytes 4096 gate ++ 0 ∷ drop (gate + 1) bytes
-split_read tag entries gate bytes store read closed =
+pub split_read : (head : Head) (entries : List Entry) (gate : ℕ) (bytes : List ℕ) → IsStore head bytes → AreRead entries gate bytes
+    → slice_index bytes gate ≡ 0 → bytes ≡ header head ++ slice_range bytes 4096 gate ++ 0 ∷ drop (gate + 1) bytes
+split_read head entries gate bytes store read closed =
     store.split
-    ∙ ap (λ (xs : List ℕ). header tag ++ xs)
+    ∙ ap (λ (xs : List ℕ). header head ++ xs)
     (drop_split bytes 4096 gate read.behind
     ∙ ap (λ (xs : List ℕ). slice_range bytes 4096 gate ++ xs)
     (drop_more bytes gate 0 read.inside ∙ ap (λ (x : ℕ). x ∷ drop (gate + 1) bytes) closed))
-    ∙ sym (append_assoc (header tag) (slice_range bytes 4096 gate) (0 ∷ drop (gate + 1) bytes))
+    ∙ sym (append_assoc (header head) (slice_range bytes 4096 gate) (0 ∷ drop (gate + 1) bytes))
 
 -- it holds them
-pub holds_read : (tag : ℕ) (entries : List Entry) (gate : ℕ) (bytes : List ℕ) → IsStore tag bytes → AreRead entries gate bytes
-    → slice_index bytes gate ≡ 0 → Holds tag entries bytes
-holds_read tag entries gate bytes store read closed = record {
+pub holds_read : (head : Head) (entries : List Entry) (gate : ℕ) (bytes : List ℕ) → IsStore head bytes → AreRead entries gate bytes
+    → slice_index bytes gate ≡ 0 → Holds head entries bytes
+holds_read head entries gate bytes store read closed = record {
   pages = slice_range bytes 4096 gate;
   rest = drop (gate + 1) bytes;
   whole = read.whole;
   few = read.few;
-  split = split_read tag entries gate bytes store read closed;
+  split = split_read head entries gate bytes store read closed;
 }

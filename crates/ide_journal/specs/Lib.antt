@@ -6,4 +6,6 @@ pub mod Moments
 pub mod Opening
 pub mod Phases
 pub mod Reading
+pub mod Records
+pub mod Refusals
 pub mod Stands

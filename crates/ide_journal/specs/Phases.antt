@@ -1,4 +1,5 @@
 -- The phases of a record, in their order.
+use Rattle.std.specs.Prelude.{◌≡◌}
 use Rattle.ide_journal.specs.declared.stage.Phase.{Phase}
 use Rattle.ide_journal.specs.declared.stage.Phase.TheVariants as phase
 use Rattle.ide_journal.specs.declared.stage.Stage.{Stage}
@@ -17,3 +18,7 @@ stage_before phase.Written = Begun
 stage_before phase.BodySynced = Written
 stage_before phase.GateWritten = BodySynced
 stage_before phase.Stored = GateWritten
+
+-- the phase leads from the one stage to the other
+abbrev pub LeadsTo : Stage → Stage → Phase → Type 0
+LeadsTo old new phase = (old ≡ stage_before phase) × (new ≡ stage_after phase)

@@ -1,9 +1,8 @@
 -- Records as they are read.
 use Rattle.std.specs.Prelude.{◌≡◌, ◌≢◌, ℕ, ◌+◌, ◌<◌, ◌≤◌, List, ◌++◌, length, drop, slice_index, slice_range}
-use Rattle.ide_wire.specs.declared.refused.Refused.{Refused}
-use Rattle.ide_wire.specs.declared.refused.Refused.TheVariants.{NoMemory, NotAStore, WrongInstance, Damaged}
 use Rattle.std.specs.Int.{w32, w64, to_le_bytes}
-use Rattle.ide_journal.specs.Format.{Entry, header, padding, zeros, after_gate, IsEntry, IsPages}
+use Rattle.ide_journal.specs.Format.{Entry, Head, head_of, header, padding, zeros, after_gate, IsEntry, IsPages}
+use Rattle.ide_journal.specs.declared.version.Version.{Version}
 
 -- behind an open gate stands no whole record of that number with a gate behind it
 abbrev pub IsDamaged : ℕ → List ℕ → Type 0
@@ -44,16 +43,16 @@ pub record IsDamagedAt (number : ℕ) (bytes : List ℕ) : Type 0 where
   pub opened : slice_index bytes gate ≢ 0
   pub damaged : IsDamaged number (drop (gate + 1) bytes)
 
--- the file begins with the first page of a store with that tag, and a gate stands behind it
-pub record IsStore (tag : ℕ) (bytes : List ℕ) : Type 0 where
-  pub some : 0 < tag
+-- the file begins with the first page of a store that tells this, and a gate stands behind it
+pub record IsStore (head : Head) (bytes : List ℕ) : Type 0 where
+  pub some : 0 < head.tag
   pub inside : 4096 < length bytes
-  pub split : bytes ≡ header tag ++ drop 4096 bytes
+  pub split : bytes ≡ header head ++ drop 4096 bytes
 
--- the cause of a refusal to read a file as a store with that tag
-abbrev pub HasCause : Refused → ℕ → List ℕ → Type 0
-HasCause NoMemory tag bytes = Unit {0}
-HasCause NotAStore tag bytes = (told : ℕ) → IsStore told bytes → ⊥
-HasCause WrongInstance tag bytes = (told : ℕ) × (told ≢ tag) × IsStore told bytes
-HasCause (Damaged number) tag bytes = IsStore tag bytes × IsDamagedAt number bytes
-HasCause refused tag bytes = ⊥
+-- the file is a store with that tag, of the one version or the other
+abbrev pub IsStoreOf : ℕ → List ℕ → Type 0
+IsStoreOf tag bytes = (version : Version) × IsStore (head_of version tag) bytes
+
+-- the file is a store of neither version, with no tag
+abbrev pub IsNoStore : List ℕ → Type 0
+IsNoStore bytes = (told : Head) → IsStore told bytes → ⊥

@@ -1,14 +1,15 @@
 //! A journal over a disk.
-ghost use Rattle.std.specs.Prelude.{◌≡◌, ◌⊎◌, ◌↔◌, ◌+◌, ◌<◌, ◌≤◌, ℕ, map, List, [], ◌∷◌, ◌++◌, length, IsTrue, OnOk, OnErr, IfOk, IfErr};
+ghost use Rattle.std.specs.Prelude.{◌≡◌, ◌↔◌, ◌+◌, ◌<◌, ◌≤◌, [], length, IsTrue, OnOk, OnErr, IfOk, IfErr};
 ghost use Rattle.ide_disk.specs.Disk.{settled};
-ghost use Rattle.ide_disk.specs.Time.{next_count, failures_after};
-ghost use Rattle.ide_journal.specs.Format.{Entry, Holds, IsEntry};
-ghost use Rattle.ide_journal.specs.Phases.{stage_before, stage_after};
+ghost use Rattle.ide_disk.specs.Time.{failures_after};
+ghost use Rattle.ide_journal.specs.Format.{IsEntry, head_of};
+ghost use Rattle.ide_journal.specs.Phases.{LeadsTo};
 
 use crate::opening::recover;
+use crate::reading::Loaded;
 use crate::spelling::{spell, spell_header};
 use crate::stage::Stage;
-use crate::{Phase, RawRecord};
+use crate::{Phase, RawRecord, Version};
 use ide_disk::{DeviceFault, Disk};
 use ide_wire::Refused;
 use std::alloc::Global;
@@ -17,6 +18,7 @@ use std::alloc::Global;
 #[derive(Drop)]
 pub struct Journal<D: Disk> {
     disk: D,
+    version: Version,
     /// Where the closed gate behind the stored records stands.
     gate: u64,
     /// The same, or, once the record under way is written, where the gate behind it stands.
@@ -34,32 +36,39 @@ pub struct Journal<D: Disk> {
 }
 
 impl<D: Disk> Journal<D> {
-    ghost use Rattle.ide_journal.specs.Lists.{IsAtRest, IsUnderWay, HoldsWithOrWithout, HoldsAt, entry_of};
-    ghost use Rattle.ide_journal.specs.Moments.{LeavesOnly};
-    ghost use Rattle.ide_journal.specs.Opening.{LeftOrSame};
-    ghost use Rattle.ide_journal.specs.Reading.{HasCause};
-    ghost use Rattle.ide_disk.specs.Disk.{CrashLeaves};
-    ghost use Rattle.ide_disk.specs.Time.{Elapses};
-    ghost use Rattle.ide_journal.specs.Stands.{IsIdle, HasFailed, stored_count, Stands, IsStored};
+    ghost use Rattle.ide_disk.specs.OneCall.{FailsOnce, MakesCall};
+    ghost use Rattle.ide_journal.specs.Lists.{IsAtRest, entry_of};
+    ghost use Rattle.ide_journal.specs.Opening.{IsOpened, KeepsRecords, disk_after};
+    ghost use Rattle.ide_journal.specs.Records.{GivesRecords, KeepsOrStores, LeavesRecords, PutsUnderWay, StaysAtRest};
+    ghost use Rattle.ide_journal.specs.Refusals.{IsAdvanceRefusal, IsCreateRefusal, IsOpenRefusal};
+    ghost use Rattle.ide_journal.specs.Stands.{HasFailed, IsIdle, KeepsCounts, KeepsStanding, MovesStanding, StoresStanding, stored_count, version_of};
 
-    /// Makes a store with no record on the disk, whatever it held.
-    pub fn create(alloc: Global, mut disk: D, tag: u8) -> Result<Self, (Refused, D)>
+    /// Makes a store of that version with no record on the disk, whatever it held.
+    #[tactic(auto, using(crate::specs::Refusals::create_memory, crate::specs::Refusals::create_device))]
+    pub fn create(
+        alloc: Global,
+        mut disk: D,
+        tag: u8,
+        version: Version,
+    ) -> Result<Self, (Refused, D)>
         requires { 0 < tag }
-        ensures at_rest { D.honest disk → IfOk result (IsAtRest tag []) }
+        ensures at_rest { D.honest disk → IfOk result (IsAtRest (head_of version tag) []) }
         ensures honest { D.honest disk → IfOk result (λ journal. D.honest journal.disk) }
         ensures idle { IfOk result IsIdle }
         ensures count { IfOk result (λ journal. stored_count journal ≡ 0) }
+        ensures version { IfOk result (λ journal. version_of journal ≡ version) }
 
         // The disk comes back, as it was where memory was refused, and else with one failure more.
-        ensures refused { IfErr result (λ pair. ((pair.0 ≡ Refused.NoMemory) × (pair.1 ≡ disk)) ⊎ ((pair.0 ≡ Refused.Disk) × (D.failures pair.1 ≡ next_count (D.failures disk)))) }
+        ensures refused { IfErr result (λ pair. IsCreateRefusal D.Disk disk pair.1 pair.0) }
     {
-        let page = match spell_header(alloc, tag) {
+        let page = match spell_header(alloc, version, tag) {
             Ok(page) => page,
             Err(_) => return Err((Refused::NoMemory, disk)),
         };
         match rewrite(&mut disk, &page) {
             Ok(()) => Ok(Journal {
                 disk,
+                version,
                 gate: 4096,
                 end: 4096,
                 count: 0,
@@ -71,32 +80,36 @@ impl<D: Disk> Journal<D> {
         }
     }
 
-    /// Opens the store with that tag that the disk holds, and gives its records.
+    /// Opens the store with that tag that the disk holds, of either version, and gives its records.
     pub fn open(alloc: Global, mut disk: D, tag: u8) -> Result<(Self, Vec<RawRecord>), (Refused, D)>
-        // The records are those that the disk held, and a file holds one list at most (`laws::holds_one_list`).
-        ensures held { D.honest disk → IfOk result (λ pair. Holds tag (map entry_of pair.1.items) (D.state disk).now) }
-        ensures at_rest { D.honest disk → IfOk result (λ pair. IsAtRest tag (map entry_of pair.1.items) pair.0) }
+        // The records and the version are those that the disk held, and a file holds one list at most, in one
+        // version (`laws::holds_one_list`).
+        ensures opened { D.honest disk → IfOk result (λ pair. IsOpened tag disk pair.0 pair.1.items) }
         ensures idle { IfOk result (λ pair. IsIdle pair.0) }
         ensures count { IfOk result (λ pair. stored_count pair.0 ≡ length pair.1.items) }
-        ensures honest { D.honest disk → IfOk result (λ pair. D.honest pair.0.disk) }
-        ensures honest_refused { D.honest disk → IfErr result (λ pair. D.honest pair.1) }
+        ensures honest { D.honest disk → D.honest (disk_after result) }
 
         // A crash at any moment of the call leaves what one before it could leave, or the list that the disk held.
-        ensures any_moment { D.honest disk → IfOk result (λ pair. LeavesOnly D.Disk disk pair.0.disk (LeftOrSame (D.state disk))) }
-        ensures any_moment_refused { D.honest disk → IfErr result (λ pair. LeavesOnly D.Disk disk pair.1 (LeftOrSame (D.state disk))) }
+        ensures any_moment { D.honest disk → KeepsRecords D.Disk disk (disk_after result) }
 
         // The disk comes back, synced and with the bytes that it had where no call of it failed. Each refusal has
         // its cause, that of the disk in the count of failures.
-        ensures kept { D.honest disk → IfErr result (λ pair. (pair.0 ≡ Refused.Disk) ⊎ (D.state pair.1 ≡ settled (D.state disk).now)) }
-        ensures cause { D.honest disk → IfErr result (λ pair. (pair.0 ≡ Refused.Disk) ⊎ HasCause pair.0 tag (D.state disk).now) }
-        ensures counted { IfErr result (λ pair. pair.0 ≡ Refused.Disk → D.failures pair.1 ≡ next_count (D.failures disk)) }
+        ensures refused { D.honest disk → IfErr result (λ pair. IsOpenRefusal D.Disk tag disk pair.1 pair.0) }
+        ensures fault { IfErr result (λ pair. pair.0 ≡ Refused.Disk → FailsOnce D.Disk disk pair.1) }
         ensures failures { IfOk result (λ pair. D.failures pair.0.disk ≡ D.failures disk) }
     {
         match recover(alloc, &mut disk, tag) {
-            Ok((records, gate)) => {
+            Ok(
+                Loaded {
+                    version,
+                    records,
+                    gate,
+                },
+            ) => {
                 let count = records.len() as u64;
                 let journal = Journal {
                     disk,
+                    version,
                     gate,
                     end: gate,
                     count,
@@ -124,6 +137,13 @@ impl<D: Disk> Journal<D> {
         self.count
     }
 
+    /// The version of the store.
+    pub fn version(&self) -> Version
+        ensures { result ≡ version_of self.now }
+    {
+        self.version
+    }
+
     /// The disk, as the journal leaves it.
     pub fn into_disk(self) -> D
         ensures { result ≡ self.disk }
@@ -137,13 +157,14 @@ impl<D: Disk> Journal<D> {
         requires idle { IsIdle self.old }
         requires room { stored_count self.old < 4294967295 }
         requires proper { IsEntry (entry_of raw.now) }
-        ensures under_way { (tag : ℕ) → (entries : List Entry) → IsAtRest tag entries self.old → OnOk result (IsUnderWay tag entries (entry_of raw.now) self.new) }
-        ensures at_rest { (tag : ℕ) → (entries : List Entry) → IsAtRest tag entries self.old → OnErr result (IsAtRest tag entries self.new) }
+        ensures under_way { OnOk result (PutsUnderWay (entry_of raw.now) self.old self.new) }
+        ensures at_rest { OnErr result (StaysAtRest self.old self.new) }
         ensures busy { OnOk result (self.new.stage ≡ Stage.Begun) }
         ensures idle { OnErr result (IsIdle self.new) }
         ensures refused { IfErr result (λ refused. refused ≡ Refused.NoMemory) }
         ensures disk { self.new.disk ≡ self.old.disk }
         ensures count { stored_count self.new ≡ stored_count self.old }
+        ensures version { version_of self.new ≡ version_of self.old }
     {
         spell(&mut self.tail, self.count, raw)?;
         self.next = self.count + 1;
@@ -152,25 +173,26 @@ impl<D: Disk> Journal<D> {
     }
 
     /// Makes the next disk call for the record under way. After the fourth it is stored.
+    #[tactic(auto, using(crate::specs::Refusals::advance_device, crate::specs::Refusals::advance_failed))]
     pub fn advance(&mut self) -> Result<Phase, Refused>
         requires { IsIdle self.old → ⊥ }
-        ensures phase { IfOk result (λ phase. (self.old.stage ≡ stage_before phase) × (self.new.stage ≡ stage_after phase)) }
+        ensures phase { IfOk result (LeadsTo self.old.stage self.new.stage) }
 
         // The record stays under way, or is stored, which is when the journal is idle again.
-        ensures under_way { D.honest self.old.disk → (tag : ℕ) → (entries : List Entry) → (entry : Entry) → IsUnderWay tag entries entry self.old → IsAtRest tag (entries ++ entry ∷ []) self.new ⊎ IsUnderWay tag entries entry self.new }
+        ensures under_way { D.honest self.old.disk → KeepsOrStores self.old self.new }
 
         // A read gives the stored records, and from the write of the gate on the one under way with them.
-        ensures holds { D.honest self.old.disk → (tag : ℕ) → (entries : List Entry) → (entry : Entry) → IsUnderWay tag entries entry self.old → HoldsAt self.new.stage tag entries entry (D.state self.new.disk).now }
+        ensures holds { D.honest self.old.disk → GivesRecords self.old self.new }
 
         // A crash at any moment of the call leaves the stored records, or these and the one under way.
-        ensures any_moment { D.honest self.old.disk → (tag : ℕ) → (entries : List Entry) → (entry : Entry) → IsUnderWay tag entries entry self.old → LeavesOnly D.Disk self.old.disk self.new.disk (HoldsWithOrWithout tag entries entry) }
+        ensures any_moment { D.honest self.old.disk → LeavesRecords self.old self.new }
         ensures honest { D.honest self.old.disk → D.honest self.new.disk }
+        ensures version { version_of self.new ≡ version_of self.old }
 
-        ensures calls { (HasFailed self.old → ⊥) → D.calls self.new.disk ≡ next_count (D.calls self.old.disk) }
-        ensures cause { result ≡ Err Refused.Disk → HasFailed self.new × (D.failures self.new.disk ≡ next_count (D.failures self.old.disk)) }
+        ensures call { (HasFailed self.old → ⊥) → MakesCall D.Disk result self.old.disk self.new.disk }
         ensures failed { HasFailed self.old ↔ (result ≡ Err Refused.Failed) }
         ensures same { HasFailed self.old → self.new ≡ self.old }
-        ensures refused { IfErr result (λ refused. (refused ≡ Refused.Disk) ⊎ (refused ≡ Refused.Failed)) }
+        ensures refused { IfErr result (IsAdvanceRefusal self.old self.new) }
     {
         if self.stage == Stage::Failed {
             return Err(Refused::Failed);
@@ -185,15 +207,13 @@ impl<D: Disk> Journal<D> {
     fn step(&mut self) -> Result<Phase, DeviceFault>
         requires busy { IsIdle self.old → ⊥ }
         requires whole { HasFailed self.old → ⊥ }
-        ensures phase { IfOk result (λ phase. (self.old.stage ≡ stage_before phase) × (self.new.stage ≡ stage_after phase)) }
-        ensures err { OnErr result (HasFailed self.new) }
-        ensures moves { D.honest self.old.disk → (base bytes : List ℕ) → Stands base bytes self.old → (Stands base bytes self.new × (IsIdle self.new → ⊥)) ⊎ IsStored base bytes self.new }
+        ensures phase { IfOk result (LeadsTo self.old.stage self.new.stage) }
+        ensures failed { OnErr result (HasFailed self.new) }
+        ensures moves { D.honest self.old.disk → MovesStanding self.old self.new }
         ensures count { (IsIdle self.new → ⊥) → self.new.count ≡ self.old.count }
         ensures next { self.new.next ≡ self.old.next }
-        ensures calls { D.calls self.new.disk ≡ next_count (D.calls self.old.disk) }
-        ensures failures { D.failures self.new.disk ≡ failures_after result (D.failures self.old.disk) }
-        ensures honest { D.honest self.old.disk → D.honest self.new.disk }
-        ensures time { D.honest self.old.disk → Elapses (D.moment self.old.disk) (D.moment self.new.disk) (D.left_since self.old.disk) (D.left_since self.new.disk) (CrashLeaves (D.state self.new.disk)) }
+        ensures version { self.new.version ≡ self.old.version }
+        ensures call { MakesCall D.Disk result self.old.disk self.new.disk }
     {
         match self.stage {
             Stage::Begun => {
@@ -220,13 +240,10 @@ impl<D: Disk> Journal<D> {
     fn write_body(&mut self) -> Result<(), DeviceFault>
         requires { self.old.stage ≡ Stage.Begun }
         ensures ok { OnOk result (self.new.stage ≡ Stage.Written) }
-        ensures err { OnErr result (self.new.stage ≡ Stage.Failed) }
-        ensures numbers { (self.new.count ≡ self.old.count) × (self.new.next ≡ self.old.next) }
-        ensures calls { D.calls self.new.disk ≡ next_count (D.calls self.old.disk) }
-        ensures failures { D.failures self.new.disk ≡ failures_after result (D.failures self.old.disk) }
-        ensures honest { D.honest self.old.disk → D.honest self.new.disk }
-        ensures stands { D.honest self.old.disk → (base bytes : List ℕ) → Stands base bytes self.old → Stands base bytes self.new }
-        ensures time { D.honest self.old.disk → Elapses (D.moment self.old.disk) (D.moment self.new.disk) (D.left_since self.old.disk) (D.left_since self.new.disk) (CrashLeaves (D.state self.new.disk)) }
+        ensures failed { OnErr result (HasFailed self.new) }
+        ensures counts { KeepsCounts self.old self.new }
+        ensures call { MakesCall D.Disk result self.old.disk self.new.disk }
+        ensures stands { D.honest self.old.disk → KeepsStanding self.old self.new }
     {
         match self.disk.write(self.gate + 1, &self.tail) {
             Ok(()) => {
@@ -245,13 +262,10 @@ impl<D: Disk> Journal<D> {
     fn sync_body(&mut self) -> Result<(), DeviceFault>
         requires { self.old.stage ≡ Stage.Written }
         ensures ok { OnOk result (self.new.stage ≡ Stage.BodySynced) }
-        ensures err { OnErr result (self.new.stage ≡ Stage.Failed) }
-        ensures numbers { (self.new.count ≡ self.old.count) × (self.new.next ≡ self.old.next) }
-        ensures calls { D.calls self.new.disk ≡ next_count (D.calls self.old.disk) }
-        ensures failures { D.failures self.new.disk ≡ failures_after result (D.failures self.old.disk) }
-        ensures honest { D.honest self.old.disk → D.honest self.new.disk }
-        ensures stands { D.honest self.old.disk → (base bytes : List ℕ) → Stands base bytes self.old → Stands base bytes self.new }
-        ensures time { D.honest self.old.disk → Elapses (D.moment self.old.disk) (D.moment self.new.disk) (D.left_since self.old.disk) (D.left_since self.new.disk) (CrashLeaves (D.state self.new.disk)) }
+        ensures failed { OnErr result (HasFailed self.new) }
+        ensures counts { KeepsCounts self.old self.new }
+        ensures call { MakesCall D.Disk result self.old.disk self.new.disk }
+        ensures stands { D.honest self.old.disk → KeepsStanding self.old self.new }
     {
         match self.disk.sync() {
             Ok(()) => {
@@ -269,13 +283,10 @@ impl<D: Disk> Journal<D> {
     fn write_gate(&mut self) -> Result<(), DeviceFault>
         requires { self.old.stage ≡ Stage.BodySynced }
         ensures ok { OnOk result (self.new.stage ≡ Stage.GateWritten) }
-        ensures err { OnErr result (self.new.stage ≡ Stage.Failed) }
-        ensures numbers { (self.new.count ≡ self.old.count) × (self.new.next ≡ self.old.next) }
-        ensures calls { D.calls self.new.disk ≡ next_count (D.calls self.old.disk) }
-        ensures failures { D.failures self.new.disk ≡ failures_after result (D.failures self.old.disk) }
-        ensures honest { D.honest self.old.disk → D.honest self.new.disk }
-        ensures stands { D.honest self.old.disk → (base bytes : List ℕ) → Stands base bytes self.old → Stands base bytes self.new }
-        ensures time { D.honest self.old.disk → Elapses (D.moment self.old.disk) (D.moment self.new.disk) (D.left_since self.old.disk) (D.left_since self.new.disk) (CrashLeaves (D.state self.new.disk)) }
+        ensures failed { OnErr result (HasFailed self.new) }
+        ensures counts { KeepsCounts self.old self.new }
+        ensures call { MakesCall D.Disk result self.old.disk self.new.disk }
+        ensures stands { D.honest self.old.disk → KeepsStanding self.old self.new }
     {
         match self.disk.write(self.gate, &[1]) {
             Ok(()) => {
@@ -292,17 +303,15 @@ impl<D: Disk> Journal<D> {
     // Brings the open gate onto the disk.
     fn sync_gate(&mut self) -> Result<(), DeviceFault>
         requires { self.old.stage ≡ Stage.GateWritten }
-        ensures ok { OnOk result (self.new.stage ≡ Stage.Idle) }
-        ensures err { OnErr result (self.new.stage ≡ Stage.Failed) }
+        ensures ok { OnOk result (IsIdle self.new) }
+        ensures failed { OnErr result (HasFailed self.new) }
         ensures count { OnOk result (self.new.count ≡ self.old.next) }
         ensures same { OnErr result (self.new.count ≡ self.old.count) }
         ensures next { self.new.next ≡ self.old.next }
-        ensures calls { D.calls self.new.disk ≡ next_count (D.calls self.old.disk) }
-        ensures failures { D.failures self.new.disk ≡ failures_after result (D.failures self.old.disk) }
-        ensures honest { D.honest self.old.disk → D.honest self.new.disk }
-        ensures stored { D.honest self.old.disk → (base bytes : List ℕ) → Stands base bytes self.old → OnOk result (IsStored base bytes self.new) }
-        ensures stands { D.honest self.old.disk → (base bytes : List ℕ) → Stands base bytes self.old → OnErr result (Stands base bytes self.new) }
-        ensures time { D.honest self.old.disk → Elapses (D.moment self.old.disk) (D.moment self.new.disk) (D.left_since self.old.disk) (D.left_since self.new.disk) (CrashLeaves (D.state self.new.disk)) }
+        ensures version { self.new.version ≡ self.old.version }
+        ensures call { MakesCall D.Disk result self.old.disk self.new.disk }
+        ensures stored { D.honest self.old.disk → OnOk result (StoresStanding self.old self.new) }
+        ensures stands { D.honest self.old.disk → OnErr result (KeepsStanding self.old self.new) }
     {
         match self.disk.sync() {
             Ok(()) => {

@@ -1,14 +1,26 @@
 //! How records are read.
-ghost use Rattle.std.specs.Prelude.{◌≡◌, ◌⊎◌, ◌↔◌, ℕ, map, ◌+◌, ◌<◌, ◌≤◌, length, slice_index, slice_range, EachIndex, IsTrue, IfOk, IfErr, IfSome, IfNone};
+ghost use Rattle.std.specs.Prelude.{◌≡◌, ◌≢◌, ◌↔◌, ◌+◌, ◌<◌, length, slice_index, EachIndex, IsTrue, IfOk, IfErr, IfSome, IfNone};
 ghost use Rattle.std.specs.Int.{w32, w64, to_le_bytes};
-ghost use Rattle.ide_journal.specs.Format.{letters};
-ghost use Rattle.ide_journal.specs.Reading.{AreRead, HasCause, IsDamaged, IsDamagedAt, IsRead, IsStore, IsWhole};
-ghost use Rattle.ide_journal.specs.Lists.{entry_of};
+ghost use Rattle.ide_journal.specs.Format.{head_of, letters};
+ghost use Rattle.ide_journal.specs.Lists.{entry_of, entries_of};
+ghost use Rattle.ide_journal.specs.Opening.{IsLoaded};
+ghost use Rattle.ide_journal.specs.Reading.{AreRead, IsDamaged, IsNoStore, IsRead, IsStore, IsWhole};
+ghost use Rattle.ide_journal.specs.Refusals.{IsFileRefusal, IsRecordRefusal};
 
-use crate::RawRecord;
 use crate::spelling::padding;
+use crate::{RawRecord, Version};
+use byteorder::{ByteOrder, LittleEndian};
 use ide_wire::Refused;
 use std::alloc::{AllocError, Global};
+
+/// A store, as its file is read.
+#[derive(Drop)]
+pub(crate) struct Loaded {
+    pub(crate) version: Version,
+    pub(crate) records: Vec<RawRecord>,
+    /// Where the closed gate behind the records stands.
+    pub(crate) gate: u64,
+}
 
 // Whether the bytes are zeros.
 fn are_zeros(bytes: &[u8]) -> bool
@@ -22,7 +34,7 @@ fn spells(bytes: &[u8], number: u64) -> bool
     requires { length bytes.now ≡ 8 }
     ensures { IsTrue result ↔ (bytes.now ≡ to_le_bytes w64 number) }
 {
-    bytes == number.to_le_bytes().as_slice()
+    LittleEndian::read_u64(bytes) == number
 }
 
 // The number that the bytes are of.
@@ -30,7 +42,7 @@ fn number_of(bytes: &[u8]) -> u32
     requires { length bytes.now ≡ 4 }
     ensures { bytes.now ≡ to_le_bytes w32 result }
 {
-    u32::from_le_bytes([bytes[0], bytes[1], bytes[2], bytes[3]])
+    LittleEndian::read_u32(bytes)
 }
 
 // How many bytes the body has of the whole record of that number that stands there.
@@ -71,7 +83,7 @@ fn body_length(bytes: &[u8], number: u64) -> Option<usize>
     Some(count)
 }
 
-/// The record of that number that stands there, and how many bytes it takes, if it is whole.
+// The record of that number that stands there, and how many bytes it takes, if it is whole.
 fn read_record(
     alloc: Global,
     bytes: &[u8],
@@ -93,11 +105,13 @@ fn read_record(
     }
 }
 
-/// The records of a file behind its first page, and where the first closed gate stands.
-pub(crate) fn read_records(alloc: Global, bytes: &[u8]) -> Result<(Vec<RawRecord>, usize), Refused>
+// The records of a file behind its first page, and where the first closed gate stands.
+#[tactic(auto, using(crate::specs::Refusals::record_memory))]
+fn read_records(alloc: Global, bytes: &[u8]) -> Result<(Vec<RawRecord>, usize), Refused>
     requires { 4096 < length bytes.now }
-    ensures read { IfOk result (λ pair. AreRead (map entry_of pair.0.items) pair.1 bytes.now × (slice_index bytes.now pair.1 ≡ 0)) }
-    ensures refused { IfErr result (λ refused. (refused ≡ Refused.NoMemory) ⊎ ((number : ℕ) × (refused ≡ Refused.Damaged number) × IsDamagedAt number bytes.now)) }
+    ensures read { IfOk result (λ pair. AreRead (entries_of pair.0.items) pair.1 bytes.now) }
+    ensures closed { IfOk result (λ pair. slice_index bytes.now pair.1 ≡ 0) }
+    ensures refused { IfErr result (IsRecordRefusal bytes.now) }
 {
     let mut records = Vec::new(alloc);
     let mut gate = 4096;
@@ -114,26 +128,29 @@ pub(crate) fn read_records(alloc: Global, bytes: &[u8]) -> Result<(Vec<RawRecord
     Ok((records, gate))
 }
 
-// Whether these are the letters that a store begins with.
-fn are_letters(bytes: &[u8]) -> bool
-    requires { length bytes.now ≡ 8 }
-    ensures { IsTrue result ↔ (bytes.now ≡ letters) }
+// The version whose letters these are.
+fn read_version(bytes: &[u8]) -> Option<Version>
+    ensures letters { IfSome result (λ version. bytes.now ≡ letters version) }
+    ensures none { IfNone result ((version : Version) → bytes.now ≢ letters version) }
 {
-    bytes == b"IDEJRNL1".as_slice()
+    if bytes == Version::One.letters().as_slice() {
+        return Some(Version::One);
+    }
+    if bytes == Version::Two.letters().as_slice() {
+        return Some(Version::Two);
+    }
+    None
 }
 
-/// The tag of a store.
-pub(crate) fn read_tag(bytes: &[u8]) -> Option<u8>
-    ensures store { IfSome result (λ tag. IsStore tag bytes.now) }
-    ensures none { IfNone result ((tag : ℕ) → IsStore tag bytes.now → ⊥) }
+/// The version and the tag of a store.
+pub(crate) fn read_head(bytes: &[u8]) -> Option<(Version, u8)>
+    ensures store { IfSome result (λ told. IsStore (head_of told.0 told.1) bytes.now) }
+    ensures none { IfNone result (IsNoStore bytes.now) }
 {
     if bytes.len() <= 4096 {
         return None;
     }
-    let named = are_letters(&bytes[..8]);
-    if !named {
-        return None;
-    }
+    let version = read_version(&bytes[..8])?;
     let tag = bytes[8];
     if tag == 0 {
         return None;
@@ -142,21 +159,26 @@ pub(crate) fn read_tag(bytes: &[u8]) -> Option<u8>
     if !filled {
         return None;
     }
-    Some(tag)
+    Some((version, tag))
 }
 
-/// The records of a file that is a store with that tag, and where the first closed gate stands.
-pub(crate) fn read_file(
-    alloc: Global,
-    bytes: &[u8],
-    tag: u8,
-) -> Result<(Vec<RawRecord>, usize), Refused>
-    ensures read { IfOk result (λ pair. IsStore tag bytes.now × AreRead (map entry_of pair.0.items) pair.1 bytes.now × (slice_index bytes.now pair.1 ≡ 0)) }
-    ensures refused { IfErr result (λ refused. HasCause refused tag bytes.now) }
+/// A file that is a store with that tag.
+#[tactic(auto, using(crate::specs::Refusals::no_store))]
+pub(crate) fn read_file(alloc: Global, bytes: &[u8], tag: u8) -> Result<Loaded, Refused>
+    ensures loaded { IfOk result (IsLoaded tag bytes.now) }
+    ensures refused { IfErr result (IsFileRefusal tag bytes.now) }
 {
-    let told = read_tag(bytes).ok_or(Refused::NotAStore)?;
+    let Some((version, told)) = read_head(bytes) else {
+        return Err(Refused::NotAStore);
+    };
     if told != tag {
         return Err(Refused::WrongInstance);
     }
-    read_records(alloc, bytes)
+    let (records, gate) = read_records(alloc, bytes)?;
+    let gate = gate as u64;
+    Ok(Loaded {
+        version,
+        records,
+        gate,
+    })
 }

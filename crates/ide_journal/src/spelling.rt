@@ -1,9 +1,10 @@
 //! How a record is spelled.
 ghost use Rattle.std.specs.Prelude.{◌≡◌, ◌+◌, ◌≤◌, ◌<◌, [], ◌∷◌, ◌++◌, length, OnOk, IfOk, IfErr, vec_len};
-ghost use Rattle.ide_journal.specs.Format.{after_gate, padding, zeros, header};
+ghost use Rattle.ide_journal.specs.Format.{after_gate, head_of, padding, zeros, header};
 ghost use Rattle.ide_journal.specs.Lists.{entry_of};
 
-use crate::RawRecord;
+use crate::{RawRecord, Version};
+use byteorder::{ByteOrder, LittleEndian};
 use ide_wire::Refused;
 use std::alloc::{AllocError, Global};
 
@@ -29,12 +30,12 @@ fn push_zeros(out: &mut Vec<u8>, count: usize) -> Result<(), AllocError>
 
 /// Spells the first page, and a closed gate behind it.
 #[tactic(auto, unfolding(crate::specs::Format::header))]
-pub(crate) fn spell_header(alloc: Global, tag: u8) -> Result<Vec<u8>, AllocError>
-    ensures spelled { IfOk result (λ page. page.items ≡ header tag ++ 0 ∷ []) }
+pub(crate) fn spell_header(alloc: Global, version: Version, tag: u8) -> Result<Vec<u8>, AllocError>
+    ensures spelled { IfOk result (λ page. page.items ≡ header (head_of version tag) ++ 0 ∷ []) }
     ensures length { IfOk result (λ page. length page.items ≡ 4097) }
 {
     let mut page = Vec::with_capacity(alloc, 4097)?;
-    page.extend_from_slice(b"IDEJRNL1")?;
+    page.extend_from_slice(&version.letters())?;
     page.push(tag)?;
     push_zeros(&mut page, 4087)?;
     page.push(0)?;
@@ -52,9 +53,10 @@ pub(crate) fn spell(out: &mut Vec<u8>, number: u64, raw: &RawRecord) -> Result<(
     let zeros = padding(body.len());
     out.clear();
     out.reserve(14 + body.len() + zeros)?;
-    out.push(raw.kind)?;
-    out.extend_from_slice(&number.to_le_bytes())?;
-    out.extend_from_slice(&(body.len() as u32).to_le_bytes())?;
+    let mut head = [raw.kind; 13];
+    LittleEndian::write_u64(&mut head[1..], number);
+    LittleEndian::write_u32(&mut head[9..], body.len() as u32);
+    out.extend_from_slice(&head)?;
     out.extend_from_slice(body)?;
     push_zeros(out, zeros)?;
     out.push(0)?;

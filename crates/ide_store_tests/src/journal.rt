@@ -1,16 +1,16 @@
 //! The bytes of a store over a disk in memory.
 use crate::stores::{begin_record, create, has_length, store};
 use ide_disk::{Disk, Leave, MemDisk};
-use ide_journal::{Journal, RawRecord, tag};
+use ide_journal::{Journal, RawRecord, Version, tag};
 use ide_wire::Refused;
 use std::alloc::{AllocError, Global};
 use std::process::Abort;
 use std::test::Fail;
 
-/// A store with this tag, on a new disk.
-fn new_store(alloc: Global, tag: u8) -> Result<Journal<MemDisk>, Refused> {
+/// A store with this tag and of that version, on a new disk.
+fn new_store(alloc: Global, tag: u8, version: Version) -> Result<Journal<MemDisk>, Refused> {
     let disk = MemDisk::new(alloc, 20000, 40000)?;
-    let journal = create(alloc, disk, tag)?;
+    let journal = create(alloc, disk, tag, version)?;
     Ok(journal)
 }
 
@@ -32,19 +32,51 @@ fn has(
     Ok(())
 }
 
-/// That the disk has the bytes of a store with tag 2 and no record.
-fn is_empty_store(rt: &impl Abort, disk: &mut MemDisk) -> Result<(), Fail> {
-    let head = [0x49, 0x44, 0x45, 0x4a, 0x52, 0x4e, 0x4c, 0x31, 2, 0, 0];
+/// That the disk has the bytes of a store with tag 2 and no record, of the version with that letter.
+fn is_empty_store(rt: &impl Abort, disk: &mut MemDisk, letter: u8) -> Result<(), Fail> {
+    let head = [0x49, 0x44, 0x45, 0x4a, 0x52, 0x4e, 0x4c, letter, 2, 0, 0];
     has(rt, disk, 4097, 0, &head)?;
     has(rt, disk, 4097, 4094, &[0, 0, 0])
 }
 
-#[test]
-fn makes_an_empty_store(rt: HostRuntime) -> Result<(), Fail> {
-    let journal = new_store(rt.alloc(), 2)?;
+/// An empty store of that version begins with that letter, and goes on in that version when it is
+/// opened again.
+fn keeps_its_version(
+    rt: &(impl Abort + AllocGlobal),
+    version: Version,
+    letter: u8,
+) -> Result<(), Fail> {
+    let journal = new_store(rt.alloc(), 2, version)?;
     assert!(rt; journal.count() == 0);
+    assert!(rt; journal.version() == version);
     let mut disk = journal.into_disk();
-    is_empty_store(&rt, &mut disk)
+    is_empty_store(rt, &mut disk, letter)?;
+    assert!(rt; tag(&mut disk) == Ok(2));
+    expect_version(rt, rt.alloc(), disk, version)?;
+    Ok(())
+}
+
+/// That the disk has a store with tag 2 of that version, with no record.
+fn expect_version(
+    rt: &impl Abort,
+    alloc: Global,
+    disk: MemDisk,
+    version: Version,
+) -> Result<(), Refused> {
+    match Journal::open(alloc, disk, 2) {
+        Ok((journal, records)) => {
+            assert!(rt; journal.version() == version);
+            assert!(rt; records.len() == 0);
+            Ok(())
+        }
+        Err((refused, _)) => Err(refused),
+    }
+}
+
+#[test]
+fn makes_an_empty_store_of_each_version(rt: HostRuntime) -> Result<(), Fail> {
+    keeps_its_version(&rt, Version::One, 0x31)?;
+    keeps_its_version(&rt, Version::Two, 0x32)
 }
 
 /// Two records are stored.
@@ -74,7 +106,7 @@ fn has_two(rt: &impl Abort, disk: &mut MemDisk) -> Result<(), Fail> {
 
 #[test]
 fn stores_two_records(rt: HostRuntime) -> Result<(), Fail> {
-    let mut journal = new_store(rt.alloc(), 1)?;
+    let mut journal = new_store(rt.alloc(), 1, Version::One)?;
     store_two(&rt, &mut journal)?;
     let mut disk = journal.into_disk();
     disk.crash(Leave::Old);
@@ -141,7 +173,7 @@ fn begun_disk(
     fails: bool,
 ) -> Result<MemDisk, Refused> {
     let disk = stopping_disk(rt.alloc(), calls, fails)?;
-    let mut journal = create(rt.alloc(), disk, 1)?;
+    let mut journal = create(rt.alloc(), disk, 1, Version::Two)?;
     begin_record(rt, &mut journal, 1, b"proc main\nend\n")?;
     advance(rt, &mut journal, calls, fails);
     Ok(journal.into_disk())
@@ -243,7 +275,7 @@ fn damage(rt: &impl Abort, disk: &mut MemDisk, at: u64, bytes: &[u8]) -> Result<
     Ok(())
 }
 
-/// A disk with one record, on which these bytes stand at a place.
+/// A disk with one record, in version 2, on which these bytes stand at a place.
 fn damaged_disk(rt: &(impl Abort + AllocGlobal), at: u64, bytes: &[u8]) -> Result<MemDisk, Fail> {
     let mut disk = begun_disk(rt, 4, false)?;
     damage(rt, &mut disk, at, bytes)?;
@@ -292,9 +324,9 @@ fn has_its_tag(rt: &(impl Abort + AllocGlobal)) -> Result<(), Refused> {
     Ok(())
 }
 
-/// A file that does not begin as a store does has no tag, and is refused.
+/// A file that begins with `IDEJRNL3` has no tag, and is refused.
 fn has_no_tag(rt: &(impl Abort + AllocGlobal)) -> Result<(), Fail> {
-    let mut disk = damaged_disk(rt, 7, &[0x32])?;
+    let mut disk = damaged_disk(rt, 7, &[0x33])?;
     assert!(rt; tag(&mut disk) == Err(Refused::NotAStore));
     let _disk = refuses(rt, rt.alloc(), disk, 1, Refused::NotAStore)?;
     Ok(())
@@ -311,7 +343,7 @@ fn refuses_other_files(rt: HostRuntime) -> Result<(), Fail> {
 /// A disk on which a record of kind 3 with that body is stored.
 fn stored_disk(rt: &(impl Abort + AllocGlobal), body: &[u8]) -> Result<MemDisk, Refused> {
     let disk = MemDisk::new(rt.alloc(), 4300000, 4300000)?;
-    let mut journal = create(rt.alloc(), disk, 1)?;
+    let mut journal = create(rt.alloc(), disk, 1, Version::Two)?;
     store(rt, &mut journal, 3, body)?;
     Ok(journal.into_disk())
 }

@@ -1,13 +1,18 @@
 //! Stores on disks in memory, and the records that are put on them.
 use ide_disk::{Disk, MemDisk};
-use ide_journal::{Journal, Phase, RawRecord};
+use ide_journal::{Journal, Phase, RawRecord, Version};
 use ide_wire::Refused;
 use std::alloc::Global;
 use std::process::Abort;
 
-/// A store with this tag, on that disk.
-pub(crate) fn create(alloc: Global, disk: MemDisk, tag: u8) -> Result<Journal<MemDisk>, Refused> {
-    match Journal::create(alloc, disk, tag.max(1)) {
+/// A store with this tag and of that version, on that disk.
+pub(crate) fn create(
+    alloc: Global,
+    disk: MemDisk,
+    tag: u8,
+    version: Version,
+) -> Result<Journal<MemDisk>, Refused> {
+    match Journal::create(alloc, disk, tag.max(1), version) {
         Ok(journal) => Ok(journal),
         Err((refused, _)) => Err(refused),
     }

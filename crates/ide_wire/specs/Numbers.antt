@@ -2,9 +2,11 @@
 use Rattle.std.specs.Prelude.{◌≡◌, ℕ, ◌≤◌, ◌<◌, ◌^◌, Bool, List, [], ◌∷◌, ◌++◌, length, take, drop, get_or, IsTrue, nat_lt}
 use Rattle.std.specs.Int.{w8, w16, w32, w64, to_le_bytes, from_le_bytes}
 use Rattle.std.proofs.Common.{ap, sym, refl, ◌∙◌, arith, lit≤, Fits}
-use Rattle.std.proofs.lemmas.Nat.{from_le_bytes-to_le_bytes_2, from_le_bytes-to_le_bytes_4, from_le_bytes-to_le_bytes_8, le_bytes_2, le_bytes_4, le_bytes_8}
+use Rattle.std.proofs.lemmas.Nat.{le_bytes_2, le_bytes_4, le_bytes_8}
 use Rattle.std.proofs.lemmas.Bool.Decides.{nat_tests}
 use Rattle.std.proofs.lemmas.List.{get_or-take, get_or_past, length-take, length-take-le, take-append-drop}
+use Rattle.byteorder.specs.Endian.{little_bytes, little_number}
+use Rattle.byteorder.specs.Numbers.{little_number-reads_back}
 use Rattle.ide_wire.specs.Form.{StandsInFront, IsPrefixFree}
 
 -- whether a number has so many bits at most
@@ -22,30 +24,22 @@ fits_below bits n h = grind (arith, nat_tests)
 pub front_bytes : (count : ℕ) (bytes : List ℕ) → AreBytes bytes → AreBytes (take count bytes)
 front_bytes count bytes small i = grind (arith, get_or-take count bytes i 0, get_or_past (take count bytes) i 0, length-take count bytes, small i)
 
--- a form of so many bytes begins no other
-pub free_by : (count : ℕ) (proper : ℕ → Bool) (form : ℕ → List ℕ) (number : List ℕ → ℕ)
-    → ((x : ℕ) → IsTrue (proper x) → number (take count (form x)) ≡ x)
-    → ((x : ℕ) (rest : List ℕ) → take count (form x ++ rest) ≡ take count (form x))
-    → IsPrefixFree proper form
-free_by count proper form number back front x y r s p q same =
-    sym (back x p)
-    ∙ ap number (sym (front x r) ∙ ap (take count) same ∙ front y s)
-    ∙ back y q
+-- a number is read back from the front of bytes that begin with its form, so no form begins another
+number_prefix_free : (count : ℕ) (proper : ℕ → Bool) → ((x : ℕ) → IsTrue (proper x) → x < 256 ^ count) → IsPrefixFree proper (little_bytes count)
+number_prefix_free count proper below x y r s p q same =
+    sym (little_number-reads_back count x r (below x p)) ∙ ap (little_number count) same ∙ little_number-reads_back count y s (below y q)
 
 pub one_prefix_free : IsPrefixFree (fits 8) (λ n. n ∷ [])
-one_prefix_free = free_by 1 (fits 8) (λ n. n ∷ []) (λ bytes. get_or bytes 0 0) (λ x p. refl) (λ x rest. refl)
+one_prefix_free x y r s p q same = ap (λ bytes. get_or bytes 0 0) same
 
 pub two_prefix_free : IsPrefixFree (fits 16) (to_le_bytes w16)
-two_prefix_free = free_by 2 (fits 16) (to_le_bytes w16) (from_le_bytes w16)
-    (λ x p. from_le_bytes-to_le_bytes_2 x (fits_below 16 x p)) (λ x rest. refl)
+two_prefix_free = number_prefix_free 2 (fits 16) (fits_below 16)
 
 pub four_prefix_free : IsPrefixFree (fits 32) (to_le_bytes w32)
-four_prefix_free = free_by 4 (fits 32) (to_le_bytes w32) (from_le_bytes w32)
-    (λ x p. from_le_bytes-to_le_bytes_4 x (fits_below 32 x p)) (λ x rest. refl)
+four_prefix_free = number_prefix_free 4 (fits 32) (fits_below 32)
 
 pub eight_prefix_free : IsPrefixFree (fits 64) (to_le_bytes w64)
-eight_prefix_free = free_by 8 (fits 64) (to_le_bytes w64) (from_le_bytes w64)
-    (λ x p. from_le_bytes-to_le_bytes_8 x (fits_below 64 x p)) (λ x rest. refl)
+eight_prefix_free = number_prefix_free 8 (fits 64) (fits_below 64)
 
 -- a form stands in front of bytes that begin with it
 pub in_front : (form bytes : List ℕ) (count : ℕ) → count ≤ length bytes → form ≡ take count bytes → StandsInFront form bytes count

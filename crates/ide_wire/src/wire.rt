@@ -4,6 +4,7 @@ ghost use Rattle.std.specs.Int.{w16, w32, w64, to_le_bytes};
 ghost use Rattle.std.proofs.Common.{lit≤};
 ghost use Rattle.ide_wire.specs.Form.{StandsInFront, NoFormInFront, IsPrefixFree};
 
+use byteorder::{ByteOrder, LittleEndian};
 use std::alloc::AllocError;
 
 /// Values with a coded form: 1 to `MAX` bytes, of which none begins another, so that forms may
@@ -79,14 +80,16 @@ impl Wire for u16 {
     ghost form = { to_le_bytes w16 };
 
     fn put(&self, out: &mut Vec<u8>) -> Result<(), AllocError> {
-        out.extend_from_slice(&self.to_le_bytes())
+        let mut form = [0; 2];
+        LittleEndian::write_u16(&mut form, *self);
+        out.extend_from_slice(&form)
     }
 
     fn take(bytes: &[u8]) -> Option<(u16, usize)> {
-        match bytes {
-            [a, b, ..] => Some((u16::from_le_bytes([*a, *b]), 2)),
-            _ => None,
+        if bytes.len() < 2 {
+            return None;
         }
+        Some((LittleEndian::read_u16(bytes), 2))
     }
 
     ghost not_empty = { λ x. lit≤ tt };
@@ -108,14 +111,16 @@ impl Wire for u32 {
     ghost form = { to_le_bytes w32 };
 
     fn put(&self, out: &mut Vec<u8>) -> Result<(), AllocError> {
-        out.extend_from_slice(&self.to_le_bytes())
+        let mut form = [0; 4];
+        LittleEndian::write_u32(&mut form, *self);
+        out.extend_from_slice(&form)
     }
 
     fn take(bytes: &[u8]) -> Option<(u32, usize)> {
-        match bytes {
-            [a, b, c, d, ..] => Some((u32::from_le_bytes([*a, *b, *c, *d]), 4)),
-            _ => None,
+        if bytes.len() < 4 {
+            return None;
         }
+        Some((LittleEndian::read_u32(bytes), 4))
     }
 
     ghost not_empty = { λ x. lit≤ tt };
@@ -137,17 +142,16 @@ impl Wire for u64 {
     ghost form = { to_le_bytes w64 };
 
     fn put(&self, out: &mut Vec<u8>) -> Result<(), AllocError> {
-        out.extend_from_slice(&self.to_le_bytes())
+        let mut form = [0; 8];
+        LittleEndian::write_u64(&mut form, *self);
+        out.extend_from_slice(&form)
     }
 
     fn take(bytes: &[u8]) -> Option<(u64, usize)> {
-        match bytes {
-            [a, b, c, d, e, f, g, h, ..] => Some((
-                u64::from_le_bytes([*a, *b, *c, *d, *e, *f, *g, *h]),
-                8,
-            )),
-            _ => None,
+        if bytes.len() < 8 {
+            return None;
         }
+        Some((LittleEndian::read_u64(bytes), 8))
     }
 
     ghost not_empty = { λ x. lit≤ tt };

@@ -1,7 +1,6 @@
-use Rattle.std.proofs.Common.{◌≡◌, ℕ, List, ◌∷◌, ◌++◌, ◌+◌, OnOk, take, ap, subst, ◌∙◌}
-use Rattle.ide_disk.specs.Disk.{DiskState, settled}
 use Rattle.ide_journal.specs.Bytes.{IsBefore}
-use Rattle.ide_journal.proofs.Left.{left_before_cut, left_after_cut, cut_behind}
+use Rattle.ide_journal.proofs.Left.{left_before_cut, left_after_cut}
+use Rattle.ide_journal.proofs.Found.{cut_then_synced}
 use Rattle.ide_journal.proofs.Moments.{one_call, goes_on}
 use Rattle.ide_journal.proofs.opening.repair.Goals as goal
 
@@ -32,9 +31,8 @@ returns-clause-any_moment g c honest base rest gate is =
     (λ left leaves. after left ((c.sync.ensures.crash cut_honest).leaves left leaves)))
 
 pub returns-clause-bytes : goal.returns-clause-bytes
-returns-clause-bytes g c honest base rest gate is =
+returns-clause-bytes g c honest =
     let cut_honest = c.cut.ensures.honest honest in
-    let now = ap (λ (d : DiskState). d.now) (c.in_ok-cut.ensures.bytes honest)
-    ∙ ap (λ (d : DiskState). take (c.args.gate + 1) d.now) is
-    ∙ ap (λ (n : ℕ). take (n + 1) (base ++ 0 ∷ rest)) gate ∙ cut_behind base rest in
-    subst (λ (xs : List ℕ). OnOk c.sync.result (g.D.Disk.state c.sync.new.self ≡ settled xs)) now (c.sync.ensures.bytes cut_honest)
+    let state = g.D.Disk.state in
+    cut_then_synced c.args.gate (state c.args.disk.now) (state c.cut.new.self) (state c.sync.new.self) c.sync.result
+    (c.in_ok-cut.ensures.bytes honest) (c.sync.ensures.bytes cut_honest)

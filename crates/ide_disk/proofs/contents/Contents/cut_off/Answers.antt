@@ -1,18 +1,16 @@
-use Rattle.std.proofs.Common.{List, ℕ, [], take, sym, arith, refl, ap, ◌∙◌}
-use Rattle.ide_disk.specs.declared.call.Call.TheVariants.{Shorten}
+use Rattle.std.proofs.Common.{List, ℕ, take, sym, arith, refl, ap, ◌∙◌}
 use Rattle.ide_disk.specs.Disk.{DiskState, Cut}
-use Rattle.ide_disk.proofs.Next.{IsNext, state_next, counted_next, fit_next, recorded, time_next, possible, leaves_same, leaves_cut}
+use Rattle.ide_disk.proofs.Next.{state_next, counted_next, fit_next, recorded, records_next, possible, leaves_same, leaves_cut}
 use Rattle.ide_disk.proofs.contents.Contents.cut_off.Goals as goal
 
 pub invariant_of-self : goal.invariant_of-self
 invariant_of-self c =
     let self = c.args.self.now in
-    let next : IsNext (Shorten c.args.len) [] self.calls.items c.note.new.calls.items self.written.items c.note.new.written.items =
-    record { calls_are = c.note.ensures.calls; bytes_are = c.note.ensures.written; counted = self.counted } in
-    let state = state_next _ _ _ _ _ _ self.start.items next in
+    let next = c.note.ensures.next in
+    let state = state_next _ _ _ _ _ _ self.start.items next self.counted in
     record {
       replayed = c.truncate.ensures.items ∙ ap (λ (xs : List ℕ). take c.args.len xs) self.replayed ∙ ap (λ (d : DiskState). d.now) (sym state);
-      counted = counted_next _ _ _ _ _ _ next refl;
+      counted = counted_next _ _ _ _ _ _ next self.counted refl;
       fit = fit_next _ _ _ _ _ _ next self.room self.fit (omega arith);
       start_fits = self.start_fits;
       bytes_fit = omega (arith, self.bytes_fit, c.truncate.ensures.len);
@@ -23,26 +21,22 @@ invariant_of-self c =
       written_room = omega arith;
     }
 
-pub returns-clause-state : goal.returns-clause-state
-returns-clause-state c =
+pub returns-clause-recorded : goal.returns-clause-recorded
+returns-clause-recorded c = records_next _ _ _ _ _ c.note.ensures.next (omega arith) refl refl refl
+
+pub returns-clause-cut : goal.returns-clause-cut
+returns-clause-cut c =
     let self = c.args.self.now in
-    let next : IsNext (Shorten c.args.len) [] self.calls.items c.note.new.calls.items self.written.items c.note.new.written.items =
-    record { calls_are = c.note.ensures.calls; bytes_are = c.note.ensures.written; counted = self.counted } in
-    state_next _ _ _ _ _ _ self.start.items next
+    record {
+      size = omega (arith, c.truncate.ensures.len);
+      state = state_next _ _ _ _ _ _ self.start.items c.note.ensures.next self.counted;
+    }
 
 pub returns-clause-crash : goal.returns-clause-crash
 returns-clause-crash c =
     let self = c.args.self.now in
-    let next : IsNext (Shorten c.args.len) [] self.calls.items c.note.new.calls.items self.written.items c.note.new.written.items =
-    record { calls_are = c.note.ensures.calls; bytes_are = c.note.ensures.written; counted = self.counted } in
-    leaves_cut c.args.len _ _ (possible self.calls.items self.written.items self.start.items) (state_next _ _ _ _ _ _ self.start.items next)
-
-pub returns-clause-time : goal.returns-clause-time
-returns-clause-time c =
-    let self = c.args.self.now in
-    let next : IsNext (Shorten c.args.len) [] self.calls.items c.note.new.calls.items self.written.items c.note.new.written.items =
-    record { calls_are = c.note.ensures.calls; bytes_are = c.note.ensures.written; counted = self.counted } in
-    time_next _ _ _ _ _ _ self.start.items next
+    leaves_cut c.args.len _ _ (possible self.calls.items self.written.items self.start.items)
+    (state_next _ _ _ _ _ _ self.start.items c.note.ensures.next self.counted)
 
 pub returns-then-not-has_space-clause-crash : goal.returns-then-not-has_space-clause-crash
 returns-then-not-has_space-clause-crash c =

@@ -1,18 +1,15 @@
-use Rattle.std.proofs.Common.{[], sym, arith, refl, ap, ◌∙◌}
-use Rattle.ide_disk.specs.declared.call.Call.TheVariants.{Look}
+use Rattle.std.proofs.Common.{sym, arith, refl, ap, ◌∙◌}
 use Rattle.ide_disk.specs.Disk.{DiskState}
-use Rattle.ide_disk.proofs.Next.{IsNext, state_next, counted_next, fit_next, recorded, time_next}
+use Rattle.ide_disk.proofs.Next.{state_next, counted_next, fit_next, recorded, records_next}
 use Rattle.ide_disk.proofs.contents.Contents.look.Goals as goal
 
 pub invariant_of-self : goal.invariant_of-self
 invariant_of-self c =
     let self = c.args.self.now in
-    let next : IsNext Look [] self.calls.items c.note.new.calls.items self.written.items c.note.new.written.items =
-    record { calls_are = c.note.ensures.calls; bytes_are = c.note.ensures.written; counted = self.counted } in
-    let state = state_next _ _ _ _ _ _ self.start.items next in
+    let next = c.note.ensures.next in
     record {
-      replayed = self.replayed ∙ ap (λ (d : DiskState). d.now) (sym state);
-      counted = counted_next _ _ _ _ _ _ next refl;
+      replayed = self.replayed ∙ ap (λ (d : DiskState). d.now) (sym (state_next _ _ _ _ _ _ self.start.items next self.counted));
+      counted = counted_next _ _ _ _ _ _ next self.counted refl;
       fit = fit_next _ _ _ _ _ _ next self.room self.fit (omega arith);
       start_fits = self.start_fits;
       bytes_fit = self.bytes_fit;
@@ -23,16 +20,10 @@ invariant_of-self c =
       written_room = omega arith;
     }
 
-pub returns-clause-state : goal.returns-clause-state
-returns-clause-state c =
-    let self = c.args.self.now in
-    let next : IsNext Look [] self.calls.items c.note.new.calls.items self.written.items c.note.new.written.items =
-    record { calls_are = c.note.ensures.calls; bytes_are = c.note.ensures.written; counted = self.counted } in
-    state_next _ _ _ _ _ _ self.start.items next
+pub returns-clause-recorded : goal.returns-clause-recorded
+returns-clause-recorded c = records_next _ _ _ _ _ c.note.ensures.next (omega arith) refl refl refl
 
-pub returns-clause-time : goal.returns-clause-time
-returns-clause-time c =
+pub returns-clause-same : goal.returns-clause-same
+returns-clause-same c =
     let self = c.args.self.now in
-    let next : IsNext Look [] self.calls.items c.note.new.calls.items self.written.items c.note.new.written.items =
-    record { calls_are = c.note.ensures.calls; bytes_are = c.note.ensures.written; counted = self.counted } in
-    time_next _ _ _ _ _ _ self.start.items next
+    record { bytes = refl; state = state_next _ _ _ _ _ _ self.start.items c.note.ensures.next self.counted }
