@@ -3,6 +3,7 @@ pub mod Closed
 pub mod EdgeLaws
 pub mod Edges
 pub mod Ends
+pub mod Exact
 pub mod Exits
 pub mod GraphOf
 pub mod GraphOfText

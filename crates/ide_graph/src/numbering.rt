@@ -1,11 +1,10 @@
 //! The first pass over a program: its nodes in order, with the procedures' places and labels.
-ghost use Rattle.std.specs.Prelude.{◌≡◌, ◌+◌, ◌<◌, ◌≤◌, ◌^◌, ℕ, List, [], ◌∷◌, ◌++◌, length, IfOk, IfErr, OnOk};
+ghost use Rattle.std.specs.Prelude.{◌≡◌, ◌+◌, ◌<◌, ◌≤◌, ◌^◌, ℕ, List, [], ◌∷◌, ◌++◌, length, IfOk, OnOk, IsOkUnless};
 ghost use Rattle.std.specs.List.{flat_map};
 ghost use Rattle.ide_wire.specs.declared.refused.Refused.TheVariants.{NoMemory};
-ghost use Rattle.ide_text.specs.declared.program.Procedure.{Procedure};
 ghost use Rattle.ide_graph.specs.Naming.{number_of};
 ghost use Rattle.ide_graph.specs.Numbered.{BelongTo, IsNumbered};
-ghost use Rattle.ide_graph.specs.Numbering.{nodes_at, nodes_in, spot_value, IsNumberingOf};
+ghost use Rattle.ide_graph.specs.Numbering.{nodes_at, nodes_in, spot_value, CountsNext, IsNumberingOf};
 ghost use Rattle.ide_graph.specs.Numbers.{label_among, nodes_of, spots_of, spots_on};
 
 use crate::labels::Labels;
@@ -46,7 +45,7 @@ impl<'a> Numbering<'a> {
         ensures numbering { IfOk result (IsNumberingOf procedures.now) }
         ensures numbered { IfOk result IsNumbered }
         ensures whole { IfOk result (λ numbering. length numbering.layouts.items ≡ length procedures.now) }
-        ensures refused { IfErr result (λ refused. refused ≡ NoMemory) }
+        ensures refused { IsOkUnless result NoMemory }
     {
         let mut numbering = Numbering {
             spots: Vec::new(alloc),
@@ -63,10 +62,10 @@ impl<'a> Numbering<'a> {
     fn add_procedure(&mut self, alloc: Global, procedure: &'a Procedure) -> Result<(), Refused>
         requires numbered { IsNumbered self.old }
         requires few { length self.old.spots.items + length (spots_of procedure.now) < 2 ^ 32 }
-        ensures numbering { OnOk result ((before : List Procedure) → IsNumberingOf before self.old → IsNumberingOf (before ++ procedure.now ∷ []) self.new) }
+        ensures numbering { OnOk result (CountsNext procedure.now self.old self.new) }
         ensures numbered { OnOk result (IsNumbered self.new) }
         ensures added { OnOk result (length self.new.layouts.items ≡ length self.old.layouts.items + 1) }
-        ensures refused { IfErr result (λ refused. refused ≡ NoMemory) }
+        ensures refused { IsOkUnless result NoMemory }
     {
         let index = self.layouts.len() as u32;
         let start = add_spot(&mut self.spots, index, Place::Start)?;
@@ -93,7 +92,7 @@ fn add_statements<'a>(
     ensures few { OnOk result (length spots.new.items < 2 ^ 32) }
     ensures owned { OnOk result (BelongTo (procedure + 1) spots.new.items) }
     ensures longer { OnOk result (length spots.old.items ≤ length spots.new.items) }
-    ensures refused { IfErr result (λ refused. refused ≡ NoMemory) }
+    ensures refused { IsOkUnless result NoMemory }
 {
     let mut labels = Labels::new(alloc);
     for statement in statements {
@@ -124,7 +123,7 @@ fn add_spot<'a>(
     ensures longer { OnOk result (length spots.new.items ≡ length spots.old.items + 1) }
     ensures few { OnOk result (length spots.new.items < 2 ^ 32) }
     ensures owned { OnOk result (BelongTo (procedure + 1) spots.new.items) }
-    ensures refused { IfErr result (λ refused. refused ≡ NoMemory) }
+    ensures refused { IsOkUnless result NoMemory }
 {
     let node = spots.len() as Node;
     spots.push(Spot { procedure, place })?;
