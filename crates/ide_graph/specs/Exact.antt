@@ -5,7 +5,7 @@ use Rattle.ide_text.specs.declared.program.Procedure.{Procedure}
 use Rattle.ide_text.specs.declared.program.Program.{Program}
 use Rattle.ide_text.specs.declared.program.Statement.{Statement}
 use Rattle.ide_text.specs.Program.{procedures_of}
-use Rattle.ide_graph.specs.Building.{AllCallersBefore, AllCallersFrom, IsBuilderOf, IsCallOf, IsScopeOf, node_count}
+use Rattle.ide_graph.specs.Building.{AllCallersBefore, AllCallersFrom, HasNormal, IsBuilderOf, IsCallOf, IsScopeOf, node_count}
 use Rattle.ide_graph.specs.declared.builder.Builder.{Builder}
 use Rattle.ide_graph.specs.declared.call.Call.{Call}
 use Rattle.ide_graph.specs.declared.edge.EdgeData.{EdgeData}
@@ -15,6 +15,7 @@ use Rattle.ide_graph.specs.declared.edge.Effect.TheVariants.{Nothing}
 use Rattle.ide_graph.specs.declared.numbering.Spot.{Spot as Node}
 use Rattle.ide_graph.specs.declared.scope.Scope.{Scope}
 use Rattle.ide_graph.specs.declared.site.Caller.{Caller}
+use Rattle.ide_graph.specs.declared.site.Site.{Site}
 use Rattle.ide_graph.specs.Lists.{Lists}
 use Rattle.ide_graph.specs.Numbering.{spot_value}
 use Rattle.ide_graph.specs.Numbers.{label_from, start_of, statement}
@@ -29,8 +30,8 @@ abbrev pub ForNode : Builder → ℕ → (Program → Type 0) → Type 0
 ForNode builder node P = (p : Program) → IsBuilderOf p builder → node < node_count builder → P p
 
 -- P holds for that program and its procedure of that index
-abbrev pub ForProcedure : Builder → ℕ → (Program → Procedure → Type 0) → Type 0
-ForProcedure builder index P = (p : Program) (q : Procedure) → IsBuilderOf p builder → slice_get (procedures_of p) index ≡ Some q → P p q
+abbrev pub ForProcedure : Builder → ℕ → (Program → ℕ → Procedure → Type 0) → Type 0
+ForProcedure builder index P = (p : Program) (q : Procedure) → IsBuilderOf p builder → slice_get (procedures_of p) index ≡ Some q → P p index q
 
 -- P holds for that program, where the spot stands there at the node
 abbrev pub ForSpot : Builder → ℕ → Node → (Program → Type 0) → Type 0
@@ -70,12 +71,12 @@ ForLabel scope name P =
     → label_from (start_of (procedures_of p) index) q name ≡ Some node → P node
 
 -- the procedures that the names call
-abbrev pub AreCallees : Program → List (List ℕ) → List ℕ → Type 0
-AreCallees p names callees = Lists (IsCallee p names) (λ callee. callee) callees
+abbrev pub AreCallees : Program → List (List ℕ) → Vec ℕ → Type 0
+AreCallees p names callees = Lists (IsCallee p names) (λ callee. callee) callees.items
 
--- the normal edge to the node, with that effect
-abbrev pub IsNormalTo : Program → ℕ → Effect → EdgeData → Type 0
-IsNormalTo p end effect edge = edge ≡ edge_of p end (kind.Normal effect)
+-- the site has the normal edge to the node with that effect, and no other
+abbrev pub HasNormalTo : Program → ℕ → Effect → Site → Type 0
+HasNormalTo p end effect = HasNormal (λ edge. edge ≡ edge_of p end (kind.Normal effect))
 
 -- an edge of a branch: it leads to the next node, or to the label's
 abbrev pub IsOfBranch : Program → ℕ → ℕ → EdgeData → Type 0

@@ -5,6 +5,7 @@ pub mod Edges
 pub mod Ends
 pub mod Exact
 pub mod Exits
+pub mod Found
 pub mod GraphOf
 pub mod GraphOfText
 pub mod Joined

@@ -35,7 +35,7 @@ pub(crate) struct Builder<'a, 'p> {
 
 impl<'a, 'p> Builder<'a, 'p> {
     ghost use Rattle.ide_graph.specs.Building.{IsReady, IsCallOf, IsScopeOf, AllCallersBefore, AllCallersFrom, AreProcedures, HasNormal, node_count, procedure_count};
-    ghost use Rattle.ide_graph.specs.Exact.{AddsCallers, AreCallees, ForCall, ForCallAt, ForCallee, ForNode, ForProcedure, ForProgram, ForSpot, ForStatement, IsNormalTo, IsOfBranch, KeepsCallers};
+    ghost use Rattle.ide_graph.specs.Exact.{AddsCallers, AreCallees, ForCall, ForCallAt, ForCallee, ForNode, ForProcedure, ForProgram, ForSpot, ForStatement, HasNormalTo, IsOfBranch, KeepsCallers};
 
     /// A builder over what the first pass found.
     pub fn new(
@@ -85,7 +85,7 @@ impl<'a, 'p> Builder<'a, 'p> {
     fn callers(&self) -> Result<Vec<Vec<Caller>>, Refused>
         requires { IsReady self.now }
         ensures whole { IfOk result (λ callers. length callers.items ≡ procedure_count self.now) }
-        ensures within { IfOk result (λ callers. AllCallersWithin (node_count self.now) callers.items) }
+        ensures within { IfOk result (λ made. AllCallersWithin (node_count self.now) made.items) }
         ensures exact { ForProgram self.now (λ p. IfOk result (λ callers. AllCallersBefore p (node_count self.now) callers.items)) }
         ensures refused { IsOkUnless result NoMemory }
     {
@@ -99,7 +99,7 @@ impl<'a, 'p> Builder<'a, 'p> {
     /// An empty list of callers for each procedure.
     fn no_callers(&self) -> Result<Vec<Vec<Caller>>, Refused>
         ensures whole { IfOk result (λ callers. length callers.items ≡ procedure_count self.now) }
-        ensures within { IfOk result (λ callers. AllCallersWithin (node_count self.now) callers.items) }
+        ensures within { IfOk result (λ made. AllCallersWithin (node_count self.now) made.items) }
         ensures empty { IfOk result (λ callers. All (λ calls. calls.items ≡ []) callers.items) }
         ensures refused { IsOkUnless result NoMemory }
     {
@@ -243,7 +243,7 @@ impl<'a, 'p> Builder<'a, 'p> {
         requires ready { IsReady self.now }
         requires some { 0 < node_count self.now }
         ensures edges { IfOk result (λ site. EdgesWithin (node_count self.now) site) }
-        ensures exact { ForNode self.now end (λ p. IfOk result (HasNormal (IsNormalTo p end effect))) }
+        ensures exact { ForNode self.now end (λ p. IfOk result (HasNormalTo p end effect)) }
         ensures refused { IsOkUnless result NoMemory }
     {
         let mut edges = Vec::with_capacity(self.alloc, 1)?;
@@ -316,7 +316,7 @@ impl<'a, 'p> Builder<'a, 'p> {
     fn callees(&self, names: &[Name]) -> Result<Vec<usize>, Refused>
         requires { IsReady self.now }
         ensures callees { IfOk result (λ callees. AreProcedures self.now callees.items) }
-        ensures exact { ForProgram self.now (λ p. IfOk result (λ callees. AreCallees p names.now callees.items)) }
+        ensures exact { ForProgram self.now (λ p. IfOk result (AreCallees p names.now)) }
         ensures refused { IsOkUnless result NoMemory }
     {
         let mut callees = Vec::with_capacity(self.alloc, names.len())?;
@@ -370,7 +370,7 @@ impl<'a, 'p> Builder<'a, 'p> {
         requires ready { IsReady self.now }
         requires procedure { spot.procedure < procedure_count self.now }
         ensures within { result.layout.now.start < node_count self.now }
-        ensures exact { ForProcedure self.now spot.entry.procedure (λ p q. IsScopeOf p spot.entry.procedure q result) }
+        ensures exact { ForProcedure self.now spot.entry.procedure (λ p i q. IsScopeOf p i q result) }
     {
         let procedure = spot.procedure as usize;
         Scope {

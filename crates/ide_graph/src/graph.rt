@@ -226,7 +226,7 @@ fn owners_of(alloc: Global, spots: &[Spot]) -> Result<Vec<u32>, AllocError>
 /// The most parameters and locals that one of the procedures has.
 fn most_own_of(layouts: &[Layout]) -> usize
     ensures most { All (λ layout. length layout.own ≤ result) layouts.now }
-    ensures least { (bound : ℕ) → All (λ layout. length layout.own ≤ bound) layouts.now → result ≤ bound }
+    ensures least { (n : ℕ) → All (λ layout. length layout.own ≤ n) layouts.now → result ≤ n }
 {
     layouts
         .iter()
