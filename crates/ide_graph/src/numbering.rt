@@ -44,7 +44,7 @@ impl<'a> Numbering<'a> {
         requires { length (nodes_of procedures.now) < 2 ^ 32 }
         ensures numbering { IfOk result (IsNumberingOf procedures.now) }
         ensures numbered { IfOk result IsNumbered }
-        ensures whole { IfOk result (λ numbering. vec_len numbering.layouts ≡ length procedures.now) }
+        ensures whole { IfOk result (λ made. length made.layouts.items ≡ length procedures.now) }
         ensures refused { IsOkUnless result NoMemory }
     {
         let mut numbering = Numbering {
