@@ -5,11 +5,13 @@ pub mod Refusal
 pub mod ClaimRefusal
 pub mod CloseRefusal
 pub mod DrainRefusal
+pub mod Frozen
 pub mod Room
 pub mod Rooted
 pub mod State
 pub mod Calls
 pub mod Drain
 pub mod Items
+pub mod Kept
 pub mod Steps
 pub mod Going
