@@ -3,6 +3,7 @@ pub mod Core
 pub mod Owed
 pub mod Refusal
 pub mod ClaimRefusal
+pub mod Claiming
 pub mod CloseRefusal
 pub mod DrainRefusal
 pub mod Frozen

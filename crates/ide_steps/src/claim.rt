@@ -7,10 +7,10 @@ ghost use Rattle.ide_wire.specs.declared.key.Key.{Key};
 ghost use Rattle.ide_worklist.specs.Worklist.{PutsClaim, begun, claim_at, ends_key, is_pending, is_claimed};
 ghost use Rattle.ide_tasks.specs.Task.{TaskData};
 ghost use Rattle.ide_steps.specs.ClaimRefusal.{IsClaimRefusal, MayClaim};
-ghost use Rattle.ide_steps.specs.Core.{IsSameProblem, IsUnchanged, StandsIn};
-ghost use Rattle.ide_steps.specs.Kept.{ArePartnersIn, IsTaskWhere, WhereKept, WhereKeptAt};
+ghost use Rattle.ide_steps.specs.Claiming.{FindsIdle, FindsQuiet, FindsTask, KeepsAllBut};
+ghost use Rattle.ide_steps.specs.Core.{IsUnchanged, StandsIn};
+ghost use Rattle.ide_steps.specs.Kept.{ArePartnersIn, WhereKept, WhereKeptAt};
 ghost use Rattle.ide_steps.specs.State.{IsTaskOf};
-ghost use Rattle.ide_steps.specs.Steps.{IsTaken, progress_at};
 
 use crate::loaded::Loaded;
 use crate::machine::{Core, HANDS};
@@ -42,20 +42,11 @@ impl<P: Problem> Core<P> {
     pub fn claim(&mut self, hand: usize) -> Result<Claimed<P>, Refused>
         ensures may { OnOk result (MayClaim self.old hand) }
         ensures refused { IfErr result (IsClaimRefusal self.old hand) }
-        ensures quiet { result ≡ Ok Claimed.Quiet → self.old.pile.pending ≡ [] }
-        ensures waiting { result ≡ Ok Claimed.Idle → self.old.pile.pending ≢ [] }
-        ensures idle { result ≡ Ok Claimed.Idle → (q : Key) → is_pending self.old.pile q ≡ true → is_claimed self.old.pile q ≡ true }
-        ensures stays { IsSameProblem self.old self.new }
-        ensures table { self.new.table ≡ self.old.table }
-        ensures pending { self.new.pile.pending ≡ self.old.pile.pending }
-        ensures changes { self.new.changes ≡ self.old.changes }
-        ensures others { (h : ℕ) → nat_eq hand h ≡ false → claim_at self.new.pile h ≡ claim_at self.old.pile h }
-        ensures fresh { (task : TaskData P.F) → result ≡ Ok (Claimed.Task task) → ends_key (claim_at self.new.pile hand) ≡ true }
-        ensures task { (task : TaskData P.F) → result ≡ Ok (Claimed.Task task) → IsTaken P.targets P.F.edge hand self.old self.new task }
-        ensures is_task { (task : TaskData P.F) (graph : Supergraph) → result ≡ Ok (Claimed.Task task) → IsTaskWhere P.targets P.F.edge graph self.old task }
-        ensures progress { (task : TaskData P.F) → result ≡ Ok (Claimed.Task task) → progress_at self.new.pile hand ≡ Some (task, 0) }
-        ensures nothing { result ≡ Ok Claimed.Quiet → self.new ≡ self.old }
-        ensures waits { result ≡ Ok Claimed.Idle → self.new ≡ self.old }
+        ensures keeps { KeepsAllBut hand self.old self.new }
+        ensures task { (task : TaskData P.F) → result ≡ Ok (Claimed.Task task)
+            → FindsTask P.targets P.F.edge hand self.old self.new task }
+        ensures idle { result ≡ Ok Claimed.Idle → FindsIdle self.old self.new }
+        ensures quiet { result ≡ Ok Claimed.Quiet → FindsQuiet self.old self.new }
         ensures unchanged { OnErr result (IsUnchanged self.old self.new) }
     {
         if hand >= HANDS {
