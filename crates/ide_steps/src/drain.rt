@@ -1,7 +1,5 @@
 //! All steps that are left, by one hand.
 ghost use Rattle.std.specs.Prelude.{◌≡◌, ℕ, ◌-◌, ◌^◌, ◌<◌, ◌⊎◌, [], true, false, nat_eq, min, if◌then◌else◌, Ok, Some, None, IfErr, IfOk, OnOk, IsOkUnless};
-ghost use Rattle.std.specs.List.{IsDistinct};
-ghost use Rattle.std.specs.Map.{keys_of};
 ghost use Rattle.std.specs.Option.{is_some};
 ghost use Rattle.ide_steps.specs.Changed.{Remembers};
 ghost use Rattle.ide_steps.specs.Core.{is_loaded, AreInside};
@@ -11,11 +9,10 @@ ghost use Rattle.ide_steps.specs.Going.{GoesOn, GoesOnBy};
 ghost use Rattle.ide_steps.specs.Room.{AreTasksFew};
 ghost use Rattle.ide_steps.specs.Steps.{progress_at};
 ghost use Rattle.ide_tasks.specs.Task.{TaskData};
-ghost use Rattle.ide_wire.specs.Key.{same_key};
 ghost use Rattle.ide_worklist.specs.Worklist.{claim_at, ends_key, IsFree};
 
 use crate::claim::Claimed;
-use crate::laws::{calls_are_steps, images_have_room};
+use crate::laws::{calls_are_steps, cores_are_whole, images_have_room};
 use crate::machine::Core;
 use crate::part::Parted;
 use ide_problem::Problem;
@@ -57,18 +54,11 @@ impl<P: Problem> Core<P> {
         }
         let drained = self.run_all();
         images_have_room::<P>();
-        self.keys_are_distinct();
+        cores_are_whole(self);
         if drained.is_err() {
             let _ = self.release(DRAINING);
         }
         drained
-    }
-
-    /// It does nothing: its clause is what is known of the tables' keys.
-    fn keys_are_distinct(&self)
-        ensures { IsDistinct same_key (keys_of self.now.table.entries) }
-    {
-        let _ = self.tables.key_count();
     }
 
     /// Runs tasks until none is left, and counts them, up to the largest number of 64 bits.
