@@ -3,7 +3,9 @@ pub mod Closed
 pub mod EdgeLaws
 pub mod Edges
 pub mod Ends
+pub mod Exact
 pub mod Exits
+pub mod Found
 pub mod GraphOf
 pub mod GraphOfText
 pub mod Joined

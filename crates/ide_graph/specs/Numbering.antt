@@ -1,5 +1,5 @@
 -- What the first pass over a program says of its nodes, its procedures and their labels.
-use Rattle.std.specs.Prelude.{ℕ, ◌+◌, ◌≤◌, ◌≡◌, List, ◌++◌, Some, length, map, slice_get}
+use Rattle.std.specs.Prelude.{ℕ, ◌+◌, ◌≤◌, ◌≡◌, List, [], ◌∷◌, ◌++◌, Some, length, map, slice_get}
 use Rattle.ide_text.specs.declared.program.Procedure.{Procedure}
 use Rattle.ide_graph.specs.declared.layout.Layout.{Layout}
 use Rattle.ide_graph.specs.declared.numbering.Numbering.{Numbering}
@@ -54,3 +54,7 @@ pub record IsNumberingOf (procedures : List Procedure) (numbering : Numbering) :
   pub labelled : length numbering.labels.items ≡ length procedures
   pub labels : (i : ℕ) (q : Procedure) (labels : List (List ℕ × ℕ)) → slice_get procedures i ≡ Some q
       → slice_get numbering.labels.items i ≡ Some labels → AreLabels (start_of procedures i) q labels
+
+-- after the procedures before, the numbering goes on with that one
+abbrev pub CountsNext : Procedure → Numbering → Numbering → Type 0
+CountsNext q old new = (before : List Procedure) → IsNumberingOf before old → IsNumberingOf (before ++ q ∷ []) new

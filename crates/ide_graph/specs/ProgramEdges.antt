@@ -43,10 +43,17 @@ Gives p q target expression.Unknown effect = effect ≡ Unknown target
 Gives p q target (expression.Mix y z) effect =
     (first : ℕ) × (second : ℕ) × HasFact p q y first × HasFact p q z second × (effect ≡ Mix target first second)
 
+-- what giving a variable the value of an expression does
+abbrev pub Assigns : Program → Procedure → List ℕ → Expression → Effect → Type 0
+Assigns p q x e effect = (target : ℕ) × HasFact p q x target × Gives p q target e effect
+
+-- what entering a procedure does: its locals have no value yet
+abbrev pub entering : Program → Procedure → Effect
+entering p q = Enter (result_of p + 1 + length q.parameters.items) (result_of p + 1 + length q.parameters.items + length q.locals.items)
+
 -- where a normal edge goes out of the node n of the procedure q, and with what effect
 abbrev pub Goes : Program → ℕ → ℕ → Procedure → Spot → ℕ → Effect → Type 0
-Goes p n index q start end effect =
-    (end ≡ n + 1) × (effect ≡ Enter (result_of p + 1 + length q.parameters.items) (result_of p + 1 + length q.parameters.items + length q.locals.items))
+Goes p n index q start end effect = (end ≡ n + 1) × (effect ≡ entering p q)
 Goes p n index q (statement (Assign x e)) end effect = (end ≡ n + 1) × (target : ℕ) × HasFact p q x target × Gives p q target e effect
 Goes p n index q (statement Skip) end effect = (end ≡ n + 1) × (effect ≡ Nothing)
 Goes p n index q (statement (At l)) end effect = (end ≡ n + 1) × (effect ≡ Nothing)
@@ -157,6 +164,10 @@ IsSiteOf p n (site.Normal edges) = IsPlainNode p n × Lists (IsNormal p n) (λ e
 IsSiteOf p n (site.Call calls along) = Lists (IsCallFrom p n) (λ edge. edge.end) calls × IsAlong p n along
 IsSiteOf p n (site.Exit begin callers) = IsExitSite p n begin callers
 
+-- each site has exactly the edges of the program at its node
+abbrev pub AreSitesOf : Program → List Site → Type 0
+AreSitesOf p sites = (node : ℕ) (site : Site) → slice_get sites node ≡ Some site → IsSiteOf p node site
+
 -- the graph has exactly the edges of the program out of each of its nodes
 abbrev pub HasEdgesOf : Program → Supergraph → Type 0
-HasEdgesOf p graph = (node : ℕ) (site : Site) → slice_get graph.sites node ≡ Some site → IsSiteOf p node site
+HasEdgesOf p graph = AreSitesOf p graph.sites

@@ -1,6 +1,8 @@
 -- What contracts see of a graph.
-use Rattle.std.specs.Prelude.{ℕ, ◌+◌, ◌≤◌, ◌≡◌, List, Option, Some, slice_get, slice_index, slice_index_or, []}
+use Rattle.std.specs.Prelude.{ℕ, ◌+◌, ◌<◌, ◌≤◌, ◌≡◌, ◌⊎◌, List, Option, None, Some, slice_get, slice_index, slice_index_or, []}
 use Rattle.std.specs.Option.{option_and_then}
+use Rattle.ide_wire.specs.declared.refused.Refused.{Refused}
+use Rattle.ide_wire.specs.declared.refused.Refused.TheVariants.{NoProcedure, OutOfRange}
 use Rattle.ide_graph.specs.Named.{procedure_of_name, fact_of_name, names_of_facts}
 use Rattle.ide_graph.specs.declared.site.Site.{Site}
 
@@ -45,3 +47,13 @@ pub record IsFoundAt (graph : Supergraph) (procedure : List ℕ) (position : ℕ
   pub stands : node ≡ slice_index graph.starts index + position
   pub within : node ≤ slice_index graph.exits index
   pub fact_is : fact_named graph index name ≡ Some fact
+
+-- the procedure of the name has no such position, or no fact of the name
+abbrev pub IsMissing : Supergraph → List ℕ → ℕ → List ℕ → Type 0
+IsMissing graph procedure position name =
+    (index : ℕ) × (procedure_named graph procedure ≡ Some index)
+    × ((slice_index graph.exits index < slice_index graph.starts index + position) ⊎ (fact_named graph index name ≡ None))
+
+-- there is no such procedure, or what is looked for is none of it
+abbrev pub IsFindRefusal : Refused → Type 0
+IsFindRefusal refused = (refused ≡ NoProcedure) ⊎ (refused ≡ OutOfRange)

@@ -1,19 +1,11 @@
 //! The second pass over a program: the sites of its nodes.
-ghost use Rattle.std.specs.Prelude.{ℕ, ◌≡◌, ◌⊎◌, ◌+◌, ◌-◌, ◌<◌, ◌≤◌, [], length, map, slice_get, Some, IfOk, IfErr, IfSome, OnOk};
+ghost use Rattle.std.specs.Prelude.{ℕ, ◌≡◌, ◌-◌, ◌+◌, ◌<◌, ◌≤◌, [], length, map, IfOk, IfSome, IsOkUnless};
 ghost use Rattle.std.specs.List.{All};
 ghost use Rattle.std.specs.Arc.{arc_value};
 ghost use Rattle.ide_wire.specs.declared.refused.Refused.TheVariants.{NoMemory};
 ghost use Rattle.ide_graph.specs.Edges.{EdgesWithin, EndsWithin, IsCallerWithin, AllCallersWithin};
-ghost use Rattle.ide_graph.specs.Lists.{Lists};
 ghost use Rattle.ide_graph.specs.Numbered.{IsNumbered};
-ghost use Rattle.ide_graph.specs.Numbers as spot;
-ghost use Rattle.ide_graph.specs.ProgramEdges.{CallAt, IsCall, IsCallee, IsSiteOf, Stands, edge_of};
-ghost use Rattle.ide_graph.specs.declared.site.Site.{Site};
-ghost use Rattle.ide_graph.specs.declared.edge.EdgeKind.TheVariants as kind;
-ghost use Rattle.ide_graph.specs.declared.edge.Effect.TheVariants.{Nothing};
-ghost use Rattle.ide_text.specs.Program.{procedures_of};
-ghost use Rattle.ide_text.specs.declared.program.Procedure.{Procedure};
-ghost use Rattle.ide_text.specs.declared.program.Program.{Program};
+ghost use Rattle.ide_graph.specs.ProgramEdges.{AreSitesOf, IsCall, IsSiteOf, edge_of};
 
 use crate::call::Call;
 use crate::directory::Directory;
@@ -42,8 +34,8 @@ pub(crate) struct Builder<'a, 'p> {
 }
 
 impl<'a, 'p> Builder<'a, 'p> {
-    ghost use Rattle.ide_graph.specs.Building.{IsReady, IsBuilderOf, IsCallOf, IsScopeOf, AllCallersBefore, AllCallersFrom, AreProcedures, HasNormal, node_count, procedure_count};
-    ghost use Rattle.ide_graph.specs.Numbering.{spot_value};
+    ghost use Rattle.ide_graph.specs.Building.{IsReady, IsCallOf, IsScopeOf, AllCallersBefore, AllCallersFrom, AreProcedures, HasNormal, node_count, procedure_count};
+    ghost use Rattle.ide_graph.specs.Exact.{AddsCallers, AreCallees, ForCall, ForCallAt, ForCallee, ForNode, ForProcedure, ForProgram, ForSpot, ForStatement, HasNormalTo, IsOfBranch, KeepsCallers};
 
     /// A builder over what the first pass found.
     pub fn new(
@@ -77,8 +69,8 @@ impl<'a, 'p> Builder<'a, 'p> {
         requires { IsReady self.now }
         ensures whole { IfOk result (λ sites. length sites.items ≡ node_count self.now) }
         ensures within { IfOk result (λ sites. All (λ site. EdgesWithin (node_count self.now) (arc_value site)) sites.items) }
-        ensures exact { (p : Program) → IsBuilderOf p self.now → IfOk result (λ sites. (node : ℕ) (site : Site) → slice_get (map arc_value sites.items) node ≡ Some site → IsSiteOf p node site) }
-        ensures refused { IfErr result (λ refused. refused ≡ NoMemory) }
+        ensures exact { ForProgram self.now (λ p. IfOk result (λ sites. AreSitesOf p (map arc_value sites.items))) }
+        ensures refused { IsOkUnless result NoMemory }
     {
         let mut callers = self.callers()?;
         let mut sites = Vec::with_capacity(self.alloc, self.numbering.spots.len())?;
@@ -93,9 +85,9 @@ impl<'a, 'p> Builder<'a, 'p> {
     fn callers(&self) -> Result<Vec<Vec<Caller>>, Refused>
         requires { IsReady self.now }
         ensures whole { IfOk result (λ callers. length callers.items ≡ procedure_count self.now) }
-        ensures within { IfOk result (λ callers. AllCallersWithin (node_count self.now) callers.items) }
-        ensures exact { (p : Program) → IsBuilderOf p self.now → IfOk result (λ callers. AllCallersBefore p (node_count self.now) callers.items) }
-        ensures refused { IfErr result (λ refused. refused ≡ NoMemory) }
+        ensures within { IfOk result (λ made. AllCallersWithin (node_count self.now) made.items) }
+        ensures exact { ForProgram self.now (λ p. IfOk result (λ callers. AllCallersBefore p (node_count self.now) callers.items)) }
+        ensures refused { IsOkUnless result NoMemory }
     {
         let mut callers = self.no_callers()?;
         for (node, spot) in self.numbering.spots.iter().enumerate() {
@@ -107,9 +99,9 @@ impl<'a, 'p> Builder<'a, 'p> {
     /// An empty list of callers for each procedure.
     fn no_callers(&self) -> Result<Vec<Vec<Caller>>, Refused>
         ensures whole { IfOk result (λ callers. length callers.items ≡ procedure_count self.now) }
-        ensures within { IfOk result (λ callers. AllCallersWithin (node_count self.now) callers.items) }
+        ensures within { IfOk result (λ made. AllCallersWithin (node_count self.now) made.items) }
         ensures empty { IfOk result (λ callers. All (λ calls. calls.items ≡ []) callers.items) }
-        ensures refused { IfErr result (λ refused. refused ≡ NoMemory) }
+        ensures refused { IsOkUnless result NoMemory }
     {
         let mut callers = Vec::with_capacity(self.alloc, self.numbering.layouts.len())?;
         for _layout in &self.numbering.layouts {
@@ -133,8 +125,8 @@ impl<'a, 'p> Builder<'a, 'p> {
         requires within { AllCallersWithin (node_count self.now) callers.old.items }
         ensures whole { length callers.new.items ≡ procedure_count self.now }
         ensures within { AllCallersWithin (node_count self.now) callers.new.items }
-        ensures exact { (p : Program) (q : Procedure) → IsBuilderOf p self.now → Stands p node spot.entry.procedure q (spot_value spot.entry.place) → AllCallersBefore p node callers.old.items → OnOk result (AllCallersBefore p (node + 1) callers.new.items) }
-        ensures refused { IfErr result (λ refused. refused ≡ NoMemory) }
+        ensures exact { ForSpot self.now node spot.entry (λ p. AddsCallers p node result callers.old.items callers.new.items) }
+        ensures refused { IsOkUnless result NoMemory }
     {
         let Place::Statement(statement) = spot.place else {
             return Ok(());
@@ -165,8 +157,8 @@ impl<'a, 'p> Builder<'a, 'p> {
         requires within { AllCallersWithin (node_count self.now) callers.old.items }
         ensures whole { length callers.new.items ≡ procedure_count self.now }
         ensures within { AllCallersWithin (node_count self.now) callers.new.items }
-        ensures exact { (p : Program) → IsBuilderOf p self.now → IsCallOf p call.now → AllCallersBefore p call.now.node callers.old.items → OnOk result (AllCallersBefore p (call.now.node + 1) callers.new.items) }
-        ensures refused { IfErr result (λ refused. refused ≡ NoMemory) }
+        ensures exact { ForCall self.now call.now (λ p. AddsCallers p call.now.node result callers.old.items callers.new.items) }
+        ensures refused { IsOkUnless result NoMemory }
     {
         for callee in &call.callees {
             callers[*callee].push(Caller {
@@ -193,9 +185,9 @@ impl<'a, 'p> Builder<'a, 'p> {
         ensures whole { length callers.new.items ≡ procedure_count self.now }
         ensures within { AllCallersWithin (node_count self.now) callers.new.items }
         ensures edges { IfOk result (λ site. EdgesWithin (node_count self.now) site) }
-        ensures exact { (p : Program) (q : Procedure) → IsBuilderOf p self.now → Stands p node spot.entry.procedure q (spot_value spot.entry.place) → AllCallersFrom p node callers.old.items → IfOk result (IsSiteOf p node) }
-        ensures left { (p : Program) (q : Procedure) → IsBuilderOf p self.now → Stands p node spot.entry.procedure q (spot_value spot.entry.place) → AllCallersFrom p node callers.old.items → AllCallersFrom p (node + 1) callers.new.items }
-        ensures refused { IfErr result (λ refused. refused ≡ NoMemory) }
+        ensures exact { ForSpot self.now node spot.entry (λ p. AllCallersFrom p node callers.old.items → IfOk result (IsSiteOf p node)) }
+        ensures left { ForSpot self.now node spot.entry (λ p. KeepsCallers p node callers.old.items callers.new.items) }
+        ensures refused { IsOkUnless result NoMemory }
     {
         let scope = self.scope(spot);
         let next = node.saturating_add(1);
@@ -223,8 +215,8 @@ impl<'a, 'p> Builder<'a, 'p> {
         requires ready { IsReady self.now }
         requires node { node < node_count self.now }
         ensures edges { IfOk result (λ site. EdgesWithin (node_count self.now) site) }
-        ensures exact { (p : Program) (index : ℕ) (q : Procedure) → IsBuilderOf p self.now → IsScopeOf p index q scope.entry → Stands p node index q (spot.statement statement.now) → IfOk result (IsSiteOf p node) }
-        ensures refused { IfErr result (λ refused. refused ≡ NoMemory) }
+        ensures exact { ForStatement self.now scope.entry node statement.now (λ p. IfOk result (IsSiteOf p node)) }
+        ensures refused { IsOkUnless result NoMemory }
     {
         let next = node.saturating_add(1);
         match statement {
@@ -251,8 +243,8 @@ impl<'a, 'p> Builder<'a, 'p> {
         requires ready { IsReady self.now }
         requires some { 0 < node_count self.now }
         ensures edges { IfOk result (λ site. EdgesWithin (node_count self.now) site) }
-        ensures exact { (p : Program) → IsBuilderOf p self.now → end < node_count self.now → IfOk result (HasNormal (λ edge. edge ≡ edge_of p end (kind.Normal effect))) }
-        ensures refused { IfErr result (λ refused. refused ≡ NoMemory) }
+        ensures exact { ForNode self.now end (λ p. IfOk result (HasNormalTo p end effect)) }
+        ensures refused { IsOkUnless result NoMemory }
     {
         let mut edges = Vec::with_capacity(self.alloc, 1)?;
         edges.push(self.edge(end, EdgeKind::Normal(effect)))?;
@@ -264,8 +256,8 @@ impl<'a, 'p> Builder<'a, 'p> {
         requires ready { IsReady self.now }
         requires some { 0 < node_count self.now }
         ensures edges { IfOk result (λ site. EdgesWithin (node_count self.now) site) }
-        ensures exact { (p : Program) → IsBuilderOf p self.now → next < node_count self.now → label < node_count self.now → IfOk result (HasNormal (λ edge. (edge ≡ edge_of p next (kind.Normal Nothing)) ⊎ (edge ≡ edge_of p label (kind.Normal Nothing)))) }
-        ensures refused { IfErr result (λ refused. refused ≡ NoMemory) }
+        ensures exact { ForNode self.now next (λ p. label < node_count self.now → IfOk result (HasNormal (IsOfBranch p next label))) }
+        ensures refused { IsOkUnless result NoMemory }
     {
         if next == label {
             return self.normal(next, Effect::Nothing);
@@ -282,8 +274,8 @@ impl<'a, 'p> Builder<'a, 'p> {
         requires node { call.now.node < node_count self.now }
         requires callees { AreProcedures self.now call.now.callees.items }
         ensures edges { IfOk result (λ site. EdgesWithin (node_count self.now) site) }
-        ensures exact { (p : Program) → IsBuilderOf p self.now → IsCallOf p call.now → IfOk result (IsSiteOf p call.now.node) }
-        ensures refused { IfErr result (λ refused. refused ≡ NoMemory) }
+        ensures exact { ForCall self.now call.now (λ p. IfOk result (IsSiteOf p call.now.node)) }
+        ensures refused { IsOkUnless result NoMemory }
     {
         let mut calls = Vec::with_capacity(self.alloc, call.callees.len())?;
         for callee in &call.callees {
@@ -307,8 +299,8 @@ impl<'a, 'p> Builder<'a, 'p> {
         requires { IsReady self.now }
         ensures node { IfOk result (λ call. call.node ≡ node) }
         ensures callees { IfOk result (λ call. AreProcedures self.now call.callees.items) }
-        ensures exact { (p : Program) → IsBuilderOf p self.now → (at : CallAt p node) → IsScopeOf p at.index at.procedure scope.entry → target.now ≡ at.target → callees.now ≡ at.callees.items → arguments.now ≡ at.arguments.items → IfOk result (IsCallOf p) }
-        ensures refused { IfErr result (λ refused. refused ≡ NoMemory) }
+        ensures exact { ForCallAt self.now scope.entry node target.now callees.now arguments.now (λ p. IfOk result (IsCallOf p)) }
+        ensures refused { IsOkUnless result NoMemory }
     {
         Ok(Call {
             node,
@@ -324,8 +316,8 @@ impl<'a, 'p> Builder<'a, 'p> {
     fn callees(&self, names: &[Name]) -> Result<Vec<usize>, Refused>
         requires { IsReady self.now }
         ensures callees { IfOk result (λ callees. AreProcedures self.now callees.items) }
-        ensures exact { (p : Program) → IsBuilderOf p self.now → IfOk result (λ callees. Lists (IsCallee p names.now) (λ callee. callee) callees.items) }
-        ensures refused { IfErr result (λ refused. refused ≡ NoMemory) }
+        ensures exact { ForProgram self.now (λ p. IfOk result (AreCallees p names.now)) }
+        ensures refused { IsOkUnless result NoMemory }
     {
         let mut callees = Vec::with_capacity(self.alloc, names.len())?;
         for name in names {
@@ -344,8 +336,8 @@ impl<'a, 'p> Builder<'a, 'p> {
         requires some { 0 < node_count self.now }
         requires callee { callee < procedure_count self.now }
         ensures within { IfOk result (λ edge. EndsWithin (node_count self.now) edge) }
-        ensures exact { (p : Program) → IsBuilderOf p self.now → (is : IsCallOf p call.now) → IsCallee p is.at.callees.items callee → IfOk result (IsCall p call.now.node callee) }
-        ensures refused { IfErr result (λ refused. refused ≡ NoMemory) }
+        ensures exact { ForCallee self.now call.now callee (λ p. IfOk result (IsCall p call.now.node callee)) }
+        ensures refused { IsOkUnless result NoMemory }
     {
         let layout = &self.numbering.layouts[callee];
         let mut passed = Vec::with_capacity(self.alloc, call.arguments.len())?;
@@ -363,7 +355,7 @@ impl<'a, 'p> Builder<'a, 'p> {
         requires ready { IsReady self.now }
         requires some { 0 < node_count self.now }
         ensures within { EndsWithin (node_count self.now) result }
-        ensures exact { (p : Program) → IsBuilderOf p self.now → end < node_count self.now → result ≡ edge_of p end kind }
+        ensures exact { ForNode self.now end (λ p. result ≡ edge_of p end kind) }
     {
         EdgeData {
             end: end.min(self.last),
@@ -378,7 +370,7 @@ impl<'a, 'p> Builder<'a, 'p> {
         requires ready { IsReady self.now }
         requires procedure { spot.procedure < procedure_count self.now }
         ensures within { result.layout.now.start < node_count self.now }
-        ensures exact { (p : Program) (q : Procedure) → IsBuilderOf p self.now → slice_get (procedures_of p) spot.entry.procedure ≡ Some q → IsScopeOf p spot.entry.procedure q result }
+        ensures exact { ForProcedure self.now spot.entry.procedure (λ p i q. IsScopeOf p i q result) }
     {
         let procedure = spot.procedure as usize;
         Scope {

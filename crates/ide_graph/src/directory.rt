@@ -1,8 +1,8 @@
 //! The names of a program's procedures.
-ghost use Rattle.std.specs.Prelude.{◌≡◌, ◌<◌, ℕ, List, length, IfOk, IfSome, IfErr, OnOk};
+ghost use Rattle.std.specs.Prelude.{◌≡◌, ◌<◌, length, IfOk, IfSome, OnOk, IsOkUnless};
+ghost use Rattle.ide_graph.specs.Found.{FindsEach};
 ghost use Rattle.ide_graph.specs.Named.{procedure_of_name};
 ghost use Rattle.ide_graph.specs.Naming.{with_number};
-ghost use Rattle.ide_graph.specs.Numbers.{procedure_of};
 ghost use Rattle.ide_wire.specs.declared.refused.Refused.TheVariants.{NoMemory};
 
 use ide_text::Procedure;
@@ -35,9 +35,9 @@ impl Model for Directory {
 impl Directory {
     /// The names of these procedures. Of two with one name it has the first.
     pub fn of(alloc: Global, procedures: &[Procedure]) -> Result<Directory, Refused>
-        ensures named { IfOk result (λ directory. (name : List ℕ) → procedure_of_name directory.procedures name ≡ procedure_of procedures.now name) }
+        ensures named { IfOk result (λ directory. FindsEach procedures.now directory.procedures) }
         ensures counted { IfOk result (λ directory. directory.count ≡ length procedures.now) }
-        ensures refused { IfErr result (λ refused. refused ≡ NoMemory) }
+        ensures refused { IsOkUnless result NoMemory }
     {
         let mut directory = Directory {
             indices: IndexMap::with_capacity(alloc, procedures.len())?,
@@ -62,7 +62,7 @@ impl Directory {
         requires { index < self.old.count }
         ensures added { OnOk result (self.new.procedures ≡ with_number self.old.procedures name.now index) }
         ensures counted { self.new.count ≡ self.old.count }
-        ensures refused { IfErr result (λ refused. refused ≡ NoMemory) }
+        ensures refused { IsOkUnless result NoMemory }
     {
         if !self.indices.contains_key(name) {
             self.indices.insert(name.to_vec(alloc)?, index)?;

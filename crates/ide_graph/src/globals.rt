@@ -1,5 +1,5 @@
 //! The numbers of facts: `@zero`, the globals, `@result`, and after them a procedure's own.
-ghost use Rattle.std.specs.Prelude.{◌≡◌, ◌+◌, ◌<◌, ◌≤◌, [], min, length, slice_get, IfOk, IfSome, IfErr};
+ghost use Rattle.std.specs.Prelude.{◌≡◌, ◌+◌, ◌<◌, ◌≤◌, [], min, length, slice_get, IfOk, IfSome, IsOkUnless};
 ghost use Rattle.std.specs.Option.{option_copied};
 ghost use Rattle.ide_graph.specs.Named.{fact_of_name, names_of_facts, shared_fact_of_name};
 ghost use Rattle.ide_graph.specs.Naming.{AreNew};
@@ -30,7 +30,7 @@ impl Globals {
     pub fn of(alloc: Global, globals: &[Name]) -> Result<Globals, Refused>
         ensures named { IfOk result (λ made. AreNew [] globals.now → made.names ≡ globals.now) }
         ensures few { IfOk result (λ made. length made.names ≤ length globals.now) }
-        ensures refused { IfErr result (λ refused. refused ≡ NoMemory) }
+        ensures refused { IsOkUnless result NoMemory }
     {
         let mut names = Names::new(alloc);
         names.add_all(alloc, globals)?;

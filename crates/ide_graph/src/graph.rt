@@ -1,5 +1,5 @@
 //! The supergraph of a program.
-ghost use Rattle.std.specs.Prelude.{◌≡◌, ℕ, ◌+◌, ◌↔◌, Some, None, Err, ◌<◌, ◌≤◌, ◌^◌, ◌⊎◌, IfOk, IfErr, IfSome, length, map, slice_index, slice_index_or};
+ghost use Rattle.std.specs.Prelude.{◌≡◌, ℕ, ◌+◌, ◌↔◌, None, Err, ◌<◌, ◌≤◌, ◌^◌, IfOk, IfErr, IfSome, length, map, slice_index, slice_index_or, IsOkUnless};
 ghost use Rattle.std.specs.List.{All};
 ghost use Rattle.std.specs.Arc.{arc_value};
 ghost use Rattle.std.specs.Option.{option_copied};
@@ -55,13 +55,13 @@ impl Model for Graph {
 }
 
 impl Graph {
-    ghost use Rattle.ide_graph.specs.Supergraph.{IsFoundAt, procedure_named, fact_named, name_at};
+    ghost use Rattle.ide_graph.specs.Supergraph.{IsFindRefusal, IsFoundAt, IsMissing, procedure_named, name_at};
 
     /// The graph of a program. Time grows with the number of edges and the program's size.
     pub fn of(alloc: Global, program: &Program) -> Result<Graph, Refused>
         ensures numbered { IfOk result (IsGraphOf program.now) }
         ensures edges { IfOk result (HasEdgesOf program.now) }
-        ensures refused { IfErr result (λ refused. refused ≡ NoMemory) }
+        ensures refused { IsOkUnless result NoMemory }
     {
         let globals = Globals::of(alloc, program.globals())?;
         let procedures = program.procedures();
@@ -92,6 +92,7 @@ impl Graph {
     /// How many nodes there are.
     pub fn node_count(&self) -> usize
         ensures count { result ≡ self.now.nodes }
+        ensures sited { length self.now.sites ≡ self.now.nodes }
         ensures few { result < 2 ^ 32 }
     {
         self.sites.len()
@@ -130,7 +131,7 @@ impl Graph {
         requires { node < self.now.nodes }
         ensures site { IfOk result (λ site. arc_value site ≡ slice_index_or self.now.sites node (arc_value site)) }
         ensures edges { IfOk result (λ site. EdgesWithin self.now.nodes (arc_value site)) }
-        ensures refused { IfErr result (λ refused. refused ≡ NoMemory) }
+        ensures refused { IsOkUnless result NoMemory }
     {
         Ok(Arc::try_clone(&self.sites[node as usize])?)
     }
@@ -203,8 +204,8 @@ impl Graph {
         ensures node { IfOk result (λ found. found.0 < self.now.nodes) }
         ensures fact { IfOk result (λ found. found.1 < self.now.facts) }
         ensures no_procedure { (result ≡ Err NoProcedure) ↔ (procedure_named self.now procedure.now ≡ None) }
-        ensures out_of_range { result ≡ Err OutOfRange → (index : ℕ) × (procedure_named self.now procedure.now ≡ Some index) × ((slice_index self.now.exits index < slice_index self.now.starts index + position) ⊎ (fact_named self.now index fact.now ≡ None)) }
-        ensures refused { IfErr result (λ refused. (refused ≡ NoProcedure) ⊎ (refused ≡ OutOfRange)) }
+        ensures out_of_range { result ≡ Err OutOfRange → IsMissing self.now procedure.now position fact.now }
+        ensures refused { IfErr result IsFindRefusal }
     {
         let index = self.procedure_named(procedure).ok_or(Refused::NoProcedure)?;
         let layout = &self.layouts[index];
@@ -225,7 +226,7 @@ fn owners_of(alloc: Global, spots: &[Spot]) -> Result<Vec<u32>, AllocError>
 /// The most parameters and locals that one of the procedures has.
 fn most_own_of(layouts: &[Layout]) -> usize
     ensures most { All (λ layout. length layout.own ≤ result) layouts.now }
-    ensures least { (bound : ℕ) → All (λ layout. length layout.own ≤ bound) layouts.now → result ≤ bound }
+    ensures least { (n : ℕ) → All (λ layout. length layout.own ≤ n) layouts.now → result ≤ n }
 {
     layouts
         .iter()

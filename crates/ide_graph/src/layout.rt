@@ -1,5 +1,5 @@
 //! Where a procedure stands among the nodes, and what its own facts are called.
-ghost use Rattle.std.specs.Prelude.{◌≡◌, ◌≤◌, length, IfOk, IfErr, SomeIff, ◌+◌};
+ghost use Rattle.std.specs.Prelude.{◌≡◌, ◌≤◌, length, IfOk, SomeIff, ◌+◌, IsOkUnless};
 ghost use Rattle.ide_graph.specs.Numbering.{IsLayout};
 ghost use Rattle.ide_wire.specs.declared.refused.Refused.TheVariants.{NoMemory};
 
@@ -28,7 +28,7 @@ impl Layout {
     ) -> Result<Layout, Refused>
         ensures layout { IfOk result (IsLayout start exit procedure.now) }
         ensures parameters { IfOk result (λ layout. layout.parameter_count ≤ length layout.own) }
-        ensures refused { IfErr result (λ refused. refused ≡ NoMemory) }
+        ensures refused { IsOkUnless result NoMemory }
     {
         let mut own = Names::new(alloc);
         own.add_all(alloc, &procedure.parameters)?;

@@ -1,5 +1,5 @@
 //! Lists of names that are looked up both ways.
-ghost use Rattle.std.specs.Prelude.{◌≡◌, ◌+◌, ◌<◌, ◌≤◌, ◌++◌, [], length, slice_get, IfSome, IfErr, IsSome, OnOk, ◌↔◌};
+ghost use Rattle.std.specs.Prelude.{◌≡◌, ◌+◌, ◌<◌, ◌≤◌, ◌++◌, [], length, slice_get, IfSome, IsSome, OnOk, ◌↔◌, IsOkUnless};
 ghost use Rattle.std.specs.Option.{option_copied};
 ghost use Rattle.std.specs.List.{position};
 ghost use Rattle.ide_graph.specs.Naming.{AreNew, with_name};
@@ -42,7 +42,7 @@ impl Names {
         ensures added { OnOk result (AreNew self.old names.now → self.new ≡ self.old ++ names.now) }
         ensures longer { OnOk result (length self.old ≤ length self.new) }
         ensures few { OnOk result (length self.new ≤ length self.old + length names.now) }
-        ensures refused { IfErr result (λ refused. refused ≡ NoMemory) }
+        ensures refused { IsOkUnless result NoMemory }
     {
         for name in names {
             self.add(alloc, name)?;
@@ -55,7 +55,7 @@ impl Names {
         ensures added { OnOk result (self.new ≡ with_name self.old name.now) }
         ensures longer { OnOk result (length self.old ≤ length self.new) }
         ensures few { OnOk result (length self.new ≤ length self.old + 1) }
-        ensures refused { IfErr result (λ refused. refused ≡ NoMemory) }
+        ensures refused { IsOkUnless result NoMemory }
     {
         self.set.insert(name.as_bytes().to_vec(alloc)?)?;
         Ok(())

@@ -1,12 +1,11 @@
 //! The first pass over a program: its nodes in order, with the procedures' places and labels.
-ghost use Rattle.std.specs.Prelude.{◌≡◌, ◌+◌, ◌<◌, ◌≤◌, ◌^◌, ℕ, List, [], ◌∷◌, ◌++◌, length, IfOk, IfErr, OnOk};
+ghost use Rattle.std.specs.Prelude.{◌≡◌, ◌+◌, ◌<◌, ◌≤◌, ◌^◌, [], ◌∷◌, ◌++◌, length, vec_len, IfOk, OnOk, IsOkUnless};
 ghost use Rattle.std.specs.List.{flat_map};
 ghost use Rattle.ide_wire.specs.declared.refused.Refused.TheVariants.{NoMemory};
-ghost use Rattle.ide_text.specs.declared.program.Procedure.{Procedure};
-ghost use Rattle.ide_graph.specs.Naming.{number_of};
+ghost use Rattle.ide_graph.specs.Found.{AreFirstOf};
 ghost use Rattle.ide_graph.specs.Numbered.{BelongTo, IsNumbered};
-ghost use Rattle.ide_graph.specs.Numbering.{nodes_at, nodes_in, spot_value, IsNumberingOf};
-ghost use Rattle.ide_graph.specs.Numbers.{label_among, nodes_of, spots_of, spots_on};
+ghost use Rattle.ide_graph.specs.Numbering.{nodes_at, nodes_in, spot_value, CountsNext, IsNumberingOf};
+ghost use Rattle.ide_graph.specs.Numbers.{nodes_of, spots_of, spots_on};
 
 use crate::labels::Labels;
 use crate::layout::Layout;
@@ -45,8 +44,8 @@ impl<'a> Numbering<'a> {
         requires { length (nodes_of procedures.now) < 2 ^ 32 }
         ensures numbering { IfOk result (IsNumberingOf procedures.now) }
         ensures numbered { IfOk result IsNumbered }
-        ensures whole { IfOk result (λ numbering. length numbering.layouts.items ≡ length procedures.now) }
-        ensures refused { IfErr result (λ refused. refused ≡ NoMemory) }
+        ensures whole { IfOk result (λ made. length made.layouts.items ≡ length procedures.now) }
+        ensures refused { IsOkUnless result NoMemory }
     {
         let mut numbering = Numbering {
             spots: Vec::new(alloc),
@@ -63,10 +62,10 @@ impl<'a> Numbering<'a> {
     fn add_procedure(&mut self, alloc: Global, procedure: &'a Procedure) -> Result<(), Refused>
         requires numbered { IsNumbered self.old }
         requires few { length self.old.spots.items + length (spots_of procedure.now) < 2 ^ 32 }
-        ensures numbering { OnOk result ((before : List Procedure) → IsNumberingOf before self.old → IsNumberingOf (before ++ procedure.now ∷ []) self.new) }
+        ensures numbering { OnOk result (CountsNext procedure.now self.old self.new) }
         ensures numbered { OnOk result (IsNumbered self.new) }
-        ensures added { OnOk result (length self.new.layouts.items ≡ length self.old.layouts.items + 1) }
-        ensures refused { IfErr result (λ refused. refused ≡ NoMemory) }
+        ensures added { OnOk result (vec_len self.new.layouts ≡ vec_len self.old.layouts + 1) }
+        ensures refused { IsOkUnless result NoMemory }
     {
         let index = self.layouts.len() as u32;
         let start = add_spot(&mut self.spots, index, Place::Start)?;
@@ -89,11 +88,11 @@ fn add_statements<'a>(
     requires few { length spots.old.items + length (flat_map spots_on statements.now) < 2 ^ 32 }
     requires owned { BelongTo (procedure + 1) spots.old.items }
     ensures added { OnOk result (nodes_in spots.new.items ≡ nodes_in spots.old.items ++ nodes_at procedure (flat_map spots_on statements.now)) }
-    ensures labels { IfOk result (λ labels. (name : List ℕ) → number_of labels name ≡ label_among (length spots.old.items) statements.now name) }
+    ensures labels { IfOk result (AreFirstOf statements.now (length spots.old.items)) }
     ensures few { OnOk result (length spots.new.items < 2 ^ 32) }
     ensures owned { OnOk result (BelongTo (procedure + 1) spots.new.items) }
     ensures longer { OnOk result (length spots.old.items ≤ length spots.new.items) }
-    ensures refused { IfErr result (λ refused. refused ≡ NoMemory) }
+    ensures refused { IsOkUnless result NoMemory }
 {
     let mut labels = Labels::new(alloc);
     for statement in statements {
@@ -124,7 +123,7 @@ fn add_spot<'a>(
     ensures longer { OnOk result (length spots.new.items ≡ length spots.old.items + 1) }
     ensures few { OnOk result (length spots.new.items < 2 ^ 32) }
     ensures owned { OnOk result (BelongTo (procedure + 1) spots.new.items) }
-    ensures refused { IfErr result (λ refused. refused ≡ NoMemory) }
+    ensures refused { IsOkUnless result NoMemory }
 {
     let node = spots.len() as Node;
     spots.push(Spot { procedure, place })?;

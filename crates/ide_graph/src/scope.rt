@@ -1,14 +1,12 @@
 //! The names that a procedure's statements speak of.
-ghost use Rattle.std.specs.Prelude.{◌≡◌, ◌+◌, ℕ, ◌∷◌, Some, length};
+ghost use Rattle.std.specs.Prelude.{◌≡◌, ◌∷◌};
 ghost use Rattle.std.specs.Option.{option_to_list};
 ghost use Rattle.ide_text.specs.NameFault.{variables_of};
-ghost use Rattle.ide_text.specs.Program.{procedures_of};
-ghost use Rattle.ide_text.specs.declared.program.Program.{Program};
-ghost use Rattle.ide_text.specs.declared.program.Procedure.{Procedure};
-ghost use Rattle.ide_graph.specs.Building.{IsScopeOf, AllHaveFacts};
-ghost use Rattle.ide_graph.specs.Numbers.{label_from, result_of, start_of};
-ghost use Rattle.ide_graph.specs.ProgramEdges.{HasFact, Gives, IsAssigned};
-ghost use Rattle.ide_graph.specs.declared.edge.Effect.TheVariants.{Copy, Enter};
+ghost use Rattle.ide_graph.specs.Building.{AllHaveFacts};
+ghost use Rattle.ide_graph.specs.Exact.{ForFact, ForLabel, ForScope};
+ghost use Rattle.ide_graph.specs.Numbers.{result_of};
+ghost use Rattle.ide_graph.specs.ProgramEdges.{Assigns, IsAssigned, entering};
+ghost use Rattle.ide_graph.specs.declared.edge.Effect.TheVariants.{Copy};
 
 use crate::edge::Effect;
 use crate::globals::Globals;
@@ -30,7 +28,7 @@ pub(crate) struct Scope<'a, 'p> {
 impl<'a, 'p> Scope<'a, 'p> {
     /// The fact of a variable: fact 0 where none is declared.
     pub fn fact(self, name: &Name) -> Fact
-        ensures { (p : Program) (index : ℕ) (q : Procedure) (fact : ℕ) → IsScopeOf p index q self.entry → HasFact p q name.now fact → result ≡ fact }
+        ensures { ForFact self.entry name.now (λ p fact. result ≡ fact) }
     {
         self.globals
             .fact_named(&self.layout.own, name.as_bytes())
@@ -39,14 +37,14 @@ impl<'a, 'p> Scope<'a, 'p> {
 
     /// The node of a label: the exit where none is declared.
     pub fn label(self, name: &Name) -> Node
-        ensures { (p : Program) (index : ℕ) (q : Procedure) (node : ℕ) → IsScopeOf p index q self.entry → label_from (start_of (procedures_of p) index) q name.now ≡ Some node → result ≡ node }
+        ensures { ForLabel self.entry name.now (λ node. result ≡ node) }
     {
         self.labels.find(name).unwrap_or(self.layout.exit)
     }
 
     /// The fact that a call assigns, where it has a target.
     pub fn assigned(self, target: &Option<Name>) -> Option<Fact>
-        ensures { (p : Program) (index : ℕ) (q : Procedure) → IsScopeOf p index q self.entry → AllHaveFacts p q (option_to_list target.now) → IsAssigned p q target.now result }
+        ensures { ForScope self.entry (λ p q. AllHaveFacts p q (option_to_list target.now) → IsAssigned p q target.now result) }
     {
         let name = target.as_ref()?;
         Some(self.fact(name))
@@ -54,7 +52,7 @@ impl<'a, 'p> Scope<'a, 'p> {
 
     /// What entering the procedure does.
     pub fn enter(self) -> Effect
-        ensures { (p : Program) (index : ℕ) (q : Procedure) → IsScopeOf p index q self.entry → result ≡ Enter (result_of p + 1 + length q.parameters.items) (result_of p + 1 + length q.parameters.items + length q.locals.items) }
+        ensures { ForScope self.entry (λ p q. result ≡ entering p q) }
     {
         Effect::Enter {
             first: self.globals.own_fact(self.layout.parameter_count),
@@ -64,7 +62,7 @@ impl<'a, 'p> Scope<'a, 'p> {
 
     /// What an assignment does.
     pub fn assign(self, target: &Name, expression: &Expression) -> Effect
-        ensures { (p : Program) (index : ℕ) (q : Procedure) → IsScopeOf p index q self.entry → AllHaveFacts p q (target.now ∷ variables_of expression.now) → (fact : ℕ) × HasFact p q target.now fact × Gives p q fact expression.now result }
+        ensures { ForScope self.entry (λ p q. AllHaveFacts p q (target.now ∷ variables_of expression.now) → Assigns p q target.now expression.now result) }
     {
         let target = self.fact(target);
         match expression {
@@ -97,7 +95,7 @@ impl<'a, 'p> Scope<'a, 'p> {
 
     /// What returning a variable's value does.
     pub fn give_back(self, value: &Name) -> Effect
-        ensures { (p : Program) (index : ℕ) (q : Procedure) (source : ℕ) → IsScopeOf p index q self.entry → HasFact p q value.now source → result ≡ Copy (result_of p) source }
+        ensures { ForFact self.entry value.now (λ p source. result ≡ Copy (result_of p) source) }
     {
         Effect::Copy {
             target: self.globals.result_fact(),

@@ -1,12 +1,14 @@
 -- What changed since changes were last asked for: the entry that each key had then.
-use Rattle.std.specs.Prelude.{◌≡◌, ℕ, ◌+◌, ◌++◌, ◌≤◌, Bool, true, false, List, [], ◌∷◌, Option, Some, None, if◌then◌else◌, length, unwrap_or}
+use Rattle.std.specs.Prelude.{◌≡◌, ℕ, ◌+◌, ◌++◌, ◌≤◌, Bool, true, false, List, [], ◌∷◌, Option, Some, None, if◌then◌else◌, length, slice_get, unwrap_or}
+use Rattle.std.specs.List.{list_any}
 use Rattle.std.specs.Map.{lookup}
 use Rattle.std.specs.Option.{is_some}
 use Rattle.indexmap.specs.IndexMap.{IndexMap, spare}
 use Rattle.ide_tables.specs.Tables.{Table, found}
+use Rattle.ide_tasks.specs.Work.{WorkData}
 use Rattle.ide_wire.specs.Key.{same_key}
 use Rattle.ide_wire.specs.declared.key.Key.{Key}
-use Rattle.ide_worklist.specs.Worklist.{Pile, is_pending}
+use Rattle.ide_worklist.specs.Worklist.{Pile, claim_at, is_pending}
 use Rattle.ide_worklist.specs.declared.claim.Claim.{Claim}
 use Rattle.ide_steps.specs.declared.changes.Entry.{Entry}
 use Rattle.ide_steps.specs.Core.{CoreData}
@@ -76,6 +78,15 @@ module _ {F : Type 0} where
   noted_after None later entry key = None
   noted_after (Some list) later entry key = or_else (lookup (same_key key) list) (if later then Some entry else None)
 
+  -- each key is noted as absent, if changes are noted and it is not yet
+  abbrev pub NotesAbsent : {T : Type 0} → (old new : Option (List (Key × Entry F))) → Pile T → List Key → Type 0
+  NotesAbsent old new pile keys =
+      (q : Key) → noted new q ≡ noted_after old (list_any (same_key q) keys) (record { function = None; pending = is_pending pile q }) q
+
+  -- the entry of the key that the end of the hand's claim takes out is noted, and no other
+  abbrev pub NotesEnd : {T : Type 0} → (old new : Option (List (Key × Entry F))) → Table F → Pile T → ℕ → Type 0
+  NotesEnd old new table pile hand = new ≡ with_change old (ended_key (claim_at pile hand)) (entry_at table pile)
+
   -- the entry that the key had when changes were last asked for: the noted one, or else the one that stands
   abbrev pub entry_then : CoreData F → Key → Entry F
   entry_then core key = unwrap_or (noted core.changes key) (entry_of core key)
@@ -84,6 +95,10 @@ module _ {F : Type 0} where
   pub record Notes (old new : CoreData F) (changed : Option Key) : Type 0 where
     pub changes : new.changes ≡ with_change old.changes changed (entry_of old)
     pub count : noted_count new.changes ≡ noted_count old.changes + grows old.changes changed
+
+  -- the entry of the key of the work's next part is noted, and no other
+  abbrev pub NotesPart : WorkData F → (old new : CoreData F) → Type 0
+  NotesPart work old new = (part : Key × F) → slice_get work.parts work.done ≡ Some part → Notes old new (Some part.0)
 
   -- changes are noted where they were, each noted key stays noted, and each key's entry of then is as it was
   pub record Remembers (old new : CoreData F) : Type 0 where

@@ -35,6 +35,10 @@ module _ {F : Type 0} where
   abbrev pub is_loaded : CoreData F → Bool
   is_loaded core = is_some core.graph
 
+  -- P holds of the graph, where a program is loaded
+  abbrev pub WhereLoaded : CoreData F → (Supergraph → Type 0) → Type 0
+  WhereLoaded core P = (graph : Supergraph) → core.graph ≡ Some graph → P graph
+
   -- program, graph and roots stay
   pub record IsSameProblem (old new : CoreData F) : Type 0 where
     pub program : new.program ≡ old.program

@@ -1,14 +1,16 @@
 -- What falls with each task, and what pays for it.
-use Rattle.std.specs.Prelude.{ℕ, ◌+◌, ◌-◌, ◌*◌, ◌^◌, ◌≤◌, Option, if◌then◌else◌, length}
+use Rattle.std.specs.Prelude.{◌≡◌, ℕ, ◌+◌, ◌-◌, ◌*◌, ◌^◌, ◌≤◌, Option, Result, OnOk, if◌then◌else◌, length, min}
 use Rattle.ide_lattice.specs.Algebra.{LatticeAlgebra, EdgeAlgebra}
 use Rattle.ide_problem.specs.Flow.{Targets}
 use Rattle.ide_tables.specs.Spent.{spent}
+use Rattle.ide_tasks.specs.Work.{WorkData}
 use Rattle.ide_worklist.specs.Worklist.{claim_at, ends_key}
 use Rattle.ide_worklist.specs.declared.claim.Claim.{Claim}
 use Rattle.ide_steps.specs.declared.part.Parted.{Parted}
 use Rattle.ide_steps.specs.declared.part.Parted.TheVariants.{Lowered, Same, NoPart}
 use Rattle.ide_steps.specs.Core.{CoreData}
 use Rattle.ide_steps.specs.Going.{GoesOnBy}
+use Rattle.ide_steps.specs.Steps.{IsCurrent}
 
 -- a claim whose key was lowered leaves the key pending at its end
 abbrev pub left_by : {T : Type 0} → Option (Claim T) → ℕ
@@ -31,6 +33,10 @@ module _ {F L : Type 0} (B : EdgeAlgebra F L) where
     pub keys : length new.pile.pending + left_by (claim_at new.pile hand) ≤ length old.pile.pending + left_by (claim_at old.pile hand) + lowerings
     pub ranks : lowerings + spent B old.table.entries ≤ spent B new.table.entries
 
+  -- there is as much to do as before, and the end of the hand's claim takes its key out if it did before
+  abbrev pub IsStill : ℕ → (old new : CoreData F) → Type 0
+  IsStill hand old new = (potential new ≡ potential old) × (ends_key (claim_at new.pile hand) ≡ ends_key (claim_at old.pile hand))
+
 -- a part that lowered its key is one lowering
 abbrev pub lowerings_by : Parted → ℕ
 lowerings_by Lowered = 1
@@ -44,3 +50,12 @@ module _ {F L : Type 0} (A : LatticeAlgebra L) (B : EdgeAlgebra F L) (targets : 
     pub lowerings : ℕ
     pub goes : GoesOnBy A B targets 0 claims lowerings 0 old new
     pub paid : ArePaid B claims lowerings old new
+
+  -- so many tasks were claimed and are paid for, told up to the largest number of 64 bits
+  abbrev pub Drains : ℕ → (old new : CoreData F) → Type 0
+  Drains tasks old new = (claims : ℕ) × (tasks ≡ min claims (2 ^ 64 - 1)) × GoesOnPaid claims old new
+
+  -- the parts of the work of hand 0 are steps, where it is its claim, and a finished claim is paid for
+  abbrev pub RunsWork : {T E : Type 0} → Result T E → WorkData F → (old new : CoreData F) → Type 0
+  RunsWork result work old new =
+      (lowerings : ℕ) × (IsCurrent targets B old 0 work → GoesOnBy A B targets 0 0 lowerings 0 old new) × OnOk result (ArePaid B 1 lowerings old new)

@@ -1,5 +1,5 @@
 -- That what a core does are steps of a tabulation over its graph.
-use Rattle.std.specs.Prelude.{◌≡◌, ℕ, ◌≤◌, ◌^◌, Some, length}
+use Rattle.std.specs.Prelude.{◌≡◌, ℕ, ◌≤◌, ◌^◌, Some}
 use Rattle.ide_graph.specs.Ends.{AreEndsNodes}
 use Rattle.ide_graph.specs.Exits.{AreExitsOwned}
 use Rattle.ide_graph.specs.Joined.{AreJoined, start_at}
@@ -12,10 +12,9 @@ use Rattle.ide_theory.specs.Sites.{HaveEdgesOf}
 use Rattle.ide_steps.specs.Core.{CoreData, IsSameProblem}
 use Rattle.ide_steps.specs.State.{state_of}
 
--- each node has a site, the sites fit together, facts are 16 bit numbers, exits are those of their
+-- the sites fit together, facts are 16 bit numbers, exits are those of their
 -- procedures, and edges end at nodes
 pub record IsFit (graph : Supergraph) : Type 0 where
-  pub sited : length graph.sites ≡ graph.nodes
   pub joined : AreJoined graph.sites (start_at graph)
   pub few : graph.facts ≤ 2 ^ 16
   pub exits : AreExitsOwned graph

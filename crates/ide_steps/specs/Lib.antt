@@ -3,13 +3,16 @@ pub mod Core
 pub mod Owed
 pub mod Refusal
 pub mod ClaimRefusal
+pub mod Claiming
 pub mod CloseRefusal
 pub mod DrainRefusal
+pub mod Frozen
 pub mod Room
 pub mod Rooted
 pub mod State
 pub mod Calls
 pub mod Drain
 pub mod Items
+pub mod Kept
 pub mod Steps
 pub mod Going

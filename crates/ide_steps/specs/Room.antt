@@ -23,6 +23,11 @@ calls_of graph = filter (λ n. is_some_call (slice_get graph.sites n)) (range_wi
 abbrev pub key_space : Supergraph → ℕ
 key_space graph = (graph.nodes + length (calls_of graph)) * (graph.facts * graph.facts)
 
+-- what every core keeps: its tables have each key once, and the loaded graph has a site for each node
+pub record IsWhole {F : Type 0} (core : CoreData F) : Type 0 where
+  pub distinct : IsDistinct same_key (keys_of core.table.entries)
+  pub sited : (graph : Supergraph) → core.graph ≡ Some graph → length graph.sites ≡ graph.nodes
+
 module _ {F L : Type 0} (A : LatticeAlgebra L) (B : EdgeAlgebra F L) (targets : Targets F) where
   -- over a graph that is fit, where a run came to the core's state
   abbrev pub InRuns : CoreData F → (Supergraph → Type 0) → Type 0
@@ -33,7 +38,7 @@ module _ {F L : Type 0} (A : LatticeAlgebra L) (B : EdgeAlgebra F L) (targets : 
   -- the functions of a core have lost no more ranks than those of all keys have
   abbrev pub ImagesHaveRoom : Type 0
   ImagesHaveRoom =
-      (core : CoreData F) → IsDistinct same_key (keys_of core.table.entries)
+      (core : CoreData F) → IsWhole core
       → InRuns core (λ graph. spent B core.table.entries ≤ key_space graph * B.height)
 
   -- so many tasks are at most the pending keys, and the ranks that the functions of all keys have

@@ -47,6 +47,11 @@ AllAt node entries = All (λ entry. node_of entry.0 ≡ node) entries
 abbrev pub AllAbsent : {F : Type 0} → CoreData F → List (Key × F) → Type 0
 AllAbsent core entries = All (λ entry. found core.table entry.0 ≡ None) entries
 
+-- these entries are what a root's start gets in the core's state
+abbrev pub AreSeeds : {F L : Type 0} → Targets F → EdgeAlgebra F L → CoreData F → ℕ → ℕ → List (Key × F) → Type 0
+AreSeeds targets B core start count entries =
+    seeded_below B (state_of targets B core) start count ≡ with_entries (state_of targets B core) entries
+
 -- the procedure of the name is a root now, and each absent entry of its start is the identity; in a run
 -- those were steps, and each entry of the start is below the identity then
 pub record IsBegun {F L : Type 0} (A : LatticeAlgebra L) (B : EdgeAlgebra F L) (targets : Targets F) (old new : CoreData F) (name : List ℕ) : Type 0 where

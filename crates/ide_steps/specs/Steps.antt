@@ -1,16 +1,16 @@
 -- What the calls of a core do to its state, told as steps of a tabulation.
-use Rattle.std.specs.Prelude.{◌≡◌, ◌≢◌, ℕ, ◌+◌, true, Option, Some, None, if◌then◌else◌, nat_eq, option_map, slice_get, unwrap_or}
+use Rattle.std.specs.Prelude.{◌≡◌, ◌≢◌, ℕ, ◌+◌, ◌<◌, true, [], Option, Some, None, if◌then◌else◌, length, nat_eq, option_map, slice_get, unwrap_or}
 use Rattle.ide_lattice.specs.Algebra.{EdgeAlgebra}
 use Rattle.ide_problem.specs.Flow.{Targets}
 use Rattle.ide_tasks.specs.Parts.{owed}
 use Rattle.ide_tasks.specs.Task.{TaskData}
 use Rattle.ide_tasks.specs.Work.{WorkData}
-use Rattle.ide_theory.specs.State.{State, lowered_by, new_claim, part_done, with_claim}
+use Rattle.ide_theory.specs.State.{State, finished, lowered_by, new_claim, part_done, with_claim}
 use Rattle.ide_wire.specs.declared.key.Key.{Key}
 use Rattle.ide_worklist.specs.Worklist.{Pile, claim_at, is_pending}
 use Rattle.ide_worklist.specs.declared.claim.Claim.{Claim as Held}
 use Rattle.ide_steps.specs.Core.{CoreData}
-use Rattle.ide_steps.specs.State.{state_of}
+use Rattle.ide_steps.specs.State.{claim_of, state_of}
 
 module _ {F : Type 0} where
   -- what a claim is of, and how many of its parts are done
@@ -29,6 +29,23 @@ module _ {F : Type 0} where
   abbrev pub KeepTasks : ℕ → ℕ → (old new : Pile (TaskData F)) → Type 0
   KeepTasks hand done old new = (h : ℕ)
       → progress_at new h ≡ (if nat_eq hand h then option_map (λ at. (at.0, done)) (progress_at old h) else progress_at old h)
+
+  -- the fact holds, where the hand works on a task of which as many parts are done as of the work
+  abbrev pub ForWork : ℕ → CoreData F → WorkData F → Type 0 → Type 0
+  ForWork hand core work fact = (task : TaskData F) → progress_at core.pile hand ≡ Some (task, work.done) → fact
+
+  -- the hand works on the same task, with as many parts of it done as of the work, if it did before
+  abbrev pub KeepsWork : ℕ → (old new : CoreData F) → (work after : WorkData F) → Type 0
+  KeepsWork hand old new work after =
+      (task : TaskData F) → progress_at old.pile hand ≡ Some (task, work.done) → progress_at new.pile hand ≡ Some (task, after.done)
+
+  -- no part of the work is left, and nothing changed
+  abbrev pub FindsNone : (old new : CoreData F) → (work after : WorkData F) → Type 0
+  FindsNone old new work after = (work.done ≡ length work.parts) × (new ≡ old) × (after ≡ work)
+
+  -- a part was left, and one more is done
+  abbrev pub DoesNext : (work after : WorkData F) → Type 0
+  DoesNext work after = (work.done < length work.parts) × (after ≡ record work { done = work.done + 1 })
 
   -- one part more is done of the same work
   pub record IsOneMore (old new : WorkData F) : Type 0 where
@@ -83,3 +100,31 @@ module _ {F L : Type 0} (targets : Targets F) (B : EdgeAlgebra F L) where
     pub pending : is_pending old.pile task.key ≡ true
     pub unclaimed : (h : ℕ) (held : Held (TaskData F)) → claim_at old.pile h ≡ Some held → held.key ≢ task.key
     pub state : state_of targets B new ≡ with_claim (state_of targets B old) hand (Some (new_claim task.key (owed targets B task)))
+
+  -- the key's function is met with this one, and the key is pending
+  abbrev pub IsLoweredBy : (old new : CoreData F) → Key → F → Type 0
+  IsLoweredBy old new key f = state_of targets B new ≡ lowered_by B (state_of targets B old) key f
+
+  -- the hand does the work's next part, which lowers its key
+  abbrev pub LowersPart : ℕ → (old new : CoreData F) → (work after : WorkData F) → Type 0
+  LowersPart hand old new work after = IsLowered B (state_of targets B old) (state_of targets B new) hand work after
+
+  -- the hand does the work's next part, which its key had received already
+  abbrev pub SkipsPart : ℕ → (old new : CoreData F) → (work after : WorkData F) → Type 0
+  SkipsPart hand old new work after = IsSkipped B (state_of targets B old) (state_of targets B new) hand work after
+
+  -- the hand does some of the work's next parts, one after the other
+  abbrev pub DoesParts : ℕ → (old new : CoreData F) → (work after : WorkData F) → Type 0
+  DoesParts hand old new work after = ArePartsDone B hand (state_of targets B old) work (state_of targets B new) after
+
+  -- the hand's claim, if it has one, is finished
+  abbrev pub EndsHeld : ℕ → (old new : CoreData F) → Type 0
+  EndsHeld hand old new =
+      (held : Held (TaskData F)) → claim_at old.pile hand ≡ Some held
+      → state_of targets B new ≡ finished (state_of targets B old) hand (claim_of targets B held)
+
+  -- the hand had a claim with no part left, and it is finished
+  abbrev pub EndsDone : ℕ → (old new : CoreData F) → Type 0
+  EndsDone hand old new =
+      (held : Held (TaskData F)) × (claim_at old.pile hand ≡ Some held) × ((claim_of targets B held).parts ≡ [])
+      × (state_of targets B new ≡ finished (state_of targets B old) hand (claim_of targets B held))

@@ -1,12 +1,12 @@
 //! What changed: the entries that keys had when changes were last asked for.
-ghost use Rattle.std.specs.Prelude.{◌≡◌, ℕ, ◌+◌, [], None, Some, length, IfErr, IfSome, IsOk, OnErr, OnOk};
+ghost use Rattle.std.specs.Prelude.{◌≡◌, ℕ, ◌+◌, [], None, Some, length, IfSome, IsOk, OnErr, OnOk, IsOkUnless};
 ghost use Rattle.std.specs.List.{list_any};
 ghost use Rattle.std.specs.Map.{keys_of};
 ghost use Rattle.std.specs.Option.{is_some, option_map};
 ghost use Rattle.ide_wire.specs.Key.{same_key};
 ghost use Rattle.ide_wire.specs.declared.key.Key.{Key};
 ghost use Rattle.ide_worklist.specs.Worklist.{claim_at, is_pending};
-ghost use Rattle.ide_steps.specs.Changed.{ended_key, entry_at, noted, noted_after, notes_of, with_change, with_note, HasRoom};
+ghost use Rattle.ide_steps.specs.Changed.{ended_key, entry_at, notes_of, with_note, HasRoom, NotesAbsent, NotesEnd};
 ghost use Rattle.ide_steps.specs.declared.changes.Entry.{Entry};
 
 use ide_lattice::EdgeFn;
@@ -33,7 +33,7 @@ pub(crate) fn make_room<F: EdgeFn>(
     ensures room { OnOk result (HasRoom additional changes.new) }
     ensures same { notes_of changes.new ≡ notes_of changes.old }
     ensures nobody { changes.old ≡ None → IsOk result }
-    ensures refused { IfErr result (λ e. e ≡ Refused.NoMemory) }
+    ensures refused { IsOkUnless result Refused.NoMemory }
 {
     if let Some(map) = changes {
         map.reserve(additional)?;
@@ -105,7 +105,7 @@ pub(crate) fn note_absent<F: EdgeFn, T: Drop>(
 )
     requires { HasRoom (length entries.now) changes.old }
     ensures noting { is_some (notes_of changes.new) ≡ is_some (notes_of changes.old) }
-    ensures noted { (q : Key) → noted (notes_of changes.new) q ≡ noted_after (notes_of changes.old) (list_any (same_key q) (keys_of entries.now)) (record { function = None; pending = is_pending worklist.now q }) q }
+    ensures noted { NotesAbsent (notes_of changes.old) (notes_of changes.new) worklist.now (keys_of entries.now) }
 {
     for entry in entries {
         let before = Entry {
@@ -123,10 +123,10 @@ pub(crate) fn note_end<F: EdgeFn, T: Drop>(
     worklist: &Worklist<T>,
     hand: usize,
 ) -> Result<(), Refused>
-    ensures noted { OnOk result (notes_of changes.new ≡ with_change (notes_of changes.old) (ended_key (claim_at worklist.now hand)) (entry_at tables.now worklist.now)) }
+    ensures noted { OnOk result (NotesEnd (notes_of changes.old) (notes_of changes.new) tables.now worklist.now hand) }
     ensures err { OnErr result (notes_of changes.new ≡ notes_of changes.old) }
     ensures nobody { changes.old ≡ None → IsOk result }
-    ensures refused { IfErr result (λ e. e ≡ Refused.NoMemory) }
+    ensures refused { IsOkUnless result Refused.NoMemory }
 {
     let Some(key) = key_of_end(worklist, hand) else {
         return Ok(());

@@ -1,17 +1,16 @@
 //! Claims: a hand takes a pending key with its task.
-ghost use Rattle.std.specs.Prelude.{◌≡◌, ◌≢◌, ℕ, nat_eq, ◌<◌, [], true, false, None, Some, Ok, slice_get, slice_index, IsSome, IfErr, IfOk, OnErr, OnOk};
+ghost use Rattle.std.specs.Prelude.{◌≡◌, ◌≢◌, ℕ, nat_eq, ◌<◌, [], true, false, None, Some, Ok, IsSome, IfErr, IfOk, OnErr, OnOk, IsOkUnless};
 ghost use Rattle.ide_graph.specs.Edges.{EdgesWithin};
-ghost use Rattle.ide_graph.specs.Exits.{AreExitsOwned};
 ghost use Rattle.ide_graph.specs.Supergraph.{Supergraph};
 ghost use Rattle.ide_tables.specs.Tables.{found};
-ghost use Rattle.ide_wire.specs.Key.{node_of};
 ghost use Rattle.ide_wire.specs.declared.key.Key.{Key};
-ghost use Rattle.ide_worklist.specs.Worklist.{claim_at, ends_key, is_pending, is_claimed, put_hand};
+ghost use Rattle.ide_worklist.specs.Worklist.{PutsClaim, begun, claim_at, ends_key, is_pending, is_claimed};
 ghost use Rattle.ide_tasks.specs.Task.{TaskData};
 ghost use Rattle.ide_steps.specs.ClaimRefusal.{IsClaimRefusal, MayClaim};
-ghost use Rattle.ide_steps.specs.Core.{IsProgramKept, IsSameProblem, IsUnchanged, StandsIn};
-ghost use Rattle.ide_steps.specs.State.{ArePartnersOf, IsTaskOf};
-ghost use Rattle.ide_steps.specs.Steps.{IsTaken, progress_at};
+ghost use Rattle.ide_steps.specs.Claiming.{FindsIdle, FindsQuiet, FindsTask, KeepsAllBut};
+ghost use Rattle.ide_steps.specs.Core.{IsUnchanged, StandsIn};
+ghost use Rattle.ide_steps.specs.Kept.{ArePartnersIn, WhereKept, WhereKeptAt};
+ghost use Rattle.ide_steps.specs.State.{IsTaskOf};
 
 use crate::loaded::Loaded;
 use crate::machine::{Core, HANDS};
@@ -43,20 +42,11 @@ impl<P: Problem> Core<P> {
     pub fn claim(&mut self, hand: usize) -> Result<Claimed<P>, Refused>
         ensures may { OnOk result (MayClaim self.old hand) }
         ensures refused { IfErr result (IsClaimRefusal self.old hand) }
-        ensures quiet { result ≡ Ok Claimed.Quiet → self.old.pile.pending ≡ [] }
-        ensures waiting { result ≡ Ok Claimed.Idle → self.old.pile.pending ≢ [] }
-        ensures idle { result ≡ Ok Claimed.Idle → (q : Key) → is_pending self.old.pile q ≡ true → is_claimed self.old.pile q ≡ true }
-        ensures stays { IsSameProblem self.old self.new }
-        ensures table { self.new.table ≡ self.old.table }
-        ensures pending { self.new.pile.pending ≡ self.old.pile.pending }
-        ensures changes { self.new.changes ≡ self.old.changes }
-        ensures others { (h : ℕ) → nat_eq hand h ≡ false → claim_at self.new.pile h ≡ claim_at self.old.pile h }
-        ensures fresh { (task : TaskData P.F) → result ≡ Ok (Claimed.Task task) → ends_key (claim_at self.new.pile hand) ≡ true }
-        ensures task { (task : TaskData P.F) → result ≡ Ok (Claimed.Task task) → IsTaken P.targets P.F.edge hand self.old self.new task }
-        ensures is_task { (task : TaskData P.F) (graph : Supergraph) → result ≡ Ok (Claimed.Task task) → self.old.graph ≡ Some graph → AreExitsOwned graph → IsSome (found self.old.table task.key) → IsTaskOf P.targets P.F.edge graph self.old.table task }
-        ensures progress { (task : TaskData P.F) → result ≡ Ok (Claimed.Task task) → progress_at self.new.pile hand ≡ Some (task, 0) }
-        ensures nothing { result ≡ Ok Claimed.Quiet → self.new ≡ self.old }
-        ensures waits { result ≡ Ok Claimed.Idle → self.new ≡ self.old }
+        ensures keeps { KeepsAllBut hand self.old self.new }
+        ensures task { (task : TaskData P.F) → result ≡ Ok (Claimed.Task task)
+            → FindsTask P.targets P.F.edge hand self.old self.new task }
+        ensures idle { result ≡ Ok Claimed.Idle → FindsIdle self.old self.new }
+        ensures quiet { result ≡ Ok Claimed.Quiet → FindsQuiet self.old self.new }
         ensures unchanged { OnErr result (IsUnchanged self.old self.new) }
     {
         if hand >= HANDS {
@@ -101,11 +91,11 @@ fn take_task<P: Problem>(
     requires pending { is_pending worklist.old key ≡ true }
     requires unclaimed { is_claimed worklist.old key ≡ false }
     ensures key { IfOk result (λ task. task.key ≡ key) }
-    ensures is_task { IsProgramKept P.targets loaded.now.program loaded.now.graph loaded.now.sources → AreExitsOwned loaded.now.graph → IsSome (found tables.now key) → IfOk result (IsTaskOf P.targets P.F.edge loaded.now.graph tables.now) }
+    ensures is_task { WhereKept P.targets loaded.now (IsSome (found tables.now key) → IfOk result (IsTaskOf P.targets P.F.edge loaded.now.graph tables.now)) }
     ensures edges { IfOk result (λ task. EdgesWithin loaded.now.graph.nodes task.site) }
-    ensures refused { IfErr result (λ e. e ≡ Refused.NoMemory) }
+    ensures refused { IsOkUnless result Refused.NoMemory }
     ensures pending { worklist.new.pending ≡ worklist.old.pending }
-    ensures claims { IfOk result (λ task. (h : ℕ) → claim_at worklist.new h ≡ put_hand (claim_at worklist.old) hand (Some (record { key = key; task = task; done = 0; lowered = false })) h) }
+    ensures claims { IfOk result (λ task. PutsClaim hand (Some (begun key task)) worklist.old worklist.new) }
     ensures err { OnErr result ((h : ℕ) → claim_at worklist.new h ≡ claim_at worklist.old h) }
 {
     let task = task_of(alloc, loaded, tables, key)?;
@@ -122,9 +112,9 @@ fn task_of<P: Problem>(
 ) -> Result<Task<P>, Refused>
     requires { StandsIn loaded.now.graph key }
     ensures key { IfOk result (λ task. task.key ≡ key) }
-    ensures is_task { IsProgramKept P.targets loaded.now.program loaded.now.graph loaded.now.sources → AreExitsOwned loaded.now.graph → IsSome (found tables.now key) → IfOk result (IsTaskOf P.targets P.F.edge loaded.now.graph tables.now) }
+    ensures is_task { WhereKept P.targets loaded.now (IsSome (found tables.now key) → IfOk result (IsTaskOf P.targets P.F.edge loaded.now.graph tables.now)) }
     ensures edges { IfOk result (λ task. EdgesWithin loaded.now.graph.nodes task.site) }
-    ensures refused { IfErr result (λ e. e ≡ Refused.NoMemory) }
+    ensures refused { IsOkUnless result Refused.NoMemory }
 {
     let node = key.node();
     let site = loaded.graph.shared_site(node)?;
@@ -148,8 +138,8 @@ fn partners_of<P: Problem>(
     procedure: usize,
     site: &Site,
 ) -> Result<Partners<P::F>, Refused>
-    ensures partners { IsProgramKept P.targets loaded.now.program loaded.now.graph loaded.now.sources → AreExitsOwned loaded.now.graph → slice_get loaded.now.graph.sites (node_of key) ≡ Some site.now → procedure ≡ slice_index loaded.now.graph.owners (node_of key) → procedure < loaded.now.graph.procedures → IfOk result (ArePartnersOf P.targets P.F.edge loaded.now.graph tables.now key site.now) }
-    ensures refused { IfErr result (λ e. e ≡ Refused.NoMemory) }
+    ensures partners { WhereKeptAt P.targets loaded.now key site.now procedure (IfOk result (ArePartnersIn P.targets P.F.edge loaded.now tables.now key site.now)) }
+    ensures refused { IsOkUnless result Refused.NoMemory }
 {
     match (key, site) {
         (Key::Jump(call, _, to), Site::Call { .. }) => {

@@ -1,9 +1,7 @@
 //! A quiet image, frozen.
 ghost use Rattle.std.specs.Prelude.{◌≡◌, [], Some, IfErr, IfOk};
-ghost use Rattle.std.specs.Arc.{arc_value};
-ghost use Rattle.ide_steps.specs.declared.loaded.Loaded.{Loaded};
 ghost use Rattle.ide_steps.specs.CloseRefusal.{CloseFault, IsFreezeRefusal};
-ghost use Rattle.ide_text.specs.Program.{value_of};
+ghost use Rattle.ide_steps.specs.Frozen.{graph_in, program_in};
 
 use crate::loaded::Loaded;
 use crate::machine::Core;
@@ -27,8 +25,8 @@ impl<P: Problem> Core<P> {
     /// Refusals, in this order: `NoProgram`; `Unfinished` where some key is pending; `NoMemory`.
     pub fn freeze(&self) -> Result<Closed<P>, Refused>
         ensures refused { IfErr result (IsFreezeRefusal self.now) }
-        ensures program { IfOk result (λ closed. self.now.program ≡ Some (value_of (arc_value {X = Loaded P P.L P.F} closed.loaded).program)) }
-        ensures graph { IfOk result (λ closed. self.now.graph ≡ Some (arc_value {X = Loaded P P.L P.F} closed.loaded).graph) }
+        ensures program { IfOk result (λ closed. self.now.program ≡ Some (program_in closed)) }
+        ensures graph { IfOk result (λ closed. self.now.graph ≡ Some (graph_in closed)) }
         ensures table { IfOk result (λ closed. closed.tables ≡ self.now.table) }
         ensures roots { IfOk result (λ closed. closed.roots.items ≡ self.now.roots) }
         ensures quiet { IfOk result (λ _. self.now.pile.pending ≡ []) }
@@ -50,8 +48,8 @@ impl<P: Problem> Core<P> {
     ///
     /// Refusals, in this order: `NoProgram`; `Unfinished` where some key is pending.
     pub fn close(self) -> Result<Closed<P>, (Refused, Core<P>)>
-        ensures program { IfOk result (λ closed. self.program ≡ Some (value_of (arc_value {X = Loaded P P.L P.F} closed.loaded).program)) }
-        ensures graph { IfOk result (λ closed. self.graph ≡ Some (arc_value {X = Loaded P P.L P.F} closed.loaded).graph) }
+        ensures program { IfOk result (λ closed. self.program ≡ Some (program_in closed)) }
+        ensures graph { IfOk result (λ closed. self.graph ≡ Some (graph_in closed)) }
         ensures table { IfOk result (λ closed. closed.tables ≡ self.table) }
         ensures roots { IfOk result (λ closed. closed.roots.items ≡ self.roots) }
         ensures quiet { IfOk result (λ _. self.pile.pending ≡ []) }

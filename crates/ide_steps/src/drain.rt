@@ -1,21 +1,18 @@
 //! All steps that are left, by one hand.
-ghost use Rattle.std.specs.Prelude.{◌≡◌, ℕ, ◌-◌, ◌^◌, ◌<◌, ◌⊎◌, [], true, false, nat_eq, min, if◌then◌else◌, Ok, Some, None, IfErr, IfOk, OnOk};
-ghost use Rattle.std.specs.List.{IsDistinct};
-ghost use Rattle.std.specs.Map.{keys_of};
+ghost use Rattle.std.specs.Prelude.{◌≡◌, ℕ, ◌-◌, ◌^◌, ◌<◌, ◌⊎◌, [], true, false, nat_eq, min, if◌then◌else◌, Ok, Some, None, IfErr, IfOk, OnOk, IsOkUnless};
 ghost use Rattle.std.specs.Option.{is_some};
 ghost use Rattle.ide_steps.specs.Changed.{Remembers};
 ghost use Rattle.ide_steps.specs.Core.{is_loaded, AreInside};
 ghost use Rattle.ide_steps.specs.DrainRefusal.{IsDrainRefusal, MayDrain};
-ghost use Rattle.ide_steps.specs.Drain.{ArePaid, GoesOnPaid, potential};
+ghost use Rattle.ide_steps.specs.Drain.{Drains, GoesOnPaid, RunsWork, potential};
 ghost use Rattle.ide_steps.specs.Going.{GoesOn, GoesOnBy};
 ghost use Rattle.ide_steps.specs.Room.{AreTasksFew};
-ghost use Rattle.ide_steps.specs.Steps.{IsCurrent, progress_at};
+ghost use Rattle.ide_steps.specs.Steps.{progress_at};
 ghost use Rattle.ide_tasks.specs.Task.{TaskData};
-ghost use Rattle.ide_wire.specs.Key.{same_key};
 ghost use Rattle.ide_worklist.specs.Worklist.{claim_at, ends_key, IsFree};
 
 use crate::claim::Claimed;
-use crate::laws::{calls_are_steps, images_have_room};
+use crate::laws::{calls_are_steps, cores_are_whole, images_have_room};
 use crate::machine::Core;
 use crate::part::Parted;
 use ide_problem::Problem;
@@ -40,7 +37,7 @@ impl<P: Problem> Core<P> {
         ensures refused { IfErr result (IsDrainRefusal self.old) }
         ensures quiet { OnOk result (self.new.pile.pending ≡ []) }
         ensures free { IsFree self.old.pile → IsFree self.new.pile }
-        ensures claims { IfOk result (λ tasks. (claims : ℕ) × (tasks ≡ min claims (2 ^ 64 - 1)) × GoesOnPaid P.L.algebra P.F.edge P.targets claims self.old self.new) }
+        ensures claims { IfOk result (λ tasks. Drains P.L.algebra P.F.edge P.targets tasks self.old self.new) }
         ensures few { IfOk result (λ tasks. AreTasksFew P.L.algebra P.F.edge P.targets tasks self.old) }
         ensures goes { GoesOn P.L.algebra P.F.edge P.targets 0 self.old self.new }
         ensures remembers { Remembers self.old self.new }
@@ -57,29 +54,22 @@ impl<P: Problem> Core<P> {
         }
         let drained = self.run_all();
         images_have_room::<P>();
-        self.keys_are_distinct();
+        cores_are_whole(self);
         if drained.is_err() {
             let _ = self.release(DRAINING);
         }
         drained
     }
 
-    /// It does nothing: its clause is what is known of the tables' keys.
-    fn keys_are_distinct(&self)
-        ensures { IsDistinct same_key (keys_of self.now.table.entries) }
-    {
-        let _ = self.tables.key_count();
-    }
-
     /// Runs tasks until none is left, and counts them, up to the largest number of 64 bits.
     fn run_all(&mut self) -> Result<u64, Refused>
         requires loaded { is_loaded self.old ≡ true }
         requires free { IsFree self.old.pile }
-        ensures refused { IfErr result (λ e. e ≡ Refused.NoMemory) }
+        ensures refused { IsOkUnless result Refused.NoMemory }
         ensures quiet { OnOk result (self.new.pile.pending ≡ []) }
         ensures free { OnOk result (IsFree self.new.pile) }
         ensures others { (h : ℕ) → nat_eq 0 h ≡ false → claim_at self.new.pile h ≡ None }
-        ensures claims { IfOk result (λ tasks. (claims : ℕ) × (tasks ≡ min claims (2 ^ 64 - 1)) × GoesOnPaid P.L.algebra P.F.edge P.targets claims self.old self.new) }
+        ensures claims { IfOk result (λ tasks. Drains P.L.algebra P.F.edge P.targets tasks self.old self.new) }
         ensures goes { GoesOn P.L.algebra P.F.edge P.targets 0 self.old self.new }
         ensures remembers { Remembers self.old self.new }
     {
@@ -94,7 +84,7 @@ impl<P: Problem> Core<P> {
     fn run_next(&mut self) -> Result<bool, Refused>
         requires loaded { is_loaded self.old ≡ true }
         requires free { IsFree self.old.pile }
-        ensures refused { IfErr result (λ e. e ≡ Refused.NoMemory) }
+        ensures refused { IsOkUnless result Refused.NoMemory }
         ensures quiet { result ≡ Ok false → self.new.pile.pending ≡ [] }
         ensures falls { result ≡ Ok true → potential P.F.edge self.new < potential P.F.edge self.old }
         ensures free { OnOk result (IsFree self.new.pile) }
@@ -120,7 +110,7 @@ impl<P: Problem> Core<P> {
     fn take_next(&mut self) -> Result<Option<Task<P>>, Refused>
         requires loaded { is_loaded self.old ≡ true }
         requires free { IsFree self.old.pile }
-        ensures refused { IfErr result (λ e. e ≡ Refused.NoMemory) }
+        ensures refused { IsOkUnless result Refused.NoMemory }
         ensures quiet { result ≡ Ok None → self.new.pile.pending ≡ [] }
         ensures same { (self.new.table ≡ self.old.table) × (self.new.pile.pending ≡ self.old.pile.pending) }
         ensures fresh { (task : TaskData P.F) → result ≡ Ok (Some task) → ends_key (claim_at self.new.pile 0) ≡ true }
@@ -143,13 +133,13 @@ impl<P: Problem> Core<P> {
     fn run(&mut self, mut work: Work<P>) -> Result<bool, Refused>
         requires fresh { ends_key (claim_at self.old.pile 0) ≡ true }
         requires inside { AreInside self.old work.parts }
-        ensures refused { IfErr result (λ e. e ≡ Refused.NoMemory) }
+        ensures refused { IsOkUnless result Refused.NoMemory }
         ensures more { IfOk result (λ more. more ≡ true) }
         ensures falls { OnOk result (potential P.F.edge self.new < potential P.F.edge self.old) }
         ensures done { OnOk result (claim_at self.new.pile 0 ≡ None) }
         ensures others { (h : ℕ) → nat_eq 0 h ≡ false → claim_at self.old.pile h ≡ None → claim_at self.new.pile h ≡ None }
         ensures remembers { Remembers self.old self.new }
-        ensures goes { (lowerings : ℕ) × (IsCurrent P.targets P.F.edge self.old 0 work → GoesOnBy P.L.algebra P.F.edge P.targets 0 0 lowerings 0 self.old self.new) × OnOk result (ArePaid P.F.edge 1 lowerings self.old self.new) }
+        ensures goes { RunsWork P.L.algebra P.F.edge P.targets result work self.old self.new }
     {
         while self.next_part(DRAINING, &mut work)? != Parted::NoPart {}
         self.end_claim(DRAINING)?;

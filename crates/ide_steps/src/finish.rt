@@ -1,15 +1,13 @@
 //! The end of a claim: finished or released.
-ghost use Rattle.std.specs.Prelude.{◌≡◌, ◌≢◌, ℕ, [], filter, ◌<◌, ◌+◌, ◌↔◌, ◌⊎◌, if◌then◌else◌, true, false, None, Some, Err, IfErr, IsOk, OnErr, OnOk, length};
-ghost use Rattle.ide_tasks.specs.Task.{TaskData};
+ghost use Rattle.std.specs.Prelude.{◌≡◌, ◌≢◌, ℕ, [], filter, ◌<◌, ◌+◌, ◌↔◌, ◌⊎◌, if◌then◌else◌, true, false, None, Some, Err, IfErr, IsOk, OnErr, OnOk, length, IsOkUnless};
 ghost use Rattle.std.specs.Option.{is_some};
 ghost use Rattle.ide_theory.specs.Invariant.{unclaimed};
-ghost use Rattle.ide_theory.specs.State.{finished, with_claim};
-ghost use Rattle.ide_worklist.specs.Worklist.{claim_at, ends_key, put_hand};
-ghost use Rattle.ide_worklist.specs.declared.claim.Claim.{Claim as Held};
+ghost use Rattle.ide_theory.specs.State.{with_claim};
+ghost use Rattle.ide_worklist.specs.Worklist.{PutsClaim, claim_at, ends_key};
 ghost use Rattle.ide_steps.specs.Changed.{ended_key, Notes, Remembers};
 ghost use Rattle.ide_steps.specs.Core.{IsSameProblem};
-ghost use Rattle.ide_steps.specs.State.{state_of, claim_of};
-ghost use Rattle.ide_steps.specs.Steps.{IsClaimOfWork, IsCurrent};
+ghost use Rattle.ide_steps.specs.State.{state_of};
+ghost use Rattle.ide_steps.specs.Steps.{EndsDone, EndsHeld, IsClaimOfWork, IsCurrent};
 
 use crate::changes;
 use crate::machine::Core;
@@ -30,8 +28,8 @@ impl<P: Problem> Core<P> {
         ensures notes { OnOk result (Notes self.old self.new (ended_key (claim_at self.old.pile hand))) }
         ensures remembers { Remembers self.old self.new }
         ensures current { OnOk result (IsCurrent P.targets P.F.edge self.old hand work.now) }
-        ensures finished { OnOk result ((held : Held (TaskData P.F)) × (claim_at self.old.pile hand ≡ Some held) × ((claim_of P.targets P.F.edge held).parts ≡ []) × (state_of P.targets P.F.edge self.new ≡ finished (state_of P.targets P.F.edge self.old) hand (claim_of P.targets P.F.edge held))) }
-        ensures claims { OnOk result ((h : ℕ) → claim_at self.new.pile h ≡ put_hand (claim_at self.old.pile) hand None h) }
+        ensures finished { OnOk result (EndsDone P.targets P.F.edge hand self.old self.new) }
+        ensures claims { OnOk result (PutsClaim hand None self.old.pile self.new.pile) }
         ensures stays { IsSameProblem self.old self.new }
         ensures table { self.new.table ≡ self.old.table }
         ensures unchanged { OnErr result (self.new ≡ self.old) }
@@ -48,15 +46,15 @@ impl<P: Problem> Core<P> {
 
     /// Ends the hand's claim, and notes the entry of the key that this takes out.
     pub(crate) fn end_claim(&mut self, hand: usize) -> Result<(), Refused>
-        ensures finished { OnOk result ((held : Held (TaskData P.F)) → claim_at self.old.pile hand ≡ Some held → state_of P.targets P.F.edge self.new ≡ finished (state_of P.targets P.F.edge self.old) hand (claim_of P.targets P.F.edge held)) }
+        ensures finished { OnOk result (EndsHeld P.targets P.F.edge hand self.old self.new) }
         ensures notes { OnOk result (Notes self.old self.new (ended_key (claim_at self.old.pile hand))) }
         ensures remembers { Remembers self.old self.new }
-        ensures refused { IfErr result (λ e. e ≡ Refused.NoMemory) }
+        ensures refused { IsOkUnless result Refused.NoMemory }
         ensures nobody { self.old.changes ≡ None → IsOk result }
         ensures unchanged { OnErr result (self.new ≡ self.old) }
         ensures stays { IsSameProblem self.old self.new }
         ensures table { self.new.table ≡ self.old.table }
-        ensures claims { OnOk result ((h : ℕ) → claim_at self.new.pile h ≡ put_hand (claim_at self.old.pile) hand None h) }
+        ensures claims { OnOk result (PutsClaim hand None self.old.pile self.new.pile) }
         ensures count { OnOk result (length self.new.pile.pending + (if ends_key (claim_at self.old.pile hand) then 1 else 0) ≡ length self.old.pile.pending) }
     {
         changes::note_end(&mut self.changes, &self.tables, &self.worklist, hand)?;
@@ -70,10 +68,10 @@ impl<P: Problem> Core<P> {
     /// Refusal: `Stale` where the hand has no claim.
     pub fn release(&mut self, hand: usize) -> Result<(), Refused>
         ensures stale { (result ≡ Err Refused.Stale) ↔ (claim_at self.old.pile hand ≡ None) }
-        ensures refused { IfErr result (λ e. e ≡ Refused.Stale) }
+        ensures refused { IsOkUnless result Refused.Stale }
         ensures released { state_of P.targets P.F.edge self.new ≡ with_claim (state_of P.targets P.F.edge self.old) hand None }
         ensures claim { claim_at self.new.pile hand ≡ None }
-        ensures claims { (h : ℕ) → claim_at self.new.pile h ≡ put_hand (claim_at self.old.pile) hand None h }
+        ensures claims { PutsClaim hand None self.old.pile self.new.pile }
         ensures stays { IsSameProblem self.old self.new }
         ensures table { self.new.table ≡ self.old.table }
         ensures pending { self.new.pile.pending ≡ self.old.pile.pending }

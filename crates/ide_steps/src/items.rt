@@ -1,5 +1,5 @@
 //! The image as a list, and an image made from one.
-ghost use Rattle.std.specs.Prelude.{◌≡◌, ◌<◌, ℕ, ◌↔◌, Some, false, true, length, slice_get, IfErr, IfOk, IsTrue, OnErr, OnOk, map, if◌then◌else◌};
+ghost use Rattle.std.specs.Prelude.{◌≡◌, ◌<◌, ℕ, ◌↔◌, Some, false, true, slice_get, IfErr, IfOk, IsTrue, OnErr, OnOk, map, if◌then◌else◌};
 ghost use Rattle.std.specs.Option.{IsSomeAnd};
 ghost use Rattle.ide_tables.specs.Tables.{Sets};
 ghost use Rattle.ide_theory.specs.Within.{is_some_call};
@@ -86,7 +86,6 @@ impl<P: Problem> Core<P> {
 /// Whether the key stands at a node of the graph, a summary at a call node, and its facts are facts
 /// of the graph.
 fn is_key_of(graph: &Graph, key: Key) -> bool
-    requires sited { length graph.now.sites ≡ graph.now.nodes }
     ensures { IsTrue result ↔ IsKeyOf graph.now key }
 {
     match key {
@@ -107,7 +106,6 @@ fn are_facts(graph: &Graph, first: Fact, second: Fact) -> bool
 
 /// Whether a call stands at the node.
 fn is_call_node(graph: &Graph, node: Node) -> bool
-    requires sited { length graph.now.sites ≡ graph.now.nodes }
     ensures { IsTrue result ↔ (is_some_call (slice_get graph.now.sites node) ≡ true) }
 {
     (node as usize) < graph.node_count() && is_call(graph.site(node))

@@ -1,8 +1,9 @@
 //! Laws of tasks. The functions do nothing: their clauses are the laws.
 ghost use Rattle.ide_steps.specs.Calls.{CallsAreSteps};
 ghost use Rattle.ide_steps.specs.Owed.{TasksOweTheirParts};
-ghost use Rattle.ide_steps.specs.Room.{ImagesHaveRoom};
+ghost use Rattle.ide_steps.specs.Room.{ImagesHaveRoom, IsWhole};
 
+use crate::machine::Core;
 use ide_problem::Problem;
 use ide_theory::{
     keys_stand_at_nodes, parts_in_range_are_owed, runs_are_sound, sites_make_a_graph,
@@ -24,6 +25,16 @@ pub fn calls_are_steps<P: Problem>()
     runs_are_sound::<P>();
     sites_make_a_graph::<P>();
     tasks_owe_their_parts::<P>();
+}
+
+/// Each core's tables have each key once, and its graph a site for each node.
+pub fn cores_are_whole<P: Problem>(core: &Core<P>)
+    ensures { IsWhole core.now }
+{
+    let _ = core.tables.key_count();
+    if let Some(loaded) = &core.loaded {
+        let _ = loaded.graph.node_count();
+    }
 }
 
 /// The image of a run has no more keys than its graph has room for.

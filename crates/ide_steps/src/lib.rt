@@ -23,7 +23,7 @@ mod sources;
 pub use changes::Entry;
 pub use claim::Claimed;
 pub use closed::Closed;
-pub use laws::{calls_are_steps, images_have_room, tasks_owe_their_parts};
+pub use laws::{calls_are_steps, cores_are_whole, images_have_room, tasks_owe_their_parts};
 pub use loaded::Loaded;
 pub use machine::{Core, HANDS};
 pub use part::Parted;

@@ -1,5 +1,5 @@
 //! A loaded program, shared by the core and what it hands out.
-ghost use Rattle.std.specs.Prelude.{◌≡◌, IfErr, IfOk};
+ghost use Rattle.std.specs.Prelude.{◌≡◌, IfOk, IsOkUnless};
 ghost use Rattle.ide_graph.specs.GraphOf.{IsGraphOf};
 ghost use Rattle.ide_graph.specs.ProgramEdges.{HasEdgesOf};
 ghost use Rattle.ide_tasks.specs.Sources.{AreSourcesOf};
@@ -27,7 +27,7 @@ impl<P: Problem> Loaded<P> {
         ensures graph { IfOk result (λ loaded. IsGraphOf program loaded.graph) }
         ensures edges { IfOk result (λ loaded. HasEdgesOf program loaded.graph) }
         ensures sources { IfOk result (λ loaded. AreSourcesOf P.targets loaded.graph loaded.sources) }
-        ensures refused { IfErr result (λ e. e ≡ Refused.NoMemory) }
+        ensures refused { IsOkUnless result Refused.NoMemory }
     {
         let graph = Graph::of(alloc, &program)?;
         let sources = Sources::of(alloc, &graph)?;

@@ -4,14 +4,14 @@ ghost use Rattle.ide_graph.specs.ProgramEdges.{HasEdgesOf};
 ghost use Rattle.ide_steps.specs.Changed.{Notes, Remembers, entry_of, entry_then, noted, noted_count};
 ghost use Rattle.ide_steps.specs.Core.{IsInside, IsSameProblem, IsUnchanged};
 ghost use Rattle.ide_steps.specs.Drain.{IsPaidBy, potential};
-ghost use Rattle.std.specs.Prelude.{◌≡◌, ℕ, ◌<◌, ◌↔◌, [], None, Some, Ok, length, unwrap_or, IsSome, IsTrue, IfErr, OnOk, OnErr};
+ghost use Rattle.std.specs.Prelude.{◌≡◌, ℕ, ◌<◌, ◌↔◌, [], None, Some, Ok, length, unwrap_or, IsSome, IsTrue, IfErr, OnOk, OnErr, IsOkUnless};
 ghost use Rattle.std.specs.List.{IsDistinct};
 ghost use Rattle.std.specs.Map.{keys_of, lookup};
 ghost use Rattle.ide_wire.specs.Key.{same_key};
 ghost use Rattle.ide_wire.specs.declared.key.Key.{Key};
 ghost use Rattle.ide_steps.specs.State.{state_of};
-ghost use Rattle.ide_steps.specs.Steps.{Changes, IsBelow, progress_at};
-ghost use Rattle.ide_theory.specs.State.{nothing_done, lowered_by};
+ghost use Rattle.ide_steps.specs.Steps.{Changes, IsBelow, IsLoweredBy, progress_at};
+ghost use Rattle.ide_theory.specs.State.{nothing_done};
 ghost use Rattle.std.specs.Option.{is_some, option_copied, option_map, IsSomeAnd};
 ghost use Rattle.ide_tables.specs.Tables.{found};
 ghost use Rattle.ide_text.specs.Program.{value_of};
@@ -218,12 +218,12 @@ impl<P: Problem> Core<P> {
         ensures still { result ≡ Ok Change.Same → IsUnchanged self.old self.new }
         ensures notes { result ≡ Ok Change.Lowered → Notes self.old self.new (Some key) }
         ensures remembers { Remembers self.old self.new }
-        ensures lowered { result ≡ Ok Change.Lowered → state_of P.targets P.F.edge self.new ≡ lowered_by P.F.edge (state_of P.targets P.F.edge self.old) key function }
+        ensures lowered { result ≡ Ok Change.Lowered → IsLoweredBy P.targets P.F.edge self.old self.new key function }
         ensures changes { result ≡ Ok Change.Lowered → Changes P.F.edge (state_of P.targets P.F.edge self.old) key function }
         ensures same { result ≡ Ok Change.Same → state_of P.targets P.F.edge self.new ≡ state_of P.targets P.F.edge self.old }
         ensures met { result ≡ Ok Change.Same → IsBelow P.F.edge (state_of P.targets P.F.edge self.old) key function }
         ensures progress { OnOk result ((h : ℕ) → progress_at self.new.pile h ≡ progress_at self.old.pile h) }
-        ensures refused { IfErr result (λ e. e ≡ Refused.NoMemory) }
+        ensures refused { IsOkUnless result Refused.NoMemory }
         ensures unchanged { OnErr result (IsUnchanged self.old self.new) }
     {
         self.worklist.reserve(1)?;

@@ -1,14 +1,11 @@
 //! Parts: a hand gives what its task owes to the tables, one part a call.
-ghost use Rattle.ide_wire.specs.declared.key.Key.{Key};
 ghost use Rattle.ide_worklist.specs.Worklist.{claim_at, ends_key};
-ghost use Rattle.ide_steps.specs.Drain.{IsPaidBy, lowerings_by, potential};
-ghost use Rattle.std.specs.Prelude.{◌≡◌, ℕ, ◌<◌, ◌+◌, ◌-◌, ◌↔◌, ◌⊎◌, true, false, None, Ok, Err, Some, IfErr, IfOk, OnErr, OnOk, length, min, slice_get, IsTrue};
+ghost use Rattle.ide_steps.specs.Drain.{IsPaidBy, IsStill, lowerings_by, potential};
+ghost use Rattle.std.specs.Prelude.{◌≡◌, ℕ, ◌<◌, ◌+◌, ◌-◌, ◌↔◌, ◌⊎◌, true, false, None, Ok, Err, Some, IfErr, IfOk, OnErr, OnOk, length, min, slice_get, IsTrue, IsOkUnless};
 ghost use Rattle.ide_tasks.specs.Parts.{owed};
-ghost use Rattle.ide_tasks.specs.Task.{TaskData};
 ghost use Rattle.ide_tasks.specs.Work.{WorkData};
-ghost use Rattle.ide_steps.specs.State.{state_of};
-ghost use Rattle.ide_steps.specs.Steps.{ArePartsDone, IsClaimOfWork, IsCurrent, IsLowered, IsSkipped, KeepTasks, progress_at};
-ghost use Rattle.ide_steps.specs.Changed.{Notes, Remembers};
+ghost use Rattle.ide_steps.specs.Steps.{DoesNext, DoesParts, FindsNone, ForWork, IsClaimOfWork, IsCurrent, KeepTasks, KeepsWork, LowersPart, SkipsPart, progress_at};
+ghost use Rattle.ide_steps.specs.Changed.{NotesPart, Remembers};
 ghost use Rattle.ide_steps.specs.Core.{AreInside, IsSameProblem, IsUnchanged};
 
 use crate::machine::Core;
@@ -38,12 +35,12 @@ impl<P: Problem> Core<P> {
         ensures stale { (result ≡ Err Refused.Stale) ↔ ¬ (IsClaimOfWork work.old (claim_at self.old.pile hand)) }
         ensures refused { IfErr result (λ e. (e ≡ Refused.Stale) ⊎ (e ≡ Refused.NoMemory)) }
         ensures current { OnOk result (IsCurrent P.targets P.F.edge self.old hand work.old) }
-        ensures no_part { result ≡ Ok Parted.NoPart → (work.old.done ≡ length work.old.parts) × (self.new ≡ self.old) × (work.new ≡ work.old) }
+        ensures no_part { result ≡ Ok Parted.NoPart → FindsNone self.old self.new work.old work.new }
         ensures all_done { IsClaimOfWork work.old (claim_at self.old.pile hand) → work.old.done ≡ length work.old.parts → result ≡ Ok Parted.NoPart }
-        ensures lowered { result ≡ Ok Parted.Lowered → IsLowered P.F.edge (state_of P.targets P.F.edge self.old) (state_of P.targets P.F.edge self.new) hand work.old work.new }
-        ensures same { result ≡ Ok Parted.Same → IsSkipped P.F.edge (state_of P.targets P.F.edge self.old) (state_of P.targets P.F.edge self.new) hand work.old work.new }
+        ensures lowered { result ≡ Ok Parted.Lowered → LowersPart P.targets P.F.edge hand self.old self.new work.old work.new }
+        ensures same { result ≡ Ok Parted.Same → SkipsPart P.targets P.F.edge hand self.old self.new work.old work.new }
         ensures tasks { OnOk result (KeepTasks hand work.new.done self.old.pile self.new.pile) }
-        ensures notes { result ≡ Ok Parted.Lowered → (part : Key × P.F) → slice_get work.old.parts work.old.done ≡ Some part → Notes self.old self.new (Some part.0) }
+        ensures notes { result ≡ Ok Parted.Lowered → NotesPart work.old self.old self.new }
         ensures notes_none { result ≡ Ok Parted.Same → self.new.changes ≡ self.old.changes }
         ensures remembers { Remembers self.old self.new }
         ensures stays { IsSameProblem self.old self.new }
@@ -68,7 +65,7 @@ impl<P: Problem> Core<P> {
         ensures current { (result ≡ Err Refused.Stale) ⊎ IsCurrent P.targets P.F.edge self.old hand work.old }
         ensures count { IfOk result (λ n. n ≡ min most (length work.old.parts - work.old.done)) }
         ensures done { IfOk result (λ n. work.new ≡ record work.old { done = work.old.done + n }) }
-        ensures parts { ArePartsDone P.F.edge hand (state_of P.targets P.F.edge self.old) work.old (state_of P.targets P.F.edge self.new) work.new }
+        ensures parts { DoesParts P.targets P.F.edge hand self.old self.new work.old work.new }
         ensures kept { (work.new.task ≡ work.old.task) × (work.new.parts ≡ work.old.parts) }
         ensures tasks { (result ≡ Err Refused.Stale) ⊎ KeepTasks hand work.new.done self.old.pile self.new.pile }
         ensures remembers { Remembers self.old self.new }
@@ -107,18 +104,18 @@ impl<P: Problem> Core<P> {
     pub(crate) fn next_part(&mut self, hand: usize, work: &mut Work<P>) -> Result<Parted, Refused>
         requires { AreInside self.old work.old.parts }
         ensures falls { result ≡ Ok Parted.Lowered → potential P.F.edge self.new < potential P.F.edge self.old }
-        ensures still { result ≡ Ok Parted.Same → (potential P.F.edge self.new ≡ potential P.F.edge self.old) × (ends_key (claim_at self.new.pile hand) ≡ ends_key (claim_at self.old.pile hand)) }
+        ensures still { result ≡ Ok Parted.Same → IsStill P.F.edge hand self.old self.new }
         ensures paid { IfOk result (λ parted. IsPaidBy P.F.edge hand (lowerings_by parted) self.old self.new) }
         ensures free { (h : ℕ) → claim_at self.old.pile h ≡ None → claim_at self.new.pile h ≡ None }
-        ensures next { (result ≡ Ok Parted.Lowered) ⊎ (result ≡ Ok Parted.Same) → (work.old.done < length work.old.parts) × (work.new ≡ record work.old { done = work.old.done + 1 }) }
-        ensures refused { IfErr result (λ e. e ≡ Refused.NoMemory) }
-        ensures no_part { result ≡ Ok Parted.NoPart → (work.old.done ≡ length work.old.parts) × (self.new ≡ self.old) × (work.new ≡ work.old) }
+        ensures next { (result ≡ Ok Parted.Lowered) ⊎ (result ≡ Ok Parted.Same) → DoesNext work.old work.new }
+        ensures refused { IsOkUnless result Refused.NoMemory }
+        ensures no_part { result ≡ Ok Parted.NoPart → FindsNone self.old self.new work.old work.new }
         ensures all_done { work.old.done ≡ length work.old.parts → result ≡ Ok Parted.NoPart }
-        ensures lowered { result ≡ Ok Parted.Lowered → (task : TaskData P.F) → progress_at self.old.pile hand ≡ Some (task, work.old.done) → IsLowered P.F.edge (state_of P.targets P.F.edge self.old) (state_of P.targets P.F.edge self.new) hand work.old work.new }
-        ensures same { result ≡ Ok Parted.Same → (task : TaskData P.F) → progress_at self.old.pile hand ≡ Some (task, work.old.done) → IsSkipped P.F.edge (state_of P.targets P.F.edge self.old) (state_of P.targets P.F.edge self.new) hand work.old work.new }
-        ensures progress { OnOk result ((task : TaskData P.F) → progress_at self.old.pile hand ≡ Some (task, work.old.done) → progress_at self.new.pile hand ≡ Some (task, work.new.done)) }
+        ensures lowered { result ≡ Ok Parted.Lowered → ForWork hand self.old work.old (LowersPart P.targets P.F.edge hand self.old self.new work.old work.new) }
+        ensures same { result ≡ Ok Parted.Same → ForWork hand self.old work.old (SkipsPart P.targets P.F.edge hand self.old self.new work.old work.new) }
+        ensures progress { OnOk result (KeepsWork hand self.old self.new work.old work.new) }
         ensures tasks { (result ≡ Ok Parted.Lowered) ⊎ (result ≡ Ok Parted.Same) → KeepTasks hand work.new.done self.old.pile self.new.pile }
-        ensures notes { result ≡ Ok Parted.Lowered → (part : Key × P.F) → slice_get work.old.parts work.old.done ≡ Some part → Notes self.old self.new (Some part.0) }
+        ensures notes { result ≡ Ok Parted.Lowered → NotesPart work.old self.old self.new }
         ensures notes_none { result ≡ Ok Parted.Same → self.new.changes ≡ self.old.changes }
         ensures remembers { Remembers self.old self.new }
         ensures stays { IsSameProblem self.old self.new }
@@ -139,13 +136,13 @@ impl<P: Problem> Core<P> {
     /// Does up to `most` of the next parts of work that is the hand's claim, and counts them.
     fn next_parts(&mut self, hand: usize, work: &mut Work<P>, most: usize) -> Result<usize, Refused>
         requires { AreInside self.old work.old.parts }
-        ensures refused { IfErr result (λ e. e ≡ Refused.NoMemory) }
+        ensures refused { IsOkUnless result Refused.NoMemory }
         ensures count { IfOk result (λ n. n ≡ min most (length work.old.parts - work.old.done)) }
         ensures done { IfOk result (λ n. work.new ≡ record work.old { done = work.old.done + n }) }
-        ensures parts { (task : TaskData P.F) → progress_at self.old.pile hand ≡ Some (task, work.old.done) → ArePartsDone P.F.edge hand (state_of P.targets P.F.edge self.old) work.old (state_of P.targets P.F.edge self.new) work.new }
+        ensures parts { ForWork hand self.old work.old (DoesParts P.targets P.F.edge hand self.old self.new work.old work.new) }
         ensures kept { (work.new.task ≡ work.old.task) × (work.new.parts ≡ work.old.parts) }
         ensures remembers { Remembers self.old self.new }
-        ensures tasks { (task : TaskData P.F) → progress_at self.old.pile hand ≡ Some (task, work.old.done) → KeepTasks hand work.new.done self.old.pile self.new.pile }
+        ensures tasks { ForWork hand self.old work.old (KeepTasks hand work.new.done self.old.pile self.new.pile) }
         ensures stays { IsSameProblem self.old self.new }
         ensures free { (h : ℕ) → claim_at self.old.pile h ≡ None → claim_at self.new.pile h ≡ None }
     {

@@ -1,5 +1,5 @@
 //! Roots: where analysis begins.
-ghost use Rattle.std.specs.Prelude.{◌≡◌, ℕ, ◌≤◌, ◌<◌, ◌^◌, ◌↔◌, ◌⊎◌, ◌||◌, ◌++◌, ◌∷◌, [], None, Some, length, IfErr, IfOk, IsTrue, OnErr, OnOk};
+ghost use Rattle.std.specs.Prelude.{◌≡◌, ℕ, ◌≤◌, ◌<◌, ◌^◌, ◌↔◌, ◌⊎◌, ◌||◌, ◌++◌, ◌∷◌, [], None, Some, length, IfErr, IfOk, IsTrue, OnErr, OnOk, IsOkUnless};
 ghost use Rattle.std.specs.List.{list_any, Contains};
 ghost use Rattle.std.specs.Map.{keys_of};
 ghost use Rattle.ide_tables.specs.Tables.{found};
@@ -9,8 +9,7 @@ ghost use Rattle.ide_worklist.specs.Worklist.{claim_at, is_pending};
 ghost use Rattle.ide_steps.specs.Changed.{Remembers};
 ghost use Rattle.ide_steps.specs.Core.{AreInside, IsUnchanged};
 ghost use Rattle.ide_steps.specs.Refusal.{IsRootName, IsRootRefusal, RootFault};
-ghost use Rattle.ide_steps.specs.Rooted.{AllAbsent, AllAt, IsBegun, marked_all, with_entries};
-ghost use Rattle.ide_theory.specs.Images.{seeded_below};
+ghost use Rattle.ide_steps.specs.Rooted.{AllAbsent, AllAt, AreSeeds, IsBegun, marked_all, with_entries};
 ghost use Rattle.ide_steps.specs.State.{state_of};
 ghost use Rattle.ide_steps.specs.Steps.{progress_at};
 
@@ -62,7 +61,7 @@ impl<P: Problem> Core<P> {
         requires few { entries ≤ 2 ^ 16 }
         ensures place { IfOk result (λ jumps. AllAt start jumps.items) }
         ensures absent { IfOk result (λ jumps. AllAbsent self.now jumps.items) }
-        ensures entered { IfOk result (λ jumps. seeded_below P.F.edge (state_of P.targets P.F.edge self.now) start entries ≡ with_entries (state_of P.targets P.F.edge self.now) jumps.items) }
+        ensures entered { IfOk result (λ jumps. AreSeeds P.targets P.F.edge self.now start entries jumps.items) }
     {
         let mut jumps = Vec::new(self.alloc);
         for fact in 0..entries {
@@ -93,7 +92,7 @@ impl<P: Problem> Core<P> {
         ensures state { OnOk result (state_of P.targets P.F.edge self.new ≡ with_entries (state_of P.targets P.F.edge self.old) jumps.now) }
         ensures progress { OnOk result ((h : ℕ) → progress_at self.new.pile h ≡ progress_at self.old.pile h) }
         ensures remembers { Remembers self.old self.new }
-        ensures refused { IfErr result (λ e. e ≡ Refused.NoMemory) }
+        ensures refused { IsOkUnless result Refused.NoMemory }
         ensures unchanged { OnErr result (IsUnchanged self.old self.new) }
     {
         self.roots.reserve(1)?;

@@ -1,7 +1,7 @@
 //! The inverse of a call's flow.
-ghost use Rattle.std.specs.Prelude.{◌≡◌, [], None, Some, map};
-ghost use Rattle.ide_graph.specs.Supergraph.{Supergraph};
-ghost use Rattle.ide_tasks.specs.Sources.{fact_and_function, sources_over_call};
+ghost use Rattle.std.specs.Prelude.{◌≡◌, [], None};
+ghost use Rattle.ide_tasks.specs.Sources.{ReachOver};
+ghost use Rattle.ide_steps.specs.Core.{WhereLoaded};
 
 use crate::machine::Core;
 use ide_problem::Problem;
@@ -14,7 +14,7 @@ impl<P: Problem> Core<P> {
     /// flow. There are none where the node is no call of a procedure that begins at `start`, or no
     /// program is loaded. They are lent: it takes logarithmic time and no memory.
     pub fn sources(&self, call: Node, start: Node, fact: Fact) -> &[Source<P::F>]
-        ensures exact { (graph : Supergraph) → self.now.graph ≡ Some graph → map fact_and_function result.now ≡ sources_over_call P.targets graph call start fact }
+        ensures exact { WhereLoaded self.now (λ graph. ReachOver P.targets graph call start fact result.now) }
         ensures none { self.now.graph ≡ None → result.now ≡ [] }
     {
         match &self.loaded {

@@ -1,12 +1,14 @@
 -- What a table says in contracts: the function of each present key.
-use Rattle.std.specs.Prelude.{◌≡◌, ℕ, ◌+◌, ◌<◌, ◌≤◌, ◌^◌, Bool, true, false, ◌&&◌, nat_eq, length, List, [], ◌∷◌, Option, None, Some, if◌then◌else◌}
-use Rattle.std.specs.List.{AllByRecursion, list_any, slice_index_or}
+use Rattle.std.specs.Prelude.{◌≡◌, ℕ, ◌+◌, ◌<◌, ◌≤◌, ◌^◌, Bool, true, false, ◌&&◌, filter, nat_eq, length, List, [], ◌∷◌, Option, None, Some, if◌then◌else◌}
+use Rattle.std.specs.List.{AllByRecursion, filter_map, list_any, slice_index_or}
 use Rattle.std.specs.List.Sorted.{IsStrictlySortedBy}
 use Rattle.std.specs.Map.{lookup, keys_of}
 use Rattle.std.specs.BTreeMap.{is_at}
+use Rattle.std.specs.BTreeMap.Range.{range_contains}
 use Rattle.std.specs.Option.{is_some, option_map}
 use Rattle.std.specs.Ordering.{nat_cmp}
 use Rattle.std.specs.declared.cmp.Ordering.{Ordering}
+use Rattle.std.specs.declared.ops.Bound.TheVariants.{Included}
 use Rattle.ide_lattice.specs.Algebra.{EdgeAlgebra}
 use Rattle.ide_wire.specs.declared.key.Key.{Key}
 use Rattle.ide_wire.specs.declared.key.Key.TheVariants.{Jump, Summary}
@@ -65,11 +67,27 @@ module _ {F L : Type 0} (edge : EdgeAlgebra F L) where
     pub less : edge.rank new < edge.rank old
     pub most : edge.rank old ≤ edge.height
 
+  -- the key's function falls where it is lowered by f
+  abbrev pub FallsAt : Table F → Key → F → Type 0
+  FallsAt table key f = Falls (function_at table key) (lowered_by table key f)
+
+-- whether the key's function, lowered by f, is what it was
+abbrev pub is_kept : {F L : Type 0} → (F → F → Bool) → EdgeAlgebra F L → Table F → Key → F → Bool
+is_kept eq edge table key f = eq (lowered_by edge table key f) (function_at edge table key)
+
 -- the partners, ascending by fact, are the present ones of the keys `at` a fact
 pub record ArePartners {F : Type 0} (at : ℕ → Key) (table : Table F) (partners : List (ℕ × F)) : Type 0 where
   pub ascending : IsStrictlySortedBy nat_cmp (keys_of partners)
   pub within : AllByRecursion (λ d. d < 2 ^ 16) (keys_of partners)
   pub exact : (d : ℕ) → d < 2 ^ 16 → lookup (is_at (nat_cmp d)) partners ≡ found table (at d)
+
+-- they are those of the jumps at the node to the fact
+abbrev pub AreJumpsTo : {F : Type 0} → ℕ → ℕ → Table F → List (ℕ × F) → Type 0
+AreJumpsTo node fact table partners = ArePartners (λ d. Jump node d fact) table partners
+
+-- they are those of the summaries at the node from the fact
+abbrev pub AreSummariesFrom : {F : Type 0} → ℕ → ℕ → Table F → List (ℕ × F) → Type 0
+AreSummariesFrom node fact table partners = ArePartners (Summary node fact) table partners
 
 -- the place of a key in the index: a jump's facts change places, so that the jumps to one fact stand side by side
 abbrev pub place_of : Key → Key
@@ -84,6 +102,10 @@ listed_fact (Summary n a b) = b
 -- the fact that a place lists, with the function of its key, if that is present
 abbrev pub partner_of : {F : Type 0} → List (Key × F) → Key → Option (ℕ × F)
 partner_of entries place = option_map (λ f. (listed_fact place, f)) (lookup (same_key (place_of place)) entries)
+
+-- the facts that the places from the first to the last list, with the functions of their keys
+abbrev pub partners_from : {F : Type 0} → (Key → Key → Ordering) → List (Key × F) → Key → Key → List Key → List (ℕ × F)
+partners_from cmp entries from to places = filter_map (partner_of entries) (filter (range_contains cmp (Included from) (Included to)) places)
 
 -- whether the key is of a jump at the node to the fact
 abbrev pub is_jump_to : ℕ → ℕ → Key → Bool

@@ -2,13 +2,12 @@
 //!
 //! A key's place is the key itself, but that a jump's facts change places: so the jumps to one
 //! fact at a node, and the summaries from one fact at a call, stand side by side.
-ghost use Rattle.std.specs.Prelude.{◌≡◌, true, false, filter, IfOk, OnOk};
+ghost use Rattle.std.specs.Prelude.{◌≡◌, true, false, IfOk, OnOk};
 ghost use Rattle.std.specs.Map.{keys_of};
-ghost use Rattle.std.specs.BTreeMap.Range.{IsLeBy, range_contains};
-ghost use Rattle.std.specs.List.{filter_map, slice_index_or};
+ghost use Rattle.std.specs.BTreeMap.Range.{IsLeBy};
+ghost use Rattle.std.specs.List.{slice_index_or};
 ghost use Rattle.std.specs.List.Sorted.{IsStrictlySortedBy};
-ghost use Rattle.std.specs.declared.ops.Bound.TheVariants.{Included};
-ghost use Rattle.ide_tables.specs.Tables.{place_of, listed_fact, partner_of, is_jump_to, is_noted, has_place, AreJumpsPlaced, KeepsPlaces, NotesAll};
+ghost use Rattle.ide_tables.specs.Tables.{place_of, listed_fact, partner_of, partners_from, is_jump_to, is_noted, has_place, AreJumpsPlaced, KeepsPlaces, NotesAll};
 
 use ide_lattice::EdgeFn;
 use ide_wire::{Fact, Key, Node};
@@ -137,7 +136,7 @@ pub(crate) fn partners<F: EdgeFn>(
     last: Key,
 ) -> Result<Vec<(Fact, F)>, AllocError>
     requires { IsLeBy ⟦<Key as Ord>⟧.cmp first last }
-    ensures partners { IfOk result (λ list. list.items ≡ filter_map (partner_of functions.now.entries) (filter (range_contains ⟦<Key as Ord>⟧.cmp (Included first) (Included last)) places.now.keys)) }
+    ensures partners { IfOk result (λ list. list.items ≡ partners_from ⟦<Key as Ord>⟧.cmp functions.now.entries first last places.now.keys) }
     ensures ordered { IsStrictlySortedBy ⟦<Key as Ord>⟧.cmp places.now.keys }
 {
     places

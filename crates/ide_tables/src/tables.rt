@@ -1,5 +1,5 @@
 //! The map from keys to functions.
-ghost use Rattle.std.specs.Prelude.{◌≡◌, ℕ, ◌+◌, ◌<◌, ◌≤◌, ◌^◌, [], true, false, length, slice_get, if◌then◌else◌, ◌↔◌, None, IfSome, IfOk, IfErr, OnOk, OnErr};
+ghost use Rattle.std.specs.Prelude.{◌≡◌, ℕ, ◌+◌, ◌<◌, ◌≤◌, ◌^◌, [], true, false, length, slice_get, if◌then◌else◌, ◌↔◌, None, IfSome, IfOk, OnOk, OnErr, IsOkUnless};
 ghost use Rattle.std.specs.List.{IsDistinct};
 ghost use Rattle.std.specs.Map.{keys_of};
 ghost use Rattle.ide_wire.specs.declared.refused.Refused.TheVariants.{NoMemory};
@@ -8,7 +8,7 @@ ghost use Rattle.ide_wire.specs.declared.key.Key.{Key};
 ghost use Rattle.ide_wire.specs.Key.{same_key};
 ghost use Rattle.ide_wire.specs.KeyOrder.{key_cmp};
 ghost use Rattle.ide_tables.specs.Spent.{Spends, spent};
-ghost use Rattle.ide_tables.specs.Tables.{Table, Falls, IsIndex, AreJumpsPlaced, AreKeys, ArePartners, found, function_at, lowered_by, CountsKey, Sets, SetsAll, Lowers};
+ghost use Rattle.ide_tables.specs.Tables.{Table, FallsAt, IsIndex, AreJumpsPlaced, AreJumpsTo, AreKeys, AreSummariesFrom, found, function_at, is_kept, CountsKey, Sets, SetsAll, Lowers};
 
 use crate::index;
 use ide_lattice::EdgeFn;
@@ -96,7 +96,7 @@ impl<F: EdgeFn> Tables<F> {
     /// The present keys, ascending: jumps before summaries, then by node and facts.
     pub fn keys(&self, alloc: Global) -> Result<Vec<Key>, Refused>
         ensures keys { IfOk result (λ keys. AreKeys key_cmp self.now keys.items) }
-        ensures refused { IfErr result (λ e. e ≡ NoMemory) }
+        ensures refused { IsOkUnless result NoMemory }
     {
         let mut keys = keys_of(alloc, &self.functions)?;
         keys.sort_unstable();
@@ -107,8 +107,8 @@ impl<F: EdgeFn> Tables<F> {
     /// and its function, ascending by fact. They are read from the index, if the node is watched;
     /// else each present key is looked at, and those that are found are sorted.
     pub fn jumps_at(&self, alloc: Global, call: Node, fact: Fact) -> Result<Vec<(Fact, F)>, Refused>
-        ensures partners { IfOk result (λ list. ArePartners (λ d. Key.Jump call d fact) self.now list.items) }
-        ensures refused { IfErr result (λ e. e ≡ NoMemory) }
+        ensures partners { IfOk result (λ list. AreJumpsTo call fact self.now list.items) }
+        ensures refused { IsOkUnless result NoMemory }
     {
         if index::is_watched(&self.watched, call as usize) {
             let partners = jumps_in(alloc, &self.functions, &self.places, call, fact)?;
@@ -127,8 +127,8 @@ impl<F: EdgeFn> Tables<F> {
         call: Node,
         fact: Fact,
     ) -> Result<Vec<(Fact, F)>, Refused>
-        ensures partners { IfOk result (λ list. ArePartners (Key.Summary call fact) self.now list.items) }
-        ensures refused { IfErr result (λ e. e ≡ NoMemory) }
+        ensures partners { IfOk result (λ list. AreSummariesFrom call fact self.now list.items) }
+        ensures refused { IsOkUnless result NoMemory }
     {
         let first = Key::Summary(call, fact, 0);
         let last = Key::Summary(call, fact, Fact::MAX);
@@ -139,7 +139,7 @@ impl<F: EdgeFn> Tables<F> {
     /// A table with the same entries, in the same order. It watches the same nodes.
     pub fn copy(&self, alloc: Global) -> Result<Tables<F>, Refused>
         ensures ok { IfOk result (λ copy. copy ≡ self.now) }
-        ensures refused { IfErr result (λ e. e ≡ NoMemory) }
+        ensures refused { IsOkUnless result NoMemory }
     {
         let functions = copied(alloc, &self.functions)?;
         let watched = self.watched.to_vec(alloc)?;
@@ -155,14 +155,14 @@ impl<F: EdgeFn> Tables<F> {
     /// table as it was. One look-up, where nothing changes.
     pub fn lower(&mut self, key: Key, f: F) -> Result<Change, Refused>
         ensures lowered { result ≡ Ok Change.Lowered → Lowers F.edge self.old self.new key f }
-        ensures changes { result ≡ Ok Change.Lowered → F.eq (lowered_by F.edge self.old key f) (function_at F.edge self.old key) ≡ false }
-        ensures falls { result ≡ Ok Change.Lowered → Falls F.edge (function_at F.edge self.old key) (lowered_by F.edge self.old key f) }
+        ensures changes { result ≡ Ok Change.Lowered → is_kept F.eq F.edge self.old key f ≡ false }
+        ensures falls { result ≡ Ok Change.Lowered → FallsAt F.edge self.old key f }
         ensures same { result ≡ Ok Change.Same → self.new ≡ self.old }
-        ensures met { result ≡ Ok Change.Same → F.eq (lowered_by F.edge self.old key f) (function_at F.edge self.old key) ≡ true }
+        ensures met { result ≡ Ok Change.Same → is_kept F.eq F.edge self.old key f ≡ true }
         ensures spent { result ≡ Ok Change.Lowered → spent F.edge self.old.entries < spent F.edge self.new.entries }
         ensures few { result ≡ Ok Change.Lowered → length self.new.entries < 2 ^ 64 }
         ensures err { OnErr result (self.new ≡ self.old) }
-        ensures refused { IfErr result (λ e. e ≡ NoMemory) }
+        ensures refused { IsOkUnless result NoMemory }
     {
         let old = self.function(key);
         let new = fallen(old, f);
@@ -180,7 +180,7 @@ impl<F: EdgeFn> Tables<F> {
         ensures count { OnOk result (CountsKey self.old self.new key) }
         ensures few { OnOk result (length self.new.entries < 2 ^ 64) }
         ensures err { OnErr result (self.new ≡ self.old) }
-        ensures refused { IfErr result (λ e. e ≡ NoMemory) }
+        ensures refused { IsOkUnless result NoMemory }
     {
         self.functions.reserve(1)?;
         index::note(&mut self.places, &self.watched, key)?;
@@ -193,7 +193,7 @@ impl<F: EdgeFn> Tables<F> {
     pub fn set_all(&mut self, entries: &[(Key, F)]) -> Result<(), Refused>
         ensures sets { OnOk result (SetsAll self.old self.new entries.now) }
         ensures err { OnErr result (self.new ≡ self.old) }
-        ensures refused { IfErr result (λ e. e ≡ NoMemory) }
+        ensures refused { IsOkUnless result NoMemory }
     {
         self.functions.reserve(entries.len())?;
         index::note_all(&mut self.places, &self.watched, entries)?;
@@ -211,7 +211,7 @@ fn jumps_in<F: EdgeFn>(
     fact: Fact,
 ) -> Result<Vec<(Fact, F)>, AllocError>
     requires { AreJumpsPlaced ⟦<Key as Ord>⟧.cmp functions.now.entries places.now.keys node fact }
-    ensures { IfOk result (λ list. ArePartners (λ d. Key.Jump node d fact) (record { entries = functions.now.entries }) list.items) }
+    ensures { IfOk result (λ list. AreJumpsTo node fact (record { entries = functions.now.entries }) list.items) }
 {
     let first = Key::Jump(node, fact, 0);
     let last = Key::Jump(node, fact, Fact::MAX);

@@ -42,13 +42,16 @@ module _ {F L : Type 0} (targets : Targets F) (B : EdgeAlgebra F L) where
   exit_parts to function source None = []
   exit_parts to function source (Some caller) = summary_parts to function source caller
 
+  -- over a procedure, to each caller that its start is reached from
+  abbrev pub returned_parts : ℕ → F → List Caller → List (Reaching F) → List (Key × F)
+  returned_parts to function callers reaching = flat_map (λ source. exit_parts to function source (slice_get callers source.caller)) reaching
+
   -- what a key owes at a site with those partners
   abbrev pub parts_at : Key → F → Site → Partners F → List (Key × F)
   parts_at (Jump n from to) function (Normal edges) partners = flat_map (flat_parts from to function) edges
   parts_at (Jump n from to) function (Call calls along) (Entries summaries) =
       flat_map (seed_parts to) calls ++ flat_parts from to function along ++ after_parts along.end from function summaries
-  parts_at (Jump n from to) function (Exit start callers) (Callers reaching) =
-      flat_map (λ source. exit_parts to function source (slice_get callers source.caller)) reaching
+  parts_at (Jump n from to) function (Exit start callers) (Callers reaching) = returned_parts to function callers reaching
   parts_at (Summary c from to) summary (Call calls along) (Entries jumps) = resumed_parts along.end to summary jumps
   parts_at key function site partners = []
 

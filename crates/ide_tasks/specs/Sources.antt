@@ -1,10 +1,13 @@
 -- The inverse of call flow: which facts at callers reach a fact at a procedure's start.
-use Rattle.std.specs.Prelude.{◌≡◌, ℕ, ◌+◌, ◌<◌, length, List, [], ◌∷◌, ◌++◌, Option, None, Some, map, filter, nat_eq, slice_get, slice_index, slice_index_or}
+use Rattle.std.specs.Prelude.{◌≡◌, ◌≢◌, ℕ, ◌+◌, ◌<◌, length, List, [], ◌∷◌, ◌++◌, Option, None, Some, map, filter, nat_eq, slice_get, slice_index, slice_index_or}
 use Rattle.std.specs.List.{All, flat_map, range_with_len}
 use Rattle.std.specs.List.Sorted.{IsNonDecreasingBy}
 use Rattle.ide_problem.specs.Flow.{Targets}
 use Rattle.ide_graph.specs.Exits.{HasFewCallers}
+use Rattle.ide_graph.specs.GraphOf.{IsGraphOf}
+use Rattle.ide_graph.specs.ProgramEdges.{HasEdgesOf}
 use Rattle.ide_graph.specs.Supergraph.{Supergraph}
+use Rattle.ide_text.specs.declared.program.Program.{Program}
 use Rattle.ide_graph.specs.declared.edge.EdgeData.{EdgeData}
 use Rattle.ide_graph.specs.declared.site.Caller.{Caller}
 use Rattle.ide_graph.specs.declared.site.Site.{Site}
@@ -38,9 +41,17 @@ sources_at targets facts (Exit start callers) = sources_from targets facts 0 cal
 abbrev pub reaching_of : {F : Type 0} → ℕ → List (Source F) → List (Reaching F)
 reaching_of fact sources = map (λ source. source.from) (filter (λ source. nat_eq source.reached fact) sources)
 
+-- the sources ascend by the fact reached
+abbrev pub Ascends : {F : Type 0} → List (Source F) → Type 0
+Ascends sources = IsNonDecreasingBy (λ source. source.reached) sources
+
 -- the sources of each procedure ascend by the fact reached
 abbrev pub AreAscending : {F : Type 0} → List (List (Source F)) → Type 0
 AreAscending procedures = All (IsNonDecreasingBy (λ source. source.reached)) procedures
+
+-- they are for each fact what reaches it by the site of the exit
+abbrev pub AreSourcesAt : {F : Type 0} → Targets F → ℕ → Site → List (Source F) → Type 0
+AreSourcesAt targets facts site sources = (fact : ℕ) → reaching_of fact sources ≡ reaching_of fact (sources_at targets facts site)
 
 -- the sources of each procedure of the graph: for each fact, what reaches it by the site of the exit
 pub record AreSourcesOf {F : Type 0} (targets : Targets F) (graph : Supergraph) (procedures : List (List (Source F))) : Type 0 where
@@ -72,3 +83,28 @@ sources_over_site targets facts start reached (Some (Exit begin callers)) = []
 -- what reaches the fact at the start over the call at the node
 abbrev pub sources_over_call : {F : Type 0} → Targets F → Supergraph → ℕ → ℕ → ℕ → List (ℕ × F)
 sources_over_call targets graph call start reached = sources_over_site targets graph.facts start reached (slice_get graph.sites call)
+
+-- the list, as pairs of fact and function, is what reaches the fact at the start over the call at the node
+abbrev pub ReachOver : {F : Type 0} → Targets F → Supergraph → ℕ → ℕ → ℕ → List (Source F) → Type 0
+ReachOver targets graph call start reached list = map fact_and_function list ≡ sources_over_call targets graph call start reached
+
+-- P holds, where the graph is of a program, and the sources are those of the graph
+abbrev pub ForSources : {F : Type 0} → Targets F → Supergraph → List (List (Source F)) → Type 0 → Type 0
+ForSources targets graph sources P = (p : Program) → IsGraphOf p graph → HasEdgesOf p graph → AreSourcesOf targets graph sources → P
+
+-- the call at that index is the one at the node
+abbrev pub IsCallAmong : List Caller → ℕ → ℕ → Type 0
+IsCallAmong callers call index = (caller : Caller) × (slice_get callers index ≡ Some caller) × (caller.call_node ≡ call)
+
+-- no call is the one at the node, where they ascend by their nodes
+abbrev pub IsNoCallAmong : List Caller → ℕ → Type 0
+IsNoCallAmong callers call = IsNonDecreasingBy (λ caller. caller.call_node) callers → All (λ caller. caller.call_node ≢ call) callers
+
+-- at that index the exit of the procedure that begins at the start has the call at the node
+abbrev pub IsCallerAt : Site → ℕ → ℕ → ℕ → Type 0
+IsCallerAt exit call start index =
+    (callers : List Caller) × (caller : Caller) × (exit ≡ Exit start callers) × (slice_get callers index ≡ Some caller) × (caller.call_node ≡ call)
+
+-- it has no such call, where its callers ascend by their nodes
+abbrev pub HasNoCaller : Site → ℕ → ℕ → Type 0
+HasNoCaller exit call start = (callers : List Caller) → exit ≡ Exit start callers → IsNoCallAmong callers call

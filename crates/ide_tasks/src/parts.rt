@@ -1,7 +1,7 @@
 //! The parts that a task owes: by edge in the site's order, then by partner, then by target.
-ghost use Rattle.std.specs.Prelude.{◌≡◌, ◌++◌, IfOk, OnOk, map, slice_get};
+ghost use Rattle.std.specs.Prelude.{◌≡◌, ◌++◌, IfOk, OnOk, map};
 ghost use Rattle.std.specs.List.{flat_map};
-ghost use Rattle.ide_tasks.specs.Parts.{owed, parts_at, flat_parts, seed_parts, after_parts, resumed_parts, summary_parts, exit_parts};
+ghost use Rattle.ide_tasks.specs.Parts.{owed, parts_at, flat_parts, seed_parts, after_parts, resumed_parts, summary_parts, returned_parts};
 
 use crate::partners::{Partners, Reaching};
 use crate::task::Task;
@@ -144,7 +144,7 @@ impl<P: Problem> Parts<P> {
         function: P::F,
         to: Fact,
     ) -> Result<(), AllocError>
-        ensures { OnOk result (self.new.list.items ≡ self.old.list.items ++ flat_map (λ source. exit_parts P.targets P.F.edge to function source (slice_get callers.now source.caller)) reaching.now) }
+        ensures { OnOk result (self.new.list.items ≡ self.old.list.items ++ returned_parts P.targets P.F.edge to function callers.now reaching.now) }
     {
         let mut current = None;
         for source in reaching {

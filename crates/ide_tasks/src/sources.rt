@@ -1,12 +1,8 @@
 //! The inverse of call flow.
-ghost use Rattle.std.specs.Prelude.{◌≡◌, ◌≢◌, ℕ, ◌≤◌, ◌^◌, List, [], ◌++◌, Some, IfNone, IfOk, IfSome, OnOk, filter, length, map, nat_eq, slice_get, slice_index_or};
-ghost use Rattle.std.specs.List.{All};
+ghost use Rattle.std.specs.Prelude.{◌≡◌, ◌≤◌, ◌^◌, [], ◌++◌, IfNone, IfOk, IfSome, OnOk, filter, length, map, nat_eq, slice_index_or};
 ghost use Rattle.std.specs.List.Sorted.{IsNonDecreasingBy};
 ghost use Rattle.ide_graph.specs.Exits.{HasFewCallers};
-ghost use Rattle.ide_graph.specs.GraphOf.{IsGraphOf};
-ghost use Rattle.ide_graph.specs.ProgramEdges.{HasEdgesOf};
-ghost use Rattle.ide_tasks.specs.Sources.{AreAscending, AreSourcesOf, fact_and_function, reaching_of, source_of, sources_at, sources_over, sources_over_call, sources_from};
-ghost use Rattle.ide_text.specs.declared.program.Program.{Program};
+ghost use Rattle.ide_tasks.specs.Sources.{AreAscending, AreSourcesAt, AreSourcesOf, Ascends, ForSources, HasNoCaller, IsCallAmong, IsCallerAt, IsNoCallAmong, ReachOver, reaching_of, source_of, sources_at, sources_over, sources_from};
 
 use crate::partners::Reaching;
 use ide_graph::{
@@ -81,7 +77,7 @@ impl<P: Problem> Sources<P> {
     /// edge. Nothing does where the node is no call of a procedure that begins at `start`. It takes
     /// logarithmic time and no memory.
     pub fn over_call(&self, graph: &Graph, call: Node, start: Node, fact: Fact) -> &[Source<P::F>]
-        ensures { (p : Program) → IsGraphOf p graph.now → HasEdgesOf p graph.now → AreSourcesOf P.targets graph.now self.now → map fact_and_function result.now ≡ sources_over_call P.targets graph.now call start fact }
+        ensures { ForSources P.targets graph.now self.now (ReachOver P.targets graph.now call start fact result.now) }
     {
         sites_of_programs_are_joined();
         graphs_of_programs_are_closed();
@@ -102,8 +98,8 @@ impl<P: Problem> Sources<P> {
 /// The index of the call at that node among the callers of the procedure that begins at `start` and
 /// has that site at its exit.
 fn caller_at(exit: &Site, call: Node, start: Node) -> Option<usize>
-    ensures found { IfSome result (λ index. (callers : List Caller) × (caller : Caller) × (exit.now ≡ Site.Exit start callers) × (slice_get callers index ≡ Some caller) × (caller.call_node ≡ call)) }
-    ensures none { IfNone result ((callers : List Caller) → exit.now ≡ Site.Exit start callers → IsNonDecreasingBy (λ caller. caller.call_node) callers → All (λ caller. caller.call_node ≢ call) callers) }
+    ensures found { IfSome result (IsCallerAt exit.now call start) }
+    ensures none { IfNone result (HasNoCaller exit.now call start) }
 {
     match exit {
         Site::Exit {
@@ -116,8 +112,8 @@ fn caller_at(exit: &Site, call: Node, start: Node) -> Option<usize>
 
 /// The index of the caller at that call node, where callers ascend by it.
 fn place_of(callers: &[Caller], call: Node) -> Option<usize>
-    ensures found { IfSome result (λ index. (caller : Caller) × (slice_get callers.now index ≡ Some caller) × (caller.call_node ≡ call)) }
-    ensures none { IfNone result (IsNonDecreasingBy (λ caller. caller.call_node) callers.now → All (λ caller. caller.call_node ≢ call) callers.now) }
+    ensures found { IfSome result (IsCallAmong callers.now call) }
+    ensures none { IfNone result (IsNoCallAmong callers.now call) }
 {
     let place = callers.partition_point(|caller| caller.call_node < call);
     match callers.get(place) {
@@ -128,7 +124,7 @@ fn place_of(callers: &[Caller], call: Node) -> Option<usize>
 
 /// Those of the sources that reach the fact: where they ascend by it, these stand together.
 fn of_fact<F: EdgeFn>(sources: &[Source<F>], fact: Fact) -> &[Source<F>]
-    ensures { IsNonDecreasingBy (λ source. source.reached) sources.now → result.now ≡ filter (λ source. nat_eq source.reached fact) sources.now }
+    ensures { Ascends sources.now → result.now ≡ filter (λ source. nat_eq source.reached fact) sources.now }
 {
     let first = sources.partition_point(|source| source.reached < fact);
     let rest = &sources[first..];
@@ -152,7 +148,7 @@ fn reaching_in<F: EdgeFn>(
     sources: &[Source<F>],
     fact: Fact,
 ) -> Result<Vec<Reaching<F>>, AllocError>
-    ensures { IsNonDecreasingBy (λ source. source.reached) sources.now → IfOk result (λ reaching. reaching.items ≡ reaching_of fact sources.now) }
+    ensures { Ascends sources.now → IfOk result (λ reaching. reaching.items ≡ reaching_of fact sources.now) }
 {
     origins(alloc, of_fact(sources, fact))
 }
@@ -187,8 +183,8 @@ fn sources_at<P: Problem>(
     graph: &Graph,
     site: &Site,
 ) -> Result<Vec<Source<P::F>>, AllocError>
-    ensures ascending { IfOk result (λ sources. IsNonDecreasingBy (λ source. source.reached) sources.items) }
-    ensures exact { HasFewCallers site.now → IfOk result (λ sources. (fact : ℕ) → reaching_of fact sources.items ≡ reaching_of fact (sources_at P.targets graph.now.facts site.now)) }
+    ensures ascending { IfOk result (λ sources. Ascends sources.items) }
+    ensures exact { HasFewCallers site.now → IfOk result (λ sources. AreSourcesAt P.targets graph.now.facts site.now sources.items) }
 {
     let mut sources = unsorted_sources_at::<P>(alloc, graph, site)?;
     sources.sort_by_key(|source| source.reached)?;

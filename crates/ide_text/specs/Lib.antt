@@ -15,6 +15,7 @@ pub mod Program
 pub mod Reader
 pub mod Refusal
 pub mod Scope
+pub mod Spelled
 pub mod Text
 pub mod Token
 pub mod Value

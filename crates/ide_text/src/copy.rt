@@ -1,5 +1,5 @@
 //! Copies of programs.
-ghost use Rattle.std.specs.Prelude.{◌≡◌, map, IfOk, IfErr};
+ghost use Rattle.std.specs.Prelude.{◌≡◌, map, IfOk, IsOkUnless};
 ghost use Rattle.ide_text.specs.Value.{value_of_statement, value_of_procedure};
 
 use crate::name::Name;
@@ -13,7 +13,7 @@ impl Program {
     /// The same program again, or [`Refused::NoMemory`].
     pub fn copy(&self, alloc: Global) -> Result<Program, Refused>
         ensures value { IfOk result (λ copy. value_of copy ≡ value_of self.now) }
-        ensures no_memory { IfErr result (λ refused. refused ≡ Refused.NoMemory) }
+        ensures no_memory { IsOkUnless result Refused.NoMemory }
     {
         let globals = copy_names(alloc, self.globals())?;
         let procedures = copy_procedures(alloc, self.procedures())?;

@@ -2,8 +2,9 @@
 ghost use Rattle.std.specs.Prelude.{ℕ, ◌≡◌, ◌≢◌, List, ◌∷◌, ◌++◌, MatchOption, IfSome, IfNone, IfOk, IfErr};
 ghost use Rattle.ide_text.specs.Flaw.{IsNoLine};
 ghost use Rattle.ide_text.specs.Grammar.{IsLine};
+ghost use Rattle.ide_text.specs.Spelled.{Spell, SpellNone};
 ghost use Rattle.ide_text.specs.Text.{line_text};
-ghost use Rattle.ide_text.specs.Token.{HasOneCallee, HasOneCalleeOnLine, IsStep, Tokenizes, expression_tokens, line_tokens, name_tokens, statement_tokens, target_tokens};
+ghost use Rattle.ide_text.specs.Token.{HasOneCalleeOnLine, IsStep, Tokenizes, expression_tokens, line_tokens, name_tokens, statement_tokens, target_tokens};
 
 use crate::cut::cut;
 use crate::flaw::Flaw;
@@ -90,8 +91,8 @@ fn names(alloc: Global, tokens: &[Token]) -> Result<Vec<Name>, Flaw>
 
 /// The statement of these tokens.
 fn statement(alloc: Global, tokens: &[Token]) -> Result<Statement, Flaw>
-    ensures found { IfOk result (λ statement. (statement_tokens statement ≡ tokens.now) × HasOneCallee statement) }
-    ensures none { IfErr result (IsNoLine ((statement : Statement) → HasOneCallee statement → statement_tokens statement ≢ tokens.now)) }
+    ensures found { IfOk result (Spell tokens.now) }
+    ensures none { IfErr result (SpellNone tokens.now) }
 {
     match tokens {
         [Token::Call, called @ ..] => call(alloc, None, called),
@@ -102,8 +103,8 @@ fn statement(alloc: Global, tokens: &[Token]) -> Result<Statement, Flaw>
 
 /// The statement that gives this variable a value, which these tokens spell.
 fn assignment(alloc: Global, target: &Name, value: &[Token]) -> Result<Statement, Flaw>
-    ensures found { IfOk result (λ statement. (statement_tokens statement ≡ Token.Name target.now ∷ Token.Equals ∷ value.now) × HasOneCallee statement) }
-    ensures none { IfErr result (IsNoLine ((statement : Statement) → HasOneCallee statement → statement_tokens statement ≢ Token.Name target.now ∷ Token.Equals ∷ value.now)) }
+    ensures found { IfOk result (Spell (Token.Name target.now ∷ Token.Equals ∷ value.now)) }
+    ensures none { IfErr result (SpellNone (Token.Name target.now ∷ Token.Equals ∷ value.now)) }
 {
     match value {
         [Token::Call, called @ ..] => call(alloc, Some(target.copy()), called),
@@ -116,8 +117,8 @@ fn assignment(alloc: Global, target: &Name, value: &[Token]) -> Result<Statement
 
 /// The call of these tokens, which stand after the word `call`.
 fn call(alloc: Global, target: Option<Name>, called: &[Token]) -> Result<Statement, Flaw>
-    ensures found { IfOk result (λ call. (statement_tokens call ≡ target_tokens target ++ Token.Call ∷ called.now) × HasOneCallee call) }
-    ensures none { IfErr result (IsNoLine ((call : Statement) → HasOneCallee call → statement_tokens call ≢ target_tokens target ++ Token.Call ∷ called.now)) }
+    ensures found { IfOk result (Spell (target_tokens target ++ Token.Call ∷ called.now)) }
+    ensures none { IfErr result (SpellNone (target_tokens target ++ Token.Call ∷ called.now)) }
 {
     let [Token::Name(callee), arguments @ ..] = called else {
         return Err(Flaw::Faulty(Fault::NoSuchLine));
@@ -134,7 +135,7 @@ fn call(alloc: Global, target: Option<Name>, called: &[Token]) -> Result<Stateme
 
 /// The statement of these tokens where it is neither an assignment nor a call.
 fn step(tokens: &[Token]) -> Option<Statement>
-    ensures found { IfSome result (λ step. (statement_tokens step ≡ tokens.now) × HasOneCallee step) }
+    ensures found { IfSome result (Spell tokens.now) }
     ensures none { IfNone result ((step : Statement) → IsStep step → statement_tokens step ≢ tokens.now) }
 {
     match tokens {

@@ -1,5 +1,5 @@
 //! The printer: the one text of a program.
-ghost use Rattle.std.specs.Prelude.{◌≡◌, ◌++◌, OnOk, OnErr, IfErr, codes, decimal};
+ghost use Rattle.std.specs.Prelude.{◌≡◌, ◌++◌, OnOk, OnErr, codes, decimal, IsOkUnless};
 ghost use Rattle.ide_text.specs.Text.{Extends, names_text, expression_text, target_text, value_text, statement_text, locals_text, statements_text, procedure_text, globals_text};
 ghost use Rattle.ide_text.specs.Program.{text_of};
 
@@ -16,7 +16,7 @@ use std::alloc::AllocError;
 pub fn print(program: &Program, out: &mut Vec<u8>) -> Result<(), Refused>
     ensures text { OnOk result (out.new.items ≡ out.old.items ++ text_of program.now) }
     ensures unchanged { OnErr result (out.new.items ≡ out.old.items) }
-    ensures no_memory { IfErr result (λ refused. refused ≡ Refused.NoMemory) }
+    ensures no_memory { IsOkUnless result Refused.NoMemory }
 {
     let length = out.len();
     if append_program(program, out).is_err() {

@@ -4,8 +4,8 @@ ghost use Rattle.std.specs.List.{list_all};
 ghost use Rattle.ide_text.specs.declared.program.Statement.TheVariants.{At};
 ghost use Rattle.ide_text.specs.Names.{is_among, is_label, is_procedure, takes, IsFirstRepeated};
 ghost use Rattle.ide_text.specs.First.{LineChecked};
-ghost use Rattle.ide_text.specs.NameFault.{StatementFault, variables_of, variables_used, labels_used, callees_of, arguments_passed};
-ghost use Rattle.ide_text.specs.Scope.{variables_of_scope};
+ghost use Rattle.ide_text.specs.NameFault.{variables_of, variables_used, labels_used, callees_of, arguments_passed};
+ghost use Rattle.ide_text.specs.Scope.{FaultAt, variables_of_scope};
 
 use crate::name::Name;
 use crate::names::Names;
@@ -65,7 +65,7 @@ impl<'t, 'p> Scope<'t, 'p> {
 
     /// Checks the names of the statement at that place: the first of the faults of its line.
     pub(crate) fn check(&self, place: usize, statement: &Statement) -> Result<(), Fault>
-        ensures { LineChecked (StatementFault (variables_of_scope self.now) self.now.procedures.now (take place self.now.labels) self.now.labels statement.now) result }
+        ensures { LineChecked (FaultAt self.now place statement.now) result }
     {
         if self.repeats_label(place, statement) {
             return Err(Fault::DeclaredTwice);

@@ -1,8 +1,10 @@
 -- The values of an image: at each node and fact the meet of what the facts at the start give it.
-use Rattle.std.specs.Prelude.{◌≡◌, ℕ, ◌+◌, ◌*◌, ◌<◌, ◌&&◌, List, Option, Some, IsTrue, cond, nat_eq, slice_index_or, unwrap_or}
+use Rattle.std.specs.Prelude.{◌≡◌, ℕ, ◌+◌, ◌*◌, ◌<◌, ◌&&◌, List, Option, Some, IsTrue, cond, length, nat_eq, slice_index_or, unwrap_or}
+use Rattle.std.specs.List.{All}
 use Rattle.ide_graph.specs.Supergraph.{Supergraph}
 use Rattle.ide_lattice.specs.Algebra.{LatticeAlgebra, EdgeAlgebra}
 use Rattle.ide_lattice.specs.Meets.{meet_of}
+use Rattle.ide_tables.specs.Tables.{Table, found}
 use Rattle.ide_wire.specs.declared.key.Key.{Key}
 use Rattle.ide_wire.specs.declared.key.Key.TheVariants.{Jump, Summary}
 use Rattle.ide_theory.specs.Parts.{IsKeyInRange}
@@ -28,3 +30,15 @@ abbrev pub AreFilled : {F L : Type 0} → LatticeAlgebra L → EdgeAlgebra F L �
 AreFilled A B graph get starts values =
     (n d : ℕ) → n < graph.nodes → d < graph.facts
     → slice_index_or values (n * graph.facts + d) A.top ≡ value_from A B get (value_before A graph starts n) graph.facts n d
+
+-- over an image of the graph, where the starts are proper, the rows of values are filled from them
+abbrev pub Fills : {F L : Type 0} → LatticeAlgebra L → EdgeAlgebra F L → Supergraph → Table F → List L → List L → Type 0
+Fills A B graph table starts values =
+    IsImage B graph (found table) → All (λ v. IsTrue (A.proper v)) starts → AreFilled A B graph (found table) starts values
+
+-- each value is lowered by what the key's function gives it
+abbrev pub LowersBy : {F L : Type 0} → LatticeAlgebra L → EdgeAlgebra F L → Supergraph → List L → Key → F → List L → List L → Type 0
+LowersBy A B graph starts key f old new =
+    IsKeyInRange graph.facts key → length old ≡ graph.nodes * graph.facts → (n d : ℕ) → n < graph.nodes → d < graph.facts
+    → slice_index_or new (n * graph.facts + d) A.top
+    ≡ lowered A B (value_before A graph starts) n d (slice_index_or old (n * graph.facts + d) A.top) key f

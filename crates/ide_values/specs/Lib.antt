@@ -5,7 +5,9 @@ pub mod Closed
 pub mod Enter
 pub mod Falling
 pub mod Fill
+pub mod Frozen
 pub mod Pass
+pub mod Passing
 pub mod Refusal
 pub mod Settled
 pub mod Start

@@ -4,6 +4,10 @@ use Rattle.ide_graph.specs.Joined.{start_at}
 use Rattle.ide_graph.specs.Supergraph.{Supergraph}
 use Rattle.ide_lattice.specs.Algebra.{LatticeAlgebra}
 
+-- the value at a place of the rows: top past them
+abbrev pub at_place : {L : Type 0} → LatticeAlgebra L → List L → ℕ → L
+at_place A values place = slice_index_or values place A.top
+
 module _ {L : Type 0} (A : LatticeAlgebra L) (graph : Supergraph) (starts : List L) where
   -- the value of a fact at the start of the procedure with that index
   abbrev pub row_value : ℕ → ℕ → L

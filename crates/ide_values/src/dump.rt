@@ -1,8 +1,8 @@
 //! The dump: a line for each node and each fact that has a name there.
-ghost use Rattle.std.specs.Prelude.{◌≡◌, ◌<◌, ◌≤◌, ◌++◌, OnOk, OnErr, IfErr, replicate};
+ghost use Rattle.std.specs.Prelude.{◌≡◌, ◌<◌, ◌≤◌, ◌++◌, OnOk, OnErr, replicate, IsOkUnless};
 ghost use Rattle.ide_text.specs.Text.{Extends};
-ghost use Rattle.ide_values.specs.Dump.{columns_of, dump_of, left, line_of, lines_at, right};
-ghost use Rattle.ide_values.specs.Values.{value_of};
+ghost use Rattle.ide_values.specs.Dump.{columns_of, left, line_of, right};
+ghost use Rattle.ide_values.specs.Values.{dump_of_values, lines_of_values};
 
 use crate::values::Values;
 use ide_lattice::Lattice;
@@ -28,8 +28,8 @@ impl<P: Problem> Values<P> {
     ///
     /// Refusal: `NoMemory`, which leaves the vector with what it had.
     pub fn dump(&self, out: &mut Vec<u8>) -> Result<(), Refused>
-        ensures text { OnOk result (out.new.items ≡ out.old.items ++ dump_of self.now.graph (λ n d. P.L.shown (value_of P.L.algebra self.now n d))) }
-        ensures refused { IfErr result (λ e. e ≡ Refused.NoMemory) }
+        ensures text { OnOk result (out.new.items ≡ out.old.items ++ dump_of_values P.L.algebra P.L.shown self.now) }
+        ensures refused { IsOkUnless result Refused.NoMemory }
         ensures unchanged { OnErr result (out.new.items ≡ out.old.items) }
     {
         let length = out.len();
@@ -42,7 +42,7 @@ impl<P: Problem> Values<P> {
 
     /// Appends the lines of all nodes.
     fn append_nodes(&self, out: &mut Vec<u8>) -> Result<(), AllocError>
-        ensures text { OnOk result (out.new.items ≡ out.old.items ++ dump_of self.now.graph (λ n d. P.L.shown (value_of P.L.algebra self.now n d))) }
+        ensures text { OnOk result (out.new.items ≡ out.old.items ++ dump_of_values P.L.algebra P.L.shown self.now) }
         ensures extends { OnErr result (Extends out.old.items out.new.items) }
     {
         for index in 0..self.loaded.graph.node_count() {
@@ -54,7 +54,7 @@ impl<P: Problem> Values<P> {
     /// Appends the lines of a node.
     fn append_node(&self, node: Node, out: &mut Vec<u8>) -> Result<(), AllocError>
         requires { node < self.now.graph.nodes }
-        ensures text { OnOk result (out.new.items ≡ out.old.items ++ lines_at self.now.graph (λ n d. P.L.shown (value_of P.L.algebra self.now n d)) node) }
+        ensures text { OnOk result (out.new.items ≡ out.old.items ++ lines_of_values P.L.algebra P.L.shown self.now node) }
         ensures extends { OnErr result (Extends out.old.items out.new.items) }
     {
         for index in 0..self.loaded.graph.fact_count() {

@@ -1,10 +1,6 @@
 //! The fill: each jump function lowers the value where it ends.
-ghost use Rattle.std.specs.Prelude.{◌≡◌, ◌≢◌, ℕ, ◌+◌, ◌-◌, ◌*◌, ◌^◌, ◌<◌, min, IfOk, IsTrue, length, slice_index, slice_index_or};
-ghost use Rattle.std.specs.List.{All};
-ghost use Rattle.ide_tables.specs.Tables.{found};
-ghost use Rattle.ide_values.specs.Start.{value_before};
-ghost use Rattle.ide_values.specs.Fill.{AreFilled, IsImage, lowered};
-ghost use Rattle.ide_theory.specs.Parts.{IsKeyInRange};
+ghost use Rattle.std.specs.Prelude.{◌≡◌, ◌*◌, IfOk, length};
+ghost use Rattle.ide_values.specs.Fill.{Fills, LowersBy};
 
 use crate::rows::{lower, place_of, tops, value_before};
 use ide_graph::Graph;
@@ -20,7 +16,7 @@ pub fn fill<F: EdgeFn>(
     tables: &Tables<F>,
     starts: &[F::L],
 ) -> Result<Vec<F::L>, AllocError>
-    ensures filled { IfOk result (λ values. IsImage F.edge graph.now (found tables.now) → All (λ v. IsTrue (F.L.algebra.proper v)) starts.now → AreFilled F.L.algebra F.edge graph.now (found tables.now) starts.now values.items) }
+    ensures filled { IfOk result (λ values. Fills F.L.algebra F.edge graph.now tables.now starts.now values.items) }
     ensures count { IfOk result (λ values. length values.items ≡ graph.now.nodes * graph.now.facts) }
 {
     let mut values = tops(alloc, graph.node_count() * graph.fact_count())?;
@@ -35,7 +31,7 @@ pub fn fill<F: EdgeFn>(
 /// Lowers the value where the key ends by what its function makes of the value where it begins.
 fn lower_by<F: EdgeFn>(values: &mut [F::L], graph: &Graph, starts: &[F::L], key: Key, function: F)
     ensures count { length values.new ≡ length values.old }
-    ensures lowered { IsKeyInRange graph.now.facts key → length values.old ≡ graph.now.nodes * graph.now.facts → (n d : ℕ) → n < graph.now.nodes → d < graph.now.facts → slice_index_or values.new (n * graph.now.facts + d) F.L.algebra.top ≡ lowered F.L.algebra F.edge (value_before F.L.algebra graph.now starts.now) n d (slice_index_or values.old (n * graph.now.facts + d) F.L.algebra.top) key function }
+    ensures lowered { LowersBy F.L.algebra F.edge graph.now starts.now key function values.old values.new }
 {
     if let Key::Jump(node, from, to) = key {
         let start = value_before(graph, starts, node, from);

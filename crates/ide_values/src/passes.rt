@@ -3,7 +3,8 @@ ghost use Rattle.std.specs.Prelude.{◌≡◌, ◌<◌, ◌≤◌, ◌+◌, ℕ,
 ghost use Rattle.std.specs.List.{All, range_with_len};
 ghost use Rattle.ide_graph.specs.Edges.{EndsWithin};
 ghost use Rattle.ide_values.specs.Falling.{Falls};
-ghost use Rattle.ide_values.specs.Pass.{Goes, Passes, IsSteadyBy, IsSteadyOver, by_entry, calls_of, lowered_at, over_edge, to_target};
+ghost use Rattle.ide_values.specs.Pass.{calls_of, lowered_at};
+ghost use Rattle.ide_values.specs.Passing.{Marks, PassesAll, PassesOver, PassesTo};
 
 use crate::rows::{procedure_at, start_place, value_at_place, value_before};
 use ide_graph::{EdgeData, Graph, Site};
@@ -100,9 +101,8 @@ impl<P: Problem> Starts<P> {
     /// Meets the value at a place with another. A place whose value fell waits.
     fn lower(&mut self, place: usize, value: P::L) -> Result<(), AllocError>
         ensures lowered { OnOk result (self.new.values.items ≡ lowered_at P.L.algebra self.old.values.items place value) }
-        ensures same { OnOk result (self.new.has_fallen ≡ false → self.new.values.items ≡ self.old.values.items) }
-        ensures before { OnOk result (self.new.has_fallen ≡ false → self.old.has_fallen ≡ false) }
-        ensures falls { OnOk result (Falls P.L.algebra self.old.values.items self.new.values.items (length self.old.waiting.items) (length self.new.waiting.items) self.old.has_fallen self.new.has_fallen) }
+        ensures marks { OnOk result (Marks self.old self.new) }
+        ensures falls { OnOk result (Falls P.L.algebra self.old self.new) }
     {
         if place >= self.values.len() {
             return Ok(());
@@ -131,10 +131,9 @@ impl<P: Problem> Starts<P> {
     ) -> Result<(), AllocError>
         requires node { jump.now.node < graph.now.nodes }
         requires start { start < graph.now.nodes }
-        ensures passed { OnOk result (self.new.values.items ≡ to_target P.L.algebra P.F.edge graph.now jump.now.node jump.now.from jump.now.function start self.old.values.items (target, function)) }
-        ensures same { OnOk result (self.new.has_fallen ≡ false → self.new.values.items ≡ self.old.values.items) }
-        ensures before { OnOk result (self.new.has_fallen ≡ false → self.old.has_fallen ≡ false) }
-        ensures falls { OnOk result (Falls P.L.algebra self.old.values.items self.new.values.items (length self.old.waiting.items) (length self.new.waiting.items) self.old.has_fallen self.new.has_fallen) }
+        ensures passed { OnOk result (PassesTo P.L.algebra P.F.edge P.targets graph.now jump.now start (target, function) self.old self.new) }
+        ensures marks { OnOk result (Marks self.old self.new) }
+        ensures falls { OnOk result (Falls P.L.algebra self.old self.new) }
     {
         let value = value_before(graph, self.values.as_slice(), jump.node, jump.from);
         let place = start_place(graph, procedure_at(graph, start), target);
@@ -151,8 +150,8 @@ impl<P: Problem> Starts<P> {
     ) -> Result<(), AllocError>
         requires node { jump.now.node < graph.now.nodes }
         requires end { edge.now.end < graph.now.nodes }
-        ensures passes { OnOk result (Passes (to_target P.L.algebra P.F.edge graph.now jump.now.node jump.now.from jump.now.function edge.now.end) (λ values target. to_target P.L.algebra P.F.edge graph.now jump.now.node jump.now.from jump.now.function edge.now.end values target ≡ values) (P.targets edge.now jump.now.to) self.old.values.items self.new.values.items self.old.has_fallen self.new.has_fallen) }
-        ensures falls { OnOk result (Falls P.L.algebra self.old.values.items self.new.values.items (length self.old.waiting.items) (length self.new.waiting.items) self.old.has_fallen self.new.has_fallen) }
+        ensures passes { OnOk result (PassesOver P.L.algebra P.F.edge P.targets graph.now jump.now edge.now self.old self.new) }
+        ensures falls { OnOk result (Falls P.L.algebra self.old self.new) }
     {
         targets.clear();
         P::flow(edge, jump.to, targets)?;
@@ -172,8 +171,8 @@ impl<P: Problem> Starts<P> {
     ) -> Result<(), AllocError>
         requires node { jump.now.node < graph.now.nodes }
         requires ends { All (EndsWithin graph.now.nodes) edges.now }
-        ensures passes { OnOk result (Passes (over_edge P.L.algebra P.F.edge graph.now P.targets jump.now.node jump.now.from jump.now.to jump.now.function) (IsSteadyOver P.L.algebra P.F.edge graph.now P.targets jump.now.node jump.now.from jump.now.to jump.now.function) edges.now self.old.values.items self.new.values.items self.old.has_fallen self.new.has_fallen) }
-        ensures falls { OnOk result (Falls P.L.algebra self.old.values.items self.new.values.items (length self.old.waiting.items) (length self.new.waiting.items) self.old.has_fallen self.new.has_fallen) }
+        ensures passes { OnOk result (PassesAll P.L.algebra P.F.edge P.targets graph.now jump.now edges.now self.old self.new) }
+        ensures falls { OnOk result (Falls P.L.algebra self.old self.new) }
     {
         for edge in edges {
             self.pass_over(graph, jump, edge, targets)?;
@@ -184,7 +183,7 @@ impl<P: Problem> Starts<P> {
 
 /// The call edges at a node: none where it is no call node.
 pub(crate) fn calls_at(graph: &Graph, node: Node) -> &[EdgeData]
-    ensures calls { length graph.now.sites ≡ graph.now.nodes → result.now ≡ calls_of graph.now node }
+    ensures calls { result.now ≡ calls_of graph.now node }
     ensures ends { All (EndsWithin graph.now.nodes) result.now }
 {
     if node as usize >= graph.node_count() {

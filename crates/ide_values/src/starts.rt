@@ -1,8 +1,8 @@
 //! Start values: the value of each fact at each procedure's start.
 ghost use Rattle.std.specs.Prelude.{◌≡◌, ◌≤◌, OnOk, IfOk, false, length};
 ghost use Rattle.ide_values.specs.Falling.{Falls, ranks};
-ghost use Rattle.ide_values.specs.Pass.{Passes, IsSteadyBy, by_entry};
-ghost use Rattle.ide_values.specs.Settled.{AreStarts, ComesTo, IsSteady};
+ghost use Rattle.ide_values.specs.Passing.{Comes, PassesBy, PassesEach};
+ghost use Rattle.ide_values.specs.Settled.{AreStarts, IsSteady};
 
 use crate::enter::entered_rows;
 use crate::passes::{JumpAt, Starts, calls_at};
@@ -24,7 +24,7 @@ pub fn start_values<P: Problem>(
     tables: &Tables<P::F>,
     roots: &[usize],
 ) -> Result<Vec<P::L>, AllocError>
-    ensures { length graph.now.sites ≡ graph.now.nodes → IfOk result (λ starts. AreStarts P.L.algebra P.F.edge P.targets graph.now tables.now roots.now starts.items) }
+    ensures { IfOk result (λ starts. AreStarts P.L.algebra P.F.edge P.targets graph.now tables.now roots.now starts.items) }
 {
     let mut starts = Starts::<P>::of(alloc, entered_rows(alloc, graph, roots)?)?;
     starts.wait_where_entered()?;
@@ -48,8 +48,8 @@ impl<P: Problem> Starts<P> {
         graph: &Graph,
         tables: &Tables<P::F>,
     ) -> Result<(), AllocError>
-        ensures comes { length graph.now.sites ≡ graph.now.nodes → OnOk result (ComesTo P.L.algebra P.F.edge P.targets graph.now tables.now self.old.values.items self.new.values.items) }
-        ensures steady { length graph.now.sites ≡ graph.now.nodes → OnOk result (IsSteady P.L.algebra P.F.edge P.targets graph.now tables.now self.new.values.items) }
+        ensures comes { OnOk result (Comes P.L.algebra P.F.edge P.targets graph.now tables.now self.old self.new) }
+        ensures steady { OnOk result (IsSteady P.L.algebra P.F.edge P.targets graph.now tables.now self.new.values.items) }
     {
         let jumps = jumps_at_calls(alloc, graph, tables)?;
         let mut targets = TargetList::new(alloc);
@@ -72,7 +72,7 @@ impl<P: Problem> Starts<P> {
         jumps: &[CallJump],
         targets: &mut TargetList<P::F>,
     ) -> Result<(), AllocError>
-        ensures comes { length graph.now.sites ≡ graph.now.nodes → OnOk result (ComesTo P.L.algebra P.F.edge P.targets graph.now tables.now self.old.values.items self.new.values.items) }
+        ensures comes { OnOk result (Comes P.L.algebra P.F.edge P.targets graph.now tables.now self.old self.new) }
         ensures falls { OnOk result (ranks P.L.algebra self.new.values.items ≤ ranks P.L.algebra self.old.values.items) }
     {
         while let Some(place) = self.leave() {
@@ -90,8 +90,8 @@ impl<P: Problem> Starts<P> {
         place: usize,
         targets: &mut TargetList<P::F>,
     ) -> Result<(), AllocError>
-        ensures comes { length graph.now.sites ≡ graph.now.nodes → OnOk result (ComesTo P.L.algebra P.F.edge P.targets graph.now tables.now self.old.values.items self.new.values.items) }
-        ensures falls { OnOk result (Falls P.L.algebra self.old.values.items self.new.values.items (length self.old.waiting.items) (length self.new.waiting.items) self.old.has_fallen self.new.has_fallen) }
+        ensures comes { OnOk result (Comes P.L.algebra P.F.edge P.targets graph.now tables.now self.old self.new) }
+        ensures falls { OnOk result (Falls P.L.algebra self.old self.new) }
     {
         let first = jumps.partition_point(|jump| jump.from < place);
         for jump in &jumps[first..] {
@@ -111,8 +111,8 @@ impl<P: Problem> Starts<P> {
         index: usize,
         targets: &mut TargetList<P::F>,
     ) -> Result<(), AllocError>
-        ensures comes { length graph.now.sites ≡ graph.now.nodes → OnOk result (ComesTo P.L.algebra P.F.edge P.targets graph.now tables.now self.old.values.items self.new.values.items) }
-        ensures falls { OnOk result (Falls P.L.algebra self.old.values.items self.new.values.items (length self.old.waiting.items) (length self.new.waiting.items) self.old.has_fallen self.new.has_fallen) }
+        ensures comes { OnOk result (Comes P.L.algebra P.F.edge P.targets graph.now tables.now self.old self.new) }
+        ensures falls { OnOk result (Falls P.L.algebra self.old self.new) }
     {
         let Some(entry) = tables.entry_at(index) else {
             return Ok(());
@@ -128,9 +128,9 @@ impl<P: Problem> Starts<P> {
         tables: &Tables<P::F>,
         targets: &mut TargetList<P::F>,
     ) -> Result<(), AllocError>
-        ensures comes { length graph.now.sites ≡ graph.now.nodes → OnOk result (ComesTo P.L.algebra P.F.edge P.targets graph.now tables.now self.old.values.items self.new.values.items) }
-        ensures passes { length graph.now.sites ≡ graph.now.nodes → OnOk result (Passes (λ values e. by_entry P.L.algebra P.F.edge graph.now P.targets values e.0 e.1) (λ values e. IsSteadyBy P.L.algebra P.F.edge graph.now P.targets values e.0 e.1) tables.now.entries self.old.values.items self.new.values.items self.old.has_fallen self.new.has_fallen) }
-        ensures falls { OnOk result (Falls P.L.algebra self.old.values.items self.new.values.items (length self.old.waiting.items) (length self.new.waiting.items) self.old.has_fallen self.new.has_fallen) }
+        ensures comes { OnOk result (Comes P.L.algebra P.F.edge P.targets graph.now tables.now self.old self.new) }
+        ensures passes { OnOk result (PassesEach P.L.algebra P.F.edge P.targets graph.now tables.now self.old self.new) }
+        ensures falls { OnOk result (Falls P.L.algebra self.old self.new) }
     {
         for index in 0..tables.key_count() {
             let Some(entry) = tables.entry_at(index) else {
@@ -149,11 +149,8 @@ impl<P: Problem> Starts<P> {
         function: P::F,
         targets: &mut TargetList<P::F>,
     ) -> Result<(), AllocError>
-        ensures passed { length graph.now.sites ≡ graph.now.nodes → OnOk result (self.new.values.items ≡ by_entry P.L.algebra P.F.edge graph.now P.targets self.old.values.items key function) }
-        ensures same { length graph.now.sites ≡ graph.now.nodes → OnOk result (self.new.has_fallen ≡ false → self.new.values.items ≡ self.old.values.items) }
-        ensures before { length graph.now.sites ≡ graph.now.nodes → OnOk result (self.new.has_fallen ≡ false → self.old.has_fallen ≡ false) }
-        ensures steady { length graph.now.sites ≡ graph.now.nodes → OnOk result (self.new.has_fallen ≡ false → IsSteadyBy P.L.algebra P.F.edge graph.now P.targets self.old.values.items key function) }
-        ensures falls { OnOk result (Falls P.L.algebra self.old.values.items self.new.values.items (length self.old.waiting.items) (length self.new.waiting.items) self.old.has_fallen self.new.has_fallen) }
+        ensures passes { OnOk result (PassesBy P.L.algebra P.F.edge P.targets graph.now key function self.old self.new) }
+        ensures falls { OnOk result (Falls P.L.algebra self.old self.new) }
     {
         let Key::Jump(node, from, to) = key else {
             return Ok(());

@@ -1,10 +1,9 @@
 //! The values of a program.
-ghost use Rattle.std.specs.Prelude.{◌≡◌, ◌≤◌, ◌⊎◌, ◌↔◌, Err, IfErr, IfOk, OnOk};
-ghost use Rattle.std.specs.Arc.{arc_value};
-ghost use Rattle.ide_steps.specs.declared.loaded.Loaded.{Loaded};
+ghost use Rattle.std.specs.Prelude.{◌≡◌, ◌≤◌, ◌⊎◌, ◌↔◌, Err, IfErr, IfOk, OnOk, IsOkUnless};
+ghost use Rattle.ide_steps.specs.Frozen.{graph_in, program_in};
 ghost use Rattle.ide_text.specs.Program.{value_of as program_value};
-ghost use Rattle.ide_values.specs.Best.{AreBest};
 ghost use Rattle.ide_values.specs.Closed.{FollowFrom};
+ghost use Rattle.ide_values.specs.Frozen.{AreBestOf, AreValuesOf, FollowClosed};
 ghost use Rattle.ide_values.specs.Refusal.{AreWorkers, IsValuesRefusal};
 ghost use Rattle.ide_values.specs.Values.{AreValues, value_of};
 
@@ -57,12 +56,12 @@ impl<P: Problem> ValuePhase<P> for Closed<P> {
     fn values(&self, alloc: Global, workers: usize) -> Result<Values<P>, Refused>
         ensures workers { OnOk result (AreWorkers workers) }
         ensures refused { IfErr result (IsValuesRefusal workers) }
-        ensures program { IfOk result (λ values. values.program ≡ program_value (arc_value {X = Loaded P P.L P.F} self.now.loaded).program) }
-        ensures graph { IfOk result (λ values. values.graph ≡ (arc_value {X = Loaded P P.L P.F} self.now.loaded).graph) }
+        ensures program { IfOk result (λ values. values.program ≡ program_in self.now) }
+        ensures graph { IfOk result (λ values. values.graph ≡ graph_in self.now) }
         ensures roots { IfOk result (λ values. values.roots ≡ self.now.roots.items) }
-        ensures follow { IfOk result (λ values. FollowFrom P.L.algebra P.F.edge P.targets (arc_value {X = Loaded P P.L P.F} self.now.loaded).graph self.now.tables self.now.roots.items values.values) }
-        ensures values { IfOk result (λ values. AreValues P.L.algebra P.F.edge P.targets (arc_value {X = Loaded P P.L P.F} self.now.loaded).graph self.now.tables self.now.roots.items values.values) }
-        ensures best { IfOk result (λ values. AreBest P.L.algebra P.F.edge P.targets values.graph values.roots self.now.tables (value_of P.L.algebra values)) }
+        ensures follow { IfOk result (FollowClosed P.L.algebra P.F.edge P.targets self.now) }
+        ensures values { IfOk result (AreValuesOf P.L.algebra P.F.edge P.targets self.now) }
+        ensures best { IfOk result (AreBestOf P.L.algebra P.F.edge P.targets self.now.tables) }
     {
         if workers == 0 || workers > HANDS {
             return Err(Refused::Limit);
@@ -73,12 +72,12 @@ impl<P: Problem> ValuePhase<P> for Closed<P> {
 
 /// The values of an image.
 fn values_of<P: Problem>(alloc: Global, closed: &Closed<P>) -> Result<Values<P>, AllocError>
-    ensures program { IfOk result (λ values. values.program ≡ program_value (arc_value {X = Loaded P P.L P.F} closed.now.loaded).program) }
-    ensures graph { IfOk result (λ values. values.graph ≡ (arc_value {X = Loaded P P.L P.F} closed.now.loaded).graph) }
+    ensures program { IfOk result (λ values. values.program ≡ program_in closed.now) }
+    ensures graph { IfOk result (λ values. values.graph ≡ graph_in closed.now) }
     ensures roots { IfOk result (λ values. values.roots ≡ closed.now.roots.items) }
-    ensures follow { IfOk result (λ values. FollowFrom P.L.algebra P.F.edge P.targets (arc_value {X = Loaded P P.L P.F} closed.now.loaded).graph closed.now.tables closed.now.roots.items values.values) }
-    ensures values { IfOk result (λ values. AreValues P.L.algebra P.F.edge P.targets (arc_value {X = Loaded P P.L P.F} closed.now.loaded).graph closed.now.tables closed.now.roots.items values.values) }
-    ensures best { IfOk result (λ values. AreBest P.L.algebra P.F.edge P.targets values.graph values.roots closed.now.tables (value_of P.L.algebra values)) }
+    ensures follow { IfOk result (FollowClosed P.L.algebra P.F.edge P.targets closed.now) }
+    ensures values { IfOk result (AreValuesOf P.L.algebra P.F.edge P.targets closed.now) }
+    ensures best { IfOk result (AreBestOf P.L.algebra P.F.edge P.targets closed.now.tables) }
 {
     following_values_are_best::<P>();
     let rows = rows_of::<P>(
@@ -116,7 +115,7 @@ impl<P: Problem> Values<P> {
     /// Refusal: `OutOfRange` where the node or the fact is not there.
     pub fn at(&self, node: Node, fact: Fact) -> Result<P::L, Refused>
         ensures out_of_range { (result ≡ Err Refused.OutOfRange) ↔ ((self.now.graph.nodes ≤ node) ⊎ (self.now.graph.facts ≤ fact)) }
-        ensures refused { IfErr result (λ e. e ≡ Refused.OutOfRange) }
+        ensures refused { IsOkUnless result Refused.OutOfRange }
         ensures value { IfOk result (λ value. value ≡ value_of P.L.algebra self.now node fact) }
     {
         let graph = &self.loaded.graph;

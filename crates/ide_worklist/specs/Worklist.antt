@@ -36,6 +36,22 @@ IsFree pile = (hand : ℕ) → claim_at pile hand ≡ None
 abbrev pub put_hand : {T : Type 0} → (ℕ → Option (Claim T)) → ℕ → Option (Claim T) → ℕ → Option (Claim T)
 put_hand claims hand claim h = if nat_eq hand h then claim else claims h
 
+-- the claim of a hand, in a list of them
+abbrev pub claim_in : {T : Type 0} → List (Option (Claim T)) → ℕ → Option (Claim T)
+claim_in claims hand = slice_index_or claims hand None
+
+-- the hand's claim is this one now, and every other hand's is as it was
+abbrev pub PutsClaim : {T : Type 0} → ℕ → Option (Claim T) → (old new : Pile T) → Type 0
+PutsClaim hand claim old new = (h : ℕ) → claim_at new h ≡ put_hand (claim_at old) hand claim h
+
+-- the same of a list of claims
+abbrev pub PutsIn : {T : Type 0} → ℕ → Option (Claim T) → (old new : List (Option (Claim T))) → Type 0
+PutsIn hand claim old new = (h : ℕ) → claim_in new h ≡ put_hand (λ j. claim_in old j) hand claim h
+
+-- a claim of the key with its task, of which nothing is done
+abbrev pub begun : {T : Type 0} → Key → T → Claim T
+begun key task = record { key = key; task = task; done = 0; lowered = false }
+
 -- the claim, marked as lowered if it is of the key
 abbrev pub marked : {T : Type 0} → Key → Option (Claim T) → Option (Claim T)
 marked key None = None

@@ -1,8 +1,8 @@
 //! The claims of a work list: one place for each hand from 0 on, as far as a hand was in use.
 ghost use Rattle.std.specs.Prelude.{◌≡◌, ℕ, ◌<◌, [], false, nat_eq, filter, length, IsTrue, IsSome, OnOk};
-ghost use Rattle.std.specs.List.{list_any, slice_index_or};
+ghost use Rattle.std.specs.List.{list_any};
 ghost use Rattle.std.specs.Option.{is_some};
-ghost use Rattle.ide_worklist.specs.Worklist.{is_claim_of, marked, put_hand, with_done};
+ghost use Rattle.ide_worklist.specs.Worklist.{PutsIn, claim_in, is_claim_of, marked, with_done};
 
 use crate::claim::Claim;
 use ide_wire::Key;
@@ -32,7 +32,7 @@ pub(crate) fn grow<T: Drop>(
 ) -> Result<(), AllocError>
     requires { hand < 64 }
     ensures room { OnOk result (hand < length claims.new.items) }
-    ensures same { (h : ℕ) → slice_index_or claims.new.items h None ≡ slice_index_or claims.old.items h None }
+    ensures same { (h : ℕ) → claim_in claims.new.items h ≡ claim_in claims.old.items h }
 {
     for _ in claims.len()..hand + 1 {
         claims.push(None)?;
@@ -43,7 +43,7 @@ pub(crate) fn grow<T: Drop>(
 // Sets the hand's place.
 pub(crate) fn set_claim<T: Drop>(claims: &mut Vec<Option<Claim<T>>>, hand: usize, claim: Claim<T>)
     requires { hand < length claims.old.items }
-    ensures { (h : ℕ) → slice_index_or claims.new.items h None ≡ put_hand (λ j. slice_index_or claims.old.items j None) hand (Some claim) h }
+    ensures { PutsIn hand (Some claim) claims.old.items claims.new.items }
 {
     claims[hand] = Some(claim);
 }
@@ -53,8 +53,8 @@ pub(crate) fn take_claim<T: Drop>(
     claims: &mut Vec<Option<Claim<T>>>,
     hand: usize,
 ) -> Option<Claim<T>>
-    ensures taken { result ≡ slice_index_or claims.old.items hand None }
-    ensures after { (h : ℕ) → slice_index_or claims.new.items h None ≡ put_hand (λ j. slice_index_or claims.old.items j None) hand None h }
+    ensures taken { result ≡ claim_in claims.old.items hand }
+    ensures after { PutsIn hand None claims.old.items claims.new.items }
 {
     if hand < claims.len() {
         claims[hand].take()
@@ -65,7 +65,7 @@ pub(crate) fn take_claim<T: Drop>(
 
 // Says how many parts of the hand's task are done.
 pub(crate) fn set_done<T: Drop>(claims: &mut Vec<Option<Claim<T>>>, hand: usize, count: usize)
-    ensures { (h : ℕ) → slice_index_or claims.new.items h None ≡ put_hand (λ j. slice_index_or claims.old.items j None) hand (with_done count (slice_index_or claims.old.items hand None)) h }
+    ensures { PutsIn hand (with_done count (claim_in claims.old.items hand)) claims.old.items claims.new.items }
 {
     if hand < claims.len() {
         if let Some(claim) = &mut claims[hand] {
@@ -87,7 +87,7 @@ fn mark_claim<T>(claim: &mut Option<Claim<T>>, key: Key)
 
 // Marks the claims of the key as lowered.
 pub(crate) fn mark<T: Drop>(claims: &mut Vec<Option<Claim<T>>>, key: Key)
-    ensures { (h : ℕ) → slice_index_or claims.new.items h None ≡ marked key (slice_index_or claims.old.items h None) }
+    ensures { (h : ℕ) → claim_in claims.new.items h ≡ marked key (claim_in claims.old.items h) }
 {
     for claim in claims.iter_mut() {
         mark_claim(claim, key);
@@ -113,8 +113,8 @@ pub(crate) fn take_all<T: Drop>(claims: &mut Vec<Option<Claim<T>>>) -> usize
 
 // Whether a hand other than this one has a claim.
 pub(crate) fn claimed_elsewhere<T>(claims: &[Option<Claim<T>>], hand: usize) -> bool
-    ensures some { IsTrue result → (h : ℕ) × (nat_eq hand h ≡ false) × IsSome (slice_index_or claims.now h None) }
-    ensures none { result ≡ false → (h : ℕ) → nat_eq hand h ≡ false → slice_index_or claims.now h None ≡ None }
+    ensures some { IsTrue result → (h : ℕ) × (nat_eq hand h ≡ false) × IsSome (claim_in claims.now h) }
+    ensures none { result ≡ false → (h : ℕ) → nat_eq hand h ≡ false → claim_in claims.now h ≡ None }
 {
     for (other, claim) in claims.iter().enumerate() {
         if other != hand && claim.is_some() {

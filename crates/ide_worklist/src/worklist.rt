@@ -1,5 +1,5 @@
 //! The set of pending keys, and the claims on them.
-ghost use Rattle.std.specs.Prelude.{◌≡◌, ◌≢◌, ℕ, Some, ◌+◌, ◌<◌, ◌≤◌, ◌↔◌, ◌&&◌, ◌||◌, [], true, false, not, nat_eq, if◌then◌else◌, filter, length, reverse, IsTrue, IsSome, IfSome, IfNone, IfErr, OnOk, OnErr};
+ghost use Rattle.std.specs.Prelude.{◌≡◌, ◌≢◌, ℕ, Some, ◌+◌, ◌<◌, ◌≤◌, ◌↔◌, ◌&&◌, ◌||◌, [], true, false, not, nat_eq, if◌then◌else◌, filter, length, reverse, IsTrue, IsSome, IfSome, IfNone, OnOk, OnErr, IsOkUnless};
 ghost use Rattle.std.specs.List.{find, list_any};
 ghost use Rattle.std.specs.Option.{option_copied, is_some};
 ghost use Rattle.indexmap.specs.IndexSet.{spare};
@@ -7,7 +7,7 @@ ghost use Rattle.ide_wire.specs.declared.key.Key.{Key};
 ghost use Rattle.ide_wire.specs.declared.refused.Refused.TheVariants.{NoMemory};
 ghost use Rattle.ide_wire.specs.Key.{same_key};
 ghost use Rattle.ide_worklist.specs.declared.claim.Claim.{Claim};
-ghost use Rattle.ide_worklist.specs.Worklist.{Pile, IsWorklist, is_claim_of, is_pending, is_claimed, claim_at, put_hand, marked, with_done, ends, ends_key};
+ghost use Rattle.ide_worklist.specs.Worklist.{Pile, PutsClaim, IsWorklist, begun, is_claim_of, is_pending, is_claimed, claim_at, marked, with_done, ends, ends_key};
 
 use crate::claim::Claim;
 use crate::claims;
@@ -78,7 +78,7 @@ impl<T: Drop> Worklist<T> {
     /// Makes room for so many more pushes. `NoMemory` leaves the list as it was.
     pub fn reserve(&mut self, additional: usize) -> Result<(), Refused>
         ensures room { OnOk result (additional ≤ self.new.spare) }
-        ensures refused { IfErr result (λ e. e ≡ NoMemory) }
+        ensures refused { IsOkUnless result NoMemory }
         ensures pending { self.new.pending ≡ self.old.pending }
         ensures claims { self.new.claims ≡ self.old.claims }
     {
@@ -122,8 +122,8 @@ impl<T: Drop> Worklist<T> {
         requires pending { is_pending self.old key ≡ true }
         requires unclaimed { is_claimed self.old key ≡ false }
         ensures pending { self.new.pending ≡ self.old.pending }
-        ensures refused { IfErr result (λ e. e ≡ NoMemory) }
-        ensures claims { OnOk result ((h : ℕ) → claim_at self.new h ≡ put_hand (claim_at self.old) hand (Some (record { key = key; task = task; done = 0; lowered = false })) h) }
+        ensures refused { IsOkUnless result NoMemory }
+        ensures claims { OnOk result (PutsClaim hand (Some (begun key task)) self.old self.new) }
         ensures err { OnErr result ((h : ℕ) → claim_at self.new h ≡ claim_at self.old h) }
     {
         claims::grow(&mut self.claims, hand)?;
@@ -141,7 +141,7 @@ impl<T: Drop> Worklist<T> {
     /// again since the hand claimed it. It takes no memory.
     pub fn finish(&mut self, hand: usize) -> Option<Claim<T>>
         ensures claim { result ≡ claim_at self.old hand }
-        ensures claims { (h : ℕ) → claim_at self.new h ≡ put_hand (claim_at self.old) hand None h }
+        ensures claims { PutsClaim hand None self.old self.new }
         ensures pending { (q : Key) → is_pending self.new q ≡ (not (ends (claim_at self.old hand) q) && is_pending self.old q) }
         ensures count { length self.new.pending + (if ends_key (claim_at self.old hand) then 1 else 0) ≡ length self.old.pending }
         // Each claimed key was pending, and no two hands had claimed one key.
@@ -157,7 +157,7 @@ impl<T: Drop> Worklist<T> {
     /// Takes the hand's claim away, and returns it. Its key stays pending. It takes no memory.
     pub fn release(&mut self, hand: usize) -> Option<Claim<T>>
         ensures claim { result ≡ claim_at self.old hand }
-        ensures claims { (h : ℕ) → claim_at self.new h ≡ put_hand (claim_at self.old) hand None h }
+        ensures claims { PutsClaim hand None self.old self.new }
         ensures pending { self.new.pending ≡ self.old.pending }
         ensures room { self.new.spare ≡ self.old.spare }
     {
@@ -186,7 +186,7 @@ impl<T: Drop> Worklist<T> {
 
     /// Says how many parts of the hand's task are done. Without a claim it does nothing.
     pub fn set_done(&mut self, hand: usize, count: usize)
-        ensures claims { (h : ℕ) → claim_at self.new h ≡ put_hand (claim_at self.old) hand (with_done count (claim_at self.old hand)) h }
+        ensures claims { PutsClaim hand (with_done count (claim_at self.old hand)) self.old self.new }
         ensures pending { self.new.pending ≡ self.old.pending }
         ensures room { self.new.spare ≡ self.old.spare }
     {

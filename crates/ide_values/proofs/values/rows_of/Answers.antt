@@ -15,9 +15,9 @@ use Rattle.ide_values.proofs.values.rows_of.Goals as goal
 pub returns-clause-values : goal.returns-clause-values
 returns-clause-values g c = record {
   starts = c.as_slice.result.now;
-  started = λ sited.
+  started =
       subst (AreStarts g.P.L.Lattice.algebra g.P.F.EdgeFn.edge g.P.Problem.targets c.args.graph.now c.args.tables.now c.args.roots.now)
-      (sym c.as_slice.ensures.value) (c.in_ok-starts.ensures sited);
+      (sym c.as_slice.ensures.value) c.in_ok-starts.ensures;
   filled = c.in_ok-values.ensures.filled;
 }
 
@@ -28,7 +28,7 @@ returns-clause-follow g c = record {
       (c.sites_make_a_graph.ensures c.args.graph.now.facts c.args.graph.now.sites all (start_at c.args.graph.now) joined).1 in
       let are : AreStarts g.P.L.Lattice.algebra g.P.F.EdgeFn.edge g.P.Problem.targets c.args.graph.now c.args.tables.now c.args.roots.now c.as_slice.result.now =
       subst (AreStarts g.P.L.Lattice.algebra g.P.F.EdgeFn.edge g.P.Problem.targets c.args.graph.now c.args.tables.now c.args.roots.now)
-      (sym c.as_slice.ensures.value) (c.in_ok-starts.ensures closed.is_closed.sited) in
+      (sym c.as_slice.ensures.value) c.in_ok-starts.ensures in
       let sound : IsSound g.P.L.Lattice.algebra g.met.P.L.Lattice.lawful g.P.F.EdgeFn.edge g.met.P.F.EdgeFn.lawful g.P.Problem.targets g.met.P.Problem.lawful c.args.graph.now c.args.tables.now c.args.roots.now all joined edges closed image c.as_slice.result.now =
       sound_comes g.P.L.Lattice.algebra g.met.P.L.Lattice.lawful g.P.F.EdgeFn.edge g.met.P.F.EdgeFn.lawful g.P.Problem.targets g.met.P.Problem.lawful c.args.graph.now c.args.tables.now c.args.roots.now all joined edges closed image are.comes (sound_entered g.P.L.Lattice.algebra g.met.P.L.Lattice.lawful g.P.F.EdgeFn.edge g.met.P.F.EdgeFn.lawful g.P.Problem.targets g.met.P.Problem.lawful c.args.graph.now c.args.tables.now c.args.roots.now all joined edges closed image) in
       let proper : All (λ v. IsTrue (g.P.L.Lattice.algebra.proper v)) c.as_slice.result.now =

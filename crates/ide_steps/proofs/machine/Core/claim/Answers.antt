@@ -45,33 +45,25 @@ returns-clause-task g c = λ task is.
     let same : c.in_ok-task.task ≡ task = cc (is) in
     let key : c.in_ok-task.task.key ≡ c.in-Some-unclaimed.key = c.in_ok-task.ensures.key in
     let before = state-at g.P.Problem.targets g.P.F.EdgeFn.edge c.self.inside.tables c.self.inside.worklist in
-    rw (← same, ← c.self.view_is) (record {
-      free = search rules;
-      pending = rw key c.in-Some-unclaimed.ensures.pending;
-      unclaimed = rw key c.in-Some-unclaimed.ensures.free;
-      state =
-          state-claimed g.P.Problem.targets g.P.F.EdgeFn.edge c.self.inside.tables c.self.inside.worklist c.take_task.new.worklist c.args.hand
-          (Some (record { key = c.in-Some-unclaimed.key; task = c.in_ok-task.task; done = 0; lowered = false }))
-          c.take_task.ensures.pending c.in_ok-task.ensures.claims
-          ∙ ap (λ k. with_claim before c.args.hand (Some (new_claim k (owed g.P.Problem.targets g.P.F.EdgeFn.edge c.in_ok-task.task)))) (sym key);
+    let held : Held (TaskData g.row.P-F.Denot) = record { key = c.in-Some-unclaimed.key; task = c.in_ok-task.task; done = 0; lowered = false } in
+    rw (← same) (record {
+      fresh = taken-ends {F = g.row.P-F.Denot} c.self.inside.worklist c.take_task.new.worklist c.args.hand held c.in_ok-task.ensures.claims;
+      taken = rw (← c.self.view_is) (record {
+        free = search rules;
+        pending = rw key c.in-Some-unclaimed.ensures.pending;
+        unclaimed = rw key c.in-Some-unclaimed.ensures.free;
+        state =
+            state-claimed g.P.Problem.targets g.P.F.EdgeFn.edge c.self.inside.tables c.self.inside.worklist c.take_task.new.worklist c.args.hand
+            (Some held) c.take_task.ensures.pending c.in_ok-task.ensures.claims
+            ∙ ap (λ k. with_claim before c.args.hand (Some (new_claim k (owed g.P.Problem.targets g.P.F.EdgeFn.edge c.in_ok-task.task)))) (sym key);
+      });
+      is_task = λ graph here exits present. search rules;
+      progress = taken-progress {F = g.row.P-F.Denot} c.self.inside.worklist c.take_task.new.worklist c.args.hand held c.in_ok-task.ensures.claims;
     })
 
 pub returns-in_err-task-clause-unchanged : goal.returns-in_err-task-clause-unchanged
 returns-in_err-task-clause-unchanged g c =
     unchanged-err {F = g.row.P-F.Denot} c.from_residual.result _ c.args.self.now c.take_task.new.worklist c.self.view_is c.take_task.ensures.pending c.in_err-task.ensures.err
-
-pub returns-clause-fresh : goal.returns-clause-fresh
-returns-clause-fresh g c = λ task is.
-    taken-ends {F = g.row.P-F.Denot} c.self.inside.worklist c.take_task.new.worklist c.args.hand
-    (record { key = c.in-Some-unclaimed.key; task = c.in_ok-task.task; done = 0; lowered = false }) c.in_ok-task.ensures.claims
-
-pub returns-clause-progress : goal.returns-clause-progress
-returns-clause-progress g c = λ task is.
-    let same : c.in_ok-task.task ≡ task = cc (is) in
-    let there : TaskData g.row.P-F.Denot → Option (TaskData g.row.P-F.Denot × ℕ) = λ t. Some (t, 0) in
-    taken-progress {F = g.row.P-F.Denot} c.self.inside.worklist c.take_task.new.worklist c.args.hand
-    (record { key = c.in-Some-unclaimed.key; task = c.in_ok-task.task; done = 0; lowered = false }) c.in_ok-task.ensures.claims
-    ∙ ap there same
 
 pub returns-then-hand-ge-HANDS-clause-refused : goal.returns-then-hand-ge-HANDS-clause-refused
 returns-then-hand-ge-HANDS-clause-refused g c = limit (search rules)

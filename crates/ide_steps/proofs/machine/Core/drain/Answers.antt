@@ -33,7 +33,7 @@ returns-then-is_err-clause-free g c = λ free.
 pub returns-else-is_err-clause-few : goal.returns-else-is_err-clause-few
 returns-else-is_err-clause-few g c =
     few-of g.P.L.Lattice.algebra g.P.F.EdgeFn.edge g.P.Problem.targets (c.images_have_room.ensures) c.run_all-drained.result c.args.self.now c.run_all-drained.new.self
-    c.keys_are_distinct.ensures c.run_all-drained.ensures.claims
+    c.cores_are_whole.ensures c.run_all-drained.ensures.claims
 
 pub returns-then-is_none-clause-refused : goal.returns-then-is_none-clause-refused
 returns-then-is_none-clause-refused g c = no_program (search rules)

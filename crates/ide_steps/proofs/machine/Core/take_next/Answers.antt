@@ -1,4 +1,4 @@
-use Rattle.std.proofs.Common.{◌≡◌, ap, Ok}
+use Rattle.std.proofs.Common.{◌≡◌, ◌∙◌, ap, Ok}
 use Rattle.std.proofs.lemmas.Result.{err_from_is_err_and}
 use Rattle.ide_wire.specs.declared.refused.Refused.TheVariants.{NoMemory}
 use Rattle.ide_steps.proofs.Free.{claim-wants, some-unclaimed}
@@ -18,8 +18,8 @@ returns-in-Task-clause-claims g c =
     let new = c.claim.new.self in
     let task = c.in-Task.task in
     let is = ap Ok c.in-Task.is in
-    c.calls_are_steps.ensures.claim 0 old new task c.in_ok-task.ensures.stays (c.in_ok-task.ensures.task task is)
-    (λ graph same exits present. c.in_ok-task.ensures.is_task task graph is same exits present)
+    c.calls_are_steps.ensures.claim 0 old new task c.claim.ensures.keeps.stays (c.in_ok-task.ensures.task task is).taken
+    (c.in_ok-task.ensures.task task is).is_task
 
 pub returns-in-Task-clause-goes : goal.returns-in-Task-clause-goes
 returns-in-Task-clause-goes g c =
@@ -28,16 +28,16 @@ returns-in-Task-clause-goes g c =
 pub returns-in-Idle-clause-refused : goal.returns-in-Idle-clause-refused
 returns-in-Idle-clause-refused g c =
     let is = ap Ok c.in-Idle.is in
-    absurd (some-unclaimed c.args.self.now.pile c.requires.free (c.in_ok-task.ensures.waiting is) (c.in_ok-task.ensures.idle is))
+    absurd (some-unclaimed c.args.self.now.pile c.requires.free (c.in_ok-task.ensures.idle is).waiting (c.in_ok-task.ensures.idle is).idle)
 
 pub returns-in-Idle-clause-goes : goal.returns-in-Idle-clause-goes
 returns-in-Idle-clause-goes g c =
     goes-on g.P.L.Lattice.algebra g.P.F.EdgeFn.edge g.P.Problem.targets c.args.self.now c.claim.new.self
-    (goes-same g.P.L.Lattice.algebra g.P.F.EdgeFn.edge g.P.Problem.targets 0 c.args.self.now c.claim.new.self (c.in_ok-task.ensures.waits (ap Ok c.in-Idle.is)))
+    (goes-same g.P.L.Lattice.algebra g.P.F.EdgeFn.edge g.P.Problem.targets 0 c.args.self.now c.claim.new.self (c.in_ok-task.ensures.idle (ap Ok c.in-Idle.is)).waits)
 
 pub returns-in-Quiet-clause-claims : goal.returns-in-Quiet-clause-claims
 returns-in-Quiet-clause-claims g c =
-    goes-same g.P.L.Lattice.algebra g.P.F.EdgeFn.edge g.P.Problem.targets 0 c.args.self.now c.claim.new.self (c.in_ok-task.ensures.nothing (ap Ok c.in-Quiet.is))
+    goes-same g.P.L.Lattice.algebra g.P.F.EdgeFn.edge g.P.Problem.targets 0 c.args.self.now c.claim.new.self (c.in_ok-task.ensures.quiet (ap Ok c.in-Quiet.is)).nothing
 
 pub returns-in-Quiet-clause-goes : goal.returns-in-Quiet-clause-goes
 returns-in-Quiet-clause-goes g c =
@@ -50,13 +50,28 @@ returns-in_err-task-clause-refused g c =
     (claim-wants {F = g.row.P-F.Denot} c.args.self.now c.requires.loaded c.requires.free c.in_err-task.ensures.refused)
 
 pub returns-in_err-task-clause-remembers : goal.returns-in_err-task-clause-remembers
-returns-in_err-task-clause-remembers g c = remembers-same _ _ c.claim.ensures.changes c.claim.ensures.table c.claim.ensures.pending
+returns-in_err-task-clause-remembers g c = remembers-same _ _ c.claim.ensures.keeps.changes c.claim.ensures.keeps.table c.claim.ensures.keeps.pending
 
 pub returns-in-Task-clause-remembers : goal.returns-in-Task-clause-remembers
-returns-in-Task-clause-remembers g c = remembers-same _ _ c.claim.ensures.changes c.claim.ensures.table c.claim.ensures.pending
+returns-in-Task-clause-remembers g c = remembers-same _ _ c.claim.ensures.keeps.changes c.claim.ensures.keeps.table c.claim.ensures.keeps.pending
 
 pub returns-in-Idle-clause-remembers : goal.returns-in-Idle-clause-remembers
-returns-in-Idle-clause-remembers g c = remembers-same _ _ c.claim.ensures.changes c.claim.ensures.table c.claim.ensures.pending
+returns-in-Idle-clause-remembers g c = remembers-same _ _ c.claim.ensures.keeps.changes c.claim.ensures.keeps.table c.claim.ensures.keeps.pending
 
 pub returns-in-Quiet-clause-remembers : goal.returns-in-Quiet-clause-remembers
-returns-in-Quiet-clause-remembers g c = remembers-same _ _ c.claim.ensures.changes c.claim.ensures.table c.claim.ensures.pending
+returns-in-Quiet-clause-remembers g c = remembers-same _ _ c.claim.ensures.keeps.changes c.claim.ensures.keeps.table c.claim.ensures.keeps.pending
+
+pub returns-in-Task-clause-fresh : goal.returns-in-Task-clause-fresh
+returns-in-Task-clause-fresh g c = λ task is.
+    let same : c.in-Task.task ≡ task = cc (is) in
+    (c.in_ok-task.ensures.task c.in-Task.task (ap Ok c.in-Task.is)).fresh
+
+pub returns-in-Task-clause-progress : goal.returns-in-Task-clause-progress
+returns-in-Task-clause-progress g c = λ task is.
+    let same : c.in-Task.task ≡ task = cc (is) in
+    rw (← same) (c.in_ok-task.ensures.task c.in-Task.task (ap Ok c.in-Task.is)).progress
+
+pub returns-in-Quiet-clause-quiet : goal.returns-in-Quiet-clause-quiet
+returns-in-Quiet-clause-quiet g c = λ is.
+    let found = c.in_ok-task.ensures.quiet (ap Ok c.in-Quiet.is) in
+    c.claim.ensures.keeps.pending ∙ found.quiet

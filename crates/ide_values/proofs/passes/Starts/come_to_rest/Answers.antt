@@ -8,28 +8,28 @@ use Rattle.ide_values.proofs.Falling.{falls_once}
 use Rattle.ide_values.proofs.passes.Starts.come_to_rest.Goals as goal
 
 pub loop-targets-init : goal.loop-targets-init
-loop-targets-init g c = λ sited. stays
+loop-targets-init g c = stays
 
 pub loop-targets-preserved : goal.loop-targets-preserved
-loop-targets-preserved g c = λ sited.
+loop-targets-preserved g c =
     goes_trans (λ values e. by_entry g.P.L.Lattice.algebra g.P.F.EdgeFn.edge c.args.graph.now g.P.Problem.targets values e.0 e.1) (λ e. found c.args.tables.now e.0 ≡ Some e.1)
-    (goes_trans (λ values e. by_entry g.P.L.Lattice.algebra g.P.F.EdgeFn.edge c.args.graph.now g.P.Problem.targets values e.0 e.1) (λ e. found c.args.tables.now e.0 ≡ Some e.1) (c.loop-targets.invariant sited) (c.in_ok-settle.ensures.comes sited))
-    (c.in_ok-pass_each.ensures.comes sited)
+    (goes_trans (λ values e. by_entry g.P.L.Lattice.algebra g.P.F.EdgeFn.edge c.args.graph.now g.P.Problem.targets values e.0 e.1) (λ e. found c.args.tables.now e.0 ≡ Some e.1) c.loop-targets.invariant c.in_ok-settle.ensures.comes)
+    c.in_ok-pass_each.ensures.comes
 
 pub returns-then-not-self-clause-comes : goal.returns-then-not-self-clause-comes
-returns-then-not-self-clause-comes g c = λ sited.
+returns-then-not-self-clause-comes g c =
     goes_trans (λ values e. by_entry g.P.L.Lattice.algebra g.P.F.EdgeFn.edge c.args.graph.now g.P.Problem.targets values e.0 e.1) (λ e. found c.args.tables.now e.0 ≡ Some e.1)
-    (goes_trans (λ values e. by_entry g.P.L.Lattice.algebra g.P.F.EdgeFn.edge c.args.graph.now g.P.Problem.targets values e.0 e.1) (λ e. found c.args.tables.now e.0 ≡ Some e.1) (c.loop-targets.invariant sited) (c.in_ok-settle.ensures.comes sited))
-    (c.in_ok-pass_each.ensures.comes sited)
+    (goes_trans (λ values e. by_entry g.P.L.Lattice.algebra g.P.F.EdgeFn.edge c.args.graph.now g.P.Problem.targets values e.0 e.1) (λ e. found c.args.tables.now e.0 ≡ Some e.1) c.loop-targets.invariant c.in_ok-settle.ensures.comes)
+    c.in_ok-pass_each.ensures.comes
 
 pub returns-then-not-self-clause-steady : goal.returns-then-not-self-clause-steady
-returns-then-not-self-clause-steady g c = λ sited.
+returns-then-not-self-clause-steady g c =
     let calm : c.pass_each.new.self.has_fallen ≡ false = c.if-not-self.true in
     subst (IsSteady g.P.L.Lattice.algebra g.P.F.EdgeFn.edge g.P.Problem.targets c.args.graph.now c.args.tables.now)
-    (sym ((c.in_ok-pass_each.ensures.passes sited).same calm))
+    (sym (c.in_ok-pass_each.ensures.passes.same calm))
     (λ key f is.
     each_found (λ e. IsSteadyBy g.P.L.Lattice.algebra g.P.F.EdgeFn.edge c.args.graph.now g.P.Problem.targets c.settle.new.self.values.items e.0 e.1)
-    c.args.tables.now.entries key f ((c.in_ok-pass_each.ensures.passes sited).steady calm) is)
+    c.args.tables.now.entries key f (c.in_ok-pass_each.ensures.passes.steady calm) is)
 
 pub loop-targets-smaller : goal.loop-targets-smaller
 loop-targets-smaller g c =

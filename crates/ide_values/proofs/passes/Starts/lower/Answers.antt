@@ -1,6 +1,5 @@
-use Rattle.std.proofs.Common.{◌≡◌, ◌<◌, ◌∙◌, ap, arith, get_or, length, set, subst, sym, true, true≢false}
+use Rattle.std.proofs.Common.{◌≡◌, ◌<◌, ◌∙◌, ap, arith, get_or, length, refl, set, sym, true, true≢false}
 use Rattle.std.proofs.lemmas.List.{set-get_or}
-use Rattle.ide_values.specs.Falling.{Falls}
 use Rattle.ide_values.proofs.Falling.{falls_at}
 use Rattle.ide_values.proofs.passes.Starts.lower.Goals as goal
 
@@ -27,6 +26,5 @@ returns-clause-falls g c =
     let less : g.P.L.Lattice.algebra.rank c.meet-new.result < g.P.L.Lattice.algebra.rank (get_or c.args.self.now.values.items c.args.place g.P.L.Lattice.algebra.top) =
     omega (arith, falls, ap g.P.L.Lattice.algebra.rank c.meet-new.ensures, ap g.P.L.Lattice.algebra.rank old) in
     let within : c.args.place < length c.args.self.now.values.items = omega arith in
-    subst (λ vs. Falls g.P.L.Lattice.algebra c.args.self.now.values.items (set vs c.args.place c.meet-new.result) (length c.args.self.now.waiting.items) (length c.wait.new.self.waiting.items) c.args.self.now.has_fallen true)
-    (sym (ap (λ v. v.items) c.in_ok-wait.ensures.values))
-    (falls_at g.P.L.Lattice.algebra c.args.self.now.values.items c.args.place c.meet-new.result (length c.args.self.now.waiting.items) (length c.wait.new.self.waiting.items) c.args.self.now.has_fallen within less c.in_ok-wait.ensures.waits)
+    falls_at g.P.L.Lattice.algebra c.args.self.now _ c.args.place c.meet-new.result
+    (ap (λ v. set v.items c.args.place c.meet-new.result) c.in_ok-wait.ensures.values) refl within less c.in_ok-wait.ensures.waits

@@ -9,7 +9,7 @@ loop-edge-init g c = record {
   passes = passes_none (over_edge g.P.L.Lattice.algebra g.P.F.EdgeFn.edge c.args.graph.now g.P.Problem.targets c.args.jump.now.node c.args.jump.now.from c.args.jump.now.to c.args.jump.now.function)
       (IsSteadyOver g.P.L.Lattice.algebra g.P.F.EdgeFn.edge c.args.graph.now g.P.Problem.targets c.args.jump.now.node c.args.jump.now.from c.args.jump.now.to c.args.jump.now.function)
       c.args.self.now.values.items c.args.self.now.has_fallen;
-  falls = falls_not g.P.L.Lattice.algebra c.args.self.now.values.items (length c.args.self.now.waiting.items) c.args.self.now.has_fallen;
+  falls = falls_not g.P.L.Lattice.algebra c.args.self.now;
 }
 
 pub loop-edge-preserved : goal.loop-edge-preserved
@@ -21,7 +21,7 @@ loop-edge-preserved g c = record {
       c.args.self.now.has_fallen c.loop-edge.self.has_fallen c.pass_over.new.self.has_fallen
       c.loop-edge-test.true c.edge-item.is c.loop-edge.invariant.passes
       c.in_ok-pass_over.ensures.passes.all c.in_ok-pass_over.ensures.passes.same c.in_ok-pass_over.ensures.passes.before c.in_ok-pass_over.ensures.passes.steady;
-  falls = falls_then g.P.L.Lattice.algebra c.args.self.now.values.items c.loop-edge.self.values.items c.pass_over.new.self.values.items (length c.args.self.now.waiting.items) (length c.loop-edge.self.waiting.items) (length c.pass_over.new.self.waiting.items) c.args.self.now.has_fallen c.loop-edge.self.has_fallen c.pass_over.new.self.has_fallen c.loop-edge.invariant.falls c.in_ok-pass_over.ensures.falls;
+  falls = falls_then g.P.L.Lattice.algebra c.loop-edge.invariant.falls c.in_ok-pass_over.ensures.falls;
 }
 
 pub returns-clause-passes : goal.returns-clause-passes

@@ -8,5 +8,5 @@ invariant-loop-edge g l = record {
   passes : Passes (over_edge g.P.L.Lattice.algebra g.P.F.EdgeFn.edge l.graph g.P.Problem.targets l.jump.node l.jump.from l.jump.to l.jump.function)
       (IsSteadyOver g.P.L.Lattice.algebra g.P.F.EdgeFn.edge l.graph g.P.Problem.targets l.jump.node l.jump.from l.jump.to l.jump.function)
       (take l.edge-index l.edges) l.initial.self.values.items l.self.values.items l.initial.self.has_fallen l.self.has_fallen;
-  falls : Falls g.P.L.Lattice.algebra l.initial.self.values.items l.self.values.items (length l.initial.self.waiting.items) (length l.self.waiting.items) l.initial.self.has_fallen l.self.has_fallen;
+  falls : Falls g.P.L.Lattice.algebra l.initial.self l.self;
 }

@@ -9,50 +9,46 @@ use Rattle.ide_values.proofs.passes.Starts.pass_each.Goals as goal
 
 pub loop-index-init : goal.loop-index-init
 loop-index-init g c = record {
-  passed = λ sited. record {
-    comes = stays;
-    passes = passes_none (λ values e. by_entry g.P.L.Lattice.algebra g.P.F.EdgeFn.edge c.args.graph.now g.P.Problem.targets values e.0 e.1) (λ values e. IsSteadyBy g.P.L.Lattice.algebra g.P.F.EdgeFn.edge c.args.graph.now g.P.Problem.targets values e.0 e.1)
-        c.args.self.now.values.items c.args.self.now.has_fallen;
-  };
-  falls = falls_not g.P.L.Lattice.algebra c.args.self.now.values.items (length c.args.self.now.waiting.items) c.args.self.now.has_fallen;
+  comes = stays;
+  passes = passes_none (λ values e. by_entry g.P.L.Lattice.algebra g.P.F.EdgeFn.edge c.args.graph.now g.P.Problem.targets values e.0 e.1) (λ values e. IsSteadyBy g.P.L.Lattice.algebra g.P.F.EdgeFn.edge c.args.graph.now g.P.Problem.targets values e.0 e.1)
+      c.args.self.now.values.items c.args.self.now.has_fallen;
+  falls = falls_not g.P.L.Lattice.algebra c.args.self.now;
 }
 
 pub loop-index-preserved : goal.loop-index-preserved
-loop-index-preserved g c = record {
-  passed = λ sited.
-      let stands = sym c.entry_at.ensures.entry ∙ c.in-Some.is in
-      let within : c.loop-index.index < length c.args.tables.now.entries = omega arith in
-      record {
-        comes = goes_by (λ values e. by_entry g.P.L.Lattice.algebra g.P.F.EdgeFn.edge c.args.graph.now g.P.Problem.targets values e.0 e.1) (λ e. found c.args.tables.now e.0 ≡ Some e.1) (c.loop-index.invariant.passed sited).comes
-            c.in-Some.entry c.in-Some.ensures.present (c.in_ok-pass_by.ensures.passed sited);
-        passes = passes_more (λ values e. by_entry g.P.L.Lattice.algebra g.P.F.EdgeFn.edge c.args.graph.now g.P.Problem.targets values e.0 e.1) (λ values e. IsSteadyBy g.P.L.Lattice.algebra g.P.F.EdgeFn.edge c.args.graph.now g.P.Problem.targets values e.0 e.1)
-            c.args.tables.now.entries c.loop-index.index c.in-Some.entry
-            c.args.self.now.values.items c.loop-index.self.values.items c.pass_by.new.self.values.items
-            c.args.self.now.has_fallen c.loop-index.self.has_fallen c.pass_by.new.self.has_fallen
-            within (sym (get_or_from_slice_get c.args.tables.now.entries c.loop-index.index c.in-Some.entry c.in-Some.entry stands))
-            (c.loop-index.invariant.passed sited).passes
-            (c.in_ok-pass_by.ensures.passed sited) (c.in_ok-pass_by.ensures.same sited) (c.in_ok-pass_by.ensures.before sited) (c.in_ok-pass_by.ensures.steady sited);
-      };
-  falls = falls_then g.P.L.Lattice.algebra c.args.self.now.values.items c.loop-index.self.values.items c.pass_by.new.self.values.items (length c.args.self.now.waiting.items) (length c.loop-index.self.waiting.items) (length c.pass_by.new.self.waiting.items) c.args.self.now.has_fallen c.loop-index.self.has_fallen c.pass_by.new.self.has_fallen c.loop-index.invariant.falls c.in_ok-pass_by.ensures.falls;
-}
+loop-index-preserved g c =
+    let stands = sym c.entry_at.ensures.entry ∙ c.in-Some.is in
+    let within : c.loop-index.index < length c.args.tables.now.entries = omega arith in
+    let passes = c.in_ok-pass_by.ensures.passes in
+    record {
+      comes = goes_by (λ values e. by_entry g.P.L.Lattice.algebra g.P.F.EdgeFn.edge c.args.graph.now g.P.Problem.targets values e.0 e.1) (λ e. found c.args.tables.now e.0 ≡ Some e.1) c.loop-index.invariant.comes
+          c.in-Some.entry c.in-Some.ensures.present passes.passed;
+      passes = passes_more (λ values e. by_entry g.P.L.Lattice.algebra g.P.F.EdgeFn.edge c.args.graph.now g.P.Problem.targets values e.0 e.1) (λ values e. IsSteadyBy g.P.L.Lattice.algebra g.P.F.EdgeFn.edge c.args.graph.now g.P.Problem.targets values e.0 e.1)
+          c.args.tables.now.entries c.loop-index.index c.in-Some.entry
+          c.args.self.now.values.items c.loop-index.self.values.items c.pass_by.new.self.values.items
+          c.args.self.now.has_fallen c.loop-index.self.has_fallen c.pass_by.new.self.has_fallen
+          within (sym (get_or_from_slice_get c.args.tables.now.entries c.loop-index.index c.in-Some.entry c.in-Some.entry stands))
+          c.loop-index.invariant.passes passes.passed passes.same passes.before passes.steady;
+      falls = falls_then g.P.L.Lattice.algebra c.loop-index.invariant.falls c.in_ok-pass_by.ensures.falls;
+    }
 
 pub returns-in_default-clause-comes : goal.returns-in_default-clause-comes
-returns-in_default-clause-comes g c = λ sited. (c.loop-index.invariant.passed sited).comes
+returns-in_default-clause-comes g c = c.loop-index.invariant.comes
 
 pub returns-in_default-clause-passes : goal.returns-in_default-clause-passes
-returns-in_default-clause-passes g c = λ sited.
+returns-in_default-clause-passes g c =
     let within : c.loop-index.index < length c.args.tables.now.entries = omega arith in
     elim (none_within c.args.tables.now.entries c.loop-index.index (sym c.entry_at.ensures.entry ∙ c.in_default.is) within) [ ]
 
 pub returns-clause-comes : goal.returns-clause-comes
-returns-clause-comes g c = λ sited. (c.loop-index.invariant.passed sited).comes
+returns-clause-comes g c = c.loop-index.invariant.comes
 
 pub returns-clause-passes : goal.returns-clause-passes
-returns-clause-passes g c = λ sited.
+returns-clause-passes g c =
     let past : length c.args.tables.now.entries ≤ c.loop-index.index = omega arith in
     subst (λ es. Passes (λ values e. by_entry g.P.L.Lattice.algebra g.P.F.EdgeFn.edge c.args.graph.now g.P.Problem.targets values e.0 e.1) (λ values e. IsSteadyBy g.P.L.Lattice.algebra g.P.F.EdgeFn.edge c.args.graph.now g.P.Problem.targets values e.0 e.1) es
     c.args.self.now.values.items c.loop-index.self.values.items c.args.self.now.has_fallen c.loop-index.self.has_fallen)
-    (take_all c.loop-index.index c.args.tables.now.entries past) (c.loop-index.invariant.passed sited).passes
+    (take_all c.loop-index.index c.args.tables.now.entries past) c.loop-index.invariant.passes
 
 pub returns-clause-falls : goal.returns-clause-falls
 returns-clause-falls g c = c.loop-index.invariant.falls

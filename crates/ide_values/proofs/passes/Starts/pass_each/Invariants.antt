@@ -6,11 +6,9 @@ use Rattle.ide_values.proofs.passes.Starts.pass_each.Given as goal
 
 abbrev pub invariant-loop-index : goal.invariant-loop-index
 invariant-loop-index g l = record {
-  passed : length l.graph.sites ≡ l.graph.nodes → record {
-    comes : ComesTo g.P.L.Lattice.algebra g.P.F.EdgeFn.edge g.P.Problem.targets l.graph l.tables l.initial.self.values.items l.self.values.items;
-    passes : Passes (λ values e. by_entry g.P.L.Lattice.algebra g.P.F.EdgeFn.edge l.graph g.P.Problem.targets values e.0 e.1)
-        (λ values e. IsSteadyBy g.P.L.Lattice.algebra g.P.F.EdgeFn.edge l.graph g.P.Problem.targets values e.0 e.1)
-        (take l.index l.tables.entries) l.initial.self.values.items l.self.values.items l.initial.self.has_fallen l.self.has_fallen;
-  };
-  falls : Falls g.P.L.Lattice.algebra l.initial.self.values.items l.self.values.items (length l.initial.self.waiting.items) (length l.self.waiting.items) l.initial.self.has_fallen l.self.has_fallen;
+  comes : ComesTo g.P.L.Lattice.algebra g.P.F.EdgeFn.edge g.P.Problem.targets l.graph l.tables l.initial.self.values.items l.self.values.items;
+  passes : Passes (λ values e. by_entry g.P.L.Lattice.algebra g.P.F.EdgeFn.edge l.graph g.P.Problem.targets values e.0 e.1)
+      (λ values e. IsSteadyBy g.P.L.Lattice.algebra g.P.F.EdgeFn.edge l.graph g.P.Problem.targets values e.0 e.1)
+      (take l.index l.tables.entries) l.initial.self.values.items l.self.values.items l.initial.self.has_fallen l.self.has_fallen;
+  falls : Falls g.P.L.Lattice.algebra l.initial.self l.self;
 }

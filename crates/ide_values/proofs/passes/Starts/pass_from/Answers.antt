@@ -7,13 +7,13 @@ use Rattle.ide_values.proofs.passes.Starts.pass_from.Goals as goal
 
 pub loop-jump-init : goal.loop-jump-init
 loop-jump-init g c = record {
-  comes = λ sited. stays;
-  falls = falls_not g.P.L.Lattice.algebra c.args.self.now.values.items (length c.args.self.now.waiting.items) c.args.self.now.has_fallen;
+  comes = stays;
+  falls = falls_not g.P.L.Lattice.algebra c.args.self.now;
 }
 
 pub loop-jump-preserved : goal.loop-jump-preserved
 loop-jump-preserved g c = record {
-  comes = λ sited.
-      goes_trans (λ values e. by_entry g.P.L.Lattice.algebra g.P.F.EdgeFn.edge c.args.graph.now g.P.Problem.targets values e.0 e.1) (λ e. found c.args.tables.now e.0 ≡ Some e.1) (c.loop-jump.invariant.comes sited) (c.in_ok-pass_index.ensures.comes sited);
-  falls = falls_then g.P.L.Lattice.algebra c.args.self.now.values.items c.loop-jump.self.values.items c.pass_index.new.self.values.items (length c.args.self.now.waiting.items) (length c.loop-jump.self.waiting.items) (length c.pass_index.new.self.waiting.items) c.args.self.now.has_fallen c.loop-jump.self.has_fallen c.pass_index.new.self.has_fallen c.loop-jump.invariant.falls c.in_ok-pass_index.ensures.falls;
+  comes =
+      goes_trans (λ values e. by_entry g.P.L.Lattice.algebra g.P.F.EdgeFn.edge c.args.graph.now g.P.Problem.targets values e.0 e.1) (λ e. found c.args.tables.now e.0 ≡ Some e.1) c.loop-jump.invariant.comes c.in_ok-pass_index.ensures.comes;
+  falls = falls_then g.P.L.Lattice.algebra c.loop-jump.invariant.falls c.in_ok-pass_index.ensures.falls;
 }

@@ -5,7 +5,6 @@ use Rattle.ide_values.proofs.passes.Starts.pass_from.Given as goal
 
 abbrev pub invariant-loop-jump : goal.invariant-loop-jump
 invariant-loop-jump g l = record {
-  comes : length l.graph.sites ≡ l.graph.nodes
-      → ComesTo g.P.L.Lattice.algebra g.P.F.EdgeFn.edge g.P.Problem.targets l.graph l.tables l.initial.self.values.items l.self.values.items;
-  falls : Falls g.P.L.Lattice.algebra l.initial.self.values.items l.self.values.items (length l.initial.self.waiting.items) (length l.self.waiting.items) l.initial.self.has_fallen l.self.has_fallen;
+  comes : ComesTo g.P.L.Lattice.algebra g.P.F.EdgeFn.edge g.P.Problem.targets l.graph l.tables l.initial.self.values.items l.self.values.items;
+  falls : Falls g.P.L.Lattice.algebra l.initial.self l.self;
 }

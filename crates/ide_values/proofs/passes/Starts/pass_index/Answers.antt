@@ -6,12 +6,12 @@ use Rattle.ide_values.proofs.Falling.{falls_not}
 use Rattle.ide_values.proofs.passes.Starts.pass_index.Goals as goal
 
 pub returns-in_default-clause-comes : goal.returns-in_default-clause-comes
-returns-in_default-clause-comes g c = λ sited. stays
+returns-in_default-clause-comes g c = stays
 
 pub returns-clause-comes : goal.returns-clause-comes
-returns-clause-comes g c = λ sited.
+returns-clause-comes g c =
     goes_by (λ values e. by_entry g.P.L.Lattice.algebra g.P.F.EdgeFn.edge c.args.graph.now g.P.Problem.targets values e.0 e.1) (λ e. found c.args.tables.now e.0 ≡ Some e.1) stays c.in-Some.entry
-    c.in-Some.ensures.present (c.in_ok-pass_by.ensures.passed sited)
+    c.in-Some.ensures.present c.in_ok-pass_by.ensures.passes.passed
 
 pub returns-in_default-clause-falls : goal.returns-in_default-clause-falls
-returns-in_default-clause-falls g c = falls_not g.P.L.Lattice.algebra c.args.self.now.values.items (length c.args.self.now.waiting.items) c.args.self.now.has_fallen
+returns-in_default-clause-falls g c = falls_not g.P.L.Lattice.algebra c.args.self.now

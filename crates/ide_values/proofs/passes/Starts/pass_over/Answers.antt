@@ -9,7 +9,7 @@ loop-target-init g c = record {
   passes = passes_none (to_target g.P.L.Lattice.algebra g.P.F.EdgeFn.edge c.args.graph.now c.args.jump.now.node c.args.jump.now.from c.args.jump.now.function c.args.edge.now.end)
       (λ values target. to_target g.P.L.Lattice.algebra g.P.F.EdgeFn.edge c.args.graph.now c.args.jump.now.node c.args.jump.now.from c.args.jump.now.function c.args.edge.now.end values target ≡ values)
       c.args.self.now.values.items c.args.self.now.has_fallen;
-  falls = falls_not g.P.L.Lattice.algebra c.args.self.now.values.items (length c.args.self.now.waiting.items) c.args.self.now.has_fallen;
+  falls = falls_not g.P.L.Lattice.algebra c.args.self.now;
 }
 
 pub loop-target-preserved : goal.loop-target-preserved
@@ -20,9 +20,9 @@ loop-target-preserved g c = record {
       c.args.self.now.values.items c.loop-target.self.values.items c.pass_to.new.self.values.items
       c.args.self.now.has_fallen c.loop-target.self.has_fallen c.pass_to.new.self.has_fallen
       c.loop-target-test.true c.target-item.is c.loop-target.invariant.passes
-      c.in_ok-pass_to.ensures.passed c.in_ok-pass_to.ensures.same c.in_ok-pass_to.ensures.before
-      (λ e. sym c.in_ok-pass_to.ensures.passed ∙ c.in_ok-pass_to.ensures.same e);
-  falls = falls_then g.P.L.Lattice.algebra c.args.self.now.values.items c.loop-target.self.values.items c.pass_to.new.self.values.items (length c.args.self.now.waiting.items) (length c.loop-target.self.waiting.items) (length c.pass_to.new.self.waiting.items) c.args.self.now.has_fallen c.loop-target.self.has_fallen c.pass_to.new.self.has_fallen c.loop-target.invariant.falls c.in_ok-pass_to.ensures.falls;
+      c.in_ok-pass_to.ensures.passed c.in_ok-pass_to.ensures.marks.same c.in_ok-pass_to.ensures.marks.before
+      (λ e. sym c.in_ok-pass_to.ensures.passed ∙ c.in_ok-pass_to.ensures.marks.same e);
+  falls = falls_then g.P.L.Lattice.algebra c.loop-target.invariant.falls c.in_ok-pass_to.ensures.falls;
 }
 
 pub returns-clause-passes : goal.returns-clause-passes

@@ -8,5 +8,5 @@ invariant-loop-target g l = record {
   passes : Passes (to_target g.P.L.Lattice.algebra g.P.F.EdgeFn.edge l.graph l.jump.node l.jump.from l.jump.function l.edge.end)
       (λ values target. to_target g.P.L.Lattice.algebra g.P.F.EdgeFn.edge l.graph l.jump.node l.jump.from l.jump.function l.edge.end values target ≡ values)
       (take l.target-index l.target-items) l.initial.self.values.items l.self.values.items l.initial.self.has_fallen l.self.has_fallen;
-  falls : Falls g.P.L.Lattice.algebra l.initial.self.values.items l.self.values.items (length l.initial.self.waiting.items) (length l.self.waiting.items) l.initial.self.has_fallen l.self.has_fallen;
+  falls : Falls g.P.L.Lattice.algebra l.initial.self l.self;
 }

@@ -1,0 +1,38 @@
+-- What a claim comes to, by what it answers.
+use Rattle.std.specs.Prelude.{◌≡◌, ◌≢◌, ℕ, [], true, false, Some, nat_eq}
+use Rattle.ide_graph.specs.Supergraph.{Supergraph}
+use Rattle.ide_lattice.specs.Algebra.{EdgeAlgebra}
+use Rattle.ide_problem.specs.Flow.{Targets}
+use Rattle.ide_tasks.specs.Task.{TaskData}
+use Rattle.ide_wire.specs.declared.key.Key.{Key}
+use Rattle.ide_worklist.specs.Worklist.{claim_at, ends_key, is_claimed, is_pending}
+use Rattle.ide_steps.specs.Core.{CoreData, IsSameProblem}
+use Rattle.ide_steps.specs.Kept.{IsTaskWhere}
+use Rattle.ide_steps.specs.Steps.{IsTaken, progress_at}
+
+module _ {F : Type 0} where
+  -- all stays but the claim of the hand
+  pub record KeepsAllBut (hand : ℕ) (old new : CoreData F) : Type 0 where
+    pub stays : IsSameProblem old new
+    pub table : new.table ≡ old.table
+    pub pending : new.pile.pending ≡ old.pile.pending
+    pub changes : new.changes ≡ old.changes
+    pub others : (h : ℕ) → nat_eq hand h ≡ false → claim_at new.pile h ≡ claim_at old.pile h
+
+  -- no key is pending
+  pub record FindsQuiet (old new : CoreData F) : Type 0 where
+    pub quiet : old.pile.pending ≡ []
+    pub nothing : new ≡ old
+
+  -- keys are pending, and each is claimed
+  pub record FindsIdle (old new : CoreData F) : Type 0 where
+    pub waiting : old.pile.pending ≢ []
+    pub idle : (q : Key) → is_pending old.pile q ≡ true → is_claimed old.pile q ≡ true
+    pub waits : new ≡ old
+
+-- the hand has claimed the task's key, and no part of the task is done
+pub record FindsTask {F L : Type 0} (targets : Targets F) (B : EdgeAlgebra F L) (hand : ℕ) (old new : CoreData F) (task : TaskData F) : Type 0 where
+  pub fresh : ends_key (claim_at new.pile hand) ≡ true
+  pub taken : IsTaken targets B hand old new task
+  pub is_task : (graph : Supergraph) → IsTaskWhere targets B graph old task
+  pub progress : progress_at new.pile hand ≡ Some (task, 0)

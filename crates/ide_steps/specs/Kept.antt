@@ -1,0 +1,35 @@
+-- What is known of tasks by what is kept of a loaded program.
+use Rattle.std.specs.Prelude.{◌≡◌, ℕ, ◌<◌, Some, IsSome, slice_get, slice_index}
+use Rattle.ide_graph.specs.Exits.{AreExitsOwned}
+use Rattle.ide_graph.specs.declared.site.Site.{Site}
+use Rattle.ide_graph.specs.Supergraph.{Supergraph}
+use Rattle.ide_lattice.specs.Algebra.{EdgeAlgebra}
+use Rattle.ide_problem.specs.Flow.{Targets}
+use Rattle.ide_tables.specs.Tables.{Table, found}
+use Rattle.ide_tasks.specs.Task.{TaskData}
+use Rattle.ide_tasks.specs.declared.partners.Partners.{Partners}
+use Rattle.ide_wire.specs.Key.{node_of}
+use Rattle.ide_wire.specs.declared.key.Key.{Key}
+use Rattle.ide_steps.specs.declared.loaded.Loaded.{Loaded}
+use Rattle.ide_steps.specs.Core.{CoreData, IsProgramKept}
+use Rattle.ide_steps.specs.State.{ArePartnersOf, IsTaskOf}
+
+module _ {P L F : Type 0} (targets : Targets F) (loaded : Loaded P L F) where
+  -- the fact holds where the program is kept, and each exit is its procedure's own
+  abbrev pub WhereKept : Type 0 → Type 0
+  WhereKept fact = IsProgramKept targets loaded.program loaded.graph loaded.sources → AreExitsOwned loaded.graph → fact
+
+  -- and where that is the site of the key's node, and that its procedure
+  abbrev pub WhereKeptAt : Key → Site → ℕ → Type 0 → Type 0
+  WhereKeptAt key site procedure fact =
+      WhereKept (slice_get loaded.graph.sites (node_of key) ≡ Some site → procedure ≡ slice_index loaded.graph.owners (node_of key)
+      → procedure < loaded.graph.procedures → fact)
+
+-- over a graph whose exits are their procedures' own, if it is the loaded one, the task is that of its key, if that is present
+abbrev pub IsTaskWhere : {F L : Type 0} → Targets F → EdgeAlgebra F L → Supergraph → CoreData F → TaskData F → Type 0
+IsTaskWhere targets B graph core task =
+    core.graph ≡ Some graph → AreExitsOwned graph → IsSome (found core.table task.key) → IsTaskOf targets B graph core.table task
+
+-- they are the partners of the key at that site of the loaded graph
+abbrev pub ArePartnersIn : {P L F : Type 0} → Targets F → EdgeAlgebra F L → Loaded P L F → Table F → Key → Site → Partners F → Type 0
+ArePartnersIn targets B loaded table key site partners = ArePartnersOf targets B loaded.graph table key site partners
