@@ -1,9 +1,7 @@
 //! What an edge does to an environment.
-ghost use Rattle.std.specs.Prelude.{◌≡◌, ◌≤◌, ◌^◌, IfOk, length, map};
-ghost use Rattle.std.specs.List.{range_with_len};
+ghost use Rattle.std.specs.Prelude.{◌≡◌, ◌≤◌, ◌^◌, IfOk, length};
 ghost use Rattle.ide_problem.specs.Flow.{function_to};
-ghost use Rattle.ide_theory.specs.Effect.{effect_at};
-ghost use Rattle.ide_plain.specs.Effect.{value_in};
+ghost use Rattle.ide_plain.specs.Effect.{environment_over, value_over};
 
 use ide_graph::EdgeData;
 use ide_lattice::{EdgeFn, Lattice};
@@ -20,7 +18,7 @@ pub fn environment_after<P: Problem>(
 ) -> Result<Vec<P::L>, AllocError>
     requires few { length environment.now ≤ 2 ^ 16 }
     ensures facts { IfOk result (λ after. length after.items ≡ length environment.now) }
-    ensures effect { IfOk result (λ after. after.items ≡ map (effect_at P.L.algebra P.F.edge (P.targets edge.now) (length environment.now) (value_in P.L.algebra.top environment.now)) (range_with_len 0 (length environment.now))) }
+    ensures effect { IfOk result (λ after. after.items ≡ environment_over P.L.algebra P.F.edge (P.targets edge.now) environment.now) }
 {
     let mut after = Vec::with_capacity(alloc, environment.len())?;
     for fact in 0..environment.len() {
@@ -38,7 +36,7 @@ pub fn value_after<P: Problem>(
     fact: Fact,
 ) -> Result<P::L, AllocError>
     requires few { length environment.now ≤ 2 ^ 16 }
-    ensures effect { IfOk result (λ value. value ≡ effect_at P.L.algebra P.F.edge (P.targets edge.now) (length environment.now) (value_in P.L.algebra.top environment.now) fact) }
+    ensures effect { IfOk result (λ value. value ≡ value_over P.L.algebra P.F.edge (P.targets edge.now) environment.now fact) }
 {
     let mut targets = TargetList::new(alloc);
     let mut value = P::L::top();

@@ -1,8 +1,6 @@
 //! A walk along a valid path.
-ghost use Rattle.std.specs.Prelude.{◌≡◌, ◌≢◌, ◌≤◌, ◌^◌, ◌++◌, ◌∷◌, [], ℕ, List, length, map, IfNone, IfOk, IfSome, IsTrue};
-ghost use Rattle.std.specs.List.{range_with_len};
-ghost use Rattle.ide_theory.specs.Effect.{effect_at};
-ghost use Rattle.ide_plain.specs.Effect.{value_in};
+ghost use Rattle.std.specs.Prelude.{◌≡◌, ◌≢◌, ◌≤◌, ◌^◌, ◌++◌, ◌∷◌, [], ℕ, List, length, IfNone, IfOk, IfSome, IsTrue};
+ghost use Rattle.ide_plain.specs.Effect.{IsEnvironmentOver};
 
 use crate::effect::environment_after;
 use ide_graph::EdgeData;
@@ -30,7 +28,7 @@ impl<P: Problem> Walk<P> {
     ) -> Result<Walk<P>, AllocError>
         ensures node { IfOk result (λ walk. walk.node ≡ edge.now.end) }
         ensures calls { IfOk result (λ walk. walk.calls ≡ calls) }
-        ensures environment { IfOk result (λ walk. walk.environment.items ≡ map (effect_at P.L.algebra P.F.edge (P.targets edge.now) (length self.now.environment.items) (value_in P.L.algebra.top self.now.environment.items)) (range_with_len 0 (length self.now.environment.items))) }
+        ensures environment { IfOk result (λ walk. IsEnvironmentOver P.L.algebra P.F.edge (P.targets edge.now) self.now.environment walk.environment) }
     {
         let environment = environment_after::<P>(alloc, edge, self.environment.as_slice())?;
         Ok(Walk {

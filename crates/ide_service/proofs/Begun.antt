@@ -17,7 +17,7 @@ use Rattle.ide_wire.specs.declared.key.Key.TheVariants.{Jump}
 use Rattle.ide_steps.specs.Core.{CoreData}
 use Rattle.ide_steps.specs.Rooted.{IsBegun}
 use Rattle.ide_steps.specs.State.{state_of}
-use Rattle.ide_service.specs.Begun.{AreBegun, IsReady}
+use Rattle.ide_service.specs.Begun.{AreBegun, IsInOrder}
 use Rattle.ide_steps.specs.Refusal.{IsRootName}
 use Rattle.ide_service.specs.Solve.{AreRootNames, none, then}
 
@@ -80,10 +80,10 @@ module _ {F L : Type 0} (A : LatticeAlgebra L) (B : EdgeAlgebra F L) (targets : 
         here : (graph : Supergraph) → old.graph ≡ Some graph → is.graph ≡ graph
         here graph at = same_Some is.graph graph (sym is.is ∙ (before.same ∙ at))
 
-        start_is : (graph : Supergraph) → old.graph ≡ Some graph → IsReady graph → start_at graph (slice_index graph.starts is.root) ≡ slice_index graph.starts is.root
+        start_is : (graph : Supergraph) → old.graph ≡ Some graph → IsInOrder graph → start_at graph (slice_index graph.starts is.root) ≡ slice_index graph.starts is.root
         start_is graph at ready = ready.home is.root (subst (λ g. is.root < g.procedures) (here graph at) is.within)
 
-        on : (graph : Supergraph) → old.graph ≡ Some graph → (all : HaveEdgesOf graph.facts graph.sites) → IsReady graph
+        on : (graph : Supergraph) → old.graph ≡ Some graph → (all : HaveEdgesOf graph.facts graph.sites) → IsInOrder graph
             → Run (frame_at A B targets graph all) (state_of targets B mid)
             → Steps (frame_at A B targets graph all) (state_of targets B mid) (state_of targets B new)
         on graph at all ready run =
@@ -93,7 +93,7 @@ module _ {F L : Type 0} (A : LatticeAlgebra L) (B : EdgeAlgebra F L) (targets : 
             → Steps (frame_at A B targets g every) (state_of targets B mid) (state_of targets B new)) (here graph at) is.steps
             all ready.joined (start_is graph at ready) ready.entries run
 
-        met : (graph : Supergraph) → old.graph ≡ Some graph → (all : HaveEdgesOf graph.facts graph.sites) → IsReady graph
+        met : (graph : Supergraph) → old.graph ≡ Some graph → (all : HaveEdgesOf graph.facts graph.sites) → IsInOrder graph
             → Run (frame_at A B targets graph all) (state_of targets B mid) → (d : ℕ) → d < graph.entries
             → IsMet (frame_at A B targets graph all) (state_of targets B new).get (Jump (slice_index graph.starts is.root) d d) B.id
         met graph at all ready run d entry =
@@ -106,7 +106,7 @@ module _ {F L : Type 0} (A : LatticeAlgebra L) (B : EdgeAlgebra F L) (targets : 
         among-starts : (graph : Supergraph) (roots : List ℕ) (i r : ℕ) → IsIn i roots → slice_index graph.starts i ≡ r → IsIn r (map (slice_index graph.starts) roots)
         among-starts graph roots i r among same = subst (λ s. IsIn s (map (slice_index graph.starts) roots)) same (in-map (slice_index graph.starts) among)
 
-        kept : (graph : Supergraph) → old.graph ≡ Some graph → (all : HaveEdgesOf graph.facts graph.sites) → IsReady graph
+        kept : (graph : Supergraph) → old.graph ≡ Some graph → (all : HaveEdgesOf graph.facts graph.sites) → IsInOrder graph
             → Run (frame_at A B targets graph all) (state_of targets B mid) → (r d : ℕ)
             → ((cond (nat_lt d graph.entries) A.bottom A.top) ≡ A.top) ⊎ IsMet (frame_at A B targets graph all) (state_of targets B mid).get (Jump r d d) B.id
             → ((cond (nat_lt d graph.entries) A.bottom A.top) ≡ A.top) ⊎ IsMet (frame_at A B targets graph all) (state_of targets B new).get (Jump r d d) B.id
@@ -114,13 +114,13 @@ module _ {F L : Type 0} (A : LatticeAlgebra L) (B : EdgeAlgebra F L) (targets : 
         kept graph at all ready run r d (inr has) =
             inr ((goes graph all ready.joined).keeps (state_of targets B mid) (state_of targets B new) run (on graph at all ready run) (Jump r d d) B.id proper_id has)
 
-        by-entry : (graph : Supergraph) → old.graph ≡ Some graph → (all : HaveEdgesOf graph.facts graph.sites) → IsReady graph
+        by-entry : (graph : Supergraph) → old.graph ≡ Some graph → (all : HaveEdgesOf graph.facts graph.sites) → IsInOrder graph
             → Run (frame_at A B targets graph all) (state_of targets B mid) → (d : ℕ) (entry : Bool) → nat_lt d graph.entries ≡ entry
             → ((cond (nat_lt d graph.entries) A.bottom A.top) ≡ A.top) ⊎ IsMet (frame_at A B targets graph all) (state_of targets B new).get (Jump (slice_index graph.starts is.root) d d) B.id
         by-entry graph at all ready run d true is_entry = inr (met graph at all ready run d (less d graph.entries is_entry))
         by-entry graph at all ready run d false past = inl (entry-top d graph.entries past)
 
-        given : (graph : Supergraph) → old.graph ≡ Some graph → (all : HaveEdgesOf graph.facts graph.sites) → IsReady graph
+        given : (graph : Supergraph) → old.graph ≡ Some graph → (all : HaveEdgesOf graph.facts graph.sites) → IsInOrder graph
             → Run (frame_at A B targets graph all) (state_of targets B mid) → (r d : ℕ) → r ≡ slice_index graph.starts is.root
             → ((cond (nat_lt d graph.entries) A.bottom A.top) ≡ A.top) ⊎ IsMet (frame_at A B targets graph all) (state_of targets B new).get (Jump r d d) B.id
         given graph at all ready run r d same =

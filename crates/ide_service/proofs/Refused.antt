@@ -23,7 +23,7 @@ use Rattle.ide_values.specs.Refusal.{IsValuesRefusal, memory as values_memory, n
 use Rattle.ide_service.specs.Begun.{AreBegun}
 use Rattle.ide_service.specs.Refusal.{FirstRootFault, IsRootsRefusal, IsSolveRefusal, fault, here, later, memory, no_memory, no_program, no_root, root}
 use Rattle.ide_service.specs.Solve.{AreRootNames, none, then}
-use Rattle.ide_service.specs.Started.{IsStarted}
+use Rattle.ide_service.specs.Started.{IsPrepared}
 
 -- the text's refusal is one of the text and names
 pub of-text : (text : List ℕ) (names : List (List ℕ)) (refused : Refused) → IsRefusalOf text refused → IsSolveRefusal text names refused
@@ -90,7 +90,7 @@ module _ {F L : Type 0} (A : LatticeAlgebra L) (B : EdgeAlgebra F L) (targets : 
 
   -- a core that is started is drained, but for want of memory
   pub drain-refused : (text : List ℕ) (names : List (List ℕ)) (core : CoreData F) (graph : Supergraph) {refused : Refused}
-      → IsStarted A B targets text names core graph → IsDrainRefusal core refused → refused ≡ NoMemory
+      → IsPrepared A B targets text names core graph → IsDrainRefusal core refused → refused ≡ NoMemory
   drain-refused text names core graph is (drain_without unloaded) = absurd (true≢false (sym (ap is_some is.is) ∙ unloaded))
   drain-refused text names core graph is (at_work loaded claimed) = absurd (true≢false (sym claimed ∙ ap is_some (is.unclaimed 0)))
   drain-refused text names core graph is (others_at_work loaded free hand other claimed) = absurd (true≢false (sym claimed ∙ ap is_some (is.unclaimed hand)))
@@ -98,7 +98,7 @@ module _ {F L : Type 0} (A : LatticeAlgebra L) (B : EdgeAlgebra F L) (targets : 
 
   -- and once it is quiet it is closed
   pub close-refused : (text : List ℕ) (names : List (List ℕ)) (core drained : CoreData F) (graph : Supergraph) {refused : Refused}
-      → IsStarted A B targets text names core graph → GoesOn A B targets 0 core drained → drained.pile.pending ≡ []
+      → IsPrepared A B targets text names core graph → GoesOn A B targets 0 core drained → drained.pile.pending ≡ []
       → CloseFault drained refused
       → ⊥
   close-refused text names core drained graph is goes quiet (close_without unloaded) = true≢false (sym (ap is_some (goes.by.same.graph ∙ is.is)) ∙ unloaded)

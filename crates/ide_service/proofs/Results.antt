@@ -13,5 +13,5 @@ on-ok (Ok x) p follows = follows p
 on-ok (Err e) p follows = p
 
 -- of a refusal that `?` hands on
-pub handed-on : {T E : Type 0} (P : E → Type 0) (result : Result T E) (given handed : E) → result ≡ Err handed → handed ≡ given → P given → IfErr result P
-handed-on P result given handed is same h = subst (λ r. IfErr r P) (sym is) (subst P (sym same) h)
+pub refused-on : {T E : Type 0} (P : E → Type 0) (result : Result T E) (given handed : E) → result ≡ Err handed → handed ≡ given → P given → IfErr result P
+refused-on P result given handed is same h = subst (λ r. IfErr r P) (sym is) (subst P (sym same) h)

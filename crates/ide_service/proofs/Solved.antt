@@ -21,16 +21,16 @@ use Rattle.ide_wire.specs.declared.key.Key.TheVariants.{Jump}
 use Rattle.ide_steps.specs.Core.{CoreData}
 use Rattle.ide_steps.specs.Going.{GoesOn}
 use Rattle.ide_steps.specs.State.{state_of}
-use Rattle.ide_values.specs.Best.{AreBest, AreOf, IsSolved}
+use Rattle.ide_values.specs.Best.{AreBest, AreOf, IsAtRest}
 use Rattle.ide_values.specs.Values.{ValuesData, value_of}
 use Rattle.ide_service.specs.Solve.{AreRootNames, AreSolved}
-use Rattle.ide_service.specs.Started.{IsStarted}
+use Rattle.ide_service.specs.Started.{IsPrepared}
 
 module _ {F L : Type 0} (A : LatticeAlgebra L) (B : EdgeAlgebra F L) (targets : Targets F)
     (goes_on : (graph : Supergraph) (all : HaveEdgesOf graph.facts graph.sites) → AreJoined graph.sites (start_at graph) → DoRunsGoOn (frame_at A B targets graph all))
     (proper_id : IsTrue (B.proper B.id)) where
   pub solved : (text : List ℕ) (names : List (List ℕ)) (rooted drained : CoreData F) (graph : Supergraph) (values : ValuesData L) (table : Table F)
-      → IsStarted A B targets text names rooted graph → GoesOn A B targets 0 rooted drained → drained.pile.pending ≡ []
+      → IsPrepared A B targets text names rooted graph → GoesOn A B targets 0 rooted drained → drained.pile.pending ≡ []
       → drained.program ≡ Some values.program → drained.graph ≡ Some values.graph → values.roots ≡ drained.roots → table ≡ drained.table
       → AreBest A B targets values.graph values.roots table (value_of A values)
       → AreSolved A B targets text names values
@@ -49,8 +49,8 @@ module _ {F L : Type 0} (A : LatticeAlgebra L) (B : EdgeAlgebra F L) (targets : 
       at_roots : rooted.graph ≡ Some graph
       at_roots = sym goes.by.same.graph ∙ at_end
 
-      is : IsStarted A B targets text names rooted graph
-      is = subst (IsStarted A B targets text names rooted) (same_Some before graph (sym started.is ∙ at_roots)) started
+      is : IsPrepared A B targets text names rooted graph
+      is = subst (IsPrepared A B targets text names rooted) (same_Some before graph (sym started.is ∙ at_roots)) started
 
       roots_are : values.roots ≡ rooted.roots
       roots_are = roots_end ∙ goes.by.same.roots
@@ -69,7 +69,7 @@ module _ {F L : Type 0} (A : LatticeAlgebra L) (B : EdgeAlgebra F L) (targets : 
       kept r d (inl top) = inl top
       kept r d (inr has) = inr (on.keeps (state_of targets B rooted) (state_of targets B drained) is.run steps (Jump r d d) B.id proper_id has)
 
-      is_solved : IsSolved A B targets graph is.all values.roots table
+      is_solved : IsAtRest A B targets graph is.all values.roots table
       is_solved = record {
         state = state_of targets B drained;
         run = on.run (state_of targets B rooted) (state_of targets B drained) is.run steps;

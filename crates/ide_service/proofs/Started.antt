@@ -25,9 +25,9 @@ use Rattle.ide_theory.specs.State.{nothing_done}
 use Rattle.ide_theory.specs.Theorem.{GraphsAreSupergraphs}
 use Rattle.ide_steps.specs.Core.{CoreData}
 use Rattle.ide_steps.specs.State.{state_of}
-use Rattle.ide_service.specs.Begun.{AreBegun, IsReady}
+use Rattle.ide_service.specs.Begun.{AreBegun, IsInOrder}
 use Rattle.ide_service.specs.Solve.{AreRootNames}
-use Rattle.ide_service.specs.Started.{IsStarted}
+use Rattle.ide_service.specs.Started.{IsPrepared}
 
 -- the laws of programs' graphs and of runs that are called on
 pub record Laws {F L : Type 0} (A : LatticeAlgebra L) (B : EdgeAlgebra F L) (targets : Targets F) : Type 0 where
@@ -46,7 +46,7 @@ module _ {F L : Type 0} (A : LatticeAlgebra L) (B : EdgeAlgebra F L) (targets : 
   pub started : (text : List ℕ) (names : List (List ℕ)) (p : Program) → IsParsed text p → (loaded rooted : CoreData F)
       → loaded.program ≡ Some (value_of p) → IsSomeAnd loaded.graph (IsGraphOf p) → IsSomeAnd loaded.graph (HasEdgesOf p) → state_of targets B loaded ≡ nothing_done F → loaded.roots ≡ []
       → loaded.pile.claims ≡ [] → AreBegun A B targets loaded rooted names
-      → (graph : Supergraph) × IsStarted A B targets text names rooted graph
+      → (graph : Supergraph) × IsPrepared A B targets text names rooted graph
   started text names p parsed loaded rooted has_program has_graph has_edges state no_roots no_claims begun = (
     graph,
     record {
@@ -56,7 +56,6 @@ module _ {F L : Type 0} (A : LatticeAlgebra L) (B : EdgeAlgebra F L) (targets : 
       named = subst (λ rs. AreRootNames graph rs names rooted.roots) no_roots (begun.named graph at_load);
       within = begun.within graph at_load none_before;
       fit = record {
-        sited = (laws.closed p graph numbered edges).sited;
         joined = joined;
         few = omega (arith, numbered.few.1);
         exits = laws.exits p graph numbered edges;
@@ -87,7 +86,7 @@ module _ {F L : Type 0} (A : LatticeAlgebra L) (B : EdgeAlgebra F L) (targets : 
       joined : AreJoined graph.sites (start_at graph)
       joined = laws.joined p graph numbered edges
 
-      ready : IsReady graph
+      ready : IsInOrder graph
       ready = record {
         joined = joined;
         home = λ i h. ap (slice_index graph.starts) ((laws.closed p graph numbered edges).home i h);

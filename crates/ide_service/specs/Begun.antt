@@ -15,7 +15,7 @@ use Rattle.ide_steps.specs.State.{state_of}
 use Rattle.ide_service.specs.Solve.{AreRootNames}
 
 -- the sites fit together, each procedure's start is its own, and entry facts are facts
-pub record IsReady (graph : Supergraph) : Type 0 where
+pub record IsInOrder (graph : Supergraph) : Type 0 where
   pub joined : AreJoined graph.sites (start_at graph)
   pub home : (i : ℕ) → i < graph.procedures → start_at graph (slice_index graph.starts i) ≡ slice_index graph.starts i
   pub entries : graph.entries ≤ graph.facts
@@ -30,10 +30,10 @@ module _ {F L : Type 0} (A : LatticeAlgebra L) (B : EdgeAlgebra F L) (targets : 
     pub named : (graph : Supergraph) → old.graph ≡ Some graph → AreRootNames graph old.roots names new.roots
     pub within : (graph : Supergraph) → old.graph ≡ Some graph → ((i : ℕ) → IsIn i old.roots → i < graph.procedures)
         → (i : ℕ) → IsIn i new.roots → i < graph.procedures
-    pub steps : (graph : Supergraph) → old.graph ≡ Some graph → (all : HaveEdgesOf graph.facts graph.sites) → IsReady graph
+    pub steps : (graph : Supergraph) → old.graph ≡ Some graph → (all : HaveEdgesOf graph.facts graph.sites) → IsInOrder graph
         → Run (frame_at A B targets graph all) (state_of targets B old)
         → Steps (frame_at A B targets graph all) (state_of targets B old) (state_of targets B new)
-    pub begun : (graph : Supergraph) → old.graph ≡ Some graph → (all : HaveEdgesOf graph.facts graph.sites) → IsReady graph
+    pub begun : (graph : Supergraph) → old.graph ≡ Some graph → (all : HaveEdgesOf graph.facts graph.sites) → IsInOrder graph
         → Run (frame_at A B targets graph all) (state_of targets B old)
         → HasRoots (frame_at A B targets graph all) (roots_at A B targets graph all old.roots) (state_of targets B old).get
         → HasRoots (frame_at A B targets graph all) (roots_at A B targets graph all new.roots) (state_of targets B new).get

@@ -1,5 +1,6 @@
 -- What is answered of a text and the names of roots: the dump of the best values.
 use Rattle.std.specs.Prelude.{◌≡◌, ℕ, ◌<◌, List, [], ◌∷◌, ◌++◌}
+use Rattle.std.specs.Global.{Vec}
 use Rattle.ide_graph.specs.GraphOfText.{IsGraphOfText}
 use Rattle.ide_graph.specs.Supergraph.{Supergraph}
 use Rattle.ide_lattice.specs.Algebra.{LatticeAlgebra, EdgeAlgebra}
@@ -38,3 +39,7 @@ module _ {F L : Type 0} (A : LatticeAlgebra L) (B : EdgeAlgebra F L) (targets : 
     pub named : AreRootNames graph [] names roots
     pub all : HaveEdgesOf graph.facts graph.sites
     pub best : IsBestDump (frame_at A B targets graph all) (roots_at A B targets graph all roots) graph shown dump
+
+  -- the dump is appended
+  abbrev pub AppendsSolution : (L → List ℕ) → List ℕ → List (List ℕ) → (old new : Vec ℕ) → Type 0
+  AppendsSolution shown text names old new = (dump : List ℕ) × (new.items ≡ old.items ++ dump) × IsSolution shown text names dump

@@ -19,7 +19,7 @@ use Rattle.ide_service.specs.Solve.{AreRootNames}
 module _ {F L : Type 0} (A : LatticeAlgebra L) (B : EdgeAlgebra F L) (targets : Targets F) where
   -- the core has the program that the text spells, with its graph, and the procedures of the names as its
   -- roots; a run came to its state, where the roots have their identities; and no hand has a claim
-  pub record IsStarted (text : List ℕ) (names : List (List ℕ)) (core : CoreData F) (graph : Supergraph) : Type 0 where
+  pub record IsPrepared (text : List ℕ) (names : List (List ℕ)) (core : CoreData F) (graph : Supergraph) : Type 0 where
     pub is : core.graph ≡ Some graph
     pub spelled : IsGraphOfText text graph
     pub loaded : core.program ≡ Some (value_of spelled.program)
@@ -30,3 +30,7 @@ module _ {F L : Type 0} (A : LatticeAlgebra L) (B : EdgeAlgebra F L) (targets : 
     pub run : Run (frame_at A B targets graph all) (state_of targets B core)
     pub begun : HasRoots (frame_at A B targets graph all) (roots_at A B targets graph all core.roots) (state_of targets B core).get
     pub unclaimed : IsFree core.pile
+
+  -- the same, with some graph
+  abbrev pub IsPreparedFor : List ℕ → List (List ℕ) → CoreData F → Type 0
+  IsPreparedFor text names core = (graph : Supergraph) × IsPrepared text names core graph

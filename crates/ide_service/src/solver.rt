@@ -1,10 +1,9 @@
 //! Solving a text in memory, with one hand.
-ghost use Rattle.std.specs.Prelude.{◌≡◌, ◌++◌, ℕ, List, IfErr, IfOk, OnErr, OnOk, map};
-ghost use Rattle.ide_graph.specs.Supergraph.{Supergraph};
+ghost use Rattle.std.specs.Prelude.{◌≡◌, IfErr, IfOk, OnErr, OnOk, map};
 ghost use Rattle.ide_service.specs.Begun.{AreBegun};
 ghost use Rattle.ide_service.specs.Refusal.{IsRootsRefusal, IsSolveRefusal};
-ghost use Rattle.ide_service.specs.Solve.{AreSolved, IsSolution};
-ghost use Rattle.ide_service.specs.Started.{IsStarted};
+ghost use Rattle.ide_service.specs.Solve.{AppendsSolution, AreSolved};
+ghost use Rattle.ide_service.specs.Started.{IsPreparedFor};
 
 use ide_graph::{
     ends_of_programs_are_nodes, exits_of_programs_are_owned, graphs_of_programs_are_closed,
@@ -31,7 +30,7 @@ pub fn solve<P: Problem>(
     roots: &[&[u8]],
     out: &mut Vec<u8>,
 ) -> Result<(), Refused>
-    ensures solution { OnOk result ((dump : List ℕ) × (out.new.items ≡ out.old.items ++ dump) × IsSolution P.L.algebra P.F.edge P.targets P.L.shown text.now (map (λ name. name.now) roots.now) dump) }
+    ensures solution { OnOk result (AppendsSolution P.L.algebra P.F.edge P.targets P.L.shown text.now (map (λ name. name.now) roots.now) out.old out.new) }
     ensures refused { IfErr result (IsSolveRefusal text.now (map (λ name. name.now) roots.now)) }
     ensures unchanged { OnErr result (out.new.items ≡ out.old.items) }
 {
@@ -61,7 +60,7 @@ pub fn values_of<P: Problem>(
 
 /// A core with the program that the text spells, and the procedures of these names as its roots.
 fn started<P: Problem>(alloc: Global, text: &[u8], roots: &[&[u8]]) -> Result<Core<P>, Refused>
-    ensures started { IfOk result (λ core. (graph : Supergraph) × IsStarted P.L.algebra P.F.edge P.targets text.now (map (λ name. name.now) roots.now) core graph) }
+    ensures started { IfOk result (IsPreparedFor P.L.algebra P.F.edge P.targets text.now (map (λ name. name.now) roots.now)) }
     ensures refused { IfErr result (IsSolveRefusal text.now (map (λ name. name.now) roots.now)) }
 {
     graphs_are_supergraphs::<P>();

@@ -6,7 +6,7 @@ use Rattle.ide_service.specs.Begun.{AreBegun}
 use Rattle.ide_service.specs.Refusal.{IsRootsRefusal}
 use Rattle.ide_service.proofs.Begun.{begun-more, begun-none, names-with}
 use Rattle.ide_service.proofs.Refused.{names-around, refused-later, root-refused}
-use Rattle.ide_service.proofs.Results.{handed-on}
+use Rattle.ide_service.proofs.Results.{refused-on}
 use Rattle.ide_service.proofs.solver.begin_roots.Goals as goal
 
 pub loop-name-init : goal.loop-name-init
@@ -37,7 +37,7 @@ returns-in_err-root-clause-refused g c =
     let refused = c.in_err-root.field-0.0 in
     let is = c.in_err-root.ensures in
     let p = err_from_is_err_and c.from_residual.result c.from_residual.ensures.1 in
-    handed-on (IsRootsRefusal old.graph old.roots (map (λ name. name.now) names)) c.from_residual.result refused p.0 p.1 p.2
+    refused-on (IsRootsRefusal old.graph old.roots (map (λ name. name.now) names)) c.from_residual.result refused p.0 p.1 p.2
     (subst (λ ns. IsRootsRefusal old.graph old.roots ns refused) (sym (names-around (λ name. name.now) names index _ c.loop-name-test.true))
     (refused-later A B targets old mid (map (λ name. name.now) (take index names)) (_ ∷ map (λ name. name.now) (drop (suc index) names)) c.loop-name.invariant
     (root-refused mid.graph mid.roots _ (map (λ name. name.now) (drop (suc index) names)) is.refused)))

@@ -4,7 +4,7 @@ use Rattle.ide_graph.specs.Joined.{start_at}
 use Rattle.ide_theory.specs.Sites.{edges_of}
 use Rattle.ide_service.specs.Refusal.{IsSolveRefusal, memory}
 use Rattle.ide_service.proofs.Refused.{of-text, roots-refused}
-use Rattle.ide_service.proofs.Results.{handed-on}
+use Rattle.ide_service.proofs.Results.{refused-on}
 use Rattle.ide_service.proofs.Started.{Laws, started}
 use Rattle.ide_service.proofs.solver.started.Goals as goal
 
@@ -32,21 +32,21 @@ pub returns-in_err-program-clause-refused : goal.returns-in_err-program-clause-r
 returns-in_err-program-clause-refused g c =
     let p = err_from_is_err_and c.from_residual.result c.from_residual.ensures.1 in
     let names = map (λ name. name.now) c.args.roots.now in
-    handed-on (IsSolveRefusal c.args.text.now names) c.from_residual.result c.in_err-program.field-0.0 p.0 p.1 p.2
+    refused-on (IsSolveRefusal c.args.text.now names) c.from_residual.result c.in_err-program.field-0.0 p.0 p.1 p.2
     (of-text c.args.text.now names c.in_err-program.field-0.0 c.in_err-program.ensures.fault)
 
 pub returns-in_err-load-clause-refused : goal.returns-in_err-load-clause-refused
 returns-in_err-load-clause-refused g c =
     let p = err_from_is_err_and c.from_residual-in_err-load.result c.from_residual-in_err-load.ensures.1 in
     let P = IsSolveRefusal c.args.text.now (map (λ name. name.now) c.args.roots.now) in
-    handed-on P c.from_residual-in_err-load.result c.in_err-load.field-0.0 p.0 p.1 p.2 (subst P (sym c.in_err-load.ensures.refused) memory)
+    refused-on P c.from_residual-in_err-load.result c.in_err-load.field-0.0 p.0 p.1 p.2 (subst P (sym c.in_err-load.ensures.refused) memory)
 
 pub returns-in_err-begin_roots-clause-refused : goal.returns-in_err-begin_roots-clause-refused
 returns-in_err-begin_roots-clause-refused g c =
     let p = err_from_is_err_and c.from_residual-in_err-begin_roots.result c.from_residual-in_err-begin_roots.ensures.1 in
     let names = map (λ name. name.now) c.args.roots.now in
     let parsed = c.in_ok-program.ensures.parsed in
-    handed-on (IsSolveRefusal c.args.text.now names) c.from_residual-in_err-begin_roots.result c.in_err-begin_roots.field-0.0 p.0 p.1 p.2
+    refused-on (IsSolveRefusal c.args.text.now names) c.from_residual-in_err-begin_roots.result c.in_err-begin_roots.field-0.0 p.0 p.1 p.2
     (roots-refused g.P.L.Lattice.algebra g.P.F.EdgeFn.edge g.P.Problem.targets c.args.text.now names c.load.new.self c.in_ok-program.program
     parsed c.in_ok-load.ensures.graph c.in_ok-load.ensures.edges c.in_ok-load.ensures.roots
     c.in_err-begin_roots.ensures.refused)

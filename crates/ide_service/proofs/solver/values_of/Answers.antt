@@ -4,7 +4,7 @@ use Rattle.ide_graph.specs.Joined.{start_at}
 use Rattle.ide_theory.specs.Sites.{edges_of}
 use Rattle.ide_service.specs.Refusal.{IsSolveRefusal, memory}
 use Rattle.ide_service.proofs.Refused.{close-refused, drain-refused, values-refused}
-use Rattle.ide_service.proofs.Results.{handed-on, if-ok}
+use Rattle.ide_service.proofs.Results.{refused-on, if-ok}
 use Rattle.ide_service.proofs.Solved.{solved}
 use Rattle.ide_service.proofs.solver.values_of.Goals as goal
 
@@ -35,5 +35,5 @@ returns-in_err-drain-clause-refused g c =
     let refused = c.in_err-drain.field-0.0 in
     let wanting = drain-refused g.P.L.Lattice.algebra g.P.F.EdgeFn.edge g.P.Problem.targets c.args.text.now names
     c.in_ok-core.core c.in_ok-core.ensures.started.0 c.in_ok-core.ensures.started.1 c.in_err-drain.ensures.refused in
-    handed-on (IsSolveRefusal c.args.text.now names) c.from_residual-in_err-drain.result refused p.0 p.1 p.2
+    refused-on (IsSolveRefusal c.args.text.now names) c.from_residual-in_err-drain.result refused p.0 p.1 p.2
     (subst (IsSolveRefusal c.args.text.now names) (sym wanting) memory)
