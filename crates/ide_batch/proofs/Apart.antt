@@ -1,21 +1,18 @@
 -- That bodies are told apart, from the small to the large: counted lists, members, groups, and bodies.
-use Rattle.std.specs.Prelude.{◌≡◌, ℕ, zero, suc, ◌≤◌, ◌<◌, Bool, true, false, ◌&&◌, List, [], ◌∷◌, ◌++◌, length, map, nat_lt, take, IsTrue}
+use Rattle.std.specs.Prelude.{◌≡◌, ℕ, Bool, ◌&&◌, List, [], ◌∷◌, ◌++◌, length, nat_lt, take, IsTrue}
 use Rattle.std.specs.Int.{w16, w32, to_le_bytes}
 use Rattle.std.specs.List.{flat_map}
-use Rattle.std.proofs.Common.{ap, sym, subst, refl, ◌∙◌, arith, append_assoc, append-nil}
-use Rattle.std.proofs.lemmas.Bool.Decides.{nat_tests}
-use Rattle.std.proofs.lemmas.List.{append_cancel_left, length-append, take_at}
-use Rattle.ide_journal.specs.declared.version.Version.{Version}
+use Rattle.std.proofs.Common.{ap, sym, refl, ◌∙◌, arith, append_assoc, append-nil}
+use Rattle.std.proofs.lemmas.List.{length-append, take_at}
 use Rattle.ide_journal.specs.declared.version.Version.TheVariants.{One, Two}
-use Rattle.ide_wire.specs.Form.{IsPrefixFree, NoFormInFront}
+use Rattle.ide_wire.specs.Form.{IsPrefixFree}
 use Rattle.ide_wire.specs.Numbers.{fits, two_prefix_free, four_prefix_free}
-use Rattle.ide_batch.specs.Bodies.{IsBody}
 use Rattle.ide_batch.specs.Forms.{all_proper, is_countable, counted}
 use Rattle.ide_batch.specs.FormLaws.{left, right, both, parted, pair_free, entry_free, item_free}
-use Rattle.ide_batch.specs.Groups.{Group, Member, AreGroups, IsGroupedBody, group_form, is_proper_group, member_form, is_proper_member, items_of}
+use Rattle.ide_batch.specs.Groups.{Group, Member, IsGroupedBody, group_form, is_proper_group, member_form, is_proper_member, items_of}
 use Rattle.ide_batch.specs.Items.{Functions, Item, IsListBody, entry_form, is_proper_entry, item_form, is_proper_item}
 use Rattle.ide_batch.specs.Laws.{BodiesAreApart}
-use Rattle.ide_batch.specs.Records.{RecordValue, Load, Root, Batch, kind_of}
+use Rattle.ide_batch.specs.Records.{Load, Root, Batch}
 use Rattle.ide_batch.proofs.ListBody.{small_count}
 use Rattle.ide_batch.proofs.Lists.{goes_on}
 

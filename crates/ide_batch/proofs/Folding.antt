@@ -1,9 +1,7 @@
 -- A batch that tells how an image changed, folded over the image of before, key by key.
-use Rattle.std.specs.Prelude.{◌≡◌, ◌≢◌, Bool, Option, Some, None, List, unwrap_or}
-use Rattle.std.proofs.Common.{ap, sym, refl, ◌∙◌}
+use Rattle.std.specs.Prelude.{◌≡◌, Bool, Option, Some, None, unwrap_or}
 use Rattle.ide_wire.specs.declared.key.Key.{Key}
-use Rattle.ide_batch.specs.Fold.{BatchesLead, IsBatch, ProgramImage, SaysChange, entry_at, named, with_items}
-use Rattle.ide_batch.specs.Items.{Item}
+use Rattle.ide_batch.specs.Fold.{BatchesLead, SaysChange, entry_at, named}
 
 module _ {F : Type 0} where
   said : (entry : Option (Option F × Bool)) (before now : Option F × Bool) → SaysChange entry before now → unwrap_or entry before ≡ now

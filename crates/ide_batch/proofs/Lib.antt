@@ -4,3 +4,6 @@ pub mod ListBody
 pub mod Apart
 pub mod Folding
 pub mod Sets
+pub mod Imaged
+pub mod Refusals
+pub mod Applying

@@ -1,17 +1,17 @@
 -- A body of the first version, read from the front: its count is that of the items, and the list that stands behind it is theirs.
-use Rattle.std.specs.Prelude.{◌≡◌, ℕ, ◌≤◌, ◌<◌, ◌^◌, List, [], ◌∷◌, ◌++◌, length, map, IsTrue}
+use Rattle.std.specs.Prelude.{◌≡◌, ℕ, ◌≤◌, ◌<◌, List, [], ◌∷◌, ◌++◌, length, map, IsTrue}
 use Rattle.std.specs.Int.{w32, to_le_bytes}
 use Rattle.std.specs.List.{flat_map}
 use Rattle.std.specs.List.Sorted.{IsStrictlySortedBy}
-use Rattle.std.proofs.Common.{ap, sym, subst, refl, ◌∙◌, arith, append_assoc, append-nil}
+use Rattle.std.proofs.Common.{ap, sym, subst, ◌∙◌, arith, append-nil}
 use Rattle.std.proofs.lemmas.Bool.Decides.{nat_tests}
 use Rattle.std.proofs.lemmas.List.{length-append}
 use Rattle.ide_wire.specs.Form.{IsPrefixFree, NoFormInFront}
 use Rattle.ide_wire.specs.KeyOrder.{key_cmp}
 use Rattle.ide_wire.specs.Numbers.{fits, four_prefix_free}
-use Rattle.ide_batch.specs.Forms.{all_proper, counted, NoListInFront}
+use Rattle.ide_batch.specs.Forms.{all_proper, NoListInFront}
 use Rattle.ide_batch.specs.FormLaws.{parted, item_free}
-use Rattle.ide_batch.specs.Items.{Functions, Item, AreWritten, IsListBody, item_form, is_proper_item}
+use Rattle.ide_batch.specs.Items.{Functions, Item, IsListBody, item_form, is_proper_item}
 use Rattle.ide_batch.proofs.Lists.{goes_on}
 
 -- a count that few things have can be spelled

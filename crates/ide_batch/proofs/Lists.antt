@@ -1,8 +1,8 @@
 -- Lists of forms, of which none begins another: from the front on, two lists are one as far as the shorter goes.
-use Rattle.std.specs.Prelude.{◌≡◌, ◌≢◌, ℕ, suc, ◌+◌, ◌≤◌, ◌<◌, Bool, true, false, ◌&&◌, List, [], ◌∷◌, ◌++◌, length, IsTrue}
+use Rattle.std.specs.Prelude.{◌≡◌, ℕ, ◌≤◌, ◌<◌, Bool, true, List, [], ◌∷◌, ◌++◌, length, IsTrue}
 use Rattle.std.specs.List.{flat_map}
-use Rattle.std.proofs.Common.{ap, sym, subst, refl, ◌∙◌, arith, append_assoc, append-nil}
-use Rattle.std.proofs.lemmas.List.{append_cancel_left, length_push}
+use Rattle.std.proofs.Common.{ap, sym, refl, ◌∙◌, arith, append_assoc, append-nil}
+use Rattle.std.proofs.lemmas.List.{append_cancel_left}
 use Rattle.std.proofs.lemmas.List.Concat.{flat_map-append}
 use Rattle.ide_wire.specs.Form.{IsPrefixFree, NoFormInFront}
 use Rattle.ide_batch.specs.Forms.{all_proper, NoListInFront}

@@ -1,6 +1,6 @@
 -- Items that are set one after the other: one item more, and none.
 use Rattle.std.specs.Prelude.{◌≡◌, ℕ, ◌+◌, ◌<◌, Bool, true, false, cond, List, [], ◌∷◌, ◌++◌, Option, Some, None, length, take, drop, get_or, unwrap_or, IsTrue}
-use Rattle.std.proofs.Common.{ap, sym, subst, refl, ◌∙◌, arith}
+use Rattle.std.proofs.Common.{ap, sym, subst, refl, ◌∙◌}
 use Rattle.std.specs.List.{list_any}
 use Rattle.std.proofs.lemmas.List.{take_more, take-append-drop}
 use Rattle.ide_steps.specs.Core.{CoreData, IsSameProblem, IsUnchanged}

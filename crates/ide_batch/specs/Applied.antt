@@ -1,5 +1,5 @@
 -- What a core's image is, which records of a journal apply to a core, and what applying one does.
-use Rattle.std.specs.Prelude.{◌≡◌, ℕ, ◌⊎◌, ◌++◌, Bool, List, [], ◌∷◌, Option, Some, None, map, unwrap_or}
+use Rattle.std.specs.Prelude.{◌≡◌, ℕ, ◌⊎◌, ◌++◌, Bool, List, [], Option, Some, None, map, unwrap_or}
 use Rattle.std.specs.List.{All}
 use Rattle.std.specs.Option.{IsSomeAnd}
 use Rattle.ide_graph.specs.GraphOf.{IsGraphOf}
@@ -7,7 +7,7 @@ use Rattle.ide_graph.specs.Supergraph.{Supergraph, procedure_named}
 use Rattle.ide_journal.specs.Format.{Entry}
 use Rattle.ide_journal.specs.declared.version.Version.{Version}
 use Rattle.ide_lattice.specs.Algebra.{EdgeAlgebra}
-use Rattle.ide_steps.specs.Core.{CoreData, IsSameProblem}
+use Rattle.ide_steps.specs.Core.{CoreData, IsSameProblem, IsUnchanged}
 use Rattle.ide_steps.specs.Items.{IsKeyOf}
 use Rattle.ide_steps.specs.Refusal.{IsRootName}
 use Rattle.ide_tables.specs.Tables.{found}
@@ -15,19 +15,20 @@ use Rattle.ide_text.specs.Parsed.{IsParsed}
 use Rattle.ide_text.specs.Program.{value_of}
 use Rattle.ide_text.specs.Value.{ProgramValue}
 use Rattle.ide_text.specs.declared.program.Program.{Program}
+use Rattle.ide_theory.specs.Images.{loaded}
 use Rattle.ide_wire.specs.declared.key.Key.{Key}
 use Rattle.ide_wire.specs.declared.refused.Refused.{Refused}
 use Rattle.ide_wire.specs.declared.refused.Refused.TheVariants.{NoMemory, Damaged}
 use Rattle.ide_worklist.specs.Worklist.{is_pending}
 use Rattle.ide_batch.specs.Bodies.{IsEntryOf}
 use Rattle.ide_batch.specs.Fold.{LeadsTo, ProgramImage, named, with_items}
-use Rattle.ide_batch.specs.Items.{Functions, Item}
+use Rattle.ide_batch.specs.Items.{Functions, Item, IsListBody}
 use Rattle.ide_batch.specs.Records.{RecordValue, Load, Root, Batch}
 
 -- the graph is that of a program that says so, or there is none
 abbrev pub IsGraphed : Option ProgramValue → Option Supergraph → Type 0
 IsGraphed None graph = graph ≡ None
-IsGraphed (Some v) graph = (p : Program) × (loaded : Supergraph) × (value_of p ≡ v) × (graph ≡ Some loaded) × IsGraphOf p loaded
+IsGraphed (Some v) graph = (p : Program) × (kept : Supergraph) × (value_of p ≡ v) × (graph ≡ Some kept) × IsGraphOf p kept
 
 -- the index of the procedure of the name, where a program is loaded
 abbrev pub named_in : Option Supergraph → List ℕ → Option ℕ
@@ -56,10 +57,14 @@ pub record SetsItems {F : Type 0} (old new : CoreData F) (items : List (Item F))
 abbrev pub MayHaveAll : {F : Type 0} → CoreData F → List (Item F) → Type 0
 MayHaveAll core items = All (λ item. IsSomeAnd core.graph (λ graph. IsKeyOf graph item.0)) items
 
+-- the name may be a root
+abbrev pub MayBeRoot : {F : Type 0} → CoreData F → List ℕ → Type 0
+MayBeRoot core name = IsSomeAnd core.graph (λ graph. (root : ℕ) × IsRootName graph core.roots name root)
+
 -- the record fits the core: its text has no fault, its name may be a root, or its keys are such as the core may have
 abbrev pub Fits : {F : Type 0} → CoreData F → RecordValue F → Type 0
 Fits core (Load text) = (p : Program) × IsParsed text p
-Fits core (Root name) = IsSomeAnd core.graph (λ graph. (root : ℕ) × IsRootName graph core.roots name root)
+Fits core (Root name) = MayBeRoot core name
 Fits core (Batch items) = MayHaveAll core items
 
 module _ {F : Type 0} (functions : Functions F) (version : Version) where
@@ -100,3 +105,35 @@ pub record IsLoadedWith {F : Type 0} (p : Program) (core : CoreData F) : Type 0 
   pub roots : core.roots ≡ []
   pub entries : core.table.entries ≡ []
   pub pending : core.pile.pending ≡ []
+  pub claims : core.pile.claims ≡ []
+
+-- the text is loaded
+abbrev pub LoadsText : {F : Type 0} → List ℕ → CoreData F → Type 0
+LoadsText text core = (p : Program) × IsParsed text p × IsLoadedWith p core
+
+-- the refusal of a record of that number that a call refused so
+abbrev pub refusal_of : ℕ → Refused → Refused
+refusal_of n NoMemory = NoMemory
+refusal_of n _ = Damaged n
+
+-- a refusal for want of memory, or of that record, which nothing fits
+abbrev pub RefusesRecord : ℕ → Type 0 → Refused → Type 0
+RefusesRecord n Fitting refused = (refused ≡ NoMemory) ⊎ ((refused ≡ Damaged n) × ¬ Fitting)
+
+module _ {F : Type 0} (functions : Functions F) where
+  -- such a body spells items that the core may have
+  abbrev pub SpellsFitting : CoreData F → List ℕ → Type 0
+  SpellsFitting core body = (items : List (Item F)) × IsListBody functions items body × MayHaveAll core items
+
+  -- the items of the body are set
+  abbrev pub SetsBody : (old new : CoreData F) → List ℕ → Type 0
+  SetsBody old new body = (items : List (Item F)) × IsListBody functions items body × MayHaveAll old items × SetsItems old new items
+
+  -- nothing is set, or the first items of the body
+  abbrev pub SetsSome : (old new : CoreData F) → List ℕ → Type 0
+  SetsSome old new body = IsUnchanged old new ⊎ ((items : List (Item F)) × IsListBody functions items body × SetsFront old new items)
+
+-- a core with no program, of which nothing is done, has the empty image
+abbrev pub NewCoresAreEmpty : Type 0 → Type 0
+NewCoresAreEmpty F = (core : CoreData F) → core.program ≡ None → core.graph ≡ None → core.roots ≡ [] → core.table.entries ≡ []
+    → core.pile.pending ≡ [] → HasImage (loaded None) core

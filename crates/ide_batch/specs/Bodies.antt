@@ -1,10 +1,10 @@
 -- How a store of either version spells a record as the body of a record of its journal.
-use Rattle.std.specs.Prelude.{◌≡◌, ℕ, List, length}
+use Rattle.std.specs.Prelude.{◌≡◌, ℕ, List}
 use Rattle.ide_journal.specs.Format.{Entry}
 use Rattle.ide_journal.specs.declared.version.Version.{Version}
 use Rattle.ide_journal.specs.declared.version.Version.TheVariants.{One, Two}
 use Rattle.ide_batch.specs.Groups.{IsGroupedBody}
-use Rattle.ide_batch.specs.Items.{Functions, Item, IsListBody}
+use Rattle.ide_batch.specs.Items.{AreWritten, Functions, Item, IsListBody}
 use Rattle.ide_batch.specs.Records.{RecordValue, Load, Root, Batch, kind_of}
 
 module _ {F : Type 0} (functions : Functions F) where
@@ -23,3 +23,9 @@ module _ {F : Type 0} (functions : Functions F) where
   pub record IsEntryOf (version : Version) (record_value : RecordValue F) (entry : Entry) : Type 0 where
     pub kind : entry.0 ≡ kind_of record_value
     pub body : IsBody version record_value entry.1
+
+  -- the formats spell the record: the items of a batch are such as a body may have
+  abbrev pub MayBeSpelled : RecordValue F → Type 0
+  MayBeSpelled (Load text) = Unit {0}
+  MayBeSpelled (Root name) = Unit {0}
+  MayBeSpelled (Batch items) = AreWritten functions items

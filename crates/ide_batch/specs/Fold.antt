@@ -1,13 +1,13 @@
 -- What records make of an image, one after the other from the empty one, and when a batch tells how an image changed.
-use Rattle.std.specs.Prelude.{◌≡◌, ◌≢◌, ℕ, ◌+◌, Bool, List, [], ◌∷◌, Option, Some, None, cond, length, option_map, take, map, unwrap_or}
-use Rattle.std.specs.List.{flat_map, position}
+use Rattle.std.specs.Prelude.{◌≡◌, ◌≢◌, ℕ, ◌+◌, Bool, List, [], ◌∷◌, Option, Some, None, cond, length, option_map, take, unwrap_or}
+use Rattle.std.specs.List.{position}
 use Rattle.std.specs.Str.{bytes_eq}
 use Rattle.ide_lattice.specs.Algebra.{EdgeAlgebra}
 use Rattle.ide_text.specs.Parsed.{IsParsed}
 use Rattle.ide_text.specs.Program.{value_of}
 use Rattle.ide_text.specs.Value.{StatementValue, calling, other, ProcedureValue, ProgramValue}
 use Rattle.ide_text.specs.declared.program.Program.{Program}
-use Rattle.ide_theory.specs.Images.{Image, ImageStep, Load, Root, Procedures, loaded, step}
+use Rattle.ide_theory.specs.Images.{Image, Load, Root, Procedures, loaded, step}
 use Rattle.ide_wire.specs.Key.{same_key}
 use Rattle.ide_wire.specs.declared.key.Key.{Key}
 use Rattle.ide_batch.specs.Items.{Item}

@@ -1,14 +1,12 @@
 -- That forms are told apart: of two forms one after the other, of items, and of lists of forms.
-use Rattle.std.specs.Prelude.{◌≡◌, ◌≢◌, ℕ, suc, ◌≤◌, Bool, true, false, not, ◌&&◌, get_or, List, [], ◌∷◌, ◌++◌, length, IsTrue}
-use Rattle.std.specs.List.{flat_map}
-use Rattle.std.proofs.Common.{ap, sym, subst, refl, ◌∙◌, arith, append_assoc, append-nil}
+use Rattle.std.specs.Prelude.{◌≡◌, ◌≢◌, ℕ, Bool, true, false, not, ◌&&◌, get_or, List, [], ◌∷◌, ◌++◌, IsTrue}
+use Rattle.std.proofs.Common.{ap, sym, refl, ◌∙◌, arith, append_assoc}
 use Rattle.std.proofs.lemmas.List.{append_cancel_left}
 use Rattle.std.proofs.lemmas.Bool.Decides.{nat_tests}
 use Rattle.ide_wire.specs.Form.{IsPrefixFree, NoFormInFront}
 use Rattle.ide_wire.specs.Key.{key_form, is_proper_key, key_prefix_free}
 use Rattle.ide_wire.specs.declared.key.Key.{Key}
-use Rattle.ide_batch.specs.Forms.{all_proper, is_countable, counted}
-use Rattle.ide_batch.specs.Items.{Functions, Item, mark, entry_form, is_proper_entry, item_form, is_proper_item}
+use Rattle.ide_batch.specs.Items.{Functions, mark, entry_form, is_proper_entry, item_form, is_proper_item}
 
 pub left : (a b : Bool) → IsTrue (a && b) → IsTrue a
 left a b h = grind (arith, nat_tests)

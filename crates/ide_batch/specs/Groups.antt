@@ -1,5 +1,5 @@
 -- How the second version of a store spells items: those of one node and kind are a group, which names these once.
-use Rattle.std.specs.Prelude.{◌≡◌, ℕ, zero, suc, ◌≤◌, Bool, ◌&&◌, List, ◌∷◌, ◌++◌, [], length, map, nat_lt, IsTrue}
+use Rattle.std.specs.Prelude.{◌≡◌, ℕ, zero, suc, ◌≤◌, Bool, ◌&&◌, List, ◌∷◌, ◌++◌, length, map, nat_lt, IsTrue}
 use Rattle.std.specs.Int.{w16, w32, to_le_bytes}
 use Rattle.std.specs.List.{AllByRecursion, flat_map}
 use Rattle.std.specs.List.Sorted.{IsStrictlySortedBy}

@@ -1,4 +1,5 @@
 //! Laws of bodies and of the fold. The functions do nothing: their clauses are the laws.
+ghost use Rattle.ide_batch.specs.Applied.{NewCoresAreEmpty};
 ghost use Rattle.ide_batch.specs.Fold.{BatchesLead};
 ghost use Rattle.ide_batch.specs.Items.{functions_by};
 ghost use Rattle.ide_batch.specs.Laws.{BodiesAreApart};
@@ -13,4 +14,9 @@ pub fn bodies_are_apart<F: EdgeFn>()
 /// A batch that tells how an image changed gives the image as it is now, over the one of before.
 pub fn batches_lead<F: EdgeFn>()
     ensures { BatchesLead F }
+{}
+
+/// A core that is new has the empty image, from which every fold begins.
+pub fn new_cores_are_empty<F: EdgeFn>()
+    ensures { NewCoresAreEmpty F }
 {}

@@ -2,14 +2,17 @@
 //! a list of them gives back.
 #![tactic(auto)]
 
-mod apply;
 mod coded;
 mod entry;
 mod items;
 mod laws;
 mod list;
+mod raw;
 mod record;
+mod replay;
 
 pub use items::MOST;
-pub use laws::{batches_lead, bodies_are_apart};
+pub use laws::{batches_lead, bodies_are_apart, new_cores_are_empty};
+pub use raw::to_raw;
 pub use record::Record;
+pub use replay::apply;

@@ -1,10 +1,10 @@
-use Rattle.std.specs.Prelude.{◌≡◌, ◌≤◌, [], List, length, map}
+use Rattle.std.specs.Prelude.{List, map}
 use Rattle.std.specs.List.Sorted.{IsStrictlySortedBy}
 use Rattle.std.proofs.Common.{arith, rules, subst, sym}
 use Rattle.ide_wire.specs.KeyOrder.{key_cmp}
 use Rattle.std.proofs.lemmas.Grind.{common_steps}
 use Rattle.ide_batch.specs.Items.{functions_by, Item}
-use Rattle.ide_batch.proofs.ListBody.{no_count, no_list, no_more, none_empty, none_mixed, list_body}
+use Rattle.ide_batch.proofs.ListBody.{no_count, no_list, no_more, none_mixed, list_body}
 use Rattle.ide_batch.proofs.items.read_items.Goals as goal
 
 pub returns-in_default-clause-none : goal.returns-in_default-clause-none

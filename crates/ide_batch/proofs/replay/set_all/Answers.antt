@@ -1,7 +1,7 @@
-use Rattle.std.specs.Prelude.{◌≡◌, Result, Ok, Err, OnErr, take}
-use Rattle.std.proofs.Common.{arith, refl, sym, ◌∙◌}
+use Rattle.std.specs.Prelude.{Result, Ok, Err, OnErr, take}
+use Rattle.std.proofs.Common.{arith, ◌∙◌}
 use Rattle.ide_batch.proofs.Sets.{sets_none, sets_one, sets_unchanged, sets_next, sets_front}
-use Rattle.ide_batch.proofs.apply.set_all.Goals as goal
+use Rattle.ide_batch.proofs.replay.set_all.Goals as goal
 
 on_err : {T E : Type 0} {P : Type 0} (result : Result T E) → P → OnErr result P
 on_err (Ok x) p = tt

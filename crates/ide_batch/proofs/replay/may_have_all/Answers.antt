@@ -1,14 +1,9 @@
-use Rattle.std.specs.Prelude.{◌≡◌, take, get_or}
-use Rattle.std.specs.Option.{IsSomeAnd}
-use Rattle.std.proofs.Common.{arith, subst, sym, rules}
+use Rattle.std.proofs.Common.{arith, subst, rules}
 use Rattle.std.proofs.lemmas.Grind.{common_steps}
-use Rattle.std.proofs.lemmas.List.{take_all, take_more}
-use Rattle.std.proofs.lemmas.List.Elements.{All-push}
-use Rattle.ide_steps.specs.Items.{IsKeyOf}
+use Rattle.std.proofs.lemmas.List.{take_all}
 use Rattle.ide_batch.specs.Applied.{MayHaveAll}
-use Rattle.ide_batch.specs.Items.{Item}
 use Rattle.ide_batch.proofs.Sets.{may_have_next, may_have_here, never}
-use Rattle.ide_batch.proofs.apply.may_have_all.Goals as goal
+use Rattle.ide_batch.proofs.replay.may_have_all.Goals as goal
 
 pub loop-item-preserved : goal.loop-item-preserved
 loop-item-preserved g c =
