@@ -16,22 +16,22 @@ use std::alloc::{AllocError, Global};
 /// Spells the record for the journal, as in the first version of a store.
 ///
 /// Refusal: `NoMemory`.
-pub fn to_raw<F: EdgeFn>(alloc: Global, record: &Record<F>) -> Result<RawRecord, Refused>
-    requires { MayBeSpelled (functions_by F.proper F.form F.eq F.edge.all_top) (value_of record.now) }
-    ensures spelled { IfOk result (λ raw. IsEntryOf (functions_by F.proper F.form F.eq F.edge.all_top) One (value_of record.now) (entry_of raw)) }
+pub fn to_raw<F: EdgeFn>(alloc: Global, change: &Record<F>) -> Result<RawRecord, Refused>
+    requires { MayBeSpelled (functions_by F.proper F.form F.eq F.edge.all_top) (value_of change.now) }
+    ensures spelled { IfOk result (λ raw. IsEntryOf (functions_by F.proper F.form F.eq F.edge.all_top) One (value_of change.now) (entry_of raw)) }
     ensures refused { IfErr result (λ e. e ≡ Refused.NoMemory) }
 {
     let mut body = Vec::new(alloc);
-    put_body(record, &mut body)?;
-    let kind = kind_of(record);
+    put_body(change, &mut body)?;
+    let kind = kind_of(change);
     Ok(RawRecord { kind, body })
 }
 
 /// The kind that the journal notes.
-fn kind_of<F>(record: &Record<F>) -> u8
-    ensures { result ≡ kind_of (value_of record.now) }
+fn kind_of<F>(change: &Record<F>) -> u8
+    ensures { result ≡ kind_of (value_of change.now) }
 {
-    match record {
+    match change {
         Record::Load(_) => 1,
         Record::Root(_) => 2,
         Record::Batch(_) => 3,
@@ -39,12 +39,12 @@ fn kind_of<F>(record: &Record<F>) -> u8
 }
 
 /// Puts the record's body into an empty vector.
-fn put_body<F: EdgeFn>(record: &Record<F>, body: &mut Vec<u8>) -> Result<(), AllocError>
+fn put_body<F: EdgeFn>(change: &Record<F>, body: &mut Vec<u8>) -> Result<(), AllocError>
     requires empty { body.old.items ≡ [] }
-    requires spelled { MayBeSpelled (functions_by F.proper F.form F.eq F.edge.all_top) (value_of record.now) }
-    ensures { OnOk result (IsBody (functions_by F.proper F.form F.eq F.edge.all_top) One (value_of record.now) body.new.items) }
+    requires spelled { MayBeSpelled (functions_by F.proper F.form F.eq F.edge.all_top) (value_of change.now) }
+    ensures { OnOk result (IsBody (functions_by F.proper F.form F.eq F.edge.all_top) One (value_of change.now) body.new.items) }
 {
-    match record {
+    match change {
         Record::Load(text) => body.extend_from_slice(text.as_slice()),
         Record::Root(name) => body.extend_from_slice(name.as_slice()),
         Record::Batch(items) => put_items(items.as_slice(), body),
