@@ -1,0 +1,9 @@
+pub mod Lists
+pub mod Ascending
+pub mod ListBody
+pub mod Apart
+pub mod Folding
+pub mod Sets
+pub mod Imaged
+pub mod Refusals
+pub mod Applying

@@ -1,0 +1,9 @@
+pub mod Forms
+pub mod Items
+pub mod FormLaws
+pub mod Groups
+pub mod Records
+pub mod Bodies
+pub mod Fold
+pub mod Laws
+pub mod Applied

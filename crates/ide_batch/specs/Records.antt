@@ -1,0 +1,22 @@
+-- Records by what they say.
+use Rattle.std.specs.Prelude.{ℕ, List}
+use Rattle.ide_batch.specs.Items.{Item}
+use Rattle.ide_batch.specs.declared.record.Record.{Record}
+use Rattle.ide_batch.specs.declared.record.Record.TheVariants as declared
+
+-- a program's text is loaded, the procedure of a name becomes a root, or keys change their entries
+pub data RecordValue (F : Type 0) : Type 0 where
+  Load : List ℕ → RecordValue F
+  Root : List ℕ → RecordValue F
+  Batch : List (Item F) → RecordValue F
+
+abbrev pub value_of : {F : Type 0} → Record F → RecordValue F
+value_of (declared.Load text) = Load text.items
+value_of (declared.Root name) = Root name.items
+value_of (declared.Batch items) = Batch items.items
+
+-- the kind that the journal notes
+abbrev pub kind_of : {F : Type 0} → RecordValue F → ℕ
+kind_of (Load text) = 1
+kind_of (Root name) = 2
+kind_of (Batch items) = 3

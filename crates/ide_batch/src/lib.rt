@@ -1,0 +1,18 @@
+//! What a store's records mean: how each is spelled as a record of the journal, and the image that
+//! a list of them gives back.
+#![tactic(auto)]
+
+mod coded;
+mod entry;
+mod items;
+mod laws;
+mod list;
+mod raw;
+mod record;
+mod replay;
+
+pub use items::MOST;
+pub use laws::{batches_lead, bodies_are_apart, new_cores_are_empty};
+pub use raw::to_raw;
+pub use record::Record;
+pub use replay::apply;
