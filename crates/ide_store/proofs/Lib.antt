@@ -1,0 +1,4 @@
+pub mod Machine
+pub mod Marks
+pub mod OneDisk
+pub mod World

@@ -1,0 +1,39 @@
+-- A journal's record leads from an image to one other at most.
+use Rattle.std.proofs.Common.{◌≡◌, ◌∙◌, ℕ, List, [], ◌++◌, Bool, length, refl, ap, sym, subst}
+use Rattle.ide_batch.proofs.Apart.{apart}
+use Rattle.ide_batch.specs.Bodies.{IsBody, IsEntryOf}
+use Rattle.ide_batch.specs.Fold.{LeadsTo, ProgramImage, procedures}
+use Rattle.ide_batch.specs.Items.{Functions}
+use Rattle.ide_batch.specs.Records.{RecordValue, Load, Root, Batch, kind_of}
+use Rattle.ide_journal.specs.Format.{Entry}
+use Rattle.ide_journal.specs.declared.version.Version.{Version}
+use Rattle.ide_lattice.specs.Algebra.{EdgeAlgebra}
+use Rattle.ide_text.specs.Parsed.{IsParsed}
+use Rattle.ide_text.specs.Program.{value_of}
+use Rattle.ide_text.specs.declared.program.Program.{Program}
+use Rattle.ide_text.proofs.RoundTrip.{parsed_again, printed_again}
+use Rattle.ide_theory.specs.Images.{step}
+use Rattle.ide_theory.specs.Images as images
+use Rattle.ide_wire.specs.Form.{IsPrefixFree}
+use Rattle.ide_store.specs.Machine.{Does, machine}
+use Rattle.ide_store.specs.World.{AreExact}
+
+-- programs of one text say the same
+one_value : (text : List ℕ) (p q : Program) → IsParsed text p → IsParsed text q → value_of p ≡ value_of q
+one_value text p q parsed other =
+    sym ((parsed_again p).equal q (subst (λ (t : List ℕ). IsParsed t q) (sym (printed_again text p parsed)) other))
+
+module _ {F L : Type 0} (functions : EdgeAlgebra F L) (same : F → F → Bool) where
+  leads_once : (value : RecordValue F) (before now other : ProgramImage F) → LeadsTo functions same value before now
+      → LeadsTo functions same value before other → now ≡ other
+  leads_once (Load text) before now other (p, parsed, is) (q, parsed_other, is_other) =
+      is ∙ ap (λ v. step procedures functions same before (images.Load v)) (one_value text p q parsed parsed_other) ∙ sym is_other
+  leads_once (Root name) before now other is is_other = is ∙ sym is_other
+  leads_once (Batch items) before now other is is_other = is ∙ sym is_other
+
+  pub machine_is_exact : (forms : Functions F) → IsPrefixFree forms.proper forms.form → (version : Version)
+      → AreExact (machine functions same forms version)
+  machine_is_exact forms free version entry before now other does does_other =
+      let one : does.value ≡ does_other.value = apart forms free version does.value does_other.value entry.1 entry.1 [] []
+      (sym does.spelled.kind ∙ does_other.spelled.kind) does.spelled.body does_other.spelled.body refl refl in
+      leads_once does_other.value before now other (subst (λ (value : RecordValue F). LeadsTo functions same value before now) one does.leads) does_other.leads

@@ -1,0 +1,31 @@
+-- The machine of an analysis: images of programs, their steps, and what the records of a journal do.
+use Rattle.std.specs.Prelude.{List, ℕ, Bool, None}
+use Rattle.ide_batch.specs.Bodies.{IsEntryOf}
+use Rattle.ide_batch.specs.Fold.{LeadsTo, ProgramImage, procedures}
+use Rattle.ide_batch.specs.Items.{Functions}
+use Rattle.ide_batch.specs.Records.{RecordValue}
+use Rattle.ide_journal.specs.Format.{Entry}
+use Rattle.ide_journal.specs.declared.version.Version.{Version}
+use Rattle.ide_lattice.specs.Algebra.{EdgeAlgebra}
+use Rattle.ide_text.specs.Value.{ProgramValue}
+use Rattle.ide_theory.specs.Images.{ImageStep, loaded, step}
+use Rattle.ide_store.specs.World.{Rules}
+
+-- a step of a program's image
+abbrev pub ProgramStep : Type 0 → Type 0
+ProgramStep F = ImageStep ProgramValue (List ℕ) F
+
+-- a journal's record does what the record does that it spells
+pub record Does {F L : Type 0} (functions : EdgeAlgebra F L) (same : F → F → Bool) (forms : Functions F) (version : Version)
+    (entry : Entry) (before now : ProgramImage F) : Type 0 where
+  pub value : RecordValue F
+  pub spelled : IsEntryOf forms version value entry
+  pub leads : LeadsTo functions same value before now
+
+-- over a store of that version, from the empty image on
+abbrev pub machine : {F L : Type 0} → EdgeAlgebra F L → (F → F → Bool) → Functions F → Version → Rules (ProgramImage F) (ProgramStep F) Entry
+machine functions same forms version = record {
+  empty = loaded None;
+  step = step procedures functions same;
+  Leads = Does functions same forms version;
+}

@@ -1,0 +1,12 @@
+//! The store: what is left of a run that is stopped, or crashes, at any moment.
+//!
+//! The definitions say what a store of records is to those above it (`specs/Store`), what may happen to
+//! a machine whose steps it keeps, and what an opening gives back (`specs/World`). A journal on one disk
+//! is such a store (`specs/OneDisk`), and the images of an analysis with the bodies of their records are
+//! such a machine (`specs/Machine`). The model of crashes is that of the disk: a crash may come between
+//! any two calls and within each, an opening's among them. The crate has no code yet.
+#![tactic(auto)]
+
+mod laws;
+
+pub use laws::every_run_recovers;
