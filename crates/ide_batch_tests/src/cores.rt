@@ -1,0 +1,103 @@
+//! Cores on the way, by calls and by records.
+use ide_batch::apply;
+use ide_journal::RawRecord;
+use ide_problem::Problem;
+use ide_steps::{Claimed, Core};
+use ide_tasks::{Task, Work};
+use ide_text::{Program, parse};
+use ide_wire::Refused;
+use std::alloc::{AllocError, Global};
+
+/// The program of a text.
+fn program_of(alloc: Global, text: &str) -> Result<Program, Refused> {
+    let program = parse(alloc, text.as_bytes())?;
+    Ok(program)
+}
+
+/// Loads a text, with `main` as its root; what changes is noted from then on.
+pub(crate) fn begin<P: Problem>(
+    alloc: Global,
+    core: &mut Core<P>,
+    text: &str,
+) -> Result<(), Refused> {
+    core.load(program_of(alloc, text)?)?;
+    core.root(b"main")?;
+    core.take_changes();
+    Ok(())
+}
+
+/// Does all tasks.
+pub(crate) fn drain<P: Problem>(core: &mut Core<P>) -> Result<(), Refused> {
+    core.drain()?;
+    Ok(())
+}
+
+/// The work of a task.
+fn work_of<P: Problem>(alloc: Global, task: Task<P>) -> Result<Work<P>, Refused> {
+    match Work::of(alloc, task) {
+        Ok(work) => Ok(work),
+        Err(_) => Err(Refused::NoMemory),
+    }
+}
+
+/// Does up to `most` parts of the work.
+fn do_parts<P: Problem>(
+    core: &mut Core<P>,
+    work: &mut Work<P>,
+    most: usize,
+) -> Result<(), Refused> {
+    core.parts(0, work, most)?;
+    Ok(())
+}
+
+/// What the hand of number 0 claims.
+fn claim<P: Problem>(core: &mut Core<P>) -> Result<Claimed<P>, Refused> {
+    let claimed = core.claim(0)?;
+    Ok(claimed)
+}
+
+/// Does the first parts of the first task, with the hand of number 0.
+pub(crate) fn do_first_parts<P: Problem>(
+    alloc: Global,
+    core: &mut Core<P>,
+    most: usize,
+) -> Result<(), Refused> {
+    match claim(core)? {
+        Claimed::Task(task) => {
+            let mut work = work_of(alloc, task)?;
+            do_parts(core, &mut work, most)
+        }
+        _ => Err(Refused::Stale),
+    }
+}
+
+/// A record of the journal, of that kind and body.
+fn raw_of(alloc: Global, kind: u8, body: &[u8]) -> Result<RawRecord, AllocError> {
+    let mut bytes = Vec::new(alloc);
+    bytes.extend_from_slice(body)?;
+    Ok(RawRecord { kind, body: bytes })
+}
+
+/// Applies the record to a core that takes every claim back first.
+fn apply_raw<P: Problem>(
+    alloc: Global,
+    core: &mut Core<P>,
+    n: u64,
+    raw: &RawRecord,
+) -> Result<(), Refused> {
+    core.release_all();
+    apply(alloc, core, n, raw)?;
+    Ok(())
+}
+
+/// Applies the record of that number, kind and body.
+pub(crate) fn replay<P: Problem>(
+    alloc: Global,
+    core: &mut Core<P>,
+    n: u64,
+    kind: u8,
+    body: &[u8],
+) -> Result<(), Refused> {
+    let raw = raw_of(alloc, kind, body)?;
+    apply_raw(alloc, core, n, &raw)
+}
