@@ -69,11 +69,18 @@ prefix_map f test (x ∷ xs) = ap {B = ℕ} (λ (n : ℕ). cond (not (test (f x)
 position_map : {X Y : Type 0} (f : X → Y) (test : Y → Bool) (xs : List X) → position test (map f xs) ≡ position (λ x. test (f x)) xs
 position_map f test xs = ap (λ n. place_by n (length (map f xs))) (prefix_map f test xs) ∙ ap (place_by (prefix_len (λ x. not (test (f x))) xs)) (length-map xs f)
 
+-- the start of a procedure by what a program says is that of its nodes
+pub starts_as : (p : Program) (name : List ℕ) → procedures.start (value_of p) name ≡ option_map (start_of (procedures_of p)) (procedure_of (procedures_of p) name)
+starts_as p name =
+    ap (option_map (λ j. nodes_of (take j (map value_of_procedure (procedures_of p))))) (position_map value_of_procedure (λ q. bytes_eq name q.name) (procedures_of p))
+    ∙ at (procedure_of (procedures_of p) name)
+  where
+    at : (o : Option ℕ) → option_map (λ j. nodes_of (take j (map value_of_procedure (procedures_of p)))) o ≡ option_map (start_of (procedures_of p)) o
+    at None = refl
+    at (Some i) = ap (λ n. Some n) (ap nodes_of (take-map value_of_procedure i (procedures_of p)) ∙ all_count 0 (take i (procedures_of p)))
+
 start_is : (p : Program) (name : List ℕ) (i : ℕ) → procedure_of (procedures_of p) name ≡ Some i → procedures.start (value_of p) name ≡ Some (start_of (procedures_of p) i)
-start_is p name i is =
-    ap (option_map (λ j. nodes_of (take j (map value_of_procedure (procedures_of p)))))
-    (position_map value_of_procedure (λ q. bytes_eq name q.name) (procedures_of p) ∙ is)
-    ∙ ap (λ n. Some n) (ap nodes_of (take-map value_of_procedure i (procedures_of p)) ∙ all_count 0 (take i (procedures_of p)))
+start_is p name i is = starts_as p name ∙ ap (option_map (start_of (procedures_of p))) is
 
 some_is : {X : Type 0} (x y : X) → Some x ≡ Some y → x ≡ y
 some_is x y same = cc (same)

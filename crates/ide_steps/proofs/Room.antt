@@ -75,10 +75,10 @@ module _ (make : ℕ → ℕ → ℕ → Key) (facts : ℕ) where
       in-flat_map square among (in-flat_map (row n) (in-range_below facts a first_in) (in-map (make n a) (in-range_below facts b second_in)))
 
 module _ (graph : Supergraph) where
-  all_keys : List Key
+  pub all_keys : List Key
   all_keys = grid Jump graph.facts (range_with_len 0 graph.nodes) ++ grid Summary graph.facts (calls_of graph)
 
-  length-all : length all_keys ≡ key_space graph
+  pub length-all : length all_keys ≡ key_space graph
   unfolding all_keys
   length-all =
       let both = length-append (grid Jump graph.facts (range_with_len 0 graph.nodes)) (grid Summary graph.facts (calls_of graph)) in
@@ -91,7 +91,7 @@ module _ (graph : Supergraph) where
       sum : (m n k : ℕ) → m * k + n * k ≡ (m + n) * k
       sum m n k = omega arith
 
-  in-all : length graph.sites ≡ graph.nodes → (key : Key) → IsPlaced graph key → IsKeyInRange graph.facts key → IsIn key all_keys
+  pub in-all : length graph.sites ≡ graph.nodes → (key : Key) → IsPlaced graph key → IsKeyInRange graph.facts key → IsIn key all_keys
   unfolding all_keys
   in-all sited (Jump n a b) within facts =
       in-left (grid Summary graph.facts (calls_of graph)) (in-grid Jump graph.facts (range_with_len 0 graph.nodes) n a b (in-range_below graph.nodes n within) facts.0 facts.1)

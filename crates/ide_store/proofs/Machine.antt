@@ -1,11 +1,9 @@
 -- A journal's record leads from an image to one other at most.
-use Rattle.std.proofs.Common.{◌≡◌, ◌∙◌, ℕ, List, [], ◌++◌, Bool, length, refl, ap, sym, subst}
+use Rattle.std.proofs.Common.{◌≡◌, ◌∙◌, ℕ, List, [], Bool, refl, ap, sym, subst}
 use Rattle.ide_batch.proofs.Apart.{apart}
-use Rattle.ide_batch.specs.Bodies.{IsBody, IsEntryOf}
 use Rattle.ide_batch.specs.Fold.{LeadsTo, ProgramImage, procedures}
 use Rattle.ide_batch.specs.Items.{Functions}
-use Rattle.ide_batch.specs.Records.{RecordValue, Load, Root, Batch, kind_of}
-use Rattle.ide_journal.specs.Format.{Entry}
+use Rattle.ide_batch.specs.Records.{RecordValue, Load, Root, Batch}
 use Rattle.ide_journal.specs.declared.version.Version.{Version}
 use Rattle.ide_lattice.specs.Algebra.{EdgeAlgebra}
 use Rattle.ide_text.specs.Parsed.{IsParsed}
@@ -15,7 +13,7 @@ use Rattle.ide_text.proofs.RoundTrip.{parsed_again, printed_again}
 use Rattle.ide_theory.specs.Images.{step}
 use Rattle.ide_theory.specs.Images as images
 use Rattle.ide_wire.specs.Form.{IsPrefixFree}
-use Rattle.ide_store.specs.Machine.{Does, machine}
+use Rattle.ide_store.specs.Machine.{machine}
 use Rattle.ide_store.specs.World.{AreExact}
 
 -- programs of one text say the same

@@ -1,9 +1,8 @@
 -- Marks: the image of the first records is that after the steps that were done when the last of them was sealed.
-use Rattle.std.proofs.Common.{◌≡◌, ◌∙◌, ◌⊎◌, ◌≤◌, ◌<◌, ℕ, ◌+◌, zero, suc, List, [], ◌∷◌, ◌++◌, length, take, map, refl, sym, subst, arith, inl, inr}
+use Rattle.std.proofs.Common.{◌≡◌, ◌≤◌, ◌<◌, ℕ, zero, suc, List, [], ◌∷◌, ◌++◌, length, take, refl, sym, subst, arith, inl, inr}
 use Rattle.std.proofs.lemmas.Bool.{cases_lt}
 use Rattle.std.proofs.lemmas.List.{length-append, length-take, length-take-le, map-append, take-append-le, take-take, take_all}
 use Rattle.std.proofs.lemmas.List.Sums.{fold-append}
-use Rattle.std.specs.Prelude.{fold}
 use Rattle.ide_store.specs.World.{Rules, Sealed, contents, image_after, last_mark, IsFolded, LeadTo}
 
 pub take_more : {X : Type 0} (i j : ℕ) (xs : List X) → j ≤ i → take i (take j xs) ≡ take j xs
@@ -45,11 +44,11 @@ marks_stepped rules history sealed s are = record {
 abbrev pub pushed : {R : Type 0} → List (Sealed R) → R → ℕ → List (Sealed R)
 pushed sealed r mark = sealed ++ record { content = r; mark = mark } ∷ []
 
-mark_before : {R : Type 0} (sealed : List (Sealed R)) (r : R) (mark n : ℕ) → n ≤ length sealed
+pub mark_before : {R : Type 0} (sealed : List (Sealed R)) (r : R) (mark n : ℕ) → n ≤ length sealed
     → take n (pushed sealed r mark) ≡ take n sealed
 mark_before sealed r mark n le = take-append-le n sealed _ le
 
-all_pushed : {R : Type 0} (sealed : List (Sealed R)) (r : R) (mark n : ℕ) → length sealed < n
+pub all_pushed : {R : Type 0} (sealed : List (Sealed R)) (r : R) (mark n : ℕ) → length sealed < n
     → take n (pushed sealed r mark) ≡ pushed sealed r mark
 all_pushed sealed r mark n lt =
     take_all n (pushed sealed r mark) (let longer = length-append sealed (record { content = r; mark = mark } ∷ []) in omega arith)
@@ -58,13 +57,13 @@ mark_pushed : {R : Type 0} (sealed : List (Sealed R)) (r : R) (mark : ℕ) → l
 mark_pushed sealed r mark = fold-append _ 0 sealed _
 
 -- records and one more
-lead_pushed : {Image Step R : Type 0} (rules : Rules Image Step R) (records : List R) (r : R) (before between now : Image)
+pub lead_pushed : {Image Step R : Type 0} (rules : Rules Image Step R) (records : List R) (r : R) (before between now : Image)
     → LeadTo rules records before between → rules.Leads r between now → LeadTo rules (records ++ r ∷ []) before now
 lead_pushed rules [] r before between now same leads = (now, subst (λ i. rules.Leads r i now) (sym same) leads, refl)
 lead_pushed rules (x ∷ records) r before between now (first, leads_first, rest) leads =
     (first, leads_first, lead_pushed rules records r first between now rest leads)
 
-folded_pushed : {Image Step R : Type 0} (rules : Rules Image Step R) (sealed : List (Sealed R)) (r : R) (mark : ℕ) (base now : Image)
+pub folded_pushed : {Image Step R : Type 0} (rules : Rules Image Step R) (sealed : List (Sealed R)) (r : R) (mark : ℕ) (base now : Image)
     → IsFolded rules (contents sealed) base → rules.Leads r base now → IsFolded rules (contents (pushed sealed r mark)) now
 folded_pushed rules sealed r mark base now folded leads =
     rw (map-append (λ (s : Sealed _). s.content) sealed (record { content = r; mark = mark } ∷ []))

@@ -2,7 +2,7 @@
 use Rattle.std.proofs.Common.{◌≡◌, ◌≢◌, ◌∙◌, ◌⊎◌, ◌≤◌, ◌<◌, ℕ, ◌+◌, zero, suc, List, [], ◌∷◌, ◌++◌, Option, Some, None, length, take, drop, slice_index, refl, ap, sym, subst, arith, inl, inr}
 use Rattle.std.specs.Prelude.{slice_get}
 use Rattle.std.proofs.lemmas.List.{append-nil, append_assoc, drop_all, get_or_append_left, length-append, length-take-le, take-append-le, take_all}
-use Rattle.ide_disk.specs.Disk.{DiskState, CrashLeaves, IsKept, Keeps, Wrote, put_at, settled, synced_now, written}
+use Rattle.ide_disk.specs.Disk.{DiskState, CrashLeaves, Keeps, Wrote, put_at, settled, synced_now, written}
 use Rattle.ide_journal.specs.Bytes.{IsBeforeOrAfter, Knows}
 use Rattle.ide_journal.specs.Format.{Entry, Head, Holds, IsEntry, IsPages, after_gate, header}
 use Rattle.ide_journal.specs.Lists.{HoldsWithOrWithout}

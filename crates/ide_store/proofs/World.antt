@@ -1,10 +1,10 @@
 -- Every run of a store recovers: what is kept from event to event, and what it gives.
-use Rattle.std.proofs.Common.{◌≡◌, ◌∙◌, ◌≤◌, ◌<◌, ℕ, ◌+◌, List, [], ◌∷◌, ◌++◌, length, take, map, refl, ap, sym, subst, arith}
+use Rattle.std.proofs.Common.{◌≡◌, ◌∙◌, ◌≤◌, ◌<◌, ℕ, ◌+◌, List, [], ◌∷◌, ◌++◌, length, take, refl, ap, sym, subst, arith}
 use Rattle.std.proofs.lemmas.List.Sums.{fold-append}
-use Rattle.std.proofs.lemmas.List.{length-append, length-map, length-take-le, map-append, take-map, take_all}
+use Rattle.std.proofs.lemmas.List.{length-append, length-map, length-take-le, map-append, take-map}
 use Rattle.ide_store.proofs.Marks.{AreMarks, mark_at, marks_cut, marks_sealed, marks_stepped, no_marks, pushed}
 use Rattle.ide_store.specs.Store.{IsFound, IsSafe, Store, StoreLaws}
-use Rattle.ide_store.specs.World.{Acks, Begins, Calls, Can, CanAll, Closed, Crashes, Event, EveryRunRecovers, Failed, Fails, AreAlike, IsRecoverable, Mode, Opens, Recovers, Rules, Running, Seals, Sealed, Steps, Stops, Stores, World, after, after_all, contents, created, image_after, last_mark, opened, AreExact, IsFolded, LeadTo}
+use Rattle.ide_store.specs.World.{Acks, Begins, Calls, Can, CanAll, Closed, Crashes, Event, EveryRunRecovers, Failed, Fails, AreAlike, IsRecoverable, Mode, Opens, Recovers, Rules, Running, Seals, Sealed, Steps, Stops, Stores, World, after, after_all, contents, created, image_after, opened, AreExact, IsFolded, LeadTo}
 
 -- what is kept
 pub record IsKept {Image Step R : Type 0} {S : Store R} (rules : Rules Image Step R) (w : World Image Step S) : Type 0 where
@@ -16,18 +16,18 @@ pub record IsKept {Image Step R : Type 0} {S : Store R} (rules : Rules Image Ste
   pub acked : w.acked ≤ w.stored
 
 -- what an opening finds: some of the sealed records, all that are stored among them
-record IsRead {Image Step R : Type 0} {S : Store R} (rules : Rules Image Step R) (w : World Image Step S) (found : List R) : Type 0 where
-  least : w.stored ≤ length found
-  most : length found ≤ length w.sealed
-  image : (image : Image) → IsFolded rules found image → IsFolded rules (contents (take (length found) w.sealed)) image
-  holds : S.Holds (contents (take (length found) w.sealed)) (S.reads w.disks)
-  count : length (contents (take (length found) w.sealed)) ≡ length found
+pub record IsRead {Image Step R : Type 0} {S : Store R} (rules : Rules Image Step R) (w : World Image Step S) (found : List R) : Type 0 where
+  pub least : w.stored ≤ length found
+  pub most : length found ≤ length w.sealed
+  pub image : (image : Image) → IsFolded rules found image → IsFolded rules (contents (take (length found) w.sealed)) image
+  pub holds : S.Holds (contents (take (length found) w.sealed)) (S.reads w.disks)
+  pub count : length (contents (take (length found) w.sealed)) ≡ length found
 
 module _ {Image Step R : Type 0} {S : Store R} (rules : Rules Image Step R) (exact : AreExact rules) (laws : StoreLaws (AreAlike rules) S) where
   counted : (sealed : List (Sealed R)) (n : ℕ) → n ≤ length sealed → length (contents (take n sealed)) ≡ n
   counted sealed n le = length-map (take n sealed) (λ (s : Sealed R). s.content) ∙ length-take-le n sealed le
 
-  read : (w : World Image Step S) (found : List R) → IsKept rules w → S.Holds found (S.reads w.disks) → IsRead rules w found
+  pub read : (w : World Image Step S) (found : List R) → IsKept rules w → S.Holds found (S.reads w.disks) → IsRead rules w found
   read w found kept holds =
       let safe = kept.safe.each (S.reads w.disks) kept.safe.possible in
       let is = safe.2 in
@@ -43,7 +43,7 @@ module _ {Image Step R : Type 0} {S : Store R} (rules : Rules Image Step R) (exa
         count = counted w.sealed (length found) (rw long within);
       }
 
-  one_image : (records : List R) (before now other : Image) → LeadTo rules records before now → LeadTo rules records before other → now ≡ other
+  pub one_image : (records : List R) (before now other : Image) → LeadTo rules records before now → LeadTo rules records before other → now ≡ other
   one_image [] before now other is same = sym is ∙ same
   one_image (r ∷ records) before now other (a, leads, rest) (b, leads_other, rest_other) =
       one_image records a now other rest
@@ -129,7 +129,7 @@ module _ {Image Step R : Type 0} {S : Store R} (rules : Rules Image Step R) (exa
     possible = laws.crashed_reads left;
   }
 
-  kept : (w : World Image Step S) (e : Event Image Step S) → IsKept rules w → Can rules w e → IsKept rules (after rules w e)
+  pub kept : (w : World Image Step S) (e : Event Image Step S) → IsKept rules w → Can rules w e → IsKept rules (after rules w e)
   kept w (Steps s) is can = kept_stepped w s is can
   kept w (Seals r) is can = kept_sealed w r is can
   kept w (Begins work) is can =

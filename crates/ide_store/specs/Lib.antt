@@ -1,5 +1,9 @@
+pub mod Answers
+pub mod Hands
 pub mod Machine
 pub mod OneDisk
 pub mod Recovery
+pub mod Roots
 pub mod Store
+pub mod Tally
 pub mod World

@@ -1,8 +1,11 @@
--- That every run of a store on one disk recovers.
-use Rattle.std.specs.Prelude.{Bool}
-use Rattle.ide_batch.specs.Items.{Functions}
+-- That every run of a store on one disk recovers, and answers with best values.
+use Rattle.std.specs.Prelude.{ℕ, Bool, List}
+use Rattle.ide_batch.specs.Items.{Functions, functions_by}
 use Rattle.ide_journal.specs.Format.{Head}
 use Rattle.ide_lattice.specs.Algebra.{EdgeAlgebra}
+use Rattle.ide_lattice.specs.Algebra.{LatticeAlgebra}
+use Rattle.ide_problem.specs.Flow.{Targets}
+use Rattle.ide_store.specs.Hands.{EveryRunAnswers}
 use Rattle.ide_store.specs.Machine.{machine}
 use Rattle.ide_store.specs.OneDisk.{one_disk}
 use Rattle.ide_store.specs.World.{EveryRunRecovers}
@@ -10,3 +13,8 @@ use Rattle.ide_store.specs.World.{EveryRunRecovers}
 -- of whatever version and for whatever instance it was made
 abbrev pub OneDiskRecovers : {F L : Type 0} → EdgeAlgebra F L → (F → F → Bool) → Functions F → Type 0
 OneDiskRecovers functions same forms = (head : Head) → EveryRunRecovers (one_disk head) (machine functions same forms head.version)
+
+-- of whatever version, for whatever instance, and with functions of these forms
+abbrev pub OneDiskAnswers : {F L : Type 0} → LatticeAlgebra L → EdgeAlgebra F L → Targets F → (F → F → Bool) → (F → Bool) → (F → List ℕ) → Type 0
+OneDiskAnswers A B targets same proper form =
+    (head : Head) → EveryRunAnswers A B targets same (functions_by proper form same B.all_top) head.version (one_disk head)

@@ -1,8 +1,12 @@
 //! Laws of the store. The functions do nothing: their clauses are the laws.
 ghost use Rattle.ide_batch.specs.Items.{functions_by};
-ghost use Rattle.ide_store.specs.Recovery.{OneDiskRecovers};
+ghost use Rattle.ide_store.specs.Recovery.{OneDiskAnswers, OneDiskRecovers};
 
+use ide_graph::{
+    ends_of_programs_are_nodes, graphs_of_programs_are_closed, sites_of_programs_are_joined,
+};
 use ide_problem::Problem;
+use ide_theory::keys_stand_at_nodes;
 
 /// Over every list of steps, seals, disk calls, crashes and openings that can happen one after the
 /// other from a new store on one disk: while the machine runs, its image is that after its steps; an
@@ -11,3 +15,18 @@ use ide_problem::Problem;
 pub fn every_run_recovers<P: Problem>()
     ensures { OneDiskRecovers P.F.edge P.F.eq (functions_by P.F.proper P.F.form P.F.eq P.F.edge.all_top) }
 {}
+
+/// Over every list of claims, parts, ends and releases of any hands, loads, roots, batches, disk calls,
+/// crashes and openings that can happen one after the other from a new store on one disk: the store
+/// recovers, as above; over each graph of the image's program, wherever nothing is pending, each value
+/// that follows from the image is the best one for the program and its roots; and the work since the
+/// last opening or load is bounded: claims by the keys that were pending then, lowerings, releases and
+/// entries of roots, lowerings and entries by the ranks that the keys of the graph can lose.
+pub fn every_run_answers<P: Problem>()
+    ensures { OneDiskAnswers P.L.algebra P.F.edge P.targets P.F.eq P.F.proper P.F.form }
+{
+    ends_of_programs_are_nodes();
+    graphs_of_programs_are_closed();
+    sites_of_programs_are_joined();
+    keys_stand_at_nodes::<P>();
+}

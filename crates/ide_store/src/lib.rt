@@ -9,4 +9,4 @@
 
 mod laws;
 
-pub use laws::every_run_recovers;
+pub use laws::{every_run_answers, every_run_recovers};
