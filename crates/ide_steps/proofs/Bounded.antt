@@ -11,7 +11,7 @@ use Rattle.ide_steps.proofs.Going.{run-goes}
 
 module _ {F L : Type 0} (A : LatticeAlgebra L) (B : EdgeAlgebra F L) (targets : Targets F) where
   pub few-of : {E : Type 0} → ImagesHaveRoom A B targets → (r : Result ℕ E) (old new : CoreData F) → IsWhole new
-      → IfOk r (λ tasks. (claims : ℕ) × (tasks ≡ min claims (2 ^ 64 - 1)) × GoesOnPaid A B targets claims old new) → IfOk r (λ tasks. AreTasksFew A B targets tasks old)
+      → IfOk r (λ tasks. (claims : ℕ) × (tasks ≡ min claims (2 ^ 64 - 1)) × GoesOnPaid A B targets claims old new) → IfOk r (λ tasks. AreTasksFew A B targets old tasks)
   few-of room (Ok tasks) old new whole run_by = λ graph is all fit run.
       let goes = run_by.2.goes in
       let most = room new whole graph (goes.same.graph ∙ is) all fit

@@ -11,3 +11,5 @@ pub mod Listed
 pub mod Entries
 pub mod Nodes
 pub mod Noted
+pub mod Lent
+pub mod Refusing

@@ -1,5 +1,5 @@
 -- What changed since changes were last asked for: the entry that each key had then.
-use Rattle.std.specs.Prelude.{◌≡◌, ℕ, ◌+◌, ◌++◌, ◌≤◌, Bool, true, false, List, [], ◌∷◌, Option, Some, None, if◌then◌else◌, length, slice_get, unwrap_or}
+use Rattle.std.specs.Prelude.{◌≡◌, ℕ, ◌+◌, ◌++◌, ◌≤◌, Bool, true, false, List, [], ◌∷◌, Option, Some, None, IfSome, IsSome, if◌then◌else◌, length, slice_get, unwrap_or}
 use Rattle.std.specs.List.{list_any}
 use Rattle.std.specs.Map.{lookup}
 use Rattle.std.specs.Option.{is_some}
@@ -62,6 +62,10 @@ module _ {F : Type 0} where
   with_note None key entry = None
   with_note (Some list) key entry = Some (if is_some (lookup (same_key key) list) then list else list ++ (key, entry) ∷ [])
 
+  -- the entry of before is noted for the key, as far as changes are noted
+  abbrev pub NotesBefore : (old new : Option (List (Key × Entry F))) → Key → Option (Entry F) → Type 0
+  NotesBefore old new key before = (entry : Entry F) → IfSome before (λ e. e ≡ entry) → new ≡ with_note old key entry
+
   -- the same for the key that changes, if one does
   abbrev pub with_change : Option (List (Key × Entry F)) → Option Key → (Key → Entry F) → Option (List (Key × Entry F))
   with_change notes None entry = notes
@@ -90,6 +94,10 @@ module _ {F : Type 0} where
   -- the entry that the key had when changes were last asked for: the noted one, or else the one that stands
   abbrev pub entry_then : CoreData F → Key → Entry F
   entry_then core key = unwrap_or (noted core.changes key) (entry_of core key)
+
+  -- where changes were noted, each key's entry of then is the listed one, or else the one that stands
+  abbrev pub HandsOut : (old new : CoreData F) → List (Key × Entry F) → Type 0
+  HandsOut old new list = IsSome old.changes → (key : Key) → entry_then old key ≡ unwrap_or (lookup (same_key key) list) (entry_of new key)
 
   -- the entry of the key that changes, if one does, is noted, and no other
   pub record Notes (old new : CoreData F) (changed : Option Key) : Type 0 where

@@ -1,11 +1,13 @@
 -- What a claim comes to, by what it answers.
-use Rattle.std.specs.Prelude.{◌≡◌, ◌≢◌, ℕ, [], true, false, Some, nat_eq}
+use Rattle.std.specs.Prelude.{◌≡◌, ◌≢◌, ℕ, [], true, false, Result, Some, Ok, nat_eq}
 use Rattle.ide_graph.specs.Supergraph.{Supergraph}
 use Rattle.ide_lattice.specs.Algebra.{EdgeAlgebra}
 use Rattle.ide_problem.specs.Flow.{Targets}
 use Rattle.ide_tasks.specs.Task.{TaskData}
 use Rattle.ide_wire.specs.declared.key.Key.{Key}
-use Rattle.ide_worklist.specs.Worklist.{claim_at, ends_key, is_claimed, is_pending}
+use Rattle.ide_worklist.specs.Worklist.{Pile, PutsClaim, begun, claim_at, ends_key, is_claimed, is_pending}
+use Rattle.ide_steps.specs.declared.claim.Claimed.{Claimed}
+use Rattle.ide_steps.specs.declared.claim.Claimed.TheVariants.{Task}
 use Rattle.ide_steps.specs.Core.{CoreData, IsSameProblem}
 use Rattle.ide_steps.specs.Kept.{IsTaskWhere}
 use Rattle.ide_steps.specs.Steps.{IsTaken, progress_at}
@@ -36,3 +38,11 @@ pub record FindsTask {F L : Type 0} (targets : Targets F) (B : EdgeAlgebra F L) 
   pub taken : IsTaken targets B hand old new task
   pub is_task : (graph : Supergraph) → IsTaskWhere targets B graph old task
   pub progress : progress_at new.pile hand ≡ Some (task, 0)
+
+-- P holds of the task that is answered, if one is
+abbrev pub IfTask : {Q L F E : Type 0} → Result (Claimed Q L F) E → (TaskData F → Type 0) → Type 0
+IfTask {F = F} result P = (task : TaskData F) → result ≡ Ok (Task task) → P task
+
+-- the key is claimed by the hand with the task, of which no part is done
+abbrev pub BeginsClaim : {F : Type 0} → ℕ → Key → (old new : Pile (TaskData F)) → TaskData F → Type 0
+BeginsClaim hand key old new task = PutsClaim hand (Some (begun key task)) old new

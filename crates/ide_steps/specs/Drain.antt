@@ -1,10 +1,12 @@
 -- What falls with each task, and what pays for it.
-use Rattle.std.specs.Prelude.{◌≡◌, ℕ, ◌+◌, ◌-◌, ◌*◌, ◌^◌, ◌≤◌, Option, Result, OnOk, if◌then◌else◌, length, min}
+use Rattle.std.specs.Prelude.{◌≡◌, ℕ, ◌+◌, ◌-◌, ◌*◌, ◌^◌, ◌<◌, ◌≤◌, ◌⊎◌, Bool, false, Option, None, Some, Result, Ok, OnOk, if◌then◌else◌, length, min, nat_eq}
+use Rattle.std.specs.Option.{is_some}
 use Rattle.ide_lattice.specs.Algebra.{LatticeAlgebra, EdgeAlgebra}
 use Rattle.ide_problem.specs.Flow.{Targets}
 use Rattle.ide_tables.specs.Spent.{spent}
 use Rattle.ide_tasks.specs.Work.{WorkData}
-use Rattle.ide_worklist.specs.Worklist.{claim_at, ends_key}
+use Rattle.ide_tasks.specs.Task.{TaskData}
+use Rattle.ide_worklist.specs.Worklist.{Pile, claim_at, ends_key}
 use Rattle.ide_worklist.specs.declared.claim.Claim.{Claim}
 use Rattle.ide_steps.specs.declared.part.Parted.{Parted}
 use Rattle.ide_steps.specs.declared.part.Parted.TheVariants.{Lowered, Same, NoPart}
@@ -16,11 +18,27 @@ use Rattle.ide_steps.specs.Steps.{IsCurrent}
 abbrev pub left_by : {T : Type 0} → Option (Claim T) → ℕ
 left_by claim = if ends_key claim then 0 else 1
 
+-- no other hand has a claim
+abbrev pub AreOthersFree : {T : Type 0} → ℕ → Pile T → Type 0
+AreOthersFree hand pile = (h : ℕ) → nat_eq hand h ≡ false → claim_at pile h ≡ None
+
+-- another hand has a claim only if it had one
+abbrev pub StayOthersFree : {T : Type 0} → ℕ → (old new : Pile T) → Type 0
+StayOthersFree hand old new = (h : ℕ) → nat_eq hand h ≡ false → claim_at old h ≡ None → claim_at new h ≡ None
+
+-- the end of the hand's claim takes its key out of the pending ones, unless the key was lowered
+abbrev pub TakesOut : {T : Type 0} → ℕ → (old new : Pile T) → Type 0
+TakesOut hand old new = length new.pending + (if ends_key (claim_at old hand) then 1 else 0) ≡ length old.pending
+
 module _ {F L : Type 0} (B : EdgeAlgebra F L) where
   -- twice the ranks that the functions of so many entries as can be counted have still to lose, and the
   -- pending keys: to lower an entry makes at most one more key pending
   abbrev pub potential : CoreData F → ℕ
   potential core = 2 * (2 ^ 64 * B.height - spent B core.table.entries) + length core.pile.pending
+
+  -- there is less to do than before
+  abbrev pub HasLess : (old new : CoreData F) → Type 0
+  HasLess old new = potential new < potential old
 
   -- so many claims and lowerings of keys are paid for: each claim by a key that is no longer pending, or
   -- by a lowering; and each lowering by a rank that a function lost
@@ -43,6 +61,18 @@ lowerings_by Lowered = 1
 lowerings_by Same = 0
 lowerings_by NoPart = 0
 
+-- a part was done
+abbrev pub HasDonePart : {E : Type 0} → Result Parted E → Type 0
+HasDonePart result = (result ≡ Ok Lowered) ⊎ (result ≡ Ok Same)
+
+-- the lowering that the part may be is paid for
+abbrev pub IsPartPaid : {F L : Type 0} → EdgeAlgebra F L → ℕ → (old new : CoreData F) → Parted → Type 0
+IsPartPaid B hand old new parted = IsPaidBy B hand (lowerings_by parted) old new
+
+-- P holds of the task that is answered, if one is
+abbrev pub ForTask : {F E : Type 0} → Result (Option (TaskData F)) E → (TaskData F → Type 0) → Type 0
+ForTask {F} result P = (task : TaskData F) → result ≡ Ok (Some task) → P task
+
 module _ {F L : Type 0} (A : LatticeAlgebra L) (B : EdgeAlgebra F L) (targets : Targets F) where
   -- so many claims of hand 0, with some number of lowerings, lead from the one core's state to the
   -- other's, and are paid for; none is given back
@@ -51,9 +81,17 @@ module _ {F L : Type 0} (A : LatticeAlgebra L) (B : EdgeAlgebra F L) (targets : 
     pub goes : GoesOnBy A B targets 0 claims lowerings 0 old new
     pub paid : ArePaid B claims lowerings old new
 
+  -- the same for the one claim or none, by whether a task was run
+  abbrev pub RunsTask : (old new : CoreData F) → Bool → Type 0
+  RunsTask old new more = GoesOnPaid (if more then 1 else 0) old new
+
+  -- hand 0 claims the task, if there is one: that is one step, or none
+  abbrev pub ClaimsTask : (old new : CoreData F) → Option (TaskData F) → Type 0
+  ClaimsTask old new task = GoesOnBy A B targets 0 (if is_some task then 1 else 0) 0 0 old new
+
   -- so many tasks were claimed and are paid for, told up to the largest number of 64 bits
-  abbrev pub Drains : ℕ → (old new : CoreData F) → Type 0
-  Drains tasks old new = (claims : ℕ) × (tasks ≡ min claims (2 ^ 64 - 1)) × GoesOnPaid claims old new
+  abbrev pub Drains : (old new : CoreData F) → ℕ → Type 0
+  Drains old new tasks = (claims : ℕ) × (tasks ≡ min claims (2 ^ 64 - 1)) × GoesOnPaid claims old new
 
   -- the parts of the work of hand 0 are steps, where it is its claim, and a finished claim is paid for
   abbrev pub RunsWork : {T E : Type 0} → Result T E → WorkData F → (old new : CoreData F) → Type 0

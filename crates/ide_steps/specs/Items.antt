@@ -1,5 +1,5 @@
 -- A core's image as a list, and which entries one may be made from.
-use Rattle.std.specs.Prelude.{◌≡◌, ◌<◌, ◌↔◌, Bool, true, Some, List, map, slice_get}
+use Rattle.std.specs.Prelude.{◌≡◌, ◌<◌, ◌↔◌, Bool, true, Some, List, if◌then◌else◌, map, slice_get}
 use Rattle.std.specs.List.{Contains}
 use Rattle.std.specs.List.Sorted.{IsStrictlySortedBy}
 use Rattle.ide_graph.specs.Supergraph.{Supergraph}
@@ -7,10 +7,11 @@ use Rattle.ide_lattice.specs.Algebra.{EdgeAlgebra}
 use Rattle.ide_tables.specs.Tables.{found, function_at}
 use Rattle.ide_theory.specs.Parts.{IsKeyInRange}
 use Rattle.ide_theory.specs.Within.{is_some_call}
+use Rattle.ide_wire.specs.Key.{same_key}
 use Rattle.ide_wire.specs.KeyOrder.{key_cmp}
 use Rattle.ide_wire.specs.declared.key.Key.{Key}
 use Rattle.ide_wire.specs.declared.key.Key.TheVariants.{Jump, Summary}
-use Rattle.ide_worklist.specs.Worklist.{is_pending}
+use Rattle.ide_worklist.specs.Worklist.{Pile, is_pending}
 use Rattle.ide_steps.specs.Core.{CoreData}
 
 -- the key stands at a node of the graph, a summary at a call node
@@ -32,3 +33,7 @@ pub record AreItems {F : Type 0} (core : CoreData F) (items : List (Key × F × 
   pub ascending : IsStrictlySortedBy key_cmp (map (λ item. item.0) items)
   pub exact : (key : Key) (f : F) (waits : Bool)
       → Contains items (key, f, waits) ↔ ((found core.table key ≡ Some f) × (waits ≡ is_pending core.pile key))
+
+-- the key is pending or not, as told, and each other key as it was
+abbrev pub SetsPending : {T : Type 0} → Key → Bool → (old new : Pile T) → Type 0
+SetsPending key pending old new = (q : Key) → is_pending new q ≡ (if same_key key q then pending else is_pending old q)

@@ -1,5 +1,5 @@
 -- What is known of tasks by what is kept of a loaded program.
-use Rattle.std.specs.Prelude.{◌≡◌, ℕ, ◌<◌, Some, IsSome, slice_get, slice_index}
+use Rattle.std.specs.Prelude.{◌≡◌, ℕ, ◌<◌, Result, Some, IfOk, IsSome, slice_get, slice_index}
 use Rattle.ide_graph.specs.Exits.{AreExitsOwned}
 use Rattle.ide_graph.specs.declared.site.Site.{Site}
 use Rattle.ide_graph.specs.Supergraph.{Supergraph}
@@ -33,3 +33,13 @@ IsTaskWhere targets B graph core task =
 -- they are the partners of the key at that site of the loaded graph
 abbrev pub ArePartnersIn : {P L F : Type 0} → Targets F → EdgeAlgebra F L → Loaded P L F → Table F → Key → Site → Partners F → Type 0
 ArePartnersIn targets B loaded table key site partners = ArePartnersOf targets B loaded.graph table key site partners
+
+module _ {P L F : Type 0} (targets : Targets F) (B : EdgeAlgebra F L) (loaded : Loaded P L F) (table : Table F) (key : Key) where
+  -- where the program is kept, what is answered is the key's task, if the key is present
+  abbrev pub GivesTask : {E : Type 0} → Result (TaskData F) E → Type 0
+  GivesTask result = WhereKept targets loaded (IsSome (found table key) → IfOk result (IsTaskOf targets B loaded.graph table))
+
+  -- where it is, and that is the site of the key's node, and that its procedure, they are the key's partners there
+  abbrev pub GivesPartners : {E : Type 0} → Site → ℕ → Result (Partners F) E → Type 0
+  GivesPartners site procedure result =
+      WhereKeptAt targets loaded key site procedure (IfOk result (ArePartnersIn targets B loaded table key site))

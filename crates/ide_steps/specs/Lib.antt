@@ -14,5 +14,7 @@ pub mod Calls
 pub mod Drain
 pub mod Items
 pub mod Kept
+pub mod Lent
+pub mod PartRefusal
 pub mod Steps
 pub mod Going

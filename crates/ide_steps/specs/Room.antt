@@ -42,5 +42,5 @@ module _ {F L : Type 0} (A : LatticeAlgebra L) (B : EdgeAlgebra F L) (targets : 
       → InRuns core (λ graph. spent B core.table.entries ≤ key_space graph * B.height)
 
   -- so many tasks are at most the pending keys, and the ranks that the functions of all keys have
-  abbrev pub AreTasksFew : ℕ → CoreData F → Type 0
-  AreTasksFew tasks core = InRuns core (λ graph. tasks ≤ length core.pile.pending + key_space graph * B.height)
+  abbrev pub AreTasksFew : CoreData F → ℕ → Type 0
+  AreTasksFew core tasks = InRuns core (λ graph. tasks ≤ length core.pile.pending + key_space graph * B.height)

@@ -16,11 +16,11 @@ use Rattle.ide_wire.specs.Key.{node_of, same_key}
 use Rattle.ide_wire.specs.declared.key.Key.{Key}
 use Rattle.ide_wire.specs.declared.key.Key.TheVariants.{Jump}
 use Rattle.ide_worklist.specs.declared.claim.Claim.{Claim as Held}
-use Rattle.ide_worklist.specs.Worklist.{IsFree}
+use Rattle.ide_worklist.specs.Worklist.{IsFree, Pile, claim_at, is_pending}
 use Rattle.ide_steps.specs.Core.{CoreData}
 use Rattle.ide_steps.specs.Refusal.{IsRootName}
 use Rattle.ide_steps.specs.State.{state_of}
-use Rattle.ide_steps.specs.Steps.{IsBelow, progress_at}
+use Rattle.ide_steps.specs.Steps.{IsBelow, SameTasks}
 
 -- the claim, marked as lowered if its key is one of these
 abbrev pub marked_all : {T : Type 0} → List Key → Option (Held T) → Option (Held T)
@@ -38,6 +38,18 @@ with_entries s entries = record {
   pending = λ q. list_any (same_key q) (keys_of entries) || s.pending q;
   claims = λ h. option_map (marked_by (keys_of entries)) (s.claims h);
 }
+
+-- the keys are pending too
+abbrev pub Queues : {T : Type 0} → List Key → (old new : Pile T) → Type 0
+Queues keys old new = (q : Key) → is_pending new q ≡ (list_any (same_key q) keys || is_pending old q)
+
+-- each claim is marked, if its key is one of these
+abbrev pub MarksAll : {T : Type 0} → List Key → (old new : Pile T) → Type 0
+MarksAll keys old new = (h : ℕ) → claim_at new h ≡ marked_all keys (claim_at old h)
+
+-- the entries' keys have these functions in the new core, and are pending there
+abbrev pub Enters : {F L : Type 0} → Targets F → EdgeAlgebra F L → (old new : CoreData F) → List (Key × F) → Type 0
+Enters targets B old new entries = state_of targets B new ≡ with_entries (state_of targets B old) entries
 
 -- each of the entries is of a key at the node
 abbrev pub AllAt : {F : Type 0} → ℕ → List (Key × F) → Type 0
@@ -64,7 +76,7 @@ pub record IsBegun {F L : Type 0} (A : LatticeAlgebra L) (B : EdgeAlgebra F L) (
   pub same : new.graph ≡ old.graph
   pub roots : new.roots ≡ old.roots ++ root ∷ []
   pub state : state_of targets B new ≡ seeded_below B (state_of targets B old) (slice_index graph.starts root) graph.entries
-  pub tasks : (h : ℕ) → progress_at new.pile h ≡ progress_at old.pile h
+  pub tasks : SameTasks old.pile new.pile
   pub unclaimed : IsFree old.pile → IsFree new.pile
   pub steps : (all : HaveEdgesOf graph.facts graph.sites) → AreJoined graph.sites (start_at graph)
       → start_at graph (slice_index graph.starts root) ≡ slice_index graph.starts root → graph.entries ≤ graph.facts

@@ -5,11 +5,12 @@ use Rattle.ide_problem.specs.Flow.{Targets}
 use Rattle.ide_tasks.specs.Parts.{owed}
 use Rattle.ide_tasks.specs.Task.{TaskData}
 use Rattle.ide_tasks.specs.Work.{WorkData}
+use Rattle.ide_theory.specs.Invariant.{unclaimed}
 use Rattle.ide_theory.specs.State.{State, finished, lowered_by, new_claim, part_done, with_claim}
 use Rattle.ide_wire.specs.declared.key.Key.{Key}
 use Rattle.ide_worklist.specs.Worklist.{Pile, claim_at, is_pending}
 use Rattle.ide_worklist.specs.declared.claim.Claim.{Claim as Held}
-use Rattle.ide_steps.specs.Core.{CoreData}
+use Rattle.ide_steps.specs.Core.{AreInside, CoreData}
 use Rattle.ide_steps.specs.State.{claim_of, state_of}
 
 module _ {F : Type 0} where
@@ -25,6 +26,10 @@ module _ {F : Type 0} where
   abbrev pub IsClaimOfWork : WorkData F → Option (Held (TaskData F)) → Type 0
   IsClaimOfWork work claim = progress_of claim ≡ Some (work.task, work.done)
 
+  -- each hand works on what it did, with as many parts done
+  abbrev pub SameTasks : (old new : Pile (TaskData F)) → Type 0
+  SameTasks old new = (h : ℕ) → progress_at new h ≡ progress_at old h
+
   -- each hand works on the task that it had: this one has so many parts of it done, any other as many as it had
   abbrev pub KeepTasks : ℕ → ℕ → (old new : Pile (TaskData F)) → Type 0
   KeepTasks hand done old new = (h : ℕ)
@@ -33,6 +38,14 @@ module _ {F : Type 0} where
   -- the fact holds, where the hand works on a task of which as many parts are done as of the work
   abbrev pub ForWork : ℕ → CoreData F → WorkData F → Type 0 → Type 0
   ForWork hand core work fact = (task : TaskData F) → progress_at core.pile hand ≡ Some (task, work.done) → fact
+
+  -- each hand works on the task that it had, and as many parts are done of this hand's as of the work, if so it was
+  abbrev pub CountsParts : ℕ → (old new : CoreData F) → (work after : WorkData F) → Type 0
+  CountsParts hand old new work after = ForWork hand old work (KeepTasks hand after.done old.pile new.pile)
+
+  -- the fact holds, where the work is the hand's claim and no part of it is left
+  abbrev pub WhereAllDone : ℕ → CoreData F → WorkData F → Type 0 → Type 0
+  WhereAllDone hand core work fact = IsClaimOfWork work (claim_at core.pile hand) → work.done ≡ length work.parts → fact
 
   -- the hand works on the same task, with as many parts of it done as of the work, if it did before
   abbrev pub KeepsWork : ℕ → (old new : CoreData F) → (work after : WorkData F) → Type 0
@@ -94,12 +107,28 @@ module _ {F L : Type 0} (targets : Targets F) (B : EdgeAlgebra F L) where
     pub claim : IsClaimOfWork work (claim_at core.pile hand)
     pub parts : work.parts ≡ owed targets B work.task
 
+  -- the keys of all parts of the hand's work stand in the graph
+  abbrev pub IsWorkInside : CoreData F → ℕ → Type 0
+  IsWorkInside core hand = (work : WorkData F) → IsCurrent core hand work → AreInside core work.parts
+
   -- the hand, which had no claim, claims the task's key, which was pending and no hand's, and owes its parts
   pub record IsTaken (hand : ℕ) (old new : CoreData F) (task : TaskData F) : Type 0 where
     pub free : claim_at old.pile hand ≡ None
     pub pending : is_pending old.pile task.key ≡ true
     pub unclaimed : (h : ℕ) (held : Held (TaskData F)) → claim_at old.pile h ≡ Some held → held.key ≢ task.key
     pub state : state_of targets B new ≡ with_claim (state_of targets B old) hand (Some (new_claim task.key (owed targets B task)))
+
+  -- the image, the pending keys and the claims are as they were
+  abbrev pub SameState : (old new : CoreData F) → Type 0
+  SameState old new = state_of targets B new ≡ state_of targets B old
+
+  -- the key has received the function already
+  abbrev pub HasReceived : CoreData F → Key → F → Type 0
+  HasReceived core key f = IsBelow B (state_of targets B core) key f
+
+  -- to meet the key's function with this one changes it
+  abbrev pub IsChangedBy : CoreData F → Key → F → Type 0
+  IsChangedBy core key f = Changes B (state_of targets B core) key f
 
   -- the key's function is met with this one, and the key is pending
   abbrev pub IsLoweredBy : (old new : CoreData F) → Key → F → Type 0
@@ -116,6 +145,24 @@ module _ {F L : Type 0} (targets : Targets F) (B : EdgeAlgebra F L) where
   -- the hand does some of the work's next parts, one after the other
   abbrev pub DoesParts : ℕ → (old new : CoreData F) → (work after : WorkData F) → Type 0
   DoesParts hand old new work after = ArePartsDone B hand (state_of targets B old) work (state_of targets B new) after
+
+  -- the same, where the work is that of the hand's claim
+  abbrev pub LowersOwn : ℕ → (old new : CoreData F) → (work after : WorkData F) → Type 0
+  LowersOwn hand old new work after = ForWork hand old work (LowersPart hand old new work after)
+
+  abbrev pub SkipsOwn : ℕ → (old new : CoreData F) → (work after : WorkData F) → Type 0
+  SkipsOwn hand old new work after = ForWork hand old work (SkipsPart hand old new work after)
+
+  abbrev pub DoesOwn : ℕ → (old new : CoreData F) → (work after : WorkData F) → Type 0
+  DoesOwn hand old new work after = ForWork hand old work (DoesParts hand old new work after)
+
+  -- the hand's claim is given back, if it has one
+  abbrev pub GivesBack : ℕ → (old new : CoreData F) → Type 0
+  GivesBack hand old new = state_of targets B new ≡ with_claim (state_of targets B old) hand None
+
+  -- every claim is given back
+  abbrev pub GivesAllBack : (old new : CoreData F) → Type 0
+  GivesAllBack old new = state_of targets B new ≡ unclaimed (state_of targets B old)
 
   -- the hand's claim, if it has one, is finished
   abbrev pub EndsHeld : ℕ → (old new : CoreData F) → Type 0

@@ -6,7 +6,7 @@ ghost use Rattle.std.specs.Option.{is_some, option_map};
 ghost use Rattle.ide_wire.specs.Key.{same_key};
 ghost use Rattle.ide_wire.specs.declared.key.Key.{Key};
 ghost use Rattle.ide_worklist.specs.Worklist.{claim_at, is_pending};
-ghost use Rattle.ide_steps.specs.Changed.{ended_key, entry_at, notes_of, with_note, HasRoom, NotesAbsent, NotesEnd};
+ghost use Rattle.ide_steps.specs.Changed.{ended_key, entry_at, notes_of, with_note, HasRoom, NotesAbsent, NotesBefore, NotesEnd};
 ghost use Rattle.ide_steps.specs.declared.changes.Entry.{Entry};
 
 use ide_lattice::EdgeFn;
@@ -78,7 +78,7 @@ pub(crate) fn note<F: EdgeFn>(
 )
     requires room { HasRoom 1 changes.old }
     requires given { before ≡ None → changes.old ≡ None }
-    ensures noted { (entry : Entry F) → IfSome before (λ e. e ≡ entry) → notes_of changes.new ≡ with_note (notes_of changes.old) key entry }
+    ensures noted { NotesBefore (notes_of changes.old) (notes_of changes.new) key before }
     ensures room { (n : ℕ) → HasRoom (n + 1) changes.old → HasRoom n changes.new }
 {
     if let (Some(map), Some(entry)) = (changes, before) {

@@ -7,10 +7,9 @@ ghost use Rattle.ide_wire.specs.declared.key.Key.{Key};
 ghost use Rattle.ide_worklist.specs.Worklist.{PutsClaim, begun, claim_at, ends_key, is_pending, is_claimed};
 ghost use Rattle.ide_tasks.specs.Task.{TaskData};
 ghost use Rattle.ide_steps.specs.ClaimRefusal.{IsClaimRefusal, MayClaim};
-ghost use Rattle.ide_steps.specs.Claiming.{FindsIdle, FindsQuiet, FindsTask, KeepsAllBut};
+ghost use Rattle.ide_steps.specs.Claiming.{BeginsClaim, FindsIdle, FindsQuiet, FindsTask, IfTask, KeepsAllBut};
 ghost use Rattle.ide_steps.specs.Core.{IsUnchanged, StandsIn};
-ghost use Rattle.ide_steps.specs.Kept.{ArePartnersIn, WhereKept, WhereKeptAt};
-ghost use Rattle.ide_steps.specs.State.{IsTaskOf};
+ghost use Rattle.ide_steps.specs.Kept.{GivesPartners, GivesTask};
 
 use crate::loaded::Loaded;
 use crate::machine::{Core, HANDS};
@@ -43,8 +42,7 @@ impl<P: Problem> Core<P> {
         ensures may { OnOk result (MayClaim self.old hand) }
         ensures refused { IfErr result (IsClaimRefusal self.old hand) }
         ensures keeps { KeepsAllBut hand self.old self.new }
-        ensures task { (task : TaskData P.F) → result ≡ Ok (Claimed.Task task)
-            → FindsTask P.targets P.F.edge hand self.old self.new task }
+        ensures task { IfTask result (FindsTask P.targets P.F.edge hand self.old self.new) }
         ensures idle { result ≡ Ok Claimed.Idle → FindsIdle self.old self.new }
         ensures quiet { result ≡ Ok Claimed.Quiet → FindsQuiet self.old self.new }
         ensures unchanged { OnErr result (IsUnchanged self.old self.new) }
@@ -91,11 +89,11 @@ fn take_task<P: Problem>(
     requires pending { is_pending worklist.old key ≡ true }
     requires unclaimed { is_claimed worklist.old key ≡ false }
     ensures key { IfOk result (λ task. task.key ≡ key) }
-    ensures is_task { WhereKept P.targets loaded.now (IsSome (found tables.now key) → IfOk result (IsTaskOf P.targets P.F.edge loaded.now.graph tables.now)) }
+    ensures is_task { GivesTask P.targets P.F.edge loaded.now tables.now key result }
     ensures edges { IfOk result (λ task. EdgesWithin loaded.now.graph.nodes task.site) }
     ensures refused { IsOkUnless result Refused.NoMemory }
     ensures pending { worklist.new.pending ≡ worklist.old.pending }
-    ensures claims { IfOk result (λ task. PutsClaim hand (Some (begun key task)) worklist.old worklist.new) }
+    ensures claims { IfOk result (BeginsClaim hand key worklist.old worklist.new) }
     ensures err { OnErr result ((h : ℕ) → claim_at worklist.new h ≡ claim_at worklist.old h) }
 {
     let task = task_of(alloc, loaded, tables, key)?;
@@ -112,7 +110,7 @@ fn task_of<P: Problem>(
 ) -> Result<Task<P>, Refused>
     requires { StandsIn loaded.now.graph key }
     ensures key { IfOk result (λ task. task.key ≡ key) }
-    ensures is_task { WhereKept P.targets loaded.now (IsSome (found tables.now key) → IfOk result (IsTaskOf P.targets P.F.edge loaded.now.graph tables.now)) }
+    ensures is_task { GivesTask P.targets P.F.edge loaded.now tables.now key result }
     ensures edges { IfOk result (λ task. EdgesWithin loaded.now.graph.nodes task.site) }
     ensures refused { IsOkUnless result Refused.NoMemory }
 {
@@ -138,7 +136,7 @@ fn partners_of<P: Problem>(
     procedure: usize,
     site: &Site,
 ) -> Result<Partners<P::F>, Refused>
-    ensures partners { WhereKeptAt P.targets loaded.now key site.now procedure (IfOk result (ArePartnersIn P.targets P.F.edge loaded.now tables.now key site.now)) }
+    ensures partners { GivesPartners P.targets P.F.edge loaded.now tables.now key site.now procedure result }
     ensures refused { IsOkUnless result Refused.NoMemory }
 {
     match (key, site) {

@@ -1,14 +1,12 @@
 //! All steps that are left, by one hand.
 ghost use Rattle.std.specs.Prelude.{◌≡◌, ℕ, ◌-◌, ◌^◌, ◌<◌, ◌⊎◌, [], true, false, nat_eq, min, if◌then◌else◌, Ok, Some, None, IfErr, IfOk, OnOk, IsOkUnless};
-ghost use Rattle.std.specs.Option.{is_some};
 ghost use Rattle.ide_steps.specs.Changed.{Remembers};
 ghost use Rattle.ide_steps.specs.Core.{is_loaded, AreInside};
 ghost use Rattle.ide_steps.specs.DrainRefusal.{IsDrainRefusal, MayDrain};
-ghost use Rattle.ide_steps.specs.Drain.{Drains, GoesOnPaid, RunsWork, potential};
-ghost use Rattle.ide_steps.specs.Going.{GoesOn, GoesOnBy};
+ghost use Rattle.ide_steps.specs.Drain.{AreOthersFree, ClaimsTask, Drains, ForTask, HasLess, RunsTask, RunsWork, StayOthersFree};
+ghost use Rattle.ide_steps.specs.Going.{GoesOn};
 ghost use Rattle.ide_steps.specs.Room.{AreTasksFew};
 ghost use Rattle.ide_steps.specs.Steps.{progress_at};
-ghost use Rattle.ide_tasks.specs.Task.{TaskData};
 ghost use Rattle.ide_worklist.specs.Worklist.{claim_at, ends_key, IsFree};
 
 use crate::claim::Claimed;
@@ -37,8 +35,8 @@ impl<P: Problem> Core<P> {
         ensures refused { IfErr result (IsDrainRefusal self.old) }
         ensures quiet { OnOk result (self.new.pile.pending ≡ []) }
         ensures free { IsFree self.old.pile → IsFree self.new.pile }
-        ensures claims { IfOk result (λ tasks. Drains P.L.algebra P.F.edge P.targets tasks self.old self.new) }
-        ensures few { IfOk result (λ tasks. AreTasksFew P.L.algebra P.F.edge P.targets tasks self.old) }
+        ensures claims { IfOk result (Drains P.L.algebra P.F.edge P.targets self.old self.new) }
+        ensures few { IfOk result (AreTasksFew P.L.algebra P.F.edge P.targets self.old) }
         ensures goes { GoesOn P.L.algebra P.F.edge P.targets 0 self.old self.new }
         ensures remembers { Remembers self.old self.new }
         ensures unchanged { IfErr result (λ e. (e ≡ Refused.NoMemory) ⊎ (self.new ≡ self.old)) }
@@ -68,8 +66,8 @@ impl<P: Problem> Core<P> {
         ensures refused { IsOkUnless result Refused.NoMemory }
         ensures quiet { OnOk result (self.new.pile.pending ≡ []) }
         ensures free { OnOk result (IsFree self.new.pile) }
-        ensures others { (h : ℕ) → nat_eq 0 h ≡ false → claim_at self.new.pile h ≡ None }
-        ensures claims { IfOk result (λ tasks. Drains P.L.algebra P.F.edge P.targets tasks self.old self.new) }
+        ensures others { AreOthersFree 0 self.new.pile }
+        ensures claims { IfOk result (Drains P.L.algebra P.F.edge P.targets self.old self.new) }
         ensures goes { GoesOn P.L.algebra P.F.edge P.targets 0 self.old self.new }
         ensures remembers { Remembers self.old self.new }
     {
@@ -86,10 +84,10 @@ impl<P: Problem> Core<P> {
         requires free { IsFree self.old.pile }
         ensures refused { IsOkUnless result Refused.NoMemory }
         ensures quiet { result ≡ Ok false → self.new.pile.pending ≡ [] }
-        ensures falls { result ≡ Ok true → potential P.F.edge self.new < potential P.F.edge self.old }
+        ensures falls { result ≡ Ok true → HasLess P.F.edge self.old self.new }
         ensures free { OnOk result (IsFree self.new.pile) }
-        ensures others { (h : ℕ) → nat_eq 0 h ≡ false → claim_at self.new.pile h ≡ None }
-        ensures claims { IfOk result (λ more. GoesOnPaid P.L.algebra P.F.edge P.targets (if more then 1 else 0) self.old self.new) }
+        ensures others { AreOthersFree 0 self.new.pile }
+        ensures claims { IfOk result (RunsTask P.L.algebra P.F.edge P.targets self.old self.new) }
         ensures goes { GoesOn P.L.algebra P.F.edge P.targets 0 self.old self.new }
         ensures remembers { Remembers self.old self.new }
     {
@@ -113,11 +111,11 @@ impl<P: Problem> Core<P> {
         ensures refused { IsOkUnless result Refused.NoMemory }
         ensures quiet { result ≡ Ok None → self.new.pile.pending ≡ [] }
         ensures same { (self.new.table ≡ self.old.table) × (self.new.pile.pending ≡ self.old.pile.pending) }
-        ensures fresh { (task : TaskData P.F) → result ≡ Ok (Some task) → ends_key (claim_at self.new.pile 0) ≡ true }
-        ensures progress { (task : TaskData P.F) → result ≡ Ok (Some task) → progress_at self.new.pile 0 ≡ Some (task, 0) }
-        ensures others { (h : ℕ) → nat_eq 0 h ≡ false → claim_at self.new.pile h ≡ None }
+        ensures fresh { ForTask result (λ _. ends_key (claim_at self.new.pile 0) ≡ true) }
+        ensures progress { ForTask result (λ task. progress_at self.new.pile 0 ≡ Some (task, 0)) }
+        ensures others { AreOthersFree 0 self.new.pile }
         ensures none { result ≡ Ok None → IsFree self.new.pile }
-        ensures claims { IfOk result (λ task. GoesOnBy P.L.algebra P.F.edge P.targets 0 (if is_some task then 1 else 0) 0 0 self.old self.new) }
+        ensures claims { IfOk result (ClaimsTask P.L.algebra P.F.edge P.targets self.old self.new) }
         ensures goes { GoesOn P.L.algebra P.F.edge P.targets 0 self.old self.new }
         ensures remembers { Remembers self.old self.new }
     {
@@ -135,9 +133,9 @@ impl<P: Problem> Core<P> {
         requires inside { AreInside self.old work.parts }
         ensures refused { IsOkUnless result Refused.NoMemory }
         ensures more { IfOk result (λ more. more ≡ true) }
-        ensures falls { OnOk result (potential P.F.edge self.new < potential P.F.edge self.old) }
+        ensures falls { OnOk result (HasLess P.F.edge self.old self.new) }
         ensures done { OnOk result (claim_at self.new.pile 0 ≡ None) }
-        ensures others { (h : ℕ) → nat_eq 0 h ≡ false → claim_at self.old.pile h ≡ None → claim_at self.new.pile h ≡ None }
+        ensures others { StayOthersFree 0 self.old.pile self.new.pile }
         ensures remembers { Remembers self.old self.new }
         ensures goes { RunsWork P.L.algebra P.F.edge P.targets result work self.old self.new }
     {

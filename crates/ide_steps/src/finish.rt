@@ -1,13 +1,12 @@
 //! The end of a claim: finished or released.
-ghost use Rattle.std.specs.Prelude.{◌≡◌, ◌≢◌, ℕ, [], filter, ◌<◌, ◌+◌, ◌↔◌, ◌⊎◌, if◌then◌else◌, true, false, None, Some, Err, IfErr, IsOk, OnErr, OnOk, length, IsOkUnless};
+ghost use Rattle.std.specs.Prelude.{◌≡◌, ◌≢◌, [], filter, ◌↔◌, None, Err, IfErr, IsOk, OnErr, OnOk, length, IsOkUnless};
 ghost use Rattle.std.specs.Option.{is_some};
-ghost use Rattle.ide_theory.specs.Invariant.{unclaimed};
-ghost use Rattle.ide_theory.specs.State.{with_claim};
-ghost use Rattle.ide_worklist.specs.Worklist.{PutsClaim, claim_at, ends_key};
+ghost use Rattle.ide_worklist.specs.Worklist.{PutsClaim, claim_at};
 ghost use Rattle.ide_steps.specs.Changed.{ended_key, Notes, Remembers};
 ghost use Rattle.ide_steps.specs.Core.{IsSameProblem};
-ghost use Rattle.ide_steps.specs.State.{state_of};
-ghost use Rattle.ide_steps.specs.Steps.{EndsDone, EndsHeld, IsClaimOfWork, IsCurrent};
+ghost use Rattle.ide_steps.specs.Drain.{TakesOut};
+ghost use Rattle.ide_steps.specs.PartRefusal.{IsFinishRefusal};
+ghost use Rattle.ide_steps.specs.Steps.{EndsDone, EndsHeld, GivesAllBack, GivesBack, IsCurrent};
 
 use crate::changes;
 use crate::machine::Core;
@@ -22,8 +21,7 @@ impl<P: Problem> Core<P> {
     /// Refusals, in this order: `Stale` where the work is not the hand's claim as it stands, or parts
     /// are left; `NoMemory`, which never comes where nobody asked for changes.
     pub fn finish(&mut self, hand: usize, work: &Work<P>) -> Result<(), Refused>
-        ensures stale { (result ≡ Err Refused.Stale) ↔ (¬ (IsClaimOfWork work.now (claim_at self.old.pile hand)) ⊎ (work.now.done < length work.now.parts)) }
-        ensures refused { IfErr result (λ e. (e ≡ Refused.Stale) ⊎ (e ≡ Refused.NoMemory)) }
+        ensures refused { IfErr result (IsFinishRefusal P.targets P.F.edge self.old hand work.now) }
         ensures nobody { self.old.changes ≡ None → result ≢ Err Refused.NoMemory }
         ensures notes { OnOk result (Notes self.old self.new (ended_key (claim_at self.old.pile hand))) }
         ensures remembers { Remembers self.old self.new }
@@ -55,7 +53,7 @@ impl<P: Problem> Core<P> {
         ensures stays { IsSameProblem self.old self.new }
         ensures table { self.new.table ≡ self.old.table }
         ensures claims { OnOk result (PutsClaim hand None self.old.pile self.new.pile) }
-        ensures count { OnOk result (length self.new.pile.pending + (if ends_key (claim_at self.old.pile hand) then 1 else 0) ≡ length self.old.pile.pending) }
+        ensures count { OnOk result (TakesOut hand self.old.pile self.new.pile) }
     {
         changes::note_end(&mut self.changes, &self.tables, &self.worklist, hand)?;
         self.worklist.finish(hand);
@@ -69,7 +67,7 @@ impl<P: Problem> Core<P> {
     pub fn release(&mut self, hand: usize) -> Result<(), Refused>
         ensures stale { (result ≡ Err Refused.Stale) ↔ (claim_at self.old.pile hand ≡ None) }
         ensures refused { IsOkUnless result Refused.Stale }
-        ensures released { state_of P.targets P.F.edge self.new ≡ with_claim (state_of P.targets P.F.edge self.old) hand None }
+        ensures released { GivesBack P.targets P.F.edge hand self.old self.new }
         ensures claim { claim_at self.new.pile hand ≡ None }
         ensures claims { PutsClaim hand None self.old.pile self.new.pile }
         ensures stays { IsSameProblem self.old self.new }
@@ -91,7 +89,7 @@ impl<P: Problem> Core<P> {
         ensures table { self.new.table ≡ self.old.table }
         ensures pending { self.new.pile.pending ≡ self.old.pile.pending }
         ensures changes { self.new.changes ≡ self.old.changes }
-        ensures state { state_of P.targets P.F.edge self.new ≡ unclaimed (state_of P.targets P.F.edge self.old) }
+        ensures state { GivesAllBack P.targets P.F.edge self.old self.new }
     {
         self.worklist.release_all()
     }

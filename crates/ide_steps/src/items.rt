@@ -1,14 +1,12 @@
 //! The image as a list, and an image made from one.
-ghost use Rattle.std.specs.Prelude.{◌≡◌, ◌<◌, ℕ, ◌↔◌, Some, false, true, slice_get, IfErr, IfOk, IsTrue, OnErr, OnOk, map, if◌then◌else◌};
+ghost use Rattle.std.specs.Prelude.{◌≡◌, ◌<◌, ℕ, ◌↔◌, Some, false, true, slice_get, IfErr, IfOk, IsTrue, OnErr, OnOk, map};
 ghost use Rattle.std.specs.Option.{IsSomeAnd};
 ghost use Rattle.ide_tables.specs.Tables.{Sets};
 ghost use Rattle.ide_theory.specs.Within.{is_some_call};
-ghost use Rattle.ide_wire.specs.Key.{same_key};
-ghost use Rattle.ide_wire.specs.declared.key.Key.{Key};
-ghost use Rattle.ide_worklist.specs.Worklist.{claim_at, is_pending, IsFree};
+ghost use Rattle.ide_worklist.specs.Worklist.{claim_at, IsFree};
 ghost use Rattle.ide_steps.specs.Changed.{Notes, Remembers};
 ghost use Rattle.ide_steps.specs.Core.{IsSameProblem, IsUnchanged};
-ghost use Rattle.ide_steps.specs.Items.{AreItems, IsKeyOf, item_of};
+ghost use Rattle.ide_steps.specs.Items.{AreItems, IsKeyOf, SetsPending, item_of};
 
 use crate::changes;
 use crate::loaded::is_call;
@@ -65,7 +63,7 @@ impl<P: Problem> Core<P> {
         requires place { IsSomeAnd self.old.graph (λ graph. IsKeyOf graph key) }
         requires present { P.F.eq function P.F.edge.all_top ≡ false }
         ensures sets { OnOk result (Sets self.old.table self.new.table key function) }
-        ensures pending { OnOk result ((q : Key) → is_pending self.new.pile q ≡ (if same_key key q then pending else is_pending self.old.pile q)) }
+        ensures pending { OnOk result (SetsPending key pending self.old.pile self.new.pile) }
         ensures stays { IsSameProblem self.old self.new }
         ensures claims { (h : ℕ) → claim_at self.new.pile h ≡ claim_at self.old.pile h }
         ensures notes { OnOk result (Notes self.old self.new (Some key)) }

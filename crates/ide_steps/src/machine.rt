@@ -1,16 +1,16 @@
 //! The core: its state and what may be asked of it.
 ghost use Rattle.ide_graph.specs.GraphOf.{IsGraphOf};
 ghost use Rattle.ide_graph.specs.ProgramEdges.{HasEdgesOf};
-ghost use Rattle.ide_steps.specs.Changed.{Notes, Remembers, entry_of, entry_then, noted, noted_count};
+ghost use Rattle.ide_steps.specs.Changed.{HandsOut, Notes, Remembers, entry_of, entry_then, noted, noted_count};
 ghost use Rattle.ide_steps.specs.Core.{IsInside, IsSameProblem, IsUnchanged};
-ghost use Rattle.ide_steps.specs.Drain.{IsPaidBy, potential};
-ghost use Rattle.std.specs.Prelude.{◌≡◌, ℕ, ◌<◌, ◌↔◌, [], None, Some, Ok, length, unwrap_or, IsSome, IsTrue, IfErr, OnOk, OnErr, IsOkUnless};
+ghost use Rattle.ide_steps.specs.Drain.{HasLess, IsPaidBy};
+ghost use Rattle.std.specs.Prelude.{◌≡◌, ℕ, ◌↔◌, [], None, Some, Ok, length, unwrap_or, IsTrue, IfErr, OnOk, OnErr, IsOkUnless};
 ghost use Rattle.std.specs.List.{IsDistinct};
-ghost use Rattle.std.specs.Map.{keys_of, lookup};
+ghost use Rattle.std.specs.Map.{keys_of};
 ghost use Rattle.ide_wire.specs.Key.{same_key};
 ghost use Rattle.ide_wire.specs.declared.key.Key.{Key};
 ghost use Rattle.ide_steps.specs.State.{state_of};
-ghost use Rattle.ide_steps.specs.Steps.{Changes, IsBelow, IsLoweredBy, progress_at};
+ghost use Rattle.ide_steps.specs.Steps.{HasReceived, IsChangedBy, IsLoweredBy, SameState, SameTasks};
 ghost use Rattle.ide_theory.specs.State.{nothing_done};
 ghost use Rattle.std.specs.Option.{is_some, option_copied, option_map, IsSomeAnd};
 ghost use Rattle.ide_tables.specs.Tables.{found};
@@ -175,7 +175,7 @@ impl<P: Problem> Core<P> {
     pub fn take_changes(&mut self) -> IndexMap<Key, Entry<P::F>>
         ensures once { IsDistinct same_key (keys_of result.entries) }
         ensures list { result.entries ≡ unwrap_or self.old.changes [] }
-        ensures entries { IsSome self.old.changes → (key : Key) → entry_then self.old key ≡ unwrap_or (lookup (same_key key) result.entries) (entry_of self.new key) }
+        ensures entries { HandsOut self.old self.new result.entries }
         ensures anew { (key : Key) → entry_then self.new key ≡ entry_of self.new key }
         ensures stays { self.new ≡ record self.old { changes = Some [] } }
     {
@@ -213,16 +213,16 @@ impl<P: Problem> Core<P> {
     pub(crate) fn lower(&mut self, key: Key, function: P::F) -> Result<Change, Refused>
         requires { IsInside self.old key }
         ensures stays { IsSameProblem self.old self.new }
-        ensures falls { result ≡ Ok Change.Lowered → potential P.F.edge self.new < potential P.F.edge self.old }
+        ensures falls { result ≡ Ok Change.Lowered → HasLess P.F.edge self.old self.new }
         ensures paid { result ≡ Ok Change.Lowered → (h : ℕ) → IsPaidBy P.F.edge h 1 self.old self.new }
         ensures still { result ≡ Ok Change.Same → IsUnchanged self.old self.new }
         ensures notes { result ≡ Ok Change.Lowered → Notes self.old self.new (Some key) }
         ensures remembers { Remembers self.old self.new }
         ensures lowered { result ≡ Ok Change.Lowered → IsLoweredBy P.targets P.F.edge self.old self.new key function }
-        ensures changes { result ≡ Ok Change.Lowered → Changes P.F.edge (state_of P.targets P.F.edge self.old) key function }
-        ensures same { result ≡ Ok Change.Same → state_of P.targets P.F.edge self.new ≡ state_of P.targets P.F.edge self.old }
-        ensures met { result ≡ Ok Change.Same → IsBelow P.F.edge (state_of P.targets P.F.edge self.old) key function }
-        ensures progress { OnOk result ((h : ℕ) → progress_at self.new.pile h ≡ progress_at self.old.pile h) }
+        ensures changes { result ≡ Ok Change.Lowered → IsChangedBy P.targets P.F.edge self.old key function }
+        ensures same { result ≡ Ok Change.Same → SameState P.targets P.F.edge self.old self.new }
+        ensures met { result ≡ Ok Change.Same → HasReceived P.targets P.F.edge self.old key function }
+        ensures progress { OnOk result (SameTasks self.old.pile self.new.pile) }
         ensures refused { IsOkUnless result Refused.NoMemory }
         ensures unchanged { OnErr result (IsUnchanged self.old self.new) }
     {

@@ -1,10 +1,10 @@
 //! Parts: a hand gives what its task owes to the tables, one part a call.
-ghost use Rattle.ide_worklist.specs.Worklist.{claim_at, ends_key};
-ghost use Rattle.ide_steps.specs.Drain.{IsPaidBy, IsStill, lowerings_by, potential};
-ghost use Rattle.std.specs.Prelude.{◌≡◌, ℕ, ◌<◌, ◌+◌, ◌-◌, ◌↔◌, ◌⊎◌, true, false, None, Ok, Err, Some, IfErr, IfOk, OnErr, OnOk, length, min, slice_get, IsTrue, IsOkUnless};
+ghost use Rattle.ide_worklist.specs.Worklist.{claim_at};
+ghost use Rattle.ide_steps.specs.Drain.{HasDonePart, HasLess, IsPartPaid, IsStill};
+ghost use Rattle.std.specs.Prelude.{◌≡◌, ℕ, ◌<◌, ◌+◌, ◌-◌, ◌↔◌, None, Ok, Err, IfErr, IfOk, OnErr, OnOk, length, min, IsTrue, IsOkUnless};
 ghost use Rattle.ide_tasks.specs.Parts.{owed};
-ghost use Rattle.ide_tasks.specs.Work.{WorkData};
-ghost use Rattle.ide_steps.specs.Steps.{DoesNext, DoesParts, FindsNone, ForWork, IsClaimOfWork, IsCurrent, KeepTasks, KeepsWork, LowersPart, SkipsPart, progress_at};
+ghost use Rattle.ide_steps.specs.PartRefusal.{IsPartRefusal};
+ghost use Rattle.ide_steps.specs.Steps.{CountsParts, DoesNext, DoesOwn, DoesParts, FindsNone, IsClaimOfWork, IsCurrent, IsWorkInside, KeepTasks, KeepsWork, LowersOwn, LowersPart, SkipsOwn, SkipsPart, WhereAllDone};
 ghost use Rattle.ide_steps.specs.Changed.{NotesPart, Remembers};
 ghost use Rattle.ide_steps.specs.Core.{AreInside, IsSameProblem, IsUnchanged};
 
@@ -29,14 +29,13 @@ impl<P: Problem> Core<P> {
     /// Does the next part of the hand's work.
     ///
     /// Refusals, in this order: `Stale` exactly where the hand has no claim, or the work's task or
-    /// count of parts done is not the claim's; `NoMemory`. Telling whether the work is the claim's takes
-    /// time in proportion to its site and partners.
+    /// count of parts done is not the claim's; `NoMemory`, which comes only where a part is left.
+    /// Telling whether the work is the claim's takes time in proportion to its site and partners.
     pub fn part(&mut self, hand: usize, work: &mut Work<P>) -> Result<Parted, Refused>
-        ensures stale { (result ≡ Err Refused.Stale) ↔ ¬ (IsClaimOfWork work.old (claim_at self.old.pile hand)) }
-        ensures refused { IfErr result (λ e. (e ≡ Refused.Stale) ⊎ (e ≡ Refused.NoMemory)) }
+        ensures refused { IfErr result (IsPartRefusal P.targets P.F.edge self.old hand work.old) }
         ensures current { OnOk result (IsCurrent P.targets P.F.edge self.old hand work.old) }
         ensures no_part { result ≡ Ok Parted.NoPart → FindsNone self.old self.new work.old work.new }
-        ensures all_done { IsClaimOfWork work.old (claim_at self.old.pile hand) → work.old.done ≡ length work.old.parts → result ≡ Ok Parted.NoPart }
+        ensures all_done { WhereAllDone hand self.old work.old (result ≡ Ok Parted.NoPart) }
         ensures lowered { result ≡ Ok Parted.Lowered → LowersPart P.targets P.F.edge hand self.old self.new work.old work.new }
         ensures same { result ≡ Ok Parted.Same → SkipsPart P.targets P.F.edge hand self.old self.new work.old work.new }
         ensures tasks { OnOk result (KeepTasks hand work.new.done self.old.pile self.new.pile) }
@@ -60,14 +59,13 @@ impl<P: Problem> Core<P> {
     /// and the work counts them. Whether the work is the claim's is told once for all of these parts:
     /// that takes time in proportion to its site and partners once, and then that of each part.
     pub fn parts(&mut self, hand: usize, work: &mut Work<P>, most: usize) -> Result<usize, Refused>
-        ensures stale { (result ≡ Err Refused.Stale) ↔ ¬ (IsClaimOfWork work.old (claim_at self.old.pile hand)) }
-        ensures refused { IfErr result (λ e. (e ≡ Refused.Stale) ⊎ (e ≡ Refused.NoMemory)) }
-        ensures current { (result ≡ Err Refused.Stale) ⊎ IsCurrent P.targets P.F.edge self.old hand work.old }
+        ensures refused { IfErr result (IsPartRefusal P.targets P.F.edge self.old hand work.old) }
+        ensures current { OnOk result (IsCurrent P.targets P.F.edge self.old hand work.old) }
         ensures count { IfOk result (λ n. n ≡ min most (length work.old.parts - work.old.done)) }
         ensures done { IfOk result (λ n. work.new ≡ record work.old { done = work.old.done + n }) }
         ensures parts { DoesParts P.targets P.F.edge hand self.old self.new work.old work.new }
         ensures kept { (work.new.task ≡ work.old.task) × (work.new.parts ≡ work.old.parts) }
-        ensures tasks { (result ≡ Err Refused.Stale) ⊎ KeepTasks hand work.new.done self.old.pile self.new.pile }
+        ensures tasks { CountsParts hand self.old self.new work.old work.new }
         ensures remembers { Remembers self.old self.new }
         ensures stays { IsSameProblem self.old self.new }
         ensures free { (h : ℕ) → claim_at self.old.pile h ≡ None → claim_at self.new.pile h ≡ None }
@@ -95,7 +93,7 @@ impl<P: Problem> Core<P> {
 
     /// It does nothing: its clause is what is known of the parts of work that is the hand's claim.
     pub(crate) fn parts_are_inside(&self, hand: usize)
-        ensures { (work : WorkData P.F) → IsCurrent P.targets P.F.edge self.now hand work → AreInside self.now work.parts }
+        ensures { IsWorkInside P.targets P.F.edge self.now hand }
     {
         let _ = self.worklist.claim(hand);
     }
@@ -103,18 +101,19 @@ impl<P: Problem> Core<P> {
     /// Does the next part of work that is the hand's claim.
     pub(crate) fn next_part(&mut self, hand: usize, work: &mut Work<P>) -> Result<Parted, Refused>
         requires { AreInside self.old work.old.parts }
-        ensures falls { result ≡ Ok Parted.Lowered → potential P.F.edge self.new < potential P.F.edge self.old }
+        ensures falls { result ≡ Ok Parted.Lowered → HasLess P.F.edge self.old self.new }
         ensures still { result ≡ Ok Parted.Same → IsStill P.F.edge hand self.old self.new }
-        ensures paid { IfOk result (λ parted. IsPaidBy P.F.edge hand (lowerings_by parted) self.old self.new) }
+        ensures paid { IfOk result (IsPartPaid P.F.edge hand self.old self.new) }
         ensures free { (h : ℕ) → claim_at self.old.pile h ≡ None → claim_at self.new.pile h ≡ None }
-        ensures next { (result ≡ Ok Parted.Lowered) ⊎ (result ≡ Ok Parted.Same) → DoesNext work.old work.new }
+        ensures next { HasDonePart result → DoesNext work.old work.new }
         ensures refused { IsOkUnless result Refused.NoMemory }
+        ensures left { OnErr result (work.old.done < length work.old.parts) }
         ensures no_part { result ≡ Ok Parted.NoPart → FindsNone self.old self.new work.old work.new }
         ensures all_done { work.old.done ≡ length work.old.parts → result ≡ Ok Parted.NoPart }
-        ensures lowered { result ≡ Ok Parted.Lowered → ForWork hand self.old work.old (LowersPart P.targets P.F.edge hand self.old self.new work.old work.new) }
-        ensures same { result ≡ Ok Parted.Same → ForWork hand self.old work.old (SkipsPart P.targets P.F.edge hand self.old self.new work.old work.new) }
+        ensures lowered { result ≡ Ok Parted.Lowered → LowersOwn P.targets P.F.edge hand self.old self.new work.old work.new }
+        ensures same { result ≡ Ok Parted.Same → SkipsOwn P.targets P.F.edge hand self.old self.new work.old work.new }
         ensures progress { OnOk result (KeepsWork hand self.old self.new work.old work.new) }
-        ensures tasks { (result ≡ Ok Parted.Lowered) ⊎ (result ≡ Ok Parted.Same) → KeepTasks hand work.new.done self.old.pile self.new.pile }
+        ensures tasks { HasDonePart result → KeepTasks hand work.new.done self.old.pile self.new.pile }
         ensures notes { result ≡ Ok Parted.Lowered → NotesPart work.old self.old self.new }
         ensures notes_none { result ≡ Ok Parted.Same → self.new.changes ≡ self.old.changes }
         ensures remembers { Remembers self.old self.new }
@@ -137,12 +136,13 @@ impl<P: Problem> Core<P> {
     fn next_parts(&mut self, hand: usize, work: &mut Work<P>, most: usize) -> Result<usize, Refused>
         requires { AreInside self.old work.old.parts }
         ensures refused { IsOkUnless result Refused.NoMemory }
+        ensures left { OnErr result (work.old.done < length work.old.parts) }
         ensures count { IfOk result (λ n. n ≡ min most (length work.old.parts - work.old.done)) }
         ensures done { IfOk result (λ n. work.new ≡ record work.old { done = work.old.done + n }) }
-        ensures parts { ForWork hand self.old work.old (DoesParts P.targets P.F.edge hand self.old self.new work.old work.new) }
+        ensures parts { DoesOwn P.targets P.F.edge hand self.old self.new work.old work.new }
         ensures kept { (work.new.task ≡ work.old.task) × (work.new.parts ≡ work.old.parts) }
         ensures remembers { Remembers self.old self.new }
-        ensures tasks { ForWork hand self.old work.old (KeepTasks hand work.new.done self.old.pile self.new.pile) }
+        ensures tasks { CountsParts hand self.old self.new work.old work.new }
         ensures stays { IsSameProblem self.old self.new }
         ensures free { (h : ℕ) → claim_at self.old.pile h ≡ None → claim_at self.new.pile h ≡ None }
     {

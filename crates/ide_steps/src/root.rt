@@ -1,17 +1,12 @@
 //! Roots: where analysis begins.
-ghost use Rattle.std.specs.Prelude.{◌≡◌, ℕ, ◌≤◌, ◌<◌, ◌^◌, ◌↔◌, ◌⊎◌, ◌||◌, ◌++◌, ◌∷◌, [], None, Some, length, IfErr, IfOk, IsTrue, OnErr, OnOk, IsOkUnless};
-ghost use Rattle.std.specs.List.{list_any, Contains};
+ghost use Rattle.std.specs.Prelude.{◌≡◌, ◌≤◌, ◌<◌, ◌^◌, ◌↔◌, ◌⊎◌, ◌++◌, ◌∷◌, [], None, length, IfErr, IfOk, IsTrue, OnErr, OnOk, IsOkUnless};
 ghost use Rattle.std.specs.Map.{keys_of};
 ghost use Rattle.ide_tables.specs.Tables.{found};
-ghost use Rattle.ide_wire.specs.Key.{same_key};
-ghost use Rattle.ide_wire.specs.declared.key.Key.{Key};
-ghost use Rattle.ide_worklist.specs.Worklist.{claim_at, is_pending};
 ghost use Rattle.ide_steps.specs.Changed.{Remembers};
 ghost use Rattle.ide_steps.specs.Core.{AreInside, IsUnchanged};
 ghost use Rattle.ide_steps.specs.Refusal.{IsRootName, IsRootRefusal, RootFault};
-ghost use Rattle.ide_steps.specs.Rooted.{AllAbsent, AllAt, AreSeeds, IsBegun, marked_all, with_entries};
-ghost use Rattle.ide_steps.specs.State.{state_of};
-ghost use Rattle.ide_steps.specs.Steps.{progress_at};
+ghost use Rattle.ide_steps.specs.Rooted.{AllAbsent, AllAt, AreSeeds, Enters, IsBegun, MarksAll, Queues};
+ghost use Rattle.ide_steps.specs.Steps.{SameTasks};
 
 use crate::changes;
 use crate::machine::Core;
@@ -89,8 +84,8 @@ impl<P: Problem> Core<P> {
         ensures program { self.new.program ≡ self.old.program }
         ensures graph { self.new.graph ≡ self.old.graph }
         ensures roots { OnOk result (self.new.roots ≡ self.old.roots ++ procedure ∷ []) }
-        ensures state { OnOk result (state_of P.targets P.F.edge self.new ≡ with_entries (state_of P.targets P.F.edge self.old) jumps.now) }
-        ensures progress { OnOk result ((h : ℕ) → progress_at self.new.pile h ≡ progress_at self.old.pile h) }
+        ensures state { OnOk result (Enters P.targets P.F.edge self.old self.new jumps.now) }
+        ensures progress { OnOk result (SameTasks self.old.pile self.new.pile) }
         ensures remembers { Remembers self.old self.new }
         ensures refused { IsOkUnless result Refused.NoMemory }
         ensures unchanged { OnErr result (IsUnchanged self.old self.new) }
@@ -127,8 +122,8 @@ fn find_root(graph: &Graph, roots: &[usize], name: &[u8]) -> Result<usize, Refus
 /// Makes the keys of the entries pending, for which there is room.
 fn push_each<T: Drop, F>(worklist: &mut Worklist<T>, entries: &[(Key, F)])
     requires { length entries.now ≤ worklist.old.spare }
-    ensures pending { (q : Key) → is_pending worklist.new q ≡ (list_any (same_key q) (keys_of entries.now) || is_pending worklist.old q) }
-    ensures claims { (h : ℕ) → claim_at worklist.new h ≡ marked_all (keys_of entries.now) (claim_at worklist.old h) }
+    ensures pending { Queues (keys_of entries.now) worklist.old worklist.new }
+    ensures claims { MarksAll (keys_of entries.now) worklist.old worklist.new }
 {
     for entry in entries {
         worklist.push(entry.0);

@@ -1,22 +1,24 @@
 //! The inverse of a call's flow.
 ghost use Rattle.std.specs.Prelude.{◌≡◌, [], None};
-ghost use Rattle.ide_tasks.specs.Sources.{ReachOver};
-ghost use Rattle.ide_steps.specs.Core.{WhereLoaded};
+ghost use Rattle.ide_steps.specs.Lent.{AreLent, FactsAscend};
 
 use crate::machine::Core;
+use ide_graph::edges_are_lawful;
 use ide_problem::Problem;
 use ide_tasks::Source;
 use ide_wire::{Fact, Node};
 
 impl<P: Problem> Core<P> {
     /// The facts at a call node from which the call edge to the procedure that begins at `start`
-    /// reaches `fact` there, ascending, each with the function on the edge: the inverse of the call's
-    /// flow. There are none where the node is no call of a procedure that begins at `start`, or no
-    /// program is loaded. They are lent: it takes logarithmic time and no memory.
+    /// reaches `fact` there, ascending, each once and with the function on the edge: the inverse of
+    /// the call's flow. There are none where the node is no call of a procedure that begins at
+    /// `start`, or no program is loaded. They are lent: it takes logarithmic time and no memory.
     pub fn sources(&self, call: Node, start: Node, fact: Fact) -> &[Source<P::F>]
-        ensures exact { WhereLoaded self.now (λ graph. ReachOver P.targets graph call start fact result.now) }
+        ensures exact { AreLent P.targets self.now call start fact result.now }
+        ensures once { FactsAscend result.now }
         ensures none { self.now.graph ≡ None → result.now ≡ [] }
     {
+        edges_are_lawful();
         match &self.loaded {
             Some(loaded) => loaded.sources.over_call(&loaded.graph, call, start, fact),
             None => &[],

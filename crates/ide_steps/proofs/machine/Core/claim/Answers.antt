@@ -1,4 +1,4 @@
-use Rattle.std.proofs.Common.{◌≡◌, ℕ, Option, Some, false, subst, sym, ap, ◌∙◌, rules}
+use Rattle.std.proofs.Common.{◌≡◌, Some, false, subst, sym, ap, ◌∙◌, rules}
 use Rattle.std.proofs.lemmas.Option.{same_Some}
 use Rattle.std.proofs.lemmas.Result.{err_from_is_err_and}
 use Rattle.ide_graph.specs.Edges.{EdgesWithin}

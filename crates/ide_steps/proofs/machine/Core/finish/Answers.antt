@@ -1,9 +1,13 @@
-use Rattle.std.proofs.Common.{◌≡◌, [], drop, length, ap, ◌∙◌, arith, rules, refl}
+use Rattle.std.proofs.Common.{◌≡◌, [], None, drop, length, ap, ◌∙◌, arith, rules, refl}
 use Rattle.std.proofs.lemmas.List.{drop_all}
 use Rattle.ide_tasks.specs.Parts.{owed}
 use Rattle.ide_worklist.specs.Worklist.{claim_at}
-use Rattle.ide_steps.proofs.States.{claim-of-work}
+use Rattle.ide_steps.proofs.States.{claim-of-work, handed-on}
 use Rattle.ide_steps.proofs.Noted.{remembers-same}
+use Rattle.std.proofs.lemmas.Result.{err_from_is_err_and}
+use Rattle.ide_wire.specs.declared.refused.Refused.TheVariants.{NoMemory}
+use Rattle.ide_steps.specs.PartRefusal.{IsFinishRefusal, left, other, wanting}
+use Rattle.ide_steps.proofs.Refusing.{read-within, some-unless}
 use Rattle.ide_steps.proofs.machine.Core.finish.Goals as goal
 
 -- the claim's task is the work's, of which no part is left
@@ -27,6 +31,23 @@ returns-clause-finished g c =
 pub returns-clause-current : goal.returns-clause-current
 returns-clause-current g c =
     record { claim = c.is_current.ensures.current.0 c.if-not-is_current.false; parts = c.is_current.ensures.owed c.if-not-is_current.false }
+
+pub returns-then-not-is_current-clause-refused : goal.returns-then-not-is_current-clause-refused
+returns-then-not-is_current-clause-refused g c = other (λ is. let yes = c.is_current.ensures.current.1 is in cc (yes, c.if-not-is_current.true))
+
+pub returns-then-is_some-clause-refused : goal.returns-then-is_some-clause-refused
+returns-then-is_some-clause-refused g c =
+    left (c.is_current.ensures.current.0 c.if-not-is_current.false) (read-within c.args.work.now.parts c.args.work.now.done c.next.result c.next.ensures.next (search rules))
+
+pub returns-in_err-end_claim-clause-refused : goal.returns-in_err-end_claim-clause-refused
+returns-in_err-end_claim-clause-refused g c =
+    let p = err_from_is_err_and c.from_residual.result c.from_residual.ensures.1 in
+    let done : c.args.work.now.done ≡ length c.args.work.now.parts = search rules in
+    let unless : c.args.self.now.changes ≡ None → ⊥ = search rules in
+    handed-on (IsFinishRefusal g.P.Problem.targets g.P.F.EdgeFn.edge c.args.self.now c.args.hand c.args.work.now) c.from_residual.result NoMemory p.0 p.1
+    (p.2 ∙ c.in_err-end_claim.ensures.refused)
+    (wanting (record { claim = c.is_current.ensures.current.0 c.if-not-is_current.false; parts = c.is_current.ensures.owed c.if-not-is_current.false })
+    (omega (arith, done)) (some-unless c.args.self.now.changes unless))
 
 pub returns-then-not-is_current-clause-remembers : goal.returns-then-not-is_current-clause-remembers
 returns-then-not-is_current-clause-remembers g c = remembers-same _ _ refl refl refl

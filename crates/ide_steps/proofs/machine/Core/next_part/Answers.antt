@@ -9,6 +9,7 @@ use Rattle.ide_steps.specs.Core.{StandsIn, CoreData}
 use Rattle.ide_steps.proofs.Nodes.{at-found, kept-done}
 use Rattle.ide_steps.specs.Changed.{Notes}
 use Rattle.ide_steps.proofs.Noted.{notes-on, remembers-on, remembers-same}
+use Rattle.ide_steps.proofs.Refusing.{at-err}
 use Rattle.ide_steps.proofs.machine.Core.next_part.Goals as goal
 use Rattle.ide_steps.proofs.machine.Core.next_part.Goals.{in-Lowered, in-Same}
 
@@ -70,6 +71,10 @@ returns-in_err-change-clause-all_done g c = λ is.
     let next : slice_get c.args.work.now.parts c.args.work.now.done ≡ Some c.in-Some.part = sym c.in-Some.ensures.next in
     let within : c.args.work.now.done < length c.args.work.now.parts = slice_get_within c.args.work.now.parts c.args.work.now.done c.in-Some.part next in
     absurd (omega (arith, within, is))
+
+-- a part was tried, so one was left
+pub returns-in_err-change-clause-left : goal.returns-in_err-change-clause-left
+returns-in_err-change-clause-left g c = at-err c.from_residual.result (slice_get_within c.args.work.now.parts c.args.work.now.done c.in-Some.part (sym c.in-Some.ensures.next))
 
 pub returns-clause-tasks : goal.returns-clause-tasks
 returns-clause-tasks g c = λ _.

@@ -10,6 +10,7 @@ use Rattle.ide_steps.specs.Steps.{ArePartsDone, IsLowered, IsSkipped, KeepTasks,
 use Rattle.ide_steps.proofs.Going.{same-problem, state-unchanged}
 use Rattle.ide_steps.proofs.States.{tasks-here, tasks-then, tasks-unchanged}
 use Rattle.ide_steps.proofs.Noted.{remembers-same, remembers-then}
+use Rattle.ide_steps.proofs.Refusing.{at-err}
 use Rattle.ide_steps.proofs.machine.Core.next_parts.Goals as goal
 
 -- work with no part more, and with one more than those counted
@@ -87,6 +88,16 @@ returns-in_err-next_part-clause-tasks g c = λ task at.
     subst (λ (work : WorkData g.row.P-F.Denot). KeepTasks c.args.hand work.done c.args.self.now.pile c.next_part.new.self.pile) (sym unchanged.1)
     (tasks-unchanged c.args.hand c.loop-count.work.done c.args.self.now.pile c.loop-count.self.pile c.next_part.new.self.pile
     (c.loop-count.invariant.tasks task at) unchanged.0.claims)
+
+-- as many parts of the work that was given are done by then as are counted
+pub returns-in_err-next_part-clause-left : goal.returns-in_err-next_part-clause-left
+returns-in_err-next_part-clause-left g c =
+    let start = c.args.work.now in
+    let counted = c.loop-count.invariant.done in
+    let done : c.loop-count.work.done ≡ start.done + c.loop-count.count = ap (λ (w : WorkData g.row.P-F.Denot). w.done) counted in
+    let same : length c.loop-count.work.parts ≡ length start.parts = ap (λ (w : WorkData g.row.P-F.Denot). length w.parts) counted in
+    let left : c.loop-count.work.done < length c.loop-count.work.parts = c.in_err-next_part.ensures.left in
+    at-err c.from_residual.result (omega (arith, done, same, left))
 
 -- the part that wanted memory changed nothing
 pub returns-in_err-next_part-clause-parts : goal.returns-in_err-next_part-clause-parts

@@ -4,6 +4,8 @@ use Rattle.ide_steps.specs.Core.{CoreData}
 use Rattle.ide_steps.specs.Steps.{KeepTasks}
 use Rattle.ide_steps.proofs.States.{after-part, at-ok, tasks-here}
 use Rattle.ide_steps.proofs.Noted.{remembers-same}
+use Rattle.ide_steps.proofs.Refusing.{wants-memory}
+use Rattle.ide_steps.specs.PartRefusal.{stale}
 use Rattle.ide_steps.proofs.machine.Core.part.Goals as goal
 
 pub returns-clause-lowered : goal.returns-clause-lowered
@@ -15,6 +17,14 @@ returns-clause-same g c = λ is. c.next_part.ensures.same is c.args.work.now.tas
 pub returns-clause-current : goal.returns-clause-current
 returns-clause-current g c =
     at-ok c.next_part.result
+    (record { claim = c.is_current.ensures.current.0 c.if-not-is_current.false; parts = c.is_current.ensures.owed c.if-not-is_current.false })
+
+pub returns-then-not-is_current-clause-refused : goal.returns-then-not-is_current-clause-refused
+returns-then-not-is_current-clause-refused g c = stale (λ is. let yes = c.is_current.ensures.current.1 is in cc (yes, c.if-not-is_current.true))
+
+pub returns-clause-refused : goal.returns-clause-refused
+returns-clause-refused g c =
+    wants-memory g.P.Problem.targets g.P.F.EdgeFn.edge c.args.self.now c.args.hand c.args.work.now c.next_part.result c.next_part.ensures.refused c.next_part.ensures.left
     (record { claim = c.is_current.ensures.current.0 c.if-not-is_current.false; parts = c.is_current.ensures.owed c.if-not-is_current.false })
 
 -- where no part was left, the claim has as many done as the work

@@ -1,0 +1,35 @@
+-- Why a hand's work does not go on: memory is wanting for a part that is left.
+use Rattle.std.proofs.Common.{◌≡◌, ℕ, ◌<◌, List, length, refl, sym, subst, true, Result, Ok, Err, Option, None, Some}
+use Rattle.std.specs.Prelude.{IfErr, IsOkUnless, IsSome, OnErr, slice_get}
+use Rattle.std.specs.Option.{is_some}
+use Rattle.std.proofs.lemmas.Option.{slice_get_within}
+use Rattle.ide_lattice.specs.Algebra.{EdgeAlgebra}
+use Rattle.ide_problem.specs.Flow.{Targets}
+use Rattle.ide_tasks.specs.Work.{WorkData}
+use Rattle.ide_wire.specs.declared.refused.Refused.{Refused}
+use Rattle.ide_wire.specs.declared.refused.Refused.TheVariants.{NoMemory}
+use Rattle.ide_steps.specs.Core.{CoreData}
+use Rattle.ide_steps.specs.PartRefusal.{IsPartRefusal, memory}
+use Rattle.ide_steps.specs.Steps.{IsCurrent}
+
+module _ {F L : Type 0} (targets : Targets F) (B : EdgeAlgebra F L) (core : CoreData F) (hand : ℕ) (work : WorkData F) where
+  -- where the work is the hand's claim, it wants memory where it is refused
+  pub wants-memory : {T : Type 0} (r : Result T Refused) → IsOkUnless r NoMemory → OnErr r (work.done < length work.parts) → IsCurrent targets B core hand work
+      → IfErr r (IsPartRefusal targets B core hand work)
+  wants-memory (Ok x) is left current = tt
+  wants-memory (Err e) is left current = subst (IsPartRefusal targets B core hand work) (sym is) (memory current left)
+
+-- what holds in any case holds at Err
+pub at-err : {T E P : Type 0} (r : Result T E) → P → OnErr r P
+at-err (Ok x) p = tt
+at-err (Err e) p = p
+
+-- something is there, unless nothing is
+pub some-unless : {X : Type 0} (o : Option X) → (o ≡ None → ⊥) → IsSome o
+some-unless None some = absurd (some (λ i. None))
+some-unless (Some x) some = refl
+
+-- what is read from a list stands in it
+pub read-within : {X : Type 0} (xs : List X) (k : ℕ) (read : Option X) → read ≡ slice_get xs k → is_some read ≡ true → k < length xs
+read-within xs k None is some = absurd (cc (some))
+read-within xs k (Some x) is some = slice_get_within xs k x (sym is)
