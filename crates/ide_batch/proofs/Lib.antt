@@ -2,6 +2,9 @@ pub mod Lists
 pub mod Ascending
 pub mod ListBody
 pub mod Apart
+pub mod Grouping
+pub mod Spelling
+pub mod Short
 pub mod Folding
 pub mod Sets
 pub mod Imaged

@@ -2,6 +2,7 @@ pub mod Forms
 pub mod Items
 pub mod FormLaws
 pub mod Groups
+pub mod Grouping
 pub mod Records
 pub mod Bodies
 pub mod Fold

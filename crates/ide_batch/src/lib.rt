@@ -11,9 +11,11 @@ mod members;
 mod raw;
 mod record;
 mod replay;
+mod spell;
 
 pub use items::MOST;
 pub use laws::{batches_lead, bodies_are_apart, new_cores_are_empty};
 pub use raw::to_raw;
 pub use record::Record;
 pub use replay::apply;
+pub use spell::groups_spell_lists;
