@@ -7,6 +7,7 @@ mod entry;
 mod items;
 mod laws;
 mod list;
+mod members;
 mod raw;
 mod record;
 mod replay;
