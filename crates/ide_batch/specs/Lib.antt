@@ -3,8 +3,10 @@ pub mod Items
 pub mod FormLaws
 pub mod Groups
 pub mod Grouping
+pub mod GroupsRead
 pub mod Records
 pub mod Bodies
 pub mod Fold
 pub mod Laws
 pub mod Applied
+pub mod AppliedAll

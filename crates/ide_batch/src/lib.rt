@@ -2,8 +2,10 @@
 //! a list of them gives back.
 #![tactic(auto)]
 
+mod body;
 mod coded;
 mod entry;
+mod groups;
 mod items;
 mod laws;
 mod list;
@@ -17,5 +19,5 @@ pub use items::MOST;
 pub use laws::{batches_lead, bodies_are_apart, new_cores_are_empty};
 pub use raw::to_raw;
 pub use record::Record;
-pub use replay::apply;
+pub use replay::{apply, apply_all};
 pub use spell::groups_spell_lists;
