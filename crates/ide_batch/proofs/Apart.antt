@@ -1,18 +1,21 @@
--- That bodies are told apart, from the small to the large: counted lists, members, groups, and bodies.
-use Rattle.std.specs.Prelude.{◌≡◌, ℕ, Bool, ◌&&◌, List, [], ◌∷◌, ◌++◌, length, nat_lt, take, IsTrue}
-use Rattle.std.specs.Int.{w16, w32, to_le_bytes}
+-- That bodies are told apart, from the small to the large: counted lists, groups, and bodies.
+use Rattle.std.specs.Prelude.{◌≡◌, ℕ, Bool, List, [], ◌∷◌, ◌++◌, length, take, IsTrue}
+use Rattle.std.specs.Int.{w32, to_le_bytes}
 use Rattle.std.specs.List.{flat_map}
 use Rattle.std.proofs.Common.{ap, sym, refl, ◌∙◌, arith, append_assoc, append-nil}
 use Rattle.std.proofs.lemmas.List.{length-append, take_at}
+use Rattle.ide_journal.specs.declared.version.Version.{Version}
 use Rattle.ide_journal.specs.declared.version.Version.TheVariants.{One, Two}
 use Rattle.ide_wire.specs.Form.{IsPrefixFree}
-use Rattle.ide_wire.specs.Numbers.{fits, two_prefix_free, four_prefix_free}
+use Rattle.ide_wire.specs.Numbers.{fits, four_prefix_free}
+use Rattle.ide_batch.specs.Bodies.{AreSpelled}
 use Rattle.ide_batch.specs.Forms.{all_proper, is_countable, counted}
-use Rattle.ide_batch.specs.FormLaws.{left, right, both, parted, pair_free, entry_free, item_free}
-use Rattle.ide_batch.specs.Groups.{Group, Member, IsGroupedBody, group_form, is_proper_group, member_form, is_proper_member, items_of}
-use Rattle.ide_batch.specs.Items.{Functions, Item, IsListBody, entry_form, is_proper_entry, item_form, is_proper_item}
+use Rattle.ide_batch.specs.FormLaws.{left, right, both, parted, pair_free, item_free, member_free}
+use Rattle.ide_batch.specs.Groups.{Group, IsGroupedBody, group_form, is_proper_group, member_form, is_proper_member, items_of}
+use Rattle.ide_batch.specs.Items.{Functions, Item, IsListBody, item_form, is_proper_item}
 use Rattle.ide_batch.specs.Laws.{BodiesAreApart}
 use Rattle.ide_batch.specs.Records.{Load, Root, Batch}
+use Rattle.ide_batch.proofs.Headers.{is_proper_place, place_form, place_free}
 use Rattle.ide_batch.proofs.ListBody.{small_count}
 use Rattle.ide_batch.proofs.Lists.{goes_on}
 
@@ -33,42 +36,16 @@ module _ {T : Type 0} (proper : T → Bool) (form : T → List ℕ) (free : IsPr
       ends ([], is, p, is_behind) long = sym (is ∙ append-nil xs)
       ends (z ∷ zs, is, p, is_behind) long = absurd (longer z zs (ap length is) long)
 
-same_member : {F : Type 0} (x y : Member F) → x.0 ≡ y.0 → x.1 ≡ y.1 → x.2 ≡ y.2 → x.3 ≡ y.3 → x ≡ y
-same_member (a, b, c, d) (e, f, g, h) first second third fourth = cc (first, second, third, fourth)
-
 same_group : {F : Type 0} (x y : Group F) → x.kind ≡ y.kind → x.node ≡ y.node → x.members ≡ y.members → x ≡ y
 same_group x y kind node members = λ i. record { kind = kind i; node = node i; members = members i }
 
 module _ {F : Type 0} (functions : Functions F) (free : IsPrefixFree functions.proper functions.form) where
-  pub member_free : IsPrefixFree (is_proper_member functions) (member_form functions)
-  member_free x y r s p q same =
-      let cut = pair_free (λ (facts : ℕ × ℕ). fits 16 facts.0 && fits 16 facts.1) (λ facts. to_le_bytes w16 facts.0 ++ to_le_bytes w16 facts.1)
-      (is_proper_entry functions) (entry_form functions) facts_free (entry_free functions free)
-      (x.0, x.1) (y.0, y.1) (x.2, x.3) (y.2, y.3) r s p q same in
-      same_member x y (ap (λ (t : ℕ × ℕ). t.0) cut.0) (ap (λ (t : ℕ × ℕ). t.1) cut.0) (ap (λ (t : F × Bool). t.0) cut.1) (ap (λ (t : F × Bool). t.1) cut.1)
-    where
-      pair_is : (x y : ℕ × ℕ) → (x.0 ≡ y.0) × (x.1 ≡ y.1) → x ≡ y
-      pair_is (a, b) (c, d) both_same = cc (both_same.0, both_same.1)
-
-      facts_free : IsPrefixFree (λ (facts : ℕ × ℕ). fits 16 facts.0 && fits 16 facts.1) (λ facts. to_le_bytes w16 facts.0 ++ to_le_bytes w16 facts.1)
-      facts_free x y r s p q same =
-          pair_is x y (pair_free (fits 16) (to_le_bytes w16) (fits 16) (to_le_bytes w16) two_prefix_free two_prefix_free x.0 y.0 x.1 y.1 r s p q same)
-
   pub group_free : IsPrefixFree (is_proper_group functions) (group_form functions)
   group_free x y r s p q same =
-      let cut = pair_free (λ (place : ℕ × ℕ). nat_lt place.0 2 && fits 32 place.1) (λ place. place.0 ∷ to_le_bytes w32 place.1)
-      (is_countable (is_proper_member functions)) (counted (member_form functions)) place_free (counted_free (is_proper_member functions) (member_form functions) member_free)
+      let cut = pair_free is_proper_place place_form
+      (is_countable (is_proper_member functions)) (counted (member_form functions)) place_free (counted_free (is_proper_member functions) (member_form functions) (member_free functions free))
       (x.kind, x.node) (y.kind, y.node) x.members y.members r s p q same in
       same_group x y (ap (λ (t : ℕ × ℕ). t.0) cut.0) (ap (λ (t : ℕ × ℕ). t.1) cut.0) cut.1
-    where
-      pair_is : (x y : ℕ × ℕ) → x.0 ≡ y.0 → x.1 ≡ y.1 → x ≡ y
-      pair_is (a, b) (c, d) first second = cc (first, second)
-
-      place_free : IsPrefixFree (λ (place : ℕ × ℕ). nat_lt place.0 2 && fits 32 place.1) (λ place. place.0 ∷ to_le_bytes w32 place.1)
-      place_free x y r s p q same =
-          let heads : x.0 ≡ y.0 = cc (same) in
-          let tails : to_le_bytes w32 x.1 ++ r ≡ to_le_bytes w32 y.1 ++ s = cc (same) in
-          pair_is x y heads (four_prefix_free x.1 y.1 r s (right (nat_lt x.0 2) (fits 32 x.1) p) (right (nat_lt y.0 2) (fits 32 y.1) q) tails)
 
   pub listed_apart : (xs ys : List (Item F)) (a b r s : List ℕ) → IsListBody functions xs a → IsListBody functions ys b → a ++ r ≡ b ++ s → xs ≡ ys
   listed_apart xs ys a b r s p q same =
@@ -83,14 +60,18 @@ module _ {F : Type 0} (functions : Functions F) (free : IsPrefixFree functions.p
       p.are.proper q.are.proper (ap (λ z. z ++ r) (sym p.is) ∙ same ∙ ap (λ z. z ++ s) q.is) in
       p.items_are ∙ ap (flat_map items_of) groups ∙ sym q.items_are
 
+  pub spelled_apart : (version : Version) (xs ys : List (Item F)) (a b r s : List ℕ) → AreSpelled functions version xs a → AreSpelled functions version ys b
+      → a ++ r ≡ b ++ s → xs ≡ ys
+  spelled_apart One = listed_apart
+  spelled_apart Two = grouped_apart
+
   fronts : (a b r s : List ℕ) → length a ≡ length b → a ++ r ≡ b ++ s → a ≡ b
   fronts a b r s long same = sym (take_at a r (length b) long) ∙ ap (take (length b)) same ∙ take_at b s (length b) refl
 
   pub apart : BodiesAreApart functions
   apart version (Load x) (Load y) a b r s kind p q long same = ap (λ t. Load t) (sym p ∙ fronts a b r s long same ∙ q)
   apart version (Root x) (Root y) a b r s kind p q long same = ap (λ t. Root t) (sym p ∙ fronts a b r s long same ∙ q)
-  apart One (Batch x) (Batch y) a b r s kind p q long same = ap (λ t. Batch t) (listed_apart x y a b r s p q same)
-  apart Two (Batch x) (Batch y) a b r s kind p q long same = ap (λ t. Batch t) (grouped_apart x y a b r s p q same)
+  apart version (Batch x) (Batch y) a b r s kind p q long same = ap (λ t. Batch t) (spelled_apart version x y a b r s p q same)
   apart version (Load x) (Root y) a b r s kind p q long same = absurd (omega (arith, kind))
   apart version (Load x) (Batch y) a b r s kind p q long same = absurd (omega (arith, kind))
   apart version (Root x) (Load y) a b r s kind p q long same = absurd (omega (arith, kind))

@@ -15,7 +15,7 @@ module _ {F : Type 0} where
   abbrev pub keys_in : List (Item F) → List Key
   keys_in items = map (λ item. item.0) items
 
-  at_key : (items : List (Item F)) (k : ℕ) (key : Key) (item : Item F) → k < length items → get_or (keys_in items) k key ≡ (get_or items k item).0
+  pub at_key : (items : List (Item F)) (k : ℕ) (key : Key) (item : Item F) → k < length items → get_or (keys_in items) k key ≡ (get_or items k item).0
   at_key [] k key item within = absurd (omega (arith, within))
   at_key (x ∷ items) zero key item within = refl
   at_key (x ∷ items) (suc k) key item within = at_key items k key item (omega (arith, within))

@@ -1,9 +1,17 @@
 pub mod Lists
 pub mod Ascending
 pub mod ListBody
+pub mod Places
+pub mod Headers
+pub mod MembersRead
 pub mod Apart
+pub mod Grouping
+pub mod Spelling
+pub mod Short
+pub mod GroupsRead
 pub mod Folding
 pub mod Sets
 pub mod Imaged
 pub mod Refusals
 pub mod Applying
+pub mod ApplyingAll

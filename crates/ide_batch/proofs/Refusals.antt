@@ -1,11 +1,13 @@
 -- What calls of a core say of a record that they take or refuse.
-use Rattle.std.specs.Prelude.{◌≡◌, ◌⊎◌, ℕ, Bool, false, not, List, [], ◌∷◌, Some, None, Result, Ok, Err, OnOk, OnErr, IsTrue, slice_index}
-use Rattle.std.specs.List.{All, Contains}
+use Rattle.std.specs.Prelude.{◌≡◌, ◌⊎◌, ℕ, Bool, false, not, ◌&&◌, List, [], ◌∷◌, ◌++◌, Some, None, Result, Ok, Err, OnOk, OnErr, IsTrue, length, nat_lt, slice_index}
+use Rattle.std.specs.List.{All, AllByRecursion, Contains, flat_map}
 use Rattle.std.specs.Option.{IsSomeAnd}
 use Rattle.std.proofs.Common.{ap, sym, subst, refl, ◌∙◌, inl, inr, arith}
 use Rattle.std.proofs.lemmas.Bool.Decides.{nat_tests}
-use Rattle.std.proofs.lemmas.List.Elements.{All-nil, All-cons}
+use Rattle.std.proofs.lemmas.List.Elements.{All-from_recursion}
 use Rattle.ide_graph.specs.GraphOf.{IsGraphOf}
+use Rattle.ide_journal.specs.declared.version.Version.{Version}
+use Rattle.ide_journal.specs.declared.version.Version.TheVariants.{One, Two}
 use Rattle.ide_steps.specs.Core.{CoreData}
 use Rattle.ide_steps.specs.Refusal.{IsRootName, IsRootRefusal, RootFault, no_program, fault, memory, unnamed, parameters, already}
 use Rattle.ide_text.specs.Parsed.{IsParsed}
@@ -16,24 +18,53 @@ use Rattle.ide_wire.specs.declared.refused.Refused.TheVariants.{NoMemory}
 use Rattle.ide_worklist.specs.Worklist.{IsFree}
 use Rattle.std.specs.List.{slice_index_or}
 use Rattle.ide_batch.specs.Applied.{LoadsText, MayBeRoot, RefusesRecord, refusal_of}
+use Rattle.ide_batch.specs.Bodies.{AreSpelled}
 use Rattle.ide_batch.specs.Forms.{all_proper}
 use Rattle.ide_batch.specs.FormLaws.{left, right}
+use Rattle.ide_batch.specs.Groups.{Group, Member, is_proper_group, is_proper_member, items_of}
 use Rattle.ide_batch.specs.Items.{Functions, Item, is_proper_entry, is_proper_item}
 use Rattle.ide_wire.specs.Key.{is_proper_key}
+use Rattle.ide_wire.specs.Numbers.{fits}
 
 not_true : (b : Bool) → IsTrue (not b) → b ≡ false
 not_true b h = grind (arith, nat_tests)
 
--- the functions of proper items are not always top
-pub present : {F : Type 0} (functions : Functions F) (items : List (Item F)) → IsTrue (all_proper (is_proper_item functions) items)
-    → All (λ item. functions.is_top item.1 ≡ false) items
-present functions [] proper = All-nil (λ item. functions.is_top item.1 ≡ false)
-present functions (x ∷ items) proper =
-    let here = left (is_proper_item functions x) (all_proper (is_proper_item functions) items) proper in
-    let entry = right (is_proper_key x.0) (is_proper_entry functions (x.1, x.2)) here in
-    All-cons (λ item. functions.is_top item.1 ≡ false) x items
-    (not_true (functions.is_top x.1) (right (functions.proper x.1) (not (functions.is_top x.1)) entry))
-    (present functions items (right (is_proper_item functions x) (all_proper (is_proper_item functions) items) proper))
+module _ {F : Type 0} (functions : Functions F) where
+  -- a function that is not always top
+  abbrev IsPresent : Item F → Type 0
+  IsPresent item = functions.is_top item.1 ≡ false
+
+  in_entry : (f : F) (pending : Bool) → IsTrue (is_proper_entry functions (f, pending)) → functions.is_top f ≡ false
+  in_entry f pending proper = not_true (functions.is_top f) (right (functions.proper f) (not (functions.is_top f)) proper)
+
+  in_items : (items : List (Item F)) → IsTrue (all_proper (is_proper_item functions) items) → AllByRecursion IsPresent items
+  in_items [] proper = tt
+  in_items (x ∷ items) proper = (
+    in_entry x.1 x.2 (right (is_proper_key x.0) (is_proper_entry functions (x.1, x.2)) (left (is_proper_item functions x) _ proper)),
+    in_items items (right (is_proper_item functions x) _ proper),
+  )
+
+  in_members : (kind node : ℕ) (members : List (Member F)) (more : List (Item F)) → IsTrue (all_proper (is_proper_member functions) members)
+      → AllByRecursion IsPresent more → AllByRecursion IsPresent (items_of (record { kind = kind; node = node; members = members }) ++ more)
+  in_members kind node [] more proper behind = behind
+  in_members kind node (m ∷ members) more proper behind = (
+    in_entry m.2 m.3 (right (fits 16 m.0 && fits 16 m.1) (is_proper_entry functions (m.2, m.3)) (left (is_proper_member functions m) _ proper)),
+    in_members kind node members more (right (is_proper_member functions m) _ proper) behind,
+  )
+
+  in_groups : (groups : List (Group F)) → IsTrue (all_proper (is_proper_group functions) groups) → AllByRecursion IsPresent (flat_map items_of groups)
+  in_groups [] proper = tt
+  in_groups (group ∷ groups) proper =
+      in_members group.kind group.node group.members (flat_map items_of groups)
+      (right (fits 32 (length group.members)) _ (right (nat_lt group.kind 2 && fits 32 group.node) _ (left (is_proper_group functions group) _ proper)))
+      (in_groups groups (right (is_proper_group functions group) _ proper))
+
+  -- the functions of items that a body spells are not always top
+  pub present : (version : Version) (items : List (Item F)) (body : List ℕ) → AreSpelled functions version items body → All IsPresent items
+  present One items body is = All-from_recursion IsPresent items (in_items items is.written.proper)
+  present Two items body is =
+      subst (All IsPresent) (sym is.items_are)
+      (All-from_recursion IsPresent (flat_map items_of is.groups) (in_groups is.groups (right (fits 32 (length is.groups)) _ is.are.proper)))
 
 some_is : {X : Type 0} (x y : X) → Some x ≡ Some y → x ≡ y
 some_is x y same = cc (same)

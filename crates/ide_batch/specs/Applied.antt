@@ -20,9 +20,9 @@ use Rattle.ide_wire.specs.declared.key.Key.{Key}
 use Rattle.ide_wire.specs.declared.refused.Refused.{Refused}
 use Rattle.ide_wire.specs.declared.refused.Refused.TheVariants.{NoMemory, Damaged}
 use Rattle.ide_worklist.specs.Worklist.{is_pending}
-use Rattle.ide_batch.specs.Bodies.{IsEntryOf}
+use Rattle.ide_batch.specs.Bodies.{AreSpelled, IsEntryOf}
 use Rattle.ide_batch.specs.Fold.{LeadsTo, ProgramImage, named, with_items}
-use Rattle.ide_batch.specs.Items.{Functions, Item, IsListBody}
+use Rattle.ide_batch.specs.Items.{Functions, Item}
 use Rattle.ide_batch.specs.Records.{RecordValue, Load, Root, Batch}
 
 -- the graph is that of a program that says so, or there is none
@@ -120,18 +120,18 @@ refusal_of n _ = Damaged n
 abbrev pub RefusesRecord : ℕ → Type 0 → Refused → Type 0
 RefusesRecord n Fitting refused = (refused ≡ NoMemory) ⊎ ((refused ≡ Damaged n) × ¬ Fitting)
 
-module _ {F : Type 0} (functions : Functions F) where
+module _ {F : Type 0} (functions : Functions F) (version : Version) where
   -- such a body spells items that the core may have
   abbrev pub SpellsFitting : CoreData F → List ℕ → Type 0
-  SpellsFitting core body = (items : List (Item F)) × IsListBody functions items body × MayHaveAll core items
+  SpellsFitting core body = (items : List (Item F)) × AreSpelled functions version items body × MayHaveAll core items
 
   -- the items of the body are set
   abbrev pub SetsBody : (old new : CoreData F) → List ℕ → Type 0
-  SetsBody old new body = (items : List (Item F)) × IsListBody functions items body × MayHaveAll old items × SetsItems old new items
+  SetsBody old new body = (items : List (Item F)) × AreSpelled functions version items body × MayHaveAll old items × SetsItems old new items
 
   -- nothing is set, or the first items of the body
   abbrev pub SetsSome : (old new : CoreData F) → List ℕ → Type 0
-  SetsSome old new body = IsUnchanged old new ⊎ ((items : List (Item F)) × IsListBody functions items body × SetsFront old new items)
+  SetsSome old new body = IsUnchanged old new ⊎ ((items : List (Item F)) × AreSpelled functions version items body × SetsFront old new items)
 
 -- a core with no program, of which nothing is done, has the empty image
 abbrev pub NewCoresAreEmpty : Type 0 → Type 0

@@ -1,5 +1,5 @@
 -- How a store of either version spells a record as the body of a record of its journal.
-use Rattle.std.specs.Prelude.{◌≡◌, ℕ, List}
+use Rattle.std.specs.Prelude.{◌≡◌, ℕ, ◌≤◌, List, length}
 use Rattle.ide_journal.specs.Format.{Entry}
 use Rattle.ide_journal.specs.declared.version.Version.{Version}
 use Rattle.ide_journal.specs.declared.version.Version.TheVariants.{One, Two}
@@ -24,8 +24,8 @@ module _ {F : Type 0} (functions : Functions F) where
     pub kind : entry.0 ≡ kind_of record_value
     pub body : IsBody version record_value entry.1
 
-  -- the formats spell the record: the items of a batch are such as a body may have
+  -- the formats spell the record: a text or a name within the limit of a body, or items such as a body may have
   abbrev pub MayBeSpelled : RecordValue F → Type 0
-  MayBeSpelled (Load text) = Unit {0}
-  MayBeSpelled (Root name) = Unit {0}
+  MayBeSpelled (Load text) = length text ≤ 4194304
+  MayBeSpelled (Root name) = length name ≤ 4194304
   MayBeSpelled (Batch items) = AreWritten functions items

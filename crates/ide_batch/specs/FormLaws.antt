@@ -1,11 +1,14 @@
--- That forms are told apart: of two forms one after the other, of items, and of lists of forms.
+-- That forms are told apart: of two forms one after the other, of items, and of members of groups.
 use Rattle.std.specs.Prelude.{◌≡◌, ◌≢◌, ℕ, Bool, true, false, not, ◌&&◌, get_or, List, [], ◌∷◌, ◌++◌, IsTrue}
+use Rattle.std.specs.Int.{w16, to_le_bytes}
 use Rattle.std.proofs.Common.{ap, sym, refl, ◌∙◌, arith, append_assoc}
 use Rattle.std.proofs.lemmas.List.{append_cancel_left}
 use Rattle.std.proofs.lemmas.Bool.Decides.{nat_tests}
 use Rattle.ide_wire.specs.Form.{IsPrefixFree, NoFormInFront}
 use Rattle.ide_wire.specs.Key.{key_form, is_proper_key, key_prefix_free}
+use Rattle.ide_wire.specs.Numbers.{fits, two_prefix_free}
 use Rattle.ide_wire.specs.declared.key.Key.{Key}
+use Rattle.ide_batch.specs.Groups.{is_proper_member, member_form}
 use Rattle.ide_batch.specs.Items.{Functions, mark, entry_form, is_proper_entry, item_form, is_proper_item}
 
 pub left : (a b : Bool) → IsTrue (a && b) → IsTrue a
@@ -48,6 +51,9 @@ same_pair (a, b) (c, d) first second = cc (first, second)
 
 same_item : {A B C : Type 0} (x y : A × B × C) → x.0 ≡ y.0 → x.1 ≡ y.1 → x.2 ≡ y.2 → x ≡ y
 same_item (a, b, c) (d, e, f) first second third = cc (first, second, third)
+
+same_member : {A B C D : Type 0} (x y : A × B × C × D) → x.0 ≡ y.0 → x.1 ≡ y.1 → x.2 ≡ y.2 → x.3 ≡ y.3 → x ≡ y
+same_member (a, b, c, d) (e, f, g, h) first second third fourth = cc (first, second, third, fourth)
 
 pub mark_free : IsPrefixFree (λ b. true) mark
 mark_free true true r s p q same = refl
@@ -101,3 +107,32 @@ module _ {F : Type 0} (functions : Functions F) (free : IsPrefixFree functions.p
       let second : x.1 ≡ y.1 = ap (λ (t : F × Bool). t.0) cut.1 in
       let third : x.2 ≡ y.2 = ap (λ (t : F × Bool). t.1) cut.1 in
       same_item x y first second third
+
+-- the two facts of a member
+abbrev facts_form : ℕ × ℕ → List ℕ
+facts_form facts = to_le_bytes w16 facts.0 ++ to_le_bytes w16 facts.1
+
+abbrev are_proper_facts : ℕ × ℕ → Bool
+are_proper_facts facts = fits 16 facts.0 && fits 16 facts.1
+
+facts_free : IsPrefixFree are_proper_facts facts_form
+facts_free x y r s p q same =
+    let cut = pair_free (fits 16) (to_le_bytes w16) (fits 16) (to_le_bytes w16) two_prefix_free two_prefix_free x.0 y.0 x.1 y.1 r s p q same in
+    same_pair x y cut.0 cut.1
+
+module _ {F : Type 0} (functions : Functions F) (free : IsPrefixFree functions.proper functions.form) where
+  pub member_free : IsPrefixFree (is_proper_member functions) (member_form functions)
+  member_free x y r s p q same =
+      let cut = pair_free are_proper_facts facts_form (is_proper_entry functions) (entry_form functions) facts_free (entry_free functions free)
+      (x.0, x.1) (y.0, y.1) (x.2, x.3) (y.2, y.3) r s p q same in
+      same_member x y (ap (λ (t : ℕ × ℕ). t.0) cut.0) (ap (λ (t : ℕ × ℕ). t.1) cut.0) (ap (λ (t : F × Bool). t.0) cut.1) (ap (λ (t : F × Bool). t.1) cut.1)
+
+  -- where two facts stand in front, and behind them not what a key has, there is no member
+  pub no_member : (bytes : List ℕ) (first second : ℕ) (between behind : List ℕ) → IsTrue (fits 16 first) → IsTrue (fits 16 second)
+      → bytes ≡ to_le_bytes w16 first ++ between → between ≡ to_le_bytes w16 second ++ behind
+      → NoFormInFront (is_proper_entry functions) (entry_form functions) behind → NoFormInFront (is_proper_member functions) (member_form functions) bytes
+  no_member bytes first second between behind small small_too found found_too none m rest p same =
+      second_none are_proper_facts facts_form (is_proper_entry functions) (entry_form functions) facts_free bytes (first, second) behind
+      (both (fits 16 first) (fits 16 second) small small_too)
+      (found ∙ ap (λ b. to_le_bytes w16 first ++ b) found_too ∙ sym (append_assoc (to_le_bytes w16 first) (to_le_bytes w16 second) behind))
+      none (m.0, m.1) (m.2, m.3) rest p same

@@ -2,8 +2,11 @@ pub mod Forms
 pub mod Items
 pub mod FormLaws
 pub mod Groups
+pub mod Grouping
+pub mod GroupsRead
 pub mod Records
 pub mod Bodies
 pub mod Fold
 pub mod Laws
 pub mod Applied
+pub mod AppliedAll

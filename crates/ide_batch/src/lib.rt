@@ -2,17 +2,22 @@
 //! a list of them gives back.
 #![tactic(auto)]
 
+mod body;
 mod coded;
 mod entry;
+mod groups;
 mod items;
 mod laws;
 mod list;
+mod members;
 mod raw;
 mod record;
 mod replay;
+mod spell;
 
 pub use items::MOST;
 pub use laws::{batches_lead, bodies_are_apart, new_cores_are_empty};
 pub use raw::to_raw;
 pub use record::Record;
-pub use replay::apply;
+pub use replay::{apply, apply_all};
+pub use spell::groups_spell_lists;

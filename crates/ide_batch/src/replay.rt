@@ -1,26 +1,26 @@
-//! What a record of the journal does to a core.
+//! What records of the journal do to a core.
 ghost use Rattle.std.specs.Prelude.{◌≡◌, ◌++◌, ◌⊎◌, ◌↔◌, List, IfErr, IfOk, IsTrue, OnErr, OnOk, false};
 ghost use Rattle.std.specs.List.{All};
 ghost use Rattle.ide_batch.specs.Applied.{ApplyRefusal, IsApplied, LoadsText, MayBeRoot, MayHaveAll, RefusesRecord, SetsBody, SetsFront, SetsItems, SetsSome, SpellsFitting, refusal_of};
+ghost use Rattle.ide_batch.specs.AppliedAll.{AreApplied, LeadOver, StopsAt};
 ghost use Rattle.ide_batch.specs.Items.{functions_by, Item};
-ghost use Rattle.ide_journal.specs.Lists.{entry_of};
-ghost use Rattle.ide_journal.specs.declared.version.Version.TheVariants.{One};
+ghost use Rattle.ide_journal.specs.Lists.{entries_of, entry_of};
 ghost use Rattle.ide_steps.specs.Core.{IsUnchanged};
 ghost use Rattle.ide_steps.specs.Rooted.{IsBegun};
 ghost use Rattle.ide_text.specs.Parsed.{IsParsed};
 ghost use Rattle.ide_text.specs.declared.program.Program.{Program};
 ghost use Rattle.ide_worklist.specs.Worklist.{IsFree};
 
-use crate::items::read_items;
-use ide_journal::RawRecord;
+use crate::body::read_body;
+use ide_journal::{RawRecord, Version};
 use ide_problem::Problem;
 use ide_steps::Core;
 use ide_text::{parse, parsed_have_no_fault};
 use ide_wire::{Key, Refused};
 use std::alloc::Global;
 
-/// Applies the record of that number, spelled as in the first version of a store: one step of the
-/// fold. No hand may have a claim.
+/// Applies the record of that number, spelled as in that version of a store: one step of the fold.
+/// No hand may have a claim.
 ///
 /// Refusals: `Damaged`, with the number and before any change, exactly where the record does not
 /// apply; `NoMemory`, after which the image has the first of a batch's items, if any.
@@ -29,19 +29,43 @@ pub fn apply<P: Problem>(
     core: &mut Core<P>,
     n: u64,
     raw: &RawRecord,
+    version: Version,
 ) -> Result<(), Refused>
     requires { IsFree core.old.pile }
-    ensures applied { OnOk result (IsApplied (functions_by P.F.proper P.F.form P.F.eq P.F.edge.all_top) One P.F.edge P.F.eq core.old core.new (entry_of raw.now)) }
-    ensures refused { IfErr result (ApplyRefusal (functions_by P.F.proper P.F.form P.F.eq P.F.edge.all_top) One n core.old core.new (entry_of raw.now)) }
+    ensures applied { OnOk result (IsApplied (functions_by P.F.proper P.F.form P.F.eq P.F.edge.all_top) version P.F.edge P.F.eq core.old core.new (entry_of raw.now)) }
+    ensures refused { IfErr result (ApplyRefusal (functions_by P.F.proper P.F.form P.F.eq P.F.edge.all_top) version n core.old core.new (entry_of raw.now)) }
     ensures free { IsFree core.new.pile }
 {
     let body = raw.body.as_slice();
     match raw.kind {
         1 => apply_load(alloc, core, n, body),
         2 => apply_root(core, n, body),
-        3 => apply_batch(alloc, core, n, body),
+        3 => apply_batch(alloc, core, n, body, version),
         _ => Err(Refused::Damaged(n)),
     }
+}
+
+/// Applies the records, spelled as in that version of a store, from the first on, which has the number
+/// 0: the fold. No hand may have a claim.
+///
+/// Refusals: `Damaged`, with the number of the first record that does not apply, where the image is
+/// that after the records before it; `NoMemory`, where it may also have the first items of the next.
+pub fn apply_all<P: Problem>(
+    alloc: Global,
+    core: &mut Core<P>,
+    records: &[RawRecord],
+    version: Version,
+) -> Result<(), Refused>
+    requires { IsFree core.old.pile }
+    ensures applied { OnOk result (AreApplied (functions_by P.F.proper P.F.form P.F.eq P.F.edge.all_top) version P.F.edge P.F.eq (entries_of records.now) core.old core.new) }
+    ensures leads { OnOk result (LeadOver (functions_by P.F.proper P.F.form P.F.eq P.F.edge.all_top) version P.F.edge P.F.eq (entries_of records.now) core.old core.new) }
+    ensures refused { IfErr result (StopsAt (functions_by P.F.proper P.F.form P.F.eq P.F.edge.all_top) version P.F.edge P.F.eq (entries_of records.now) core.old core.new) }
+    ensures free { IsFree core.new.pile }
+{
+    for (n, raw) in records.iter().enumerate() {
+        apply(alloc, core, n as u64, raw, version)?;
+    }
+    Ok(())
 }
 
 /// Loads the text of a record of that number, if it has no fault.
@@ -98,15 +122,16 @@ fn apply_batch<P: Problem>(
     core: &mut Core<P>,
     n: u64,
     body: &[u8],
+    version: Version,
 ) -> Result<(), Refused>
     requires { IsFree core.old.pile }
-    ensures set { OnOk result (SetsBody (functions_by P.F.proper P.F.form P.F.eq P.F.edge.all_top) core.old core.new body.now) }
-    ensures refused { IfErr result (RefusesRecord n (SpellsFitting (functions_by P.F.proper P.F.form P.F.eq P.F.edge.all_top) core.old body.now)) }
+    ensures set { OnOk result (SetsBody (functions_by P.F.proper P.F.form P.F.eq P.F.edge.all_top) version core.old core.new body.now) }
+    ensures refused { IfErr result (RefusesRecord n (SpellsFitting (functions_by P.F.proper P.F.form P.F.eq P.F.edge.all_top) version core.old body.now)) }
     ensures damaged { IfErr result (λ e. (e ≡ Refused.NoMemory) ⊎ (core.new ≡ core.old)) }
-    ensures kept { OnErr result (SetsSome (functions_by P.F.proper P.F.form P.F.eq P.F.edge.all_top) core.old core.new body.now) }
+    ensures kept { OnErr result (SetsSome (functions_by P.F.proper P.F.form P.F.eq P.F.edge.all_top) version core.old core.new body.now) }
     ensures free { IsFree core.new.pile }
 {
-    let Some(items) = read_items::<P::F>(alloc, body)? else {
+    let Some(items) = read_body::<P::F>(alloc, version, body)? else {
         return Err(Refused::Damaged(n));
     };
     if !may_have_all(core, items.as_slice()) {

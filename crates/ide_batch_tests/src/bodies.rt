@@ -7,6 +7,7 @@ ghost use Rattle.ide_batch.specs.Records.{value_of};
 use crate::cores::{begin, do_first_parts, drain, replay};
 use ide_batch::{Record, to_raw};
 use ide_instances::{ConstFn, CopyConst, Uninit, UninitFn};
+use ide_journal::Version;
 use ide_lattice::EdgeFn;
 use ide_problem::Problem;
 use ide_steps::Core;
@@ -32,7 +33,7 @@ pub(crate) const TWO_PARTS: [u8; 34] = [
 ];
 
 /// The batch of an empty main.
-fn empty_main(alloc: Global) -> Result<Record<UninitFn>, AllocError>
+pub(crate) fn empty_main(alloc: Global) -> Result<Record<UninitFn>, AllocError>
     ensures { IfOk result (λ change. MayBeSpelled (functions_by ⟦<UninitFn as Wire>⟧.proper ⟦<UninitFn as Wire>⟧.form ⟦<UninitFn as PartialEq>⟧.eq ⟦<UninitFn as EdgeFn>⟧.edge.all_top) (value_of change)) }
 {
     let items = Vec::from_array(
@@ -47,7 +48,7 @@ fn empty_main(alloc: Global) -> Result<Record<UninitFn>, AllocError>
 }
 
 /// The batch of a main with one number.
-fn two_parts(alloc: Global) -> Result<Record<ConstFn>, AllocError>
+pub(crate) fn two_parts(alloc: Global) -> Result<Record<ConstFn>, AllocError>
     ensures { IfOk result (λ change. MayBeSpelled (functions_by ⟦<ConstFn as Wire>⟧.proper ⟦<ConstFn as Wire>⟧.form ⟦<ConstFn as PartialEq>⟧.eq ⟦<ConstFn as EdgeFn>⟧.edge.all_top) (value_of change)) }
 {
     let items = Vec::from_array(
@@ -60,15 +61,16 @@ fn two_parts(alloc: Global) -> Result<Record<ConstFn>, AllocError>
     Ok(Record::Batch(items))
 }
 
-/// Asserts the body of a batch.
-fn expect_spelled<F: EdgeFn>(
+/// Asserts the body of a batch in a version of a store.
+pub(crate) fn expect_spelled<F: EdgeFn>(
     rt: &(impl Abort + AllocGlobal),
     change: &Record<F>,
+    version: Version,
     body: &[u8],
 ) -> Result<(), Fail>
     requires { MayBeSpelled (functions_by F.proper F.form F.eq F.edge.all_top) (value_of change.now) }
 {
-    let raw = to_raw(rt.alloc(), change)?;
+    let raw = to_raw(rt.alloc(), change, version)?;
     assert!(rt; raw.kind == 3);
     assert!(rt; raw.body.as_slice() == body);
     Ok(())
@@ -82,7 +84,7 @@ fn expect_entry<P: Problem>(rt: &impl Abort, core: &Core<P>, item: (Key, P::F, b
 }
 
 /// Asserts that a core has the entries of a batch.
-fn expect_entries<P: Problem>(rt: &impl Abort, core: &Core<P>, change: &Record<P::F>) {
+pub(crate) fn expect_entries<P: Problem>(rt: &impl Abort, core: &Core<P>, change: &Record<P::F>) {
     if let Record::Batch(items) = change {
         for item in items {
             expect_entry(rt, core, *item);
@@ -147,7 +149,7 @@ fn changes_of_an_empty_main(rt: HostRuntime) -> Result<(), Fail> {
 #[test]
 fn body_of_an_empty_main(rt: HostRuntime) -> Result<(), Fail> {
     let change = empty_main(rt.alloc())?;
-    expect_spelled(&rt, &change, &EMPTY_MAIN)
+    expect_spelled(&rt, &change, Version::One, &EMPTY_MAIN)
 }
 
 #[test]
@@ -172,7 +174,7 @@ fn changes_of_two_parts(rt: HostRuntime) -> Result<(), Fail> {
 #[test]
 fn body_after_two_parts(rt: HostRuntime) -> Result<(), Fail> {
     let change = two_parts(rt.alloc())?;
-    expect_spelled(&rt, &change, &TWO_PARTS)
+    expect_spelled(&rt, &change, Version::One, &TWO_PARTS)
 }
 
 #[test]

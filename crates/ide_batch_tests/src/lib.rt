@@ -10,3 +10,5 @@ mod bodies;
 mod cores;
 #[cfg(test)]
 mod damaged;
+#[cfg(test)]
+mod groups;

@@ -1,0 +1,68 @@
+-- The groups of items, in which the second version of a store spells them.
+use Rattle.std.specs.Prelude.{◌≡◌, ℕ, ◌≤◌, ◌<◌, ◌⊎◌, Bool, true, false, ◌&&◌, cond, nat_eq, List, [], ◌∷◌, ◌++◌, length, map, get_or}
+use Rattle.ide_wire.specs.Key.{node_of}
+use Rattle.ide_wire.specs.declared.key.Key.{Key}
+use Rattle.ide_wire.specs.declared.key.Key.TheVariants.{Jump, Summary}
+use Rattle.ide_batch.specs.Groups.{Group, IsGroupedBody, Member}
+use Rattle.ide_batch.specs.Items.{Functions, Item, IsListBody}
+
+-- 0 for a jump and 1 for a summary
+abbrev pub kind_at : Key → ℕ
+kind_at (Jump n a b) = 0
+kind_at (Summary n a b) = 1
+
+abbrev pub facts_of : Key → ℕ × ℕ
+facts_of (Jump n a b) = (a, b)
+facts_of (Summary n a b) = (a, b)
+
+abbrev pub member_of : {F : Type 0} → Item F → Member F
+member_of item = ((facts_of item.0).0, (facts_of item.0).1, item.1, item.2)
+
+-- the key has the group's kind and node
+abbrev pub is_at : {F : Type 0} → Group F → Key → Bool
+is_at group key = nat_eq group.kind (kind_at key) && nat_eq group.node (node_of key)
+
+-- a group of one item
+abbrev pub alone : {F : Type 0} → Item F → Group F
+alone item = record { kind = kind_at item.0; node = node_of item.0; members = member_of item ∷ [] }
+
+-- the group with one more member, the first
+abbrev pub with_member : {F : Type 0} → Member F → Group F → Group F
+with_member member group = record group { members = member ∷ group.members }
+
+-- an item before groups: it is in the first of them if it has its kind and node, and else in one of its own
+abbrev pub joined : {F : Type 0} → Item F → List (Group F) → List (Group F)
+joined item [] = alone item ∷ []
+joined item (g ∷ groups) = cond (is_at g item.0) (with_member (member_of item) g ∷ groups) (alone item ∷ g ∷ groups)
+
+-- the items in runs of one kind and node
+abbrev pub groups_of : {F : Type 0} → List (Item F) → List (Group F)
+groups_of [] = []
+groups_of (item ∷ items) = joined item (groups_of items)
+
+-- the keys have one kind and node
+abbrev pub share_place : Key → Key → Bool
+share_place x y = nat_eq (kind_at x) (kind_at y) && nat_eq (node_of x) (node_of y)
+
+-- the key of the item at a place
+abbrev pub key_in : {F : Type 0} → List (Item F) → ℕ → Key
+key_in items k = get_or (map (λ item. item.0) items) k (Jump 0 0 0)
+
+-- the items, as a group of the key's kind and node
+abbrev pub run_of : {F : Type 0} → Key → List (Item F) → Group F
+run_of key items = record { kind = kind_at key; node = node_of key; members = map member_of items }
+
+-- so many items have the key's kind and node, and what follows them has not
+pub record IsRun {F : Type 0} (key : Key) (items : List (Item F)) (count : ℕ) : Type 0 where
+  pub within : count ≤ length items
+  pub share : (k : ℕ) → k < count → share_place key (key_in items k) ≡ true
+  pub ends : (count ≡ length items) ⊎ (share_place key (key_in items count) ≡ false)
+
+-- what was appended is a body of the items in the second version
+abbrev pub AppendsGroups : {F : Type 0} → Functions F → List (Item F) → (old new : List ℕ) → Type 0
+AppendsGroups functions items old new = (body : List ℕ) × IsGroupedBody functions items body × (new ≡ old ++ body)
+
+-- items that the first version spells have a body in the second too
+abbrev pub GroupsSpellLists : {F : Type 0} → Functions F → Type 0
+GroupsSpellLists {F = F} functions =
+    (items : List (Item F)) (listed : List ℕ) → IsListBody functions items listed → (body : List ℕ) × IsGroupedBody functions items body

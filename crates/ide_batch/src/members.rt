@@ -1,0 +1,35 @@
+//! Members of a group: the two facts of an item, its function, and whether it is pending.
+ghost use Rattle.ide_batch.specs.Items.{functions_by};
+
+use crate::coded::{Coded, front_of};
+use crate::entry::{entry_in_front, put_entry};
+use ide_lattice::EdgeFn;
+use ide_wire::{Fact, Wire};
+use std::alloc::AllocError;
+
+impl<F: EdgeFn> Coded for (Fact, Fact, F, bool) {
+    ghost use Rattle.ide_batch.specs.FormLaws.{member_free};
+    ghost use Rattle.ide_batch.specs.Groups.{is_proper_member, member_form};
+
+    ghost proper = { is_proper_member (functions_by F.proper F.form F.eq F.edge.all_top) };
+
+    ghost form = { member_form (functions_by F.proper F.form F.eq F.edge.all_top) };
+
+    fn front(bytes: &[u8]) -> Option<((Fact, Fact, F, bool), &[u8])> {
+        let (first, behind) = front_of::<Fact>(bytes)?;
+        let (second, rest) = front_of::<Fact>(behind)?;
+        let Some((function, pending, rest)) = entry_in_front::<F>(rest) else {
+            return None;
+        };
+        Some(((first, second, function, pending), rest))
+    }
+
+    fn put(&self, out: &mut Vec<u8>) -> Result<(), AllocError> {
+        let (first, second, function, pending) = *self;
+        first.put(out)?;
+        second.put(out)?;
+        put_entry(function, pending, out)
+    }
+
+    ghost prefix_free = { member_free (functions_by F.proper F.form F.eq F.edge.all_top) F.prefix_free };
+}
