@@ -1,13 +1,10 @@
 -- What the start values come to is started: each value is found, below its entry and below what calls hand on.
 use Rattle.std.proofs.Common.{◌≡◌, ◌≢◌, ℕ, ◌+◌, ◌*◌, ◌/◌, ◌%◌, ◌<◌, ◌≤◌, ◌⊎◌, ◌&&◌, ◌||◌, Bool, true, false, cond, List, [], ◌∷◌, Option, Some, length, get_or, set, ap, sym, subst, refl, inl, inr, ◌∙◌, arith}
 use Rattle.std.specs.Prelude.{IsTrue, fold, map, nat_eq, nat_lt, slice_get, slice_index, unwrap_or}
-use Rattle.std.specs.List.{IsDistinct}
-use Rattle.std.specs.Map.{keys_of}
 use Rattle.std.proofs.lemmas.Bool.Decides.{nat_tests}
 use Rattle.std.proofs.lemmas.List.{get_or_past, get_or-set_same, get_or-set_other, length-set, set_past}
 use Rattle.std.proofs.lemmas.List.FromFn.{get_or-map-range_with_len, length-map-range_with_len}
 use Rattle.std.proofs.lemmas.Nat.{div-mul-add, mod-mul-add}
-use Rattle.std.proofs.lemmas.Map.Entries.{lookup_from_place}
 use Rattle.std.proofs.lemmas.Option.{slice_get_within}
 use Rattle.ide_graph.specs.Supergraph.{Supergraph}
 use Rattle.ide_graph.specs.declared.edge.EdgeData.{EdgeData}
@@ -23,7 +20,6 @@ use Rattle.ide_theory.specs.Sites.{HaveEdgesOf, IsEdgeOf, node_edges}
 use Rattle.ide_theory.specs.Value.{Found, nothing, given, passed, meet}
 use Rattle.ide_wire.specs.declared.key.Key.{Key}
 use Rattle.ide_wire.specs.declared.key.Key.TheVariants.{Jump, Summary}
-use Rattle.ide_wire.specs.Key.{same_key, same_key_laws}
 use Rattle.ide_theory.specs.Graphs.{frame_at, roots_at}
 use Rattle.ide_values.specs.Closed.{IsRooted}
 use Rattle.ide_values.specs.Enter.{entered_at, entered_rows, is_root, root_flags}

@@ -2,7 +2,6 @@
 use Rattle.std.proofs.Common.{◌≡◌, ℕ, ◌+◌, ◌*◌, ◌<◌, ◌&&◌, true, false, cond, List, [], ◌∷◌, Option, Some, None, length, get_or, map, ap, ap₂, sym, subst, refl, zero, suc, inl, inr, ◌∙◌, arith}
 use Rattle.std.specs.Prelude.{IsTrue, nat_eq, nat_lt, slice_get, slice_index, unwrap_or}
 use Rattle.std.proofs.lemmas.List.{get_or-set_same}
-use Rattle.std.proofs.lemmas.Map.Entries.{place_from_lookup}
 use Rattle.std.proofs.lemmas.Option.{slice_get_within}
 use Rattle.ide_graph.specs.Supergraph.{Supergraph}
 use Rattle.ide_graph.specs.declared.edge.EdgeData.{EdgeData}
@@ -17,9 +16,7 @@ use Rattle.ide_theory.specs.Parts.{AreEdgesOf}
 use Rattle.ide_graph.specs.Joined.{AreJoined, start_at}
 use Rattle.ide_theory.specs.Sites.{HaveEdgesOf, IsEdgeOf, node_edges}
 use Rattle.ide_theory.specs.Value.{Found, IsStarted, nothing, value_at}
-use Rattle.ide_wire.specs.declared.key.Key.{Key}
 use Rattle.ide_wire.specs.declared.key.Key.TheVariants.{Jump}
-use Rattle.ide_wire.specs.Key.{same_key, same_key_exact}
 use Rattle.std.proofs.lemmas.Bool.Decides.{nat_tests}
 use Rattle.ide_values.proofs.Edges.{call_data}
 use Rattle.ide_theory.specs.Graphs.{frame_at, roots_at}

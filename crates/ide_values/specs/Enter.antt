@@ -8,9 +8,13 @@ use Rattle.ide_lattice.specs.Algebra.{LatticeAlgebra}
 abbrev pub is_root : List ℕ → ℕ → Bool
 is_root roots procedure = list_any (nat_eq procedure) roots
 
--- for each procedure, whether it is a root
+-- for each of so many procedures, whether it is a root
+abbrev pub flags_of : List ℕ → ℕ → List Bool
+flags_of roots procedures = map (is_root roots) (range_with_len 0 procedures)
+
+-- for each procedure of a graph
 abbrev pub root_flags : Supergraph → List ℕ → List Bool
-root_flags graph roots = map (is_root roots) (range_with_len 0 graph.procedures)
+root_flags graph roots = flags_of roots graph.procedures
 
 module _ {L : Type 0} (A : LatticeAlgebra L) where
   -- the value at a place: bottom if it is an entry fact's in the row of a root

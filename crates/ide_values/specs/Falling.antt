@@ -1,5 +1,5 @@
 -- What bounds the work on start values: each fall lowers a rank.
-use Rattle.std.specs.Prelude.{ℕ, ◌+◌, ◌≤◌, Bool, List, cond, length}
+use Rattle.std.specs.Prelude.{ℕ, ◌+◌, ◌≤◌, List, cond, length}
 use Rattle.std.specs.List.{sum_by}
 use Rattle.ide_lattice.specs.Algebra.{LatticeAlgebra}
 use Rattle.ide_values.specs.declared.passes.Starts.{Starts}

@@ -1,5 +1,6 @@
 -- The values of an image: at each node and fact the meet of what the facts at the start give it.
 use Rattle.std.specs.Prelude.{◌≡◌, ℕ, ◌+◌, ◌*◌, ◌<◌, ◌&&◌, List, Option, Some, IsTrue, cond, length, nat_eq, slice_index_or, unwrap_or}
+use Rattle.std.specs.Global.{Vec}
 use Rattle.std.specs.List.{All}
 use Rattle.ide_graph.specs.Supergraph.{Supergraph}
 use Rattle.ide_lattice.specs.Algebra.{LatticeAlgebra, EdgeAlgebra}
@@ -36,9 +37,13 @@ abbrev pub Fills : {F L : Type 0} → LatticeAlgebra L → EdgeAlgebra F L → S
 Fills A B graph table starts values =
     IsImage B graph (found table) → All (λ v. IsTrue (A.proper v)) starts → AreFilled A B graph (found table) starts values
 
--- each value is lowered by what the key's function gives it
-abbrev pub LowersBy : {F L : Type 0} → LatticeAlgebra L → EdgeAlgebra F L → Supergraph → List L → Key → F → List L → List L → Type 0
-LowersBy A B graph starts key f old new =
+-- the same for rows that are answered
+abbrev pub FillsRows : {F L : Type 0} → LatticeAlgebra L → EdgeAlgebra F L → Supergraph → Table F → List L → Vec L → Type 0
+FillsRows A B graph table starts values = Fills A B graph table starts values.items
+
+-- each value is met with what the key's function gives it
+abbrev pub Meets : {F L : Type 0} → LatticeAlgebra L → EdgeAlgebra F L → Supergraph → List L → Key → F → List L → List L → Type 0
+Meets A B graph starts key f old new =
     IsKeyInRange graph.facts key → length old ≡ graph.nodes * graph.facts → (n d : ℕ) → n < graph.nodes → d < graph.facts
     → slice_index_or new (n * graph.facts + d) A.top
     ≡ lowered A B (value_before A graph starts) n d (slice_index_or old (n * graph.facts + d) A.top) key f

@@ -1,5 +1,5 @@
 -- What passes say of start values before and after them.
-use Rattle.std.specs.Prelude.{◌≡◌, ℕ, false, List, length}
+use Rattle.std.specs.Prelude.{◌≡◌, ℕ, ◌+◌, ◌≤◌, false, List, Result, OnOk, length}
 use Rattle.ide_graph.specs.Supergraph.{Supergraph}
 use Rattle.ide_graph.specs.declared.edge.EdgeData.{EdgeData}
 use Rattle.ide_lattice.specs.Algebra.{LatticeAlgebra, EdgeAlgebra}
@@ -8,13 +8,27 @@ use Rattle.ide_tables.specs.Tables.{Table}
 use Rattle.ide_wire.specs.declared.key.Key.{Key}
 use Rattle.ide_values.specs.declared.passes.JumpAt.{JumpAt}
 use Rattle.ide_values.specs.declared.passes.Starts.{Starts}
-use Rattle.ide_values.specs.Pass.{IsSteadyBy, IsSteadyOver, Passes, by_entry, over_edge, to_target}
-use Rattle.ide_values.specs.Settled.{ComesTo}
+use Rattle.ide_values.specs.Falling.{ranks}
+use Rattle.ide_values.specs.Pass.{IsSteadyBy, IsSteadyOver, Passes, by_entry, lowered_at, over_edge, to_target}
+use Rattle.ide_values.specs.Settled.{ComesTo, IsSteady}
 
 -- where no fall is marked after it, nothing changed, and none was marked before
 pub record Marks {P L F : Type 0} (old new : Starts P L F) : Type 0 where
   pub same : new.has_fallen ≡ false → new.values.items ≡ old.values.items
   pub before : new.has_fallen ≡ false → old.has_fallen ≡ false
+
+-- one place less waits
+abbrev pub WaitsLess : {P L F : Type 0} → (old new : Starts P L F) → Type 0
+WaitsLess old new = length old.waiting.items ≡ length new.waiting.items + 1
+
+module _ {P F L : Type 0} (A : LatticeAlgebra L) where
+  -- the start value at the place is met with another
+  abbrev pub LowersAt : ℕ → L → (old new : Starts P L F) → Type 0
+  LowersAt place value old new = new.values.items ≡ lowered_at A old.values.items place value
+
+  -- the ranks of start values, all together, do not rise
+  abbrev pub RisesNowhere : (old new : Starts P L F) → Type 0
+  RisesNowhere old new = ranks A new.values.items ≤ ranks A old.values.items
 
 module _ {P F L : Type 0} (A : LatticeAlgebra L) (B : EdgeAlgebra F L) (targets : Targets F) (graph : Supergraph) where
   -- what a target of a call edge to the node m is handed by the jump function
@@ -49,6 +63,10 @@ module _ {P F L : Type 0} (A : LatticeAlgebra L) (B : EdgeAlgebra F L) (targets 
         Passes (λ values e. by_entry A B graph targets values e.0 e.1) (λ values e. IsSteadyBy A B graph targets values e.0 e.1)
         table.entries old.values.items new.values.items old.has_fallen new.has_fallen
 
-    -- the start values come of those before by what functions of present keys hand on
-    abbrev pub Comes : Starts P L F → Starts P L F → Type 0
-    Comes old new = ComesTo A B targets graph table old.values.items new.values.items
+    -- unless memory was wanting, the start values come of those before by what functions of present keys hand on
+    abbrev pub Comes : {T E : Type 0} → Result T E → (old new : Starts P L F) → Type 0
+    Comes result old new = OnOk result (ComesTo A B targets graph table old.values.items new.values.items)
+
+    -- the start values rest: the function of no present key hands anything on that would change them
+    abbrev pub Rests : Starts P L F → Type 0
+    Rests starts = IsSteady A B targets graph table starts.values.items

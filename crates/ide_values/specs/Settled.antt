@@ -1,4 +1,5 @@
 -- What the start values come to.
+use Rattle.std.specs.Global.{Vec}
 use Rattle.std.specs.Prelude.{◌≡◌, ℕ, List, Some}
 use Rattle.ide_graph.specs.Supergraph.{Supergraph}
 use Rattle.ide_lattice.specs.Algebra.{LatticeAlgebra, EdgeAlgebra}
@@ -21,3 +22,7 @@ module _ {F L : Type 0} (A : LatticeAlgebra L) (B : EdgeAlgebra F L) (targets : 
   pub record AreStarts (roots : List ℕ) (starts : List L) : Type 0 where
     pub comes : ComesTo (entered_rows A graph roots) starts
     pub steady : IsSteady starts
+
+  -- the same for rows that are answered
+  abbrev pub AreStartRows : List ℕ → Vec L → Type 0
+  AreStartRows roots starts = AreStarts roots starts.items

@@ -1,8 +1,8 @@
 //! The dump: a line for each node and each fact that has a name there.
-ghost use Rattle.std.specs.Prelude.{◌≡◌, ◌<◌, ◌≤◌, ◌++◌, OnOk, OnErr, replicate, IsOkUnless};
+ghost use Rattle.std.specs.Prelude.{◌≡◌, ◌<◌, ◌≤◌, OnOk, OnErr, replicate, IsOkUnless};
 ghost use Rattle.ide_text.specs.Text.{Extends};
-ghost use Rattle.ide_values.specs.Dump.{columns_of, left, line_of, right};
-ghost use Rattle.ide_values.specs.Values.{dump_of_values, lines_of_values};
+ghost use Rattle.ide_values.specs.Dump.{Appends, columns_of, left, line_of, right};
+ghost use Rattle.ide_values.specs.Values.{AppendsDump, AppendsLines};
 
 use crate::values::Values;
 use ide_lattice::Lattice;
@@ -28,7 +28,7 @@ impl<P: Problem> Values<P> {
     ///
     /// Refusal: `NoMemory`, which leaves the vector with what it had.
     pub fn dump(&self, out: &mut Vec<u8>) -> Result<(), Refused>
-        ensures text { OnOk result (out.new.items ≡ out.old.items ++ dump_of_values P.L.algebra P.L.shown self.now) }
+        ensures text { OnOk result (AppendsDump P.L.algebra P.L.shown self.now out.old out.new) }
         ensures refused { IsOkUnless result Refused.NoMemory }
         ensures unchanged { OnErr result (out.new.items ≡ out.old.items) }
     {
@@ -42,7 +42,7 @@ impl<P: Problem> Values<P> {
 
     /// Appends the lines of all nodes.
     fn append_nodes(&self, out: &mut Vec<u8>) -> Result<(), AllocError>
-        ensures text { OnOk result (out.new.items ≡ out.old.items ++ dump_of_values P.L.algebra P.L.shown self.now) }
+        ensures text { OnOk result (AppendsDump P.L.algebra P.L.shown self.now out.old out.new) }
         ensures extends { OnErr result (Extends out.old.items out.new.items) }
     {
         for index in 0..self.loaded.graph.node_count() {
@@ -54,7 +54,7 @@ impl<P: Problem> Values<P> {
     /// Appends the lines of a node.
     fn append_node(&self, node: Node, out: &mut Vec<u8>) -> Result<(), AllocError>
         requires { node < self.now.graph.nodes }
-        ensures text { OnOk result (out.new.items ≡ out.old.items ++ lines_of_values P.L.algebra P.L.shown self.now node) }
+        ensures text { OnOk result (AppendsLines P.L.algebra P.L.shown self.now node out.old out.new) }
         ensures extends { OnErr result (Extends out.old.items out.new.items) }
     {
         for index in 0..self.loaded.graph.fact_count() {
@@ -79,7 +79,7 @@ fn append_line<L: Lattice>(
     value: L,
     out: &mut Vec<u8>,
 ) -> Result<(), AllocError>
-    ensures text { OnOk result (out.new.items ≡ out.old.items ++ line_of node fact name.now (L.shown value)) }
+    ensures text { OnOk result (Appends (line_of node fact name.now (L.shown value)) out.old out.new) }
     ensures extends { OnErr result (Extends out.old.items out.new.items) }
 {
     append_place(node, fact, name, out)?;
@@ -89,7 +89,7 @@ fn append_line<L: Lattice>(
 
 /// Appends the columns of a line before its value.
 fn append_place(node: Node, fact: Fact, name: &[u8], out: &mut Vec<u8>) -> Result<(), AllocError>
-    ensures text { OnOk result (out.new.items ≡ out.old.items ++ columns_of node fact name.now) }
+    ensures text { OnOk result (Appends (columns_of node fact name.now) out.old out.new) }
     ensures extends { OnErr result (Extends out.old.items out.new.items) }
 {
     let mut buffer = Buffer::new();
@@ -101,7 +101,7 @@ fn append_place(node: Node, fact: Fact, name: &[u8], out: &mut Vec<u8>) -> Resul
 /// Appends a text at the right end of a column, and a space.
 fn append_right(text: &[u8], width: usize, out: &mut Vec<u8>) -> Result<(), AllocError>
     requires { width ≤ 31 }
-    ensures text { OnOk result (out.new.items ≡ out.old.items ++ right width text.now) }
+    ensures text { OnOk result (Appends (right width text.now) out.old out.new) }
     ensures extends { OnErr result (Extends out.old.items out.new.items) }
 {
     append_spaces(width.saturating_sub(text.len()), out)?;
@@ -112,7 +112,7 @@ fn append_right(text: &[u8], width: usize, out: &mut Vec<u8>) -> Result<(), Allo
 /// Appends a text at the left end of a column, and a space.
 fn append_left(text: &[u8], width: usize, out: &mut Vec<u8>) -> Result<(), AllocError>
     requires { width ≤ 31 }
-    ensures text { OnOk result (out.new.items ≡ out.old.items ++ left width text.now) }
+    ensures text { OnOk result (Appends (left width text.now) out.old out.new) }
     ensures extends { OnErr result (Extends out.old.items out.new.items) }
 {
     out.extend_from_slice(text)?;
@@ -123,7 +123,7 @@ fn append_left(text: &[u8], width: usize, out: &mut Vec<u8>) -> Result<(), Alloc
 /// Appends so many spaces.
 fn append_spaces(count: usize, out: &mut Vec<u8>) -> Result<(), AllocError>
     requires { count ≤ 31 }
-    ensures text { OnOk result (out.new.items ≡ out.old.items ++ replicate count 32) }
+    ensures text { OnOk result (Appends (replicate count 32) out.old out.new) }
     ensures extends { OnErr result (Extends out.old.items out.new.items) }
 {
     out.extend_from_slice(&SPACES[..count])

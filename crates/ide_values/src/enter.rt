@@ -1,7 +1,6 @@
 //! Start values as they begin: bottom at the entry facts of roots, else top.
-ghost use Rattle.std.specs.Prelude.{◌≡◌, ◌<◌, IfOk, map, slice_index_or, false};
-ghost use Rattle.std.specs.List.{range_with_len};
-ghost use Rattle.ide_values.specs.Enter.{entered_at, entered_from, entered_rows, is_root};
+ghost use Rattle.std.specs.Prelude.{◌≡◌, ◌<◌, IfOk, slice_index_or, false};
+ghost use Rattle.ide_values.specs.Enter.{entered_at, entered_from, entered_rows, flags_of};
 
 use ide_graph::Graph;
 use ide_lattice::Lattice;
@@ -30,7 +29,7 @@ pub(crate) fn entered_rows<L: Lattice>(
 
 /// For each procedure, whether it is a root.
 fn root_flags(alloc: Global, roots: &[usize], procedures: usize) -> Result<Vec<bool>, AllocError>
-    ensures { IfOk result (λ flags. flags.items ≡ map (is_root roots.now) (range_with_len 0 procedures)) }
+    ensures { IfOk result (λ flags. flags.items ≡ flags_of roots.now procedures) }
 {
     (0..procedures)
         .map(|procedure| roots.contains(&procedure))

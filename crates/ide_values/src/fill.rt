@@ -1,6 +1,6 @@
 //! The fill: each jump function lowers the value where it ends.
 ghost use Rattle.std.specs.Prelude.{◌≡◌, ◌*◌, IfOk, length};
-ghost use Rattle.ide_values.specs.Fill.{Fills, LowersBy};
+ghost use Rattle.ide_values.specs.Fill.{FillsRows, Meets};
 
 use crate::rows::{lower, place_of, tops, value_before};
 use ide_graph::Graph;
@@ -16,7 +16,7 @@ pub fn fill<F: EdgeFn>(
     tables: &Tables<F>,
     starts: &[F::L],
 ) -> Result<Vec<F::L>, AllocError>
-    ensures filled { IfOk result (λ values. Fills F.L.algebra F.edge graph.now tables.now starts.now values.items) }
+    ensures filled { IfOk result (FillsRows F.L.algebra F.edge graph.now tables.now starts.now) }
     ensures count { IfOk result (λ values. length values.items ≡ graph.now.nodes * graph.now.facts) }
 {
     let mut values = tops(alloc, graph.node_count() * graph.fact_count())?;
@@ -31,7 +31,7 @@ pub fn fill<F: EdgeFn>(
 /// Lowers the value where the key ends by what its function makes of the value where it begins.
 fn lower_by<F: EdgeFn>(values: &mut [F::L], graph: &Graph, starts: &[F::L], key: Key, function: F)
     ensures count { length values.new ≡ length values.old }
-    ensures lowered { LowersBy F.L.algebra F.edge graph.now starts.now key function values.old values.new }
+    ensures lowered { Meets F.L.algebra F.edge graph.now starts.now key function values.old values.new }
 {
     if let Key::Jump(node, from, to) = key {
         let start = value_before(graph, starts, node, from);

@@ -3,8 +3,8 @@ ghost use Rattle.std.specs.Prelude.{◌≡◌, ◌<◌, ◌≤◌, ◌+◌, ℕ,
 ghost use Rattle.std.specs.List.{All, range_with_len};
 ghost use Rattle.ide_graph.specs.Edges.{EndsWithin};
 ghost use Rattle.ide_values.specs.Falling.{Falls};
-ghost use Rattle.ide_values.specs.Pass.{calls_of, lowered_at};
-ghost use Rattle.ide_values.specs.Passing.{Marks, PassesAll, PassesOver, PassesTo};
+ghost use Rattle.ide_values.specs.Pass.{calls_of};
+ghost use Rattle.ide_values.specs.Passing.{LowersAt, Marks, PassesAll, PassesOver, PassesTo, WaitsLess};
 
 use crate::rows::{procedure_at, start_place, value_at_place, value_before};
 use ide_graph::{EdgeData, Graph, Site};
@@ -75,7 +75,7 @@ impl<P: Problem> Starts<P> {
     /// A place that waits, which then waits no longer.
     pub(crate) fn leave(&mut self) -> Option<usize>
         ensures values { self.new.values ≡ self.old.values }
-        ensures waits { IfSome result (λ _. length self.old.waiting.items ≡ length self.new.waiting.items + 1) }
+        ensures waits { IfSome result (λ _. WaitsLess self.old self.new) }
     {
         let place = self.waiting.pop()?;
         if let Some(is_waiting) = self.is_waiting.get_mut(place) {
@@ -100,7 +100,7 @@ impl<P: Problem> Starts<P> {
 
     /// Meets the value at a place with another. A place whose value fell waits.
     fn lower(&mut self, place: usize, value: P::L) -> Result<(), AllocError>
-        ensures lowered { OnOk result (self.new.values.items ≡ lowered_at P.L.algebra self.old.values.items place value) }
+        ensures lowered { OnOk result (LowersAt P.L.algebra place value self.old self.new) }
         ensures marks { OnOk result (Marks self.old self.new) }
         ensures falls { OnOk result (Falls P.L.algebra self.old self.new) }
     {

@@ -1,6 +1,6 @@
 //! Rows of values: by node or by procedure, one value for each fact.
-ghost use Rattle.std.specs.Prelude.{◌≡◌, ◌≢◌, ℕ, ◌+◌, ◌-◌, ◌*◌, ◌^◌, ◌<◌, min, IfOk, length, slice_index};
-ghost use Rattle.ide_values.specs.Start.{at_place, value_before};
+ghost use Rattle.std.specs.Prelude.{◌≡◌, ◌+◌, ◌-◌, ◌*◌, ◌^◌, ◌<◌, min, IfOk, length, slice_index};
+ghost use Rattle.ide_values.specs.Start.{AreTops, MeetsAt, SameElsewhere, at_place, value_before};
 
 use ide_graph::Graph;
 use ide_lattice::Lattice;
@@ -10,7 +10,7 @@ use std::alloc::{AllocError, Global};
 /// So many tops.
 pub(crate) fn tops<L: Lattice>(alloc: Global, count: usize) -> Result<Vec<L>, AllocError>
     ensures count { IfOk result (λ values. length values.items ≡ count) }
-    ensures tops { IfOk result (λ values. (place : ℕ) → at_place L.algebra values.items place ≡ L.algebra.top) }
+    ensures tops { IfOk result (λ values. AreTops L.algebra values.items) }
 {
     let mut values = Vec::with_capacity(alloc, count)?;
     for _place in 0..count {
@@ -55,8 +55,8 @@ pub(crate) fn place_of(graph: &Graph, node: Node, fact: Fact) -> usize
 /// Meets the value at a place with another.
 pub(crate) fn lower<L: Lattice>(values: &mut [L], place: usize, value: L)
     ensures count { length values.new ≡ length values.old }
-    ensures other { (q : ℕ) → q ≢ place → at_place L.algebra values.new q ≡ at_place L.algebra values.old q }
-    ensures met { place < length values.old → at_place L.algebra values.new place ≡ L.algebra.meet (at_place L.algebra values.old place) value }
+    ensures other { SameElsewhere L.algebra place values.old values.new }
+    ensures met { MeetsAt L.algebra place value values.old values.new }
 {
     if place < values.len() {
         values[place] = values[place].meet(value);

@@ -1,8 +1,8 @@
 //! Start values: the value of each fact at each procedure's start.
-ghost use Rattle.std.specs.Prelude.{◌≡◌, ◌≤◌, OnOk, IfOk, false, length};
-ghost use Rattle.ide_values.specs.Falling.{Falls, ranks};
-ghost use Rattle.ide_values.specs.Passing.{Comes, PassesBy, PassesEach};
-ghost use Rattle.ide_values.specs.Settled.{AreStarts, IsSteady};
+ghost use Rattle.std.specs.Prelude.{OnOk, IfOk, false};
+ghost use Rattle.ide_values.specs.Falling.{Falls};
+ghost use Rattle.ide_values.specs.Passing.{Comes, Rests, PassesBy, PassesEach, RisesNowhere};
+ghost use Rattle.ide_values.specs.Settled.{AreStartRows};
 
 use crate::enter::entered_rows;
 use crate::passes::{JumpAt, Starts, calls_at};
@@ -24,7 +24,7 @@ pub fn start_values<P: Problem>(
     tables: &Tables<P::F>,
     roots: &[usize],
 ) -> Result<Vec<P::L>, AllocError>
-    ensures { IfOk result (λ starts. AreStarts P.L.algebra P.F.edge P.targets graph.now tables.now roots.now starts.items) }
+    ensures { IfOk result (AreStartRows P.L.algebra P.F.edge P.targets graph.now tables.now roots.now) }
 {
     let mut starts = Starts::<P>::of(alloc, entered_rows(alloc, graph, roots)?)?;
     starts.wait_where_entered()?;
@@ -48,8 +48,8 @@ impl<P: Problem> Starts<P> {
         graph: &Graph,
         tables: &Tables<P::F>,
     ) -> Result<(), AllocError>
-        ensures comes { OnOk result (Comes P.L.algebra P.F.edge P.targets graph.now tables.now self.old self.new) }
-        ensures steady { OnOk result (IsSteady P.L.algebra P.F.edge P.targets graph.now tables.now self.new.values.items) }
+        ensures comes { Comes P.L.algebra P.F.edge P.targets graph.now tables.now result self.old self.new }
+        ensures steady { OnOk result (Rests P.L.algebra P.F.edge P.targets graph.now tables.now self.new) }
     {
         let jumps = jumps_at_calls(alloc, graph, tables)?;
         let mut targets = TargetList::new(alloc);
@@ -72,8 +72,8 @@ impl<P: Problem> Starts<P> {
         jumps: &[CallJump],
         targets: &mut TargetList<P::F>,
     ) -> Result<(), AllocError>
-        ensures comes { OnOk result (Comes P.L.algebra P.F.edge P.targets graph.now tables.now self.old self.new) }
-        ensures falls { OnOk result (ranks P.L.algebra self.new.values.items ≤ ranks P.L.algebra self.old.values.items) }
+        ensures comes { Comes P.L.algebra P.F.edge P.targets graph.now tables.now result self.old self.new }
+        ensures falls { OnOk result (RisesNowhere P.L.algebra self.old self.new) }
     {
         while let Some(place) = self.leave() {
             self.pass_from(graph, tables, jumps, place, targets)?;
@@ -90,7 +90,7 @@ impl<P: Problem> Starts<P> {
         place: usize,
         targets: &mut TargetList<P::F>,
     ) -> Result<(), AllocError>
-        ensures comes { OnOk result (Comes P.L.algebra P.F.edge P.targets graph.now tables.now self.old self.new) }
+        ensures comes { Comes P.L.algebra P.F.edge P.targets graph.now tables.now result self.old self.new }
         ensures falls { OnOk result (Falls P.L.algebra self.old self.new) }
     {
         let first = jumps.partition_point(|jump| jump.from < place);
@@ -111,7 +111,7 @@ impl<P: Problem> Starts<P> {
         index: usize,
         targets: &mut TargetList<P::F>,
     ) -> Result<(), AllocError>
-        ensures comes { OnOk result (Comes P.L.algebra P.F.edge P.targets graph.now tables.now self.old self.new) }
+        ensures comes { Comes P.L.algebra P.F.edge P.targets graph.now tables.now result self.old self.new }
         ensures falls { OnOk result (Falls P.L.algebra self.old self.new) }
     {
         let Some(entry) = tables.entry_at(index) else {
@@ -128,7 +128,7 @@ impl<P: Problem> Starts<P> {
         tables: &Tables<P::F>,
         targets: &mut TargetList<P::F>,
     ) -> Result<(), AllocError>
-        ensures comes { OnOk result (Comes P.L.algebra P.F.edge P.targets graph.now tables.now self.old self.new) }
+        ensures comes { Comes P.L.algebra P.F.edge P.targets graph.now tables.now result self.old self.new }
         ensures passes { OnOk result (PassesEach P.L.algebra P.F.edge P.targets graph.now tables.now self.old self.new) }
         ensures falls { OnOk result (Falls P.L.algebra self.old self.new) }
     {

@@ -1,11 +1,11 @@
 //! The values of a program.
-ghost use Rattle.std.specs.Prelude.{◌≡◌, ◌≤◌, ◌⊎◌, ◌↔◌, Err, IfErr, IfOk, OnOk, IsOkUnless};
+ghost use Rattle.std.specs.Prelude.{◌≡◌, ◌↔◌, Err, IfErr, IfOk, OnOk, IsOkUnless};
 ghost use Rattle.ide_steps.specs.Frozen.{graph_in, program_in};
 ghost use Rattle.ide_text.specs.Program.{value_of as program_value};
 ghost use Rattle.ide_values.specs.Closed.{FollowFrom};
 ghost use Rattle.ide_values.specs.Frozen.{AreBestOf, AreValuesOf, FollowClosed};
 ghost use Rattle.ide_values.specs.Refusal.{AreWorkers, IsValuesRefusal};
-ghost use Rattle.ide_values.specs.Values.{AreValues, value_of};
+ghost use Rattle.ide_values.specs.Values.{AreValues, IsOutside, value_of};
 
 use crate::fill::fill;
 use crate::laws::following_values_are_best;
@@ -114,7 +114,7 @@ impl<P: Problem> Values<P> {
     ///
     /// Refusal: `OutOfRange` where the node or the fact is not there.
     pub fn at(&self, node: Node, fact: Fact) -> Result<P::L, Refused>
-        ensures out_of_range { (result ≡ Err Refused.OutOfRange) ↔ ((self.now.graph.nodes ≤ node) ⊎ (self.now.graph.facts ≤ fact)) }
+        ensures out_of_range { (result ≡ Err Refused.OutOfRange) ↔ IsOutside self.now node fact }
         ensures refused { IsOkUnless result Refused.OutOfRange }
         ensures value { IfOk result (λ value. value ≡ value_of P.L.algebra self.now node fact) }
     {

@@ -1,4 +1,3 @@
-use Rattle.std.proofs.Common.{◌≡◌, length}
 use Rattle.ide_values.specs.Falling.{ranks}
 use Rattle.ide_values.specs.Settled.{ComesTo}
 use Rattle.ide_values.proofs.passes.Starts.come_to_rest.Given as goal

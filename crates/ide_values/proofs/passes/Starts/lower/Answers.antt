@@ -1,4 +1,4 @@
-use Rattle.std.proofs.Common.{◌≡◌, ◌<◌, ◌∙◌, ap, arith, get_or, length, refl, set, sym, true, true≢false}
+use Rattle.std.proofs.Common.{◌≡◌, ◌<◌, ◌∙◌, ap, arith, get_or, length, refl, set, sym, true≢false}
 use Rattle.std.proofs.lemmas.List.{set-get_or}
 use Rattle.ide_values.proofs.Falling.{falls_at}
 use Rattle.ide_values.proofs.passes.Starts.lower.Goals as goal

@@ -1,4 +1,4 @@
-use Rattle.std.proofs.Common.{length, subst, take_all}
+use Rattle.std.proofs.Common.{subst, take_all}
 use Rattle.ide_values.specs.Pass.{IsSteadyOver, Passes, over_edge}
 use Rattle.ide_values.proofs.Falling.{falls_not, falls_then}
 use Rattle.ide_values.proofs.Passing.{passes_more, passes_none}

@@ -1,4 +1,4 @@
-use Rattle.std.proofs.Common.{length, take}
+use Rattle.std.proofs.Common.{take}
 use Rattle.ide_values.specs.Falling.{Falls}
 use Rattle.ide_values.specs.Pass.{IsSteadyOver, Passes, over_edge}
 use Rattle.ide_values.proofs.passes.Starts.pass_all.Given as goal

@@ -1,4 +1,4 @@
-use Rattle.std.proofs.Common.{◌≡◌, length, take}
+use Rattle.std.proofs.Common.{take}
 use Rattle.ide_values.specs.Falling.{Falls}
 use Rattle.ide_values.specs.Pass.{IsSteadyBy, Passes, by_entry}
 use Rattle.ide_values.specs.Settled.{ComesTo}

@@ -1,4 +1,4 @@
-use Rattle.std.proofs.Common.{◌≡◌, Some, length}
+use Rattle.std.proofs.Common.{◌≡◌, Some}
 use Rattle.ide_tables.specs.Tables.{found}
 use Rattle.ide_values.specs.Pass.{by_entry, stays}
 use Rattle.ide_values.proofs.Coming.{goes_trans}

@@ -1,4 +1,3 @@
-use Rattle.std.proofs.Common.{◌≡◌, length}
 use Rattle.ide_values.specs.Falling.{Falls}
 use Rattle.ide_values.specs.Settled.{ComesTo}
 use Rattle.ide_values.proofs.passes.Starts.pass_from.Given as goal

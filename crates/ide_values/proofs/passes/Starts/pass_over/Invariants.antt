@@ -1,4 +1,4 @@
-use Rattle.std.proofs.Common.{◌≡◌, length, take}
+use Rattle.std.proofs.Common.{◌≡◌, take}
 use Rattle.ide_values.specs.Falling.{Falls}
 use Rattle.ide_values.specs.Pass.{Passes, to_target}
 use Rattle.ide_values.proofs.passes.Starts.pass_over.Given as goal

@@ -1,4 +1,4 @@
-use Rattle.std.proofs.Common.{◌≡◌, ◌+◌, ◌≤◌, length}
+use Rattle.std.proofs.Common.{◌+◌, ◌≤◌, length}
 use Rattle.ide_values.specs.Falling.{ranks}
 use Rattle.ide_values.specs.Settled.{ComesTo}
 use Rattle.ide_values.proofs.passes.Starts.settle.Given as goal
