@@ -7,6 +7,7 @@ ghost use Rattle.ide_batch.specs.Records.{value_of};
 use crate::cores::{begin, do_first_parts, drain, replay};
 use ide_batch::{Record, to_raw};
 use ide_instances::{ConstFn, CopyConst, Uninit, UninitFn};
+use ide_journal::Version;
 use ide_lattice::EdgeFn;
 use ide_problem::Problem;
 use ide_steps::Core;
@@ -106,19 +107,6 @@ fn expect_changed<P: Problem>(
     }
 }
 
-/// Replays the load of a text, `main` as a root, and a batch of that body.
-fn replay_all<P: Problem>(
-    alloc: Global,
-    core: &mut Core<P>,
-    text: &str,
-    body: &[u8],
-) -> Result<(), Fail> {
-    replay(alloc, core, 0, 1, text.as_bytes())?;
-    replay(alloc, core, 1, 2, b"main")?;
-    replay(alloc, core, 2, 3, body)?;
-    Ok(())
-}
-
 /// Asserts that these records give the batch's entries back, and `main` as the root.
 fn expect_replayed<P: Problem>(
     rt: &(impl Abort + AllocGlobal),
@@ -127,7 +115,7 @@ fn expect_replayed<P: Problem>(
     body: &[u8],
     change: &Record<P::F>,
 ) -> Result<(), Fail> {
-    replay_all(rt.alloc(), core, text, body)?;
+    replay(rt.alloc(), core, text, body, Version::One)?;
     expect_entries(rt, core, change);
     assert!(rt; core.key_count() == 3);
     assert!(rt; core.roots() == [0].as_slice());
