@@ -69,19 +69,19 @@ fn group_in_front<'a, F: EdgeFn>(
     ensures read { IfOk result (λ read. IfSome read (λ front. ReadsGroup (functions_by F.proper F.form F.eq F.edge.all_top) before front.0 items.old.items items.new.items bytes.now front.1.now)) }
     ensures none { IfOk result (λ read. IfNone read (NoGroup (functions_by F.proper F.form F.eq F.edge.all_top) before (length items.old.items) bytes.now)) }
 {
-    let Some((place, count, rest)) = header_in_front(bytes) else {
+    let Some((place, members, rest)) = header_in_front(bytes) else {
         return Ok(None);
     };
     if !is_above(before, place) {
         return Ok(None);
     }
-    if count == 0 {
+    if members == 0 {
         return Ok(None);
     }
-    if count as usize > MOST - items.len() {
+    if members as usize > MOST - items.len() {
         return Ok(None);
     }
-    let Some(behind) = members_in_front(place, count, items, rest)? else {
+    let Some(behind) = members_in_front(place, members, items, rest)? else {
         return Ok(None);
     };
     Ok(Some((place, behind)))

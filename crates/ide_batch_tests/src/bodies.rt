@@ -108,19 +108,6 @@ fn expect_changed<P: Problem>(
     }
 }
 
-/// Replays the load of a text, `main` as a root, and a batch of that body.
-fn replay_all<P: Problem>(
-    alloc: Global,
-    core: &mut Core<P>,
-    text: &str,
-    body: &[u8],
-) -> Result<(), Fail> {
-    replay(alloc, core, 0, 1, text.as_bytes())?;
-    replay(alloc, core, 1, 2, b"main")?;
-    replay(alloc, core, 2, 3, body)?;
-    Ok(())
-}
-
 /// Asserts that these records give the batch's entries back, and `main` as the root.
 fn expect_replayed<P: Problem>(
     rt: &(impl Abort + AllocGlobal),
@@ -129,7 +116,7 @@ fn expect_replayed<P: Problem>(
     body: &[u8],
     change: &Record<P::F>,
 ) -> Result<(), Fail> {
-    replay_all(rt.alloc(), core, text, body)?;
+    replay(rt.alloc(), core, text, body, Version::One)?;
     expect_entries(rt, core, change);
     assert!(rt; core.key_count() == 3);
     assert!(rt; core.roots() == [0].as_slice());

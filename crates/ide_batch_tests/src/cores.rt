@@ -1,6 +1,6 @@
 //! Cores on the way, by calls and by records.
-use ide_batch::apply;
-use ide_journal::RawRecord;
+use ide_batch::{apply, apply_all};
+use ide_journal::{RawRecord, Version};
 use ide_problem::Problem;
 use ide_steps::{Claimed, Core};
 use ide_tasks::{Task, Work};
@@ -84,20 +84,67 @@ fn apply_raw<P: Problem>(
     core: &mut Core<P>,
     n: u64,
     raw: &RawRecord,
+    version: Version,
 ) -> Result<(), Refused> {
     core.release_all();
-    apply(alloc, core, n, raw)?;
+    apply(alloc, core, n, raw, version)?;
     Ok(())
 }
 
-/// Applies the record of that number, kind and body.
-pub(crate) fn replay<P: Problem>(
+/// Applies the record of that number, kind and body, spelled as in that version.
+pub(crate) fn apply_one<P: Problem>(
     alloc: Global,
     core: &mut Core<P>,
     n: u64,
     kind: u8,
     body: &[u8],
+    version: Version,
 ) -> Result<(), Refused> {
     let raw = raw_of(alloc, kind, body)?;
-    apply_raw(alloc, core, n, &raw)
+    apply_raw(alloc, core, n, &raw, version)
+}
+
+/// Appends the record of that kind and body.
+fn push_raw(
+    alloc: Global,
+    records: &mut Vec<RawRecord>,
+    kind: u8,
+    body: &[u8],
+) -> Result<(), AllocError> {
+    let raw = raw_of(alloc, kind, body)?;
+    records.push(raw)?;
+    Ok(())
+}
+
+/// The load of a text, `main` as a root, and a batch of that body.
+fn records_of(alloc: Global, text: &str, body: &[u8]) -> Result<Vec<RawRecord>, AllocError> {
+    let mut records = Vec::new(alloc);
+    push_raw(alloc, &mut records, 1, text.as_bytes())?;
+    push_raw(alloc, &mut records, 2, b"main")?;
+    push_raw(alloc, &mut records, 3, body)?;
+    Ok(records)
+}
+
+/// Applies the records to a core that takes every claim back first.
+fn apply_records<P: Problem>(
+    alloc: Global,
+    core: &mut Core<P>,
+    records: &[RawRecord],
+    version: Version,
+) -> Result<(), Refused> {
+    core.release_all();
+    apply_all(alloc, core, records, version)?;
+    Ok(())
+}
+
+/// Applies the load of a text, `main` as a root, and a batch of that body.
+pub(crate) fn replay<P: Problem>(
+    alloc: Global,
+    core: &mut Core<P>,
+    text: &str,
+    body: &[u8],
+    version: Version,
+) -> Result<(), Refused> {
+    let records = records_of(alloc, text, body)?;
+    apply_records(alloc, core, records.as_slice(), version)
 }

@@ -1,7 +1,8 @@
 //! Records that do not apply: each is refused with its number, and nothing changes.
 use crate::bodies::TWO_PARTS;
-use crate::cores::{begin, replay};
+use crate::cores::{apply_one, begin, replay};
 use ide_instances::CopyConst;
+use ide_journal::Version;
 use ide_problem::Problem;
 use ide_steps::Core;
 use ide_wire::Refused;
@@ -26,7 +27,7 @@ fn expect_damaged<P: Problem>(
     why: &str,
 ) {
     let before = core.key_count();
-    let found = replay(rt.alloc(), core, 7, kind, body);
+    let found = apply_one(rt.alloc(), core, 7, kind, body, Version::One);
     assert!(rt; found == Err(Refused::Damaged(7)), "{why}");
     assert!(rt; core.key_count() == before, "{why}");
 }
@@ -103,4 +104,22 @@ fn expect_roots<P: Problem>(
 fn roots(rt: HostRuntime) -> Result<(), Fail> {
     let mut core: Core<CopyConst> = Core::new(rt.alloc());
     expect_roots(&rt, &mut core)
+}
+
+/// Asserts that of three records the last one is refused with its number, and the others applied.
+fn expect_stopped<P: Problem>(
+    rt: &(impl Abort + AllocGlobal),
+    core: &mut Core<P>,
+) -> Result<(), Fail> {
+    let found = replay(rt.alloc(), core, NUMBER, &EXCHANGED, Version::One);
+    assert!(rt; found == Err(Refused::Damaged(2)));
+    assert!(rt; core.key_count() == 1);
+    assert!(rt; core.roots() == [0].as_slice());
+    Ok(())
+}
+
+#[test]
+fn last_of_three(rt: HostRuntime) -> Result<(), Fail> {
+    let mut core: Core<CopyConst> = Core::new(rt.alloc());
+    expect_stopped(&rt, &mut core)
 }

@@ -1,6 +1,14 @@
 //! Batches in the second version of a store: their bodies, in groups.
-use crate::bodies::{empty_main, expect_spelled, two_parts};
+use crate::bodies::{empty_main, expect_entries, expect_spelled, two_parts};
+use crate::cores::{apply_one, begin, replay};
+use ide_batch::Record;
+use ide_instances::{CopyConst, Uninit};
 use ide_journal::Version;
+use ide_problem::Problem;
+use ide_steps::Core;
+use ide_wire::Refused;
+use ide_worked::{EMPTY, NUMBER};
+use std::process::Abort;
 use std::test::Fail;
 
 /// What changes after an empty main is a root, in two groups: of node 0 and of node 1.
@@ -21,6 +29,48 @@ const TWO_PARTS: [u8; 33] = [
     0, 0, 1, 0, 4, 1, //
 ];
 
+/// The first group twice.
+const TWICE: [u8; 55] = [
+    3, 0, 0, 0, //
+    0, 0, 0, 0, 0, 1, 0, 0, 0, //
+    0, 0, 0, 0, 1, 0, //
+    0, 0, 0, 0, 0, 1, 0, 0, 0, //
+    0, 0, 0, 0, 1, 0, //
+    0, 1, 0, 0, 0, 2, 0, 0, 0, //
+    0, 0, 0, 0, 1, 0, //
+    0, 0, 1, 0, 1, 0, //
+];
+
+/// A group with no item.
+const NO_ITEM: [u8; 34] = [
+    2, 0, 0, 0, //
+    0, 0, 0, 0, 0, 0, 0, 0, 0, //
+    0, 1, 0, 0, 0, 2, 0, 0, 0, //
+    0, 0, 0, 0, 1, 0, //
+    0, 0, 1, 0, 1, 0, //
+];
+
+/// The last two items, exchanged.
+const EXCHANGED: [u8; 40] = [
+    2, 0, 0, 0, //
+    0, 0, 0, 0, 0, 1, 0, 0, 0, //
+    0, 0, 0, 0, 1, 0, //
+    0, 1, 0, 0, 0, 2, 0, 0, 0, //
+    0, 0, 1, 0, 1, 0, //
+    0, 0, 0, 0, 1, 0, //
+];
+
+/// One byte more.
+const LONGER: [u8; 41] = [
+    2, 0, 0, 0, //
+    0, 0, 0, 0, 0, 1, 0, 0, 0, //
+    0, 0, 0, 0, 1, 0, //
+    0, 1, 0, 0, 0, 2, 0, 0, 0, //
+    0, 0, 0, 0, 1, 0, //
+    0, 0, 1, 0, 1, 0, //
+    0,
+];
+
 #[test]
 fn groups_of_an_empty_main(rt: HostRuntime) -> Result<(), Fail> {
     let change = empty_main(rt.alloc())?;
@@ -31,4 +81,89 @@ fn groups_of_an_empty_main(rt: HostRuntime) -> Result<(), Fail> {
 fn groups_after_two_parts(rt: HostRuntime) -> Result<(), Fail> {
     let change = two_parts(rt.alloc())?;
     expect_spelled(&rt, &change, Version::Two, &TWO_PARTS)
+}
+
+/// Asserts that a load, `main` as a root and a batch of that body give the batch's entries back.
+fn expect_read<P: Problem>(
+    rt: &(impl Abort + AllocGlobal),
+    core: &mut Core<P>,
+    text: &str,
+    body: &[u8],
+    change: &Record<P::F>,
+) -> Result<(), Fail> {
+    replay(rt.alloc(), core, text, body, Version::Two)?;
+    expect_entries(rt, core, change);
+    assert!(rt; core.key_count() == 3);
+    Ok(())
+}
+
+#[test]
+fn replay_of_groups_of_an_empty_main(rt: HostRuntime) -> Result<(), Fail> {
+    let mut core: Core<Uninit> = Core::new(rt.alloc());
+    let change = empty_main(rt.alloc())?;
+    expect_read(&rt, &mut core, EMPTY, &EMPTY_MAIN, &change)
+}
+
+#[test]
+fn replay_of_groups_after_two_parts(rt: HostRuntime) -> Result<(), Fail> {
+    let mut core: Core<CopyConst> = Core::new(rt.alloc());
+    let change = two_parts(rt.alloc())?;
+    expect_read(&rt, &mut core, NUMBER, &TWO_PARTS, &change)
+}
+
+/// Asserts that the batch of number 7, of that body, is refused with its number, and that no key was
+/// set.
+fn expect_refused<P: Problem>(
+    rt: &(impl Abort + AllocGlobal),
+    core: &mut Core<P>,
+    body: &[u8],
+    why: &str,
+) {
+    let before = core.key_count();
+    let found = apply_one(rt.alloc(), core, 7, 3, body, Version::Two);
+    assert!(rt; found == Err(Refused::Damaged(7)), "{why}");
+    assert!(rt; core.key_count() == before, "{why}");
+}
+
+/// Asserts that the batch is refused whose body differs from the good one in that byte.
+fn expect_other<P: Problem>(
+    rt: &(impl Abort + AllocGlobal),
+    core: &mut Core<P>,
+    place: usize,
+    byte: u8,
+    why: &str,
+) {
+    let mut body = EMPTY_MAIN;
+    if place < 40 {
+        body[place] = byte;
+    }
+    expect_refused(rt, core, &body, why);
+}
+
+/// Asserts that batches whose groups are spelled otherwise, or do not fit, are refused.
+fn expect_damaged_groups<P: Problem>(
+    rt: &(impl Abort + AllocGlobal),
+    core: &mut Core<P>,
+) -> Result<(), Fail> {
+    begin(rt.alloc(), core, EMPTY)?;
+    expect_other(rt, core, 0, 0, "no group, and bytes after that");
+    expect_other(rt, core, 0, 1, "a group after the end");
+    expect_other(rt, core, 0, 3, "a group is missing");
+    expect_other(rt, core, 4, 2, "a third kind");
+    expect_other(rt, core, 19, 1, "a summary at a node that is no call");
+    expect_other(rt, core, 20, 9, "a node past the last");
+    expect_other(rt, core, 38, 0, "a function that is always top");
+    expect_other(rt, core, 39, 2, "a third mark");
+    expect_refused(rt, core, &[0, 0, 0, 0], "no group");
+    expect_refused(rt, core, &TWICE, "a group written twice");
+    expect_refused(rt, core, &NO_ITEM, "a group with no item");
+    expect_refused(rt, core, &EXCHANGED, "the last two items exchanged");
+    expect_refused(rt, core, &LONGER, "a byte after the end");
+    Ok(())
+}
+
+#[test]
+fn damaged_groups(rt: HostRuntime) -> Result<(), Fail> {
+    let mut core: Core<Uninit> = Core::new(rt.alloc());
+    expect_damaged_groups(&rt, &mut core)
 }
