@@ -3,7 +3,8 @@
 //! The definitions say what a store of records is to those above it (`specs/Store`), what may happen to
 //! a machine whose steps it keeps, and what an opening gives back (`specs/World`). A journal on one disk
 //! is such a store (`specs/OneDisk`), and the images of an analysis with the bodies of their records are
-//! such a machine (`specs/Machine`). The model of crashes is that of the disk: a crash may come between
+//! such a machine (`specs/Machine`). With the hands that claim keys, do parts and seal what changed
+//! (`specs/Hands`) its answers are best (`specs/Answers`). The model of crashes is that of the disk: a crash may come between
 //! any two calls and within each, an opening's among them. The crate has no code yet.
 #![tactic(auto)]
 
