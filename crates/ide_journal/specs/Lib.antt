@@ -1,4 +1,5 @@
 pub mod Bytes
+pub mod Calls
 pub mod Format
 pub mod Laws
 pub mod Lists

@@ -37,6 +37,7 @@ pub struct Journal<D: Disk> {
 
 impl<D: Disk> Journal<D> {
     ghost use Rattle.ide_disk.specs.OneCall.{FailsOnce, MakesCall};
+    ghost use Rattle.ide_journal.specs.Calls.{MakesItsCall};
     ghost use Rattle.ide_journal.specs.Lists.{IsAtRest, entry_of};
     ghost use Rattle.ide_journal.specs.Opening.{IsOpened, KeepsRecords, disk_after};
     ghost use Rattle.ide_journal.specs.Records.{GivesRecords, KeepsOrStores, LeavesRecords, PutsUnderWay, StaysAtRest};
@@ -163,6 +164,7 @@ impl<D: Disk> Journal<D> {
         ensures idle { OnErr result (IsIdle self.new) }
         ensures refused { IfErr result (λ refused. refused ≡ Refused.NoMemory) }
         ensures disk { self.new.disk ≡ self.old.disk }
+        ensures gate { self.new.gate ≡ self.old.gate }
         ensures count { stored_count self.new ≡ stored_count self.old }
         ensures version { version_of self.new ≡ version_of self.old }
     {
@@ -190,6 +192,9 @@ impl<D: Disk> Journal<D> {
         ensures version { version_of self.new ≡ version_of self.old }
 
         ensures call { (HasFailed self.old → ⊥) → MakesCall D.Disk result self.old.disk self.new.disk }
+
+        // At Ok it is the call of the stage, to the letter.
+        ensures exact { D.honest self.old.disk → OnOk result (MakesItsCall self.old self.new) }
         ensures failed { HasFailed self.old ↔ (result ≡ Err Refused.Failed) }
         ensures same { HasFailed self.old → self.new ≡ self.old }
         ensures refused { IfErr result (IsAdvanceRefusal self.old self.new) }
@@ -214,6 +219,7 @@ impl<D: Disk> Journal<D> {
         ensures next { self.new.next ≡ self.old.next }
         ensures version { self.new.version ≡ self.old.version }
         ensures call { MakesCall D.Disk result self.old.disk self.new.disk }
+        ensures exact { D.honest self.old.disk → OnOk result (MakesItsCall self.old self.new) }
     {
         match self.stage {
             Stage::Begun => {
@@ -243,6 +249,7 @@ impl<D: Disk> Journal<D> {
         ensures failed { OnErr result (HasFailed self.new) }
         ensures counts { KeepsCounts self.old self.new }
         ensures call { MakesCall D.Disk result self.old.disk self.new.disk }
+        ensures exact { D.honest self.old.disk → OnOk result (MakesItsCall self.old self.new) }
         ensures stands { D.honest self.old.disk → KeepsStanding self.old self.new }
     {
         match self.disk.write(self.gate + 1, &self.tail) {
@@ -265,6 +272,7 @@ impl<D: Disk> Journal<D> {
         ensures failed { OnErr result (HasFailed self.new) }
         ensures counts { KeepsCounts self.old self.new }
         ensures call { MakesCall D.Disk result self.old.disk self.new.disk }
+        ensures exact { D.honest self.old.disk → OnOk result (MakesItsCall self.old self.new) }
         ensures stands { D.honest self.old.disk → KeepsStanding self.old self.new }
     {
         match self.disk.sync() {
@@ -286,6 +294,7 @@ impl<D: Disk> Journal<D> {
         ensures failed { OnErr result (HasFailed self.new) }
         ensures counts { KeepsCounts self.old self.new }
         ensures call { MakesCall D.Disk result self.old.disk self.new.disk }
+        ensures exact { D.honest self.old.disk → OnOk result (MakesItsCall self.old self.new) }
         ensures stands { D.honest self.old.disk → KeepsStanding self.old self.new }
     {
         match self.disk.write(self.gate, &[1]) {
@@ -310,6 +319,7 @@ impl<D: Disk> Journal<D> {
         ensures next { self.new.next ≡ self.old.next }
         ensures version { self.new.version ≡ self.old.version }
         ensures call { MakesCall D.Disk result self.old.disk self.new.disk }
+        ensures exact { D.honest self.old.disk → OnOk result (MakesItsCall self.old self.new) }
         ensures stored { D.honest self.old.disk → OnOk result (StoresStanding self.old self.new) }
         ensures stands { D.honest self.old.disk → OnErr result (KeepsStanding self.old self.new) }
     {

@@ -4,6 +4,7 @@ use Rattle.std.specs.Prelude.{slice_get}
 use Rattle.std.proofs.lemmas.List.{append-nil, append_assoc, drop_all, get_or_append_left, length-append, length-take-le, take-append-le, take_all}
 use Rattle.ide_disk.specs.Disk.{DiskState, CrashLeaves, Keeps, Wrote, put_at, settled, synced_now, written}
 use Rattle.ide_journal.specs.Bytes.{IsBeforeOrAfter, Knows}
+use Rattle.ide_journal.specs.Calls.{after_call}
 use Rattle.ide_journal.specs.Format.{Entry, Head, Holds, IsEntry, IsPages, after_gate, header}
 use Rattle.ide_journal.specs.Lists.{HoldsWithOrWithout}
 use Rattle.ide_journal.specs.declared.stage.Stage.{Stage}
@@ -11,7 +12,7 @@ use Rattle.ide_journal.specs.declared.stage.Stage.TheVariants.{Idle, Begun, Writ
 use Rattle.ide_journal.proofs.Left.{gate_written, left_in}
 use Rattle.ide_journal.proofs.Lists.{holds_before, holds_either, pages_push}
 use Rattle.ide_journal.proofs.OneList.{holds_one_list, holds_the_same}
-use Rattle.ide_store.specs.OneDisk.{Calls, Fails, IsLive, KnowsOf, Opens, Stops, Stores, Writer, after_call, next_stage, one_disk, tail_of}
+use Rattle.ide_store.specs.OneDisk.{Calls, Fails, IsLive, KnowsOf, Opens, Stops, Stores, Writer, next_stage, one_disk, tail_of}
 use Rattle.ide_store.specs.Store.{IsFound, IsSafe, StoreLaws}
 use Rattle.ide_store.specs.World.{AreAlike, Rules}
 

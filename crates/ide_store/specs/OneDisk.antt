@@ -1,7 +1,8 @@
 -- A journal on one disk as a store.
 use Rattle.std.specs.Prelude.{◌≡◌, ◌≢◌, ℕ, ◌+◌, ◌≤◌, List, [], ◌∷◌, ◌++◌, Option, Some, None, length, slice_get, take}
-use Rattle.ide_disk.specs.Disk.{DiskState, CrashLeaves, settled, synced_now, written}
+use Rattle.ide_disk.specs.Disk.{DiskState, CrashLeaves, settled, synced_now}
 use Rattle.ide_journal.specs.Bytes.{Knows}
+use Rattle.ide_journal.specs.Calls.{after_call}
 use Rattle.ide_journal.specs.Format.{Entry, Head, Holds, IsEntry, IsPages, after_gate, header}
 use Rattle.ide_journal.specs.Lists.{HoldsWithOrWithout}
 use Rattle.ide_journal.specs.Opening.{LeftOrSame}
@@ -34,15 +35,6 @@ pub record IsLive (head : Head) (records : List Entry) (stored : ℕ) (work : Wr
   pub proper : (number : ℕ) (entry : Entry) → slice_get records number ≡ Some entry → IsEntry entry
   pub gate : work.gate ≡ length (header head ++ pages)
   pub knows : KnowsOf work.stage (header head ++ pages) stored (slice_get records stored) disk
-
--- the disk after the call of a stage: the body is written, synced, the gate opened, synced
-abbrev pub after_call : Stage → ℕ → List ℕ → DiskState → DiskState
-after_call Idle gate tail disk = written (gate + 1) tail disk
-after_call Begun gate tail disk = written (gate + 1) tail disk
-after_call Written gate tail disk = synced_now disk
-after_call BodySynced gate tail disk = written gate (1 ∷ []) disk
-after_call GateWritten gate tail disk = synced_now disk
-after_call Failed gate tail disk = disk
 
 -- the stage after a call that does not store the record
 abbrev pub next_stage : Stage → Stage
