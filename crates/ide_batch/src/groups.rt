@@ -13,7 +13,8 @@ use ide_wire::{Fact, Key, Node};
 use std::alloc::{AllocError, Global};
 use std::cmp::Ordering;
 
-/// The items that the body spells in groups, if it spells any.
+/// The items that the body spells in groups, if it spells any. They go onto one vector, which grows
+/// as they are read: no count reserves room for what may not be there.
 pub(crate) fn read_groups<F: EdgeFn>(
     alloc: Global,
     body: &[u8],

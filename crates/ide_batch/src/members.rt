@@ -2,7 +2,6 @@
 ghost use Rattle.ide_batch.specs.Items.{functions_by};
 
 use crate::coded::{Coded, front_of};
-use crate::entry::{entry_in_front, put_entry};
 use ide_lattice::EdgeFn;
 use ide_wire::{Fact, Wire};
 use std::alloc::AllocError;
@@ -18,7 +17,7 @@ impl<F: EdgeFn> Coded for (Fact, Fact, F, bool) {
     fn front(bytes: &[u8]) -> Option<((Fact, Fact, F, bool), &[u8])> {
         let (first, behind) = front_of::<Fact>(bytes)?;
         let (second, rest) = front_of::<Fact>(behind)?;
-        let Some((function, pending, rest)) = entry_in_front::<F>(rest) else {
+        let Some(((function, pending), rest)) = <(F, bool)>::front(rest) else {
             return None;
         };
         Some(((first, second, function, pending), rest))
@@ -28,7 +27,7 @@ impl<F: EdgeFn> Coded for (Fact, Fact, F, bool) {
         let (first, second, function, pending) = *self;
         first.put(out)?;
         second.put(out)?;
-        put_entry(function, pending, out)
+        (function, pending).put(out)
     }
 
     ghost prefix_free = { member_free (functions_by F.proper F.form F.eq F.edge.all_top) F.prefix_free };

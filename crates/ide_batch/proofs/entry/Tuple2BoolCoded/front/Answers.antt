@@ -3,7 +3,7 @@ use Rattle.std.proofs.Common.{arith, rules}
 use Rattle.std.proofs.lemmas.Grind.{common_steps}
 use Rattle.ide_batch.specs.Items.{functions_by}
 use Rattle.ide_batch.specs.FormLaws.{no_mark_at_end, no_marked, no_other_mark, no_top}
-use Rattle.ide_batch.proofs.entry.entry_in_front.Goals as goal
+use Rattle.ide_batch.proofs.entry.Tuple2BoolCoded.front.Goals as goal
 
 pub returns-in_default-clause-none : goal.returns-in_default-clause-none
 returns-in_default-clause-none g c =
