@@ -6,3 +6,4 @@ pub mod Marks
 pub mod OneDisk
 pub mod Working
 pub mod World
+pub mod Writing

@@ -17,7 +17,7 @@ use Rattle.ide_store.specs.Store.{IsFound, IsSafe, StoreLaws}
 use Rattle.ide_store.specs.World.{AreAlike, Rules}
 
 -- the record of a number, behind those before it
-next_taken : {X : Type 0} (xs : List X) (n : ℕ) (x : X) → slice_get xs n ≡ Some x → (n < length xs) × (take (n + 1) xs ≡ take n xs ++ x ∷ [])
+pub next_taken : {X : Type 0} (xs : List X) (n : ℕ) (x : X) → slice_get xs n ≡ Some x → (n < length xs) × (take (n + 1) xs ≡ take n xs ++ x ∷ [])
 next_taken [] n x is = cc
 next_taken (y ∷ ys) zero x is = (omega arith, let same : y ≡ x = cc in rw same refl)
 next_taken (y ∷ ys) (suc n) x is =

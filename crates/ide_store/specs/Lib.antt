@@ -7,3 +7,4 @@ pub mod Roots
 pub mod Store
 pub mod Tally
 pub mod World
+pub mod Writing

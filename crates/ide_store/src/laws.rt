@@ -1,7 +1,9 @@
 //! Laws of the store. The functions do nothing: their clauses are the laws.
 ghost use Rattle.ide_batch.specs.Items.{functions_by};
 ghost use Rattle.ide_store.specs.Recovery.{OneDiskAnswers, OneDiskRecovers};
+ghost use Rattle.ide_store.specs.Writing.{JournalsWriteStores};
 
+use ide_disk::Disk;
 use ide_graph::{
     ends_of_programs_are_nodes, graphs_of_programs_are_closed, sites_of_programs_are_joined,
 };
@@ -30,3 +32,10 @@ pub fn every_run_answers<P: Problem>()
     sites_of_programs_are_joined();
     keys_stand_at_nodes::<P>();
 }
+
+/// A journal that stands behind the stored records is a writer of a store on one disk, and each call that
+/// it makes for the record under way is an event of the store: a good one, one that stores the record,
+/// or one that failed.
+pub fn journals_write_stores<D: Disk>()
+    ensures { JournalsWriteStores D.Disk }
+{}

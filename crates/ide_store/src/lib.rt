@@ -4,10 +4,11 @@
 //! a machine whose steps it keeps, and what an opening gives back (`specs/World`). A journal on one disk
 //! is such a store (`specs/OneDisk`), and the images of an analysis with the bodies of their records are
 //! such a machine (`specs/Machine`). With the hands that claim keys, do parts and seal what changed
-//! (`specs/Hands`) its answers are best (`specs/Answers`). The model of crashes is that of the disk: a crash may come between
-//! any two calls and within each, an opening's among them. The crate has no code yet.
+//! (`specs/Hands`) its answers are best (`specs/Answers`). The model of crashes is that of the disk: a
+//! crash may come between any two calls and within each, an opening's among them. The calls of the
+//! journal are the events of such a store (`specs/Writing`). The crate has no code yet.
 #![tactic(auto)]
 
 mod laws;
 
-pub use laws::{every_run_answers, every_run_recovers};
+pub use laws::{every_run_answers, every_run_recovers, journals_write_stores};
