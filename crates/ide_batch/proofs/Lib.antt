@@ -8,6 +8,7 @@ pub mod Apart
 pub mod Grouping
 pub mod Spelling
 pub mod Short
+pub mod Proper
 pub mod GroupsRead
 pub mod Folding
 pub mod Sets

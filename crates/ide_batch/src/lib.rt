@@ -14,6 +14,7 @@ mod raw;
 mod record;
 mod replay;
 mod spell;
+mod written;
 
 pub use items::MOST;
 pub use laws::{batches_lead, bodies_are_apart, new_cores_are_empty};
@@ -21,3 +22,4 @@ pub use raw::to_raw;
 pub use record::Record;
 pub use replay::{apply, apply_all};
 pub use spell::groups_spell_lists;
+pub use written::may_be_spelled;

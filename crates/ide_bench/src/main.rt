@@ -8,16 +8,23 @@
 //! - `append LENGTH COUNT` stores so many records with bodies of that length in a journal on a disk
 //!   in memory, and prints how many there are and how long the file is;
 //! - `reopen LENGTH COUNT` does so and reads them back;
-//! - `copy LENGTH COUNT` copies as many bytes once.
+//! - `copy LENGTH COUNT` copies as many bytes once;
+//! - `spell VERSION MEMBERS COUNT` spells a batch of 65,536 items so often, in that version of a
+//!   store, 1 or 2, where so many items share a node, and prints how many bytes it has;
+//! - `read VERSION MEMBERS COUNT` reads it so often, and `recopy VERSION MEMBERS COUNT` copies its
+//!   bytes so often, one by one.
 #![tactic(auto)]
 
+mod batches;
 mod counts;
 mod phases;
 mod records;
 
 use anyhow::{Context, Result, bail};
+use batches::{Batches, copy_each, read, spell};
 use counts::Counts;
 use ide_graph::Graph;
+use ide_journal::Version;
 use phases::{count_procedures, graph_of, measure_dump, solve, tabulate};
 use records::{Sizes, Stored, append, copy, reopen};
 use std::{env, fs};
@@ -33,6 +40,9 @@ fn run(rt: &HostRuntime, words: &[String]) -> Result<()> {
         "append" => print_stored(rt, append(rt.alloc(), sizes_of(words)?)?),
         "reopen" => print_stored(rt, reopen(rt.alloc(), sizes_of(words)?)?),
         "copy" => print_bytes(rt, copy(rt.alloc(), sizes_of(words)?)?),
+        "spell" => print_bytes(rt, spell(rt.alloc(), batches_of(words)?)?),
+        "read" => print_bytes(rt, read(rt.alloc(), batches_of(words)?)?),
+        "recopy" => print_bytes(rt, copy_each(rt.alloc(), batches_of(words)?)?),
         phase => run_phase(rt, phase, text_of(rt, words)?.as_slice()),
     }
 }
@@ -45,7 +55,9 @@ fn run_phase(rt: &HostRuntime, phase: &str, text: &[u8]) -> Result<()> {
         "tabulate" => print_counts(rt, tabulate(rt.alloc(), text)?),
         "solve" => print_counts(rt, solve(rt.alloc(), text)?),
         "print" => print_bytes(rt, measure_dump(rt.alloc(), text)?),
-        _ => bail!("parse, graph, tabulate, solve, print, append, reopen or copy is wanted"),
+        _ => bail!(
+            "parse, graph, tabulate, solve, print, append, reopen, copy, spell, read or recopy is wanted"
+        ),
     }
 }
 
@@ -65,6 +77,20 @@ fn sizes_of(words: &[String]) -> Result<Sizes> {
     Ok(Sizes {
         length: number(word(words, 2)?)?,
         count: number(word(words, 3)?)?,
+    })
+}
+
+/// The batches that three words say.
+fn batches_of(words: &[String]) -> Result<Batches> {
+    let version = match word(words, 2)? {
+        "1" => Version::One,
+        "2" => Version::Two,
+        _ => bail!("a version is wanted, 1 or 2"),
+    };
+    Ok(Batches {
+        version,
+        members: number(word(words, 3)?)?,
+        count: number(word(words, 4)?)?,
     })
 }
 
