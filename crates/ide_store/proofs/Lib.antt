@@ -1,4 +1,5 @@
 pub mod Good
+pub mod Half
 pub mod Hands
 pub mod Known
 pub mod Machine

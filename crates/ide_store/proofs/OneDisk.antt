@@ -25,12 +25,12 @@ next_taken (y ∷ ys) (suc n) x is =
     let one_more : suc n + 1 ≡ suc (n + 1) = omega arith in
     (let less = rest.0 in omega arith, ap (λ (m : ℕ). take m (y ∷ ys)) one_more ∙ ap (λ (zs : List _). y ∷ zs) rest.1)
 
-kept_get : {X : Type 0} (xs : List X) (y x : X) (n : ℕ) → slice_get xs n ≡ Some x → slice_get (xs ++ y ∷ []) n ≡ Some x
+pub kept_get : {X : Type 0} (xs : List X) (y x : X) (n : ℕ) → slice_get xs n ≡ Some x → slice_get (xs ++ y ∷ []) n ≡ Some x
 kept_get [] y x n is = cc
 kept_get (z ∷ zs) y x zero is = is
 kept_get (z ∷ zs) y x (suc n) is = kept_get zs y x n is
 
-pushed_get : {X : Type 0} (xs : List X) (y x : X) (n : ℕ) → slice_get (xs ++ y ∷ []) n ≡ Some x → (slice_get xs n ≡ Some x) ⊎ (y ≡ x)
+pub pushed_get : {X : Type 0} (xs : List X) (y x : X) (n : ℕ) → slice_get (xs ++ y ∷ []) n ≡ Some x → (slice_get xs n ≡ Some x) ⊎ (y ≡ x)
 pushed_get [] y x zero is = inr cc
 pushed_get [] y x (suc n) is = cc
 pushed_get (z ∷ zs) y x zero is = inl is

@@ -1,4 +1,5 @@
 pub mod Answers
+pub mod Half
 pub mod Hands
 pub mod Machine
 pub mod OneDisk

@@ -6,9 +6,12 @@
 //! such a machine (`specs/Machine`). With the hands that claim keys, do parts and seal what changed
 //! (`specs/Hands`) its answers are best (`specs/Answers`). The model of crashes is that of the disk: a
 //! crash may come between any two calls and within each, an opening's among them. The calls of the
-//! journal are the events of such a store (`specs/Writing`). The crate has no code yet.
+//! journal are the events of such a store (`specs/Writing`). Of code there is
+//! the half of a store that writes (`WriterHalf`).
 #![tactic(auto)]
 
 mod laws;
+mod writer;
 
 pub use laws::{every_run_answers, every_run_recovers, journals_write_stores};
+pub use writer::{MOST_RECORDS, WriterHalf};

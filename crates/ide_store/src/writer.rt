@@ -1,0 +1,106 @@
+//! The half of a store that writes: it takes sealed records to the disk, one disk call at a time.
+ghost use Rattle.std.specs.Prelude.{◌≡◌, ◌∷◌, ◌++◌, [], true, false, Ok, IfErr, IfOk, OnErr, OnOk};
+ghost use Rattle.std.specs.List.{All};
+ghost use Rattle.ide_journal.specs.Format.{IsEntry};
+ghost use Rattle.ide_journal.specs.Lists.{entry_of};
+
+use ide_disk::Disk;
+use ide_journal::{Journal, RawRecord};
+use ide_wire::Refused;
+use std::collections::VecDeque;
+
+/// The most records of a store.
+pub const MOST_RECORDS: u64 = 4_294_967_295;
+
+/// A journal, and the sealed records that it does not have yet.
+#[derive(Drop)]
+pub struct WriterHalf<D: Disk> {
+    journal: Journal<D>,
+    /// The oldest first: the one under way, where one is.
+    waiting: VecDeque<RawRecord>,
+    ghost proper: { All (λ raw. IsEntry (entry_of raw)) waiting.items },
+}
+
+impl<D: Disk> WriterHalf<D> {
+    ghost use Rattle.ide_store.specs.Half.{AdvancesOver, BeginsNext, IsBeginRefusal, IsSameHalf, Rests, Seals, StepsOver};
+    ghost use Rattle.ide_journal.specs.Stands.{IsIdle};
+
+    /// Seals a record: it is stored behind those sealed before it.
+    ///
+    /// Refusal: `NoMemory`, and nothing is sealed.
+    pub fn seal(&mut self, raw: RawRecord) -> Result<(), Refused>
+        requires { IsEntry (entry_of raw) }
+        ensures sealed { OnOk result (Seals (entry_of raw) self.old self.new) }
+        ensures unchanged { OnErr result (IsSameHalf self.old self.new) }
+        ensures refused { IfErr result (λ e. e ≡ Refused.NoMemory) }
+    {
+        if self.waiting.push_back(raw).is_err() {
+            return Err(Refused::NoMemory);
+        }
+        Ok(())
+    }
+
+    /// Makes the next disk call for the oldest record that is not stored, and answers whether there was
+    /// one to make. After the fourth the record is stored.
+    ///
+    /// Refusals: `Disk`, where the call failed; `Failed`, where one failed before; `NoMemory`, before the
+    /// first call of a record.
+    pub fn disk_step(&mut self) -> Result<bool, Refused>
+        ensures steps { D.honest self.old.journal.disk → StepsOver self.old self.new result }
+    {
+        match self.begin_next() {
+            Ok(true) => self.advance(),
+            Ok(false) => Ok(false),
+            Err(refused) => Err(refused),
+        }
+    }
+
+    /// Puts the oldest record that waits under way, if none is, and answers whether one is then.
+    #[tactic(auto, using(crate::specs::Half::memory, crate::specs::Half::limit))]
+    fn begin_next(&mut self) -> Result<bool, Refused>
+        ensures begins { result ≡ Ok true → BeginsNext self.old self.new }
+        ensures busy { result ≡ Ok true → (IsIdle self.new.journal → ⊥) }
+        ensures rests { result ≡ Ok false → Rests self.old self.new }
+        ensures disk { self.new.journal.disk ≡ self.old.journal.disk }
+        ensures refused { IfErr result (IsBeginRefusal self.old self.new) }
+    {
+        if !self.journal.is_idle() {
+            return Ok(true);
+        }
+        let Some(next) = self.waiting.front() else {
+            return Ok(false);
+        };
+        if self.journal.count() >= MOST_RECORDS {
+            return Err(Refused::Limit);
+        }
+        match self.journal.begin(next) {
+            Ok(()) => Ok(true),
+            Err(refused) => Err(refused),
+        }
+    }
+
+    /// Makes the next disk call for the record under way, and answers that there was one to make. Once
+    /// none is under way any more, the oldest is stored.
+    fn advance(&mut self) -> Result<bool, Refused>
+        requires { IsIdle self.old.journal → ⊥ }
+        ensures advances { D.honest self.old.journal.disk → AdvancesOver self.old self.new result }
+    {
+        match self.journal.advance() {
+            Ok(_) => {
+                if self.journal.is_idle() {
+                    self.waiting.pop_front();
+                }
+                Ok(true)
+            }
+            Err(refused) => Err(refused),
+        }
+    }
+
+    /// The disk, as the writer leaves it.
+    pub fn into_disk(self) -> D
+        ensures { result ≡ self.journal.disk }
+    {
+        let WriterHalf { journal, .. } = self;
+        journal.into_disk()
+    }
+}
