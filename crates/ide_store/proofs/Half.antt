@@ -2,11 +2,12 @@
 use Rattle.std.proofs.Common.{◌≡◌, ◌≢◌, ◌∙◌, ◌⊎◌, ◌≤◌, ◌<◌, ◌+◌, ℕ, zero, suc, Bool, true, false, List, [], ◌∷◌, ◌++◌, Some, Result, Err, length, map, take, drop, refl, ap, sym, subst, arith, inl, inr}
 use Rattle.std.specs.Prelude.{if◌then◌else◌, nat_lt, slice_get, slice_index_or}
 use Rattle.std.specs.List.{All}
-use Rattle.std.proofs.lemmas.List.{length-append, length-take-le, map-append, take-append-le}
+use Rattle.std.proofs.lemmas.List.{drop_all, length-append, length-map, length-take-le, map-append, take-append-le, take_all}
 use Rattle.ide_disk.specs.declared.disk.Disk.{Ghosts}
 use Rattle.ide_journal.specs.Calls.{MakesItsCall, after_call}
-use Rattle.ide_journal.specs.Format.{Entry, Head, IsEntry}
-use Rattle.ide_journal.specs.Lists.{IsAtRest, IsUnderWay, entry_of}
+use Rattle.ide_journal.specs.Format.{Entry, Head, IsEntry, head_of}
+use Rattle.ide_journal.specs.Lists.{IsAtRest, IsUnderWay, entries_of, entry_of}
+use Rattle.ide_journal.specs.Opening.{IsOpened}
 use Rattle.ide_journal.specs.Phases.{LeadsTo, stage_after}
 use Rattle.ide_journal.specs.Records.{KeepsOrStores, LeavesRecords, PutsUnderWay, StaysAtRest}
 use Rattle.ide_journal.specs.declared.journal.Journal.{Journal}
@@ -17,11 +18,11 @@ use Rattle.ide_journal.specs.declared.stage.Stage.{Stage}
 use Rattle.ide_journal.specs.declared.stage.Stage.TheVariants.{Idle, Begun, GateWritten, Failed}
 use Rattle.ide_wire.specs.declared.refused.Refused.{Refused}
 use Rattle.ide_journal.specs.Refusals.{IsAdvanceRefusal, advance_device, advance_failed}
-use Rattle.ide_store.specs.Half.{AdvancesTo, HasBegun, IsBeginRefusal, IsJustBegun, StepsTo, Writes, called, calls, failed, fails, limit, memory, stored_one, stores, waits}
+use Rattle.ide_store.specs.Half.{AdvancesTo, HasBegun, IsBeginRefusal, IsJustBegun, OpensStore, StepsTo, Writes, called, calls, failed, fails, limit, memory, stored_one, stores, waits}
 use Rattle.ide_store.specs.declared.writer.WriterHalf.{WriterHalf}
 use Rattle.ide_store.specs.OneDisk.{Calls, Fails, Stores, next_stage, tail_of}
 use Rattle.ide_store.specs.Writing.{HasNext, IsHonestAfter, StandsBehind, work_of}
-use Rattle.ide_store.proofs.OneDisk.{kept_get, next_taken, pushed_get}
+use Rattle.ide_store.proofs.OneDisk.{all_proper, kept_get, next_taken, pushed_get}
 use Rattle.ide_store.proofs.Writing.{writes_store}
 
 -- what waits behind so many, when one more comes
@@ -279,3 +280,39 @@ module _ {D : Type 0} {G : Ghosts D} (head : Head) (records : List Entry) (store
       event (inl same) = subst (λ (j : Journal D G). Stores records stored (work_of j) (G.state j.disk) (work_of new.journal) (G.state new.journal.disk)) same one.event
       event (inr now) = let no : Begun ≡ GateWritten = sym now.begun ∙ one.event.last in cc (no)
   stepped old mid new _ has (failed fault) = fails fault
+
+-- a store with no record
+pub made : {D : Type 0} {G : Ghosts D} (head : Head) (half : WriterHalf D G) → IsAtRest head [] half.journal → half.waiting.items ≡ [] → Writes head [] 0 half
+made head half rest none = record {
+  behind = record { some = omega arith; few = omega arith; proper = λ number entry at. cc (at); stands = inl rest };
+  waiting = ap (map entry_of) none;
+}
+
+-- one that was opened
+pub opened_store : {D : Type 0} {G : Ghosts D} (tag : ℕ) (disk : D) (half : WriterHalf D G) (records : List RawRecord)
+    → IsOpened tag disk half.journal records → half.waiting.items ≡ [] → OpensStore tag disk half records
+opened_store {G = G} tag disk half records is none =
+    let head = head_of half.journal.version tag in
+    let entries = entries_of records in
+    let count : length entries ≡ length records = length-map records entry_of in
+    let all : take (length records) entries ≡ entries = take_all (length records) entries (omega (arith, count)) in
+    record {
+      held = is.held;
+      event = record {
+        found = entries;
+        held = is.held;
+        pages = is.at_rest.pages;
+        whole = is.at_rest.whole;
+        work_is = λ i. record { gate = is.at_rest.gate i; stage = is.at_rest.stage i };
+        disk_is = is.at_rest.disk;
+      };
+      writes = record {
+        behind = record {
+          some = omega (arith, count);
+          few = is.held.few;
+          proper = all_proper 0 entries is.held.pages is.held.whole;
+          stands = inl (subst (λ (xs : List Entry). IsAtRest head xs half.journal) (sym all) is.at_rest);
+        };
+        waiting = ap (map entry_of) none ∙ sym (drop_all (length records) entries (omega (arith, count)));
+      };
+    }

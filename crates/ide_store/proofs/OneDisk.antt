@@ -241,7 +241,7 @@ live_stored head records stored work next disk after live stores =
       knows = ap synced_now known ∙ ap settled (one_page_more (header head) live.pages behind);
     })
 
-all_proper : (from : ℕ) (records : List Entry) (pages : List ℕ) → IsPages from records pages
+pub all_proper : (from : ℕ) (records : List Entry) (pages : List ℕ) → IsPages from records pages
     → (number : ℕ) (entry : Entry) → slice_get records number ≡ Some entry → IsEntry entry
 all_proper from [] pages whole number entry is = cc
 all_proper from (r ∷ records) pages (gate, rest, opened, proper, split, whole) zero entry is = let same : r ≡ entry = cc in subst IsEntry same proper
@@ -251,8 +251,7 @@ all_proper from (r ∷ records) pages (gate, rest, opened, proper, split, whole)
 live_opened : (head : Head) (found : List Entry) (disk after : DiskState) (work : Writer) → Holds head found disk.now → Opens head disk work after
     → IsLive head found (length found) work after
 live_opened head found disk after work holds opens =
-    let same : opens.found ≡ found =
-    (holds_one_list head head opens.found found disk.now (record { pages = opens.pages; rest = opens.rest; whole = opens.whole; few = opens.few; split = opens.split }) holds).1 in
+    let same : opens.found ≡ found = (holds_one_list head head opens.found found disk.now opens.held holds).1 in
     rw (opens.work_is, opens.disk_is) (record {
       pages = opens.pages;
       whole = rw (take_all (length found) found (omega arith), ← same) opens.whole;
@@ -270,11 +269,9 @@ can_open head found disk holds = (
   settled (header head ++ holds.pages ++ 0 ∷ []),
   record {
     found = found;
+    held = holds;
     pages = holds.pages;
-    rest = holds.rest;
     whole = holds.whole;
-    few = holds.few;
-    split = holds.split;
     work_is = refl;
     disk_is = refl;
   },

@@ -1,11 +1,12 @@
 -- What the writing half of a store does to the records that were sealed.
 use Rattle.std.specs.Prelude.{◌≡◌, ◌⊎◌, ℕ, ◌+◌, ◌<◌, Bool, true, false, List, [], ◌∷◌, ◌++◌, Result, Ok, Err, drop, length, map}
 use Rattle.ide_disk.specs.declared.disk.Disk.{Ghosts}
-use Rattle.ide_journal.specs.Format.{Entry, Head}
-use Rattle.ide_journal.specs.Lists.{entry_of}
+use Rattle.ide_journal.specs.Format.{Entry, Head, Holds, head_of}
+use Rattle.ide_journal.specs.Lists.{entries_of, entry_of}
 use Rattle.ide_wire.specs.declared.refused.Refused.{Refused}
 use Rattle.ide_wire.specs.declared.refused.Refused.TheVariants.{NoMemory, Disk, Limit}
-use Rattle.ide_store.specs.OneDisk.{Calls, Fails, Stores}
+use Rattle.ide_journal.specs.declared.record.RawRecord.{RawRecord}
+use Rattle.ide_store.specs.OneDisk.{Calls, Fails, Opens, Stores}
 use Rattle.ide_journal.specs.declared.journal.Journal.{Journal}
 use Rattle.ide_journal.specs.declared.stage.Stage.TheVariants.{Idle, Begun}
 use Rattle.ide_store.specs.Writing.{HasNext, StandsBehind, work_of}
@@ -16,6 +17,12 @@ module _ {D : Type 0} {G : Ghosts D} where
   pub record Writes (head : Head) (records : List Entry) (stored : ℕ) (half : WriterHalf D G) : Type 0 where
     pub behind : StandsBehind head records stored half.journal
     pub waiting : map entry_of half.waiting.items ≡ drop stored records
+
+  -- it was opened with these records: they stood on the disk, in a store with that tag, and it writes behind them
+  pub record OpensStore (tag : ℕ) (disk : D) (half : WriterHalf D G) (records : List RawRecord) : Type 0 where
+    pub held : Holds (head_of half.journal.version tag) (entries_of records) (G.state disk).now
+    pub event : Opens (head_of half.journal.version tag) (G.state disk) (work_of half.journal) (G.state half.journal.disk)
+    pub writes : Writes (head_of half.journal.version tag) (entries_of records) (length records) half
 
   -- the journal is as it was, and the records that wait
   pub record IsSameHalf (old new : WriterHalf D G) : Type 0 where

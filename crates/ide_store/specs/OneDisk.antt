@@ -68,14 +68,12 @@ pub record Fails (head : Head) (records : List Entry) (stored : ℕ) (after : Di
   pub each : (left : List ℕ) → CrashLeaves after left → HoldsWithOrWithout head (take stored records) entry left
   pub possible : CrashLeaves after after.now
 
--- an opening: what stands behind the closed gate is cut off
+-- an opening: the records that it found are left, a closed gate, and nothing behind it
 pub record Opens (head : Head) (disk : DiskState) (work : Writer) (after : DiskState) : Type 0 where
   pub found : List Entry
+  pub held : Holds head found disk.now
   pub pages : List ℕ
-  pub rest : List ℕ
   pub whole : IsPages 0 found pages
-  pub few : length found ≤ 4294967295
-  pub split : disk.now ≡ header head ++ pages ++ 0 ∷ rest
   pub work_is : work ≡ record { gate = length (header head ++ pages); stage = Idle }
   pub disk_is : after ≡ settled (header head ++ pages ++ 0 ∷ [])
 

@@ -1,12 +1,13 @@
 //! The half of a store that writes: it takes sealed records to the disk, one disk call at a time.
-ghost use Rattle.std.specs.Prelude.{◌≡◌, ◌∷◌, ◌++◌, [], true, false, Ok, IfErr, IfOk, OnErr, OnOk};
+ghost use Rattle.std.specs.Prelude.{◌≡◌, ◌<◌, ◌∷◌, ◌++◌, [], true, false, Ok, IfErr, IfOk, OnErr, OnOk};
 ghost use Rattle.std.specs.List.{All};
 ghost use Rattle.ide_journal.specs.Format.{IsEntry};
 ghost use Rattle.ide_journal.specs.Lists.{entry_of};
 
 use ide_disk::Disk;
-use ide_journal::{Journal, RawRecord};
+use ide_journal::{Journal, RawRecord, Version};
 use ide_wire::Refused;
+use std::alloc::Global;
 use std::collections::VecDeque;
 
 /// The most records of a store.
@@ -22,8 +23,50 @@ pub struct WriterHalf<D: Disk> {
 }
 
 impl<D: Disk> WriterHalf<D> {
-    ghost use Rattle.ide_store.specs.Half.{AdvancesOver, BeginsNext, IsBeginRefusal, IsSameHalf, Rests, Seals, StepsOver};
+    ghost use Rattle.ide_store.specs.Half.{AdvancesOver, BeginsNext, IsBeginRefusal, IsSameHalf, OpensStore, Rests, Seals, StepsOver, Writes};
+    ghost use Rattle.ide_journal.specs.Format.{head_of};
+    ghost use Rattle.ide_journal.specs.Refusals.{IsCreateRefusal, IsOpenRefusal};
     ghost use Rattle.ide_journal.specs.Stands.{IsIdle};
+
+    /// Makes a store of that version with no record on the disk, whatever it held.
+    ///
+    /// Refusals: those of [`Journal::create`]; the disk comes back.
+    pub fn create(alloc: Global, disk: D, tag: u8, version: Version) -> Result<Self, (Refused, D)>
+        requires { 0 < tag }
+        ensures made { D.honest disk → IfOk result (Writes (head_of version tag) [] 0) }
+        ensures refused { IfErr result (λ pair. IsCreateRefusal D.Disk disk pair.1 pair.0) }
+    {
+        match Journal::create(alloc, disk, tag, version) {
+            Ok(journal) => Ok(WriterHalf {
+                journal,
+                waiting: VecDeque::new(alloc),
+            }),
+            Err(pair) => Err(pair),
+        }
+    }
+
+    /// Opens the store with that tag that the disk holds, of either version, and gives its records.
+    ///
+    /// Refusals: those of [`Journal::open`]; the disk comes back.
+    pub fn open(alloc: Global, disk: D, tag: u8) -> Result<(Self, Vec<RawRecord>), (Refused, D)>
+        ensures opened { D.honest disk → IfOk result (λ pair. OpensStore tag disk pair.0 pair.1.items) }
+        ensures refused { D.honest disk → IfErr result (λ pair. IsOpenRefusal D.Disk tag disk pair.1 pair.0) }
+    {
+        match Journal::open(alloc, disk, tag) {
+            Ok((journal, records)) => {
+                let waiting = VecDeque::new(alloc);
+                Ok((WriterHalf { journal, waiting }, records))
+            }
+            Err(pair) => Err(pair),
+        }
+    }
+
+    /// How many records are stored.
+    pub fn stored(&self) -> u64
+        ensures { result ≡ self.now.journal.count }
+    {
+        self.journal.count()
+    }
 
     /// Seals a record: it is stored behind those sealed before it.
     ///

@@ -1,6 +1,6 @@
-//! Tests of disks, and of journals on them.
+//! Tests of disks, of journals on them, and of what writes a store.
 //!
-//! They stand apart from `ide_disk` and `ide_journal`, since a crate that has tests is proved twice.
+//! They stand apart from `ide_disk`, `ide_journal` and `ide_store`, since a crate that has tests is proved twice.
 #![tactic(auto)]
 
 #[cfg(test)]
@@ -9,3 +9,5 @@ mod disk;
 mod journal;
 #[cfg(test)]
 mod stores;
+#[cfg(test)]
+mod writer;
