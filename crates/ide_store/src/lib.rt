@@ -6,8 +6,8 @@
 //! such a machine (`specs/Machine`). With the hands that claim keys, do parts and seal what changed
 //! (`specs/Hands`) its answers are best (`specs/Answers`). The model of crashes is that of the disk: a
 //! crash may come between any two calls and within each, an opening's among them. The calls of the
-//! journal are the events of such a store (`specs/Writing`). Of code there is
-//! the half of a store that writes (`WriterHalf`).
+//! journal are the events of such a store (`specs/Writing`), and so are those of the half of a store
+//! that writes (`WriterHalf`, `specs/Half`).
 #![tactic(auto)]
 
 mod laws;
