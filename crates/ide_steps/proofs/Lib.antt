@@ -13,3 +13,4 @@ pub mod Nodes
 pub mod Noted
 pub mod Lent
 pub mod Refusing
+pub mod Left

@@ -1,5 +1,5 @@
--- Why a hand's work does not go on: memory is wanting for a part that is left.
-use Rattle.std.proofs.Common.{◌≡◌, ℕ, ◌<◌, List, length, refl, sym, subst, true, Result, Ok, Err, Option, None, Some}
+-- Why a hand's work does not go on, and why a name is no root.
+use Rattle.std.proofs.Common.{◌≡◌, ◌≢◌, ℕ, ◌<◌, List, length, refl, sym, subst, true, Result, Ok, Err, Option, None, Some}
 use Rattle.std.specs.Prelude.{IfErr, IsOkUnless, IsSome, OnErr, slice_get}
 use Rattle.std.specs.Option.{is_some}
 use Rattle.std.proofs.lemmas.Option.{slice_get_within}
@@ -8,8 +8,10 @@ use Rattle.ide_problem.specs.Flow.{Targets}
 use Rattle.ide_tasks.specs.Work.{WorkData}
 use Rattle.ide_wire.specs.declared.refused.Refused.{Refused}
 use Rattle.ide_wire.specs.declared.refused.Refused.TheVariants.{NoMemory}
+use Rattle.ide_graph.specs.Supergraph.{Supergraph}
 use Rattle.ide_steps.specs.Core.{CoreData}
 use Rattle.ide_steps.specs.PartRefusal.{IsPartRefusal, memory}
+use Rattle.ide_steps.specs.Refusal.{IsNoRoot, RootFault, already, fault, parameters, unnamed}
 use Rattle.ide_steps.specs.Steps.{IsCurrent}
 
 module _ {F L : Type 0} (targets : Targets F) (B : EdgeAlgebra F L) (core : CoreData F) (hand : ℕ) (work : WorkData F) where
@@ -33,3 +35,15 @@ some-unless (Some x) some = refl
 pub read-within : {X : Type 0} (xs : List X) (k : ℕ) (read : Option X) → read ≡ slice_get xs k → is_some read ≡ true → k < length xs
 read-within xs k None is some = absurd (cc (some))
 read-within xs k (Some x) is some = slice_get_within xs k x (sym is)
+
+-- a fault of a name is no want of memory
+pub not-memory : {graph : Supergraph} {roots : List ℕ} {name : List ℕ} {refused : Refused} → RootFault graph roots name refused → refused ≢ NoMemory
+not-memory (unnamed none) is = cc (is)
+not-memory (parameters root named some) is = cc (is)
+not-memory (already root named closed there) is = cc (is)
+
+-- it is why the name may be no root of the loaded graph
+pub no-root-of-fault : {T : Type 0} (r : Result T Refused) (loaded : Option Supergraph) (graph : Supergraph) (roots : List ℕ) (name : List ℕ)
+    → loaded ≡ Some graph → IfErr r (RootFault graph roots name) → IfErr r (IsNoRoot loaded roots name)
+no-root-of-fault (Ok x) loaded graph roots name is faulty = tt
+no-root-of-fault (Err e) loaded graph roots name is faulty = record { why = fault graph is faulty; not_memory = not-memory faulty }

@@ -33,7 +33,7 @@ pub key-stands : (graph : Supergraph) → length graph.sites ≡ graph.nodes →
 key-stands graph sited (Jump n a b) within = within
 key-stands graph sited (Summary n a b) call = site-within graph sited n call
 
-in-filter : {T : Type 0} (test : T → Bool) {x : T} {xs : List T} → IsIn x xs → test x ≡ true → IsIn x (filter test xs)
+pub in-filter : {T : Type 0} (test : T → Bool) {x : T} {xs : List T} → IsIn x xs → test x ≡ true → IsIn x (filter test xs)
 in-filter test {x} (first {xs = xs}) is = subst (λ b. IsIn x (cond b (x ∷ filter test xs) (filter test xs))) (sym is) first
 in-filter test {x} (later {y = y} {xs = xs} there) is =
     elim (test y) as (λ b. IsIn x (cond b (y ∷ filter test xs) (filter test xs))) [ true ↦ later (in-filter test there is) | false ↦ in-filter test there is ]

@@ -17,8 +17,19 @@ pub data RootFault (graph : Supergraph) (roots : List ℕ) (name : List ℕ) : R
   parameters : (root : ℕ) → procedure_named graph name ≡ Some root → slice_index graph.parameters root ≢ 0 → RootFault graph roots name HasParameters
   already : (root : ℕ) → procedure_named graph name ≡ Some root → slice_index graph.parameters root ≡ 0 → Contains roots root → RootFault graph roots name Already
 
+-- a procedure may be a root now: a program is loaded, and its name may be one
+pub record IsRootNow (graph : Option Supergraph) (roots : List ℕ) (name : List ℕ) (root : ℕ) : Type 0 where
+  pub loaded : Supergraph
+  pub is : graph ≡ Some loaded
+  pub may : IsRootName loaded roots name root
+
 -- why a name is no root yet: no program is loaded, it cannot be one, or it could be but for want of memory
 pub data IsRootRefusal (graph : Option Supergraph) (roots : List ℕ) (name : List ℕ) : Refused → Type 0 where
   no_program : graph ≡ None → IsRootRefusal graph roots name NoProgram
   fault : {refused : Refused} → (loaded : Supergraph) → graph ≡ Some loaded → RootFault loaded roots name refused → IsRootRefusal graph roots name refused
   memory : (loaded : Supergraph) (root : ℕ) → graph ≡ Some loaded → IsRootName loaded roots name root → IsRootRefusal graph roots name NoMemory
+
+-- why it may be none, whatever memory there is
+pub record IsNoRoot (graph : Option Supergraph) (roots : List ℕ) (name : List ℕ) (refused : Refused) : Type 0 where
+  pub why : IsRootRefusal graph roots name refused
+  pub not_memory : refused ≢ NoMemory

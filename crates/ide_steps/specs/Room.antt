@@ -1,11 +1,16 @@
 -- How many keys a graph has room for, and how many tasks that leaves.
-use Rattle.std.specs.Prelude.{◌≡◌, ℕ, ◌+◌, ◌*◌, ◌≤◌, List, Some, filter, length, slice_get}
+use Rattle.std.specs.Prelude.{◌≡◌, ℕ, ◌+◌, ◌*◌, ◌≤◌, List, Option, Some, filter, length, slice_get}
 use Rattle.std.specs.List.{IsDistinct, range_with_len}
 use Rattle.std.specs.Map.{keys_of}
+use Rattle.ide_graph.specs.GraphOf.{IsGraphOf}
+use Rattle.ide_graph.specs.ProgramEdges.{HasEdgesOf}
 use Rattle.ide_graph.specs.Supergraph.{Supergraph}
 use Rattle.ide_lattice.specs.Algebra.{LatticeAlgebra, EdgeAlgebra}
 use Rattle.ide_problem.specs.Flow.{Targets}
 use Rattle.ide_tables.specs.Spent.{spent}
+use Rattle.ide_text.specs.Program.{value_of}
+use Rattle.ide_text.specs.Value.{ProgramValue}
+use Rattle.ide_text.specs.declared.program.Program.{Program}
 use Rattle.ide_theory.specs.Graphs.{frame_at}
 use Rattle.ide_theory.specs.Run.{Run}
 use Rattle.ide_theory.specs.Sites.{HaveEdgesOf}
@@ -23,10 +28,19 @@ calls_of graph = filter (λ n. is_some_call (slice_get graph.sites n)) (range_wi
 abbrev pub key_space : Supergraph → ℕ
 key_space graph = (graph.nodes + length (calls_of graph)) * (graph.facts * graph.facts)
 
--- what every core keeps: its tables have each key once, and the loaded graph has a site for each node
+-- the graph is that of a program that says so, with the program's edges
+pub record IsGraphSaid (said : Option ProgramValue) (graph : Supergraph) : Type 0 where
+  pub program : Program
+  pub says : Some (value_of program) ≡ said
+  pub graphed : IsGraphOf program graph
+  pub edges : HasEdgesOf program graph
+
+-- what every core keeps: its tables have each key once, and the loaded graph has a site for each node and is that of the
+-- program that is loaded
 pub record IsWhole {F : Type 0} (core : CoreData F) : Type 0 where
   pub distinct : IsDistinct same_key (keys_of core.table.entries)
   pub sited : (graph : Supergraph) → core.graph ≡ Some graph → length graph.sites ≡ graph.nodes
+  pub said : (graph : Supergraph) → core.graph ≡ Some graph → IsGraphSaid core.program graph
 
 module _ {F L : Type 0} (A : LatticeAlgebra L) (B : EdgeAlgebra F L) (targets : Targets F) where
   -- over a graph that is fit, where a run came to the core's state

@@ -28,6 +28,7 @@ impl<P: Problem> Core<P> {
         ensures current { OnOk result (IsCurrent P.targets P.F.edge self.old hand work.now) }
         ensures finished { OnOk result (EndsDone P.targets P.F.edge hand self.old self.new) }
         ensures claims { OnOk result (PutsClaim hand None self.old.pile self.new.pile) }
+        ensures count { OnOk result (TakesOut hand self.old.pile self.new.pile) }
         ensures stays { IsSameProblem self.old self.new }
         ensures table { self.new.table ≡ self.old.table }
         ensures unchanged { OnErr result (self.new ≡ self.old) }

@@ -1,14 +1,17 @@
 //! The image as a list, and an image made from one.
-ghost use Rattle.std.specs.Prelude.{◌≡◌, ◌<◌, ℕ, ◌↔◌, Some, false, true, slice_get, IfErr, IfOk, IsTrue, OnErr, OnOk, map};
+ghost use Rattle.std.specs.Prelude.{◌≡◌, ◌<◌, ◌≤◌, ℕ, ◌↔◌, [], Some, false, true, length, slice_get, unwrap_or, IfErr, IfOk, IsTrue, OnErr, OnOk, map};
+ghost use Rattle.std.specs.List.{IsDistinct};
+ghost use Rattle.std.specs.Map.{keys_of};
 ghost use Rattle.std.specs.Option.{IsSomeAnd};
 ghost use Rattle.ide_tables.specs.Tables.{Sets};
 ghost use Rattle.ide_theory.specs.Within.{is_some_call};
+ghost use Rattle.ide_wire.specs.Key.{same_key};
 ghost use Rattle.ide_worklist.specs.Worklist.{claim_at, IsFree};
-ghost use Rattle.ide_steps.specs.Changed.{Notes, Remembers};
+ghost use Rattle.ide_steps.specs.Changed.{Notes, Remembers, noted_count};
 ghost use Rattle.ide_steps.specs.Core.{IsSameProblem, IsUnchanged};
-ghost use Rattle.ide_steps.specs.Items.{AreItems, IsKeyOf, SetsPending, item_of};
+ghost use Rattle.ide_steps.specs.Items.{AreChangedItems, AreItems, IsKeyOf, SetsPending, is_left_of, item_of, left_keys};
 
-use crate::changes;
+use crate::changes::{self, Entry};
 use crate::loaded::is_call;
 use crate::machine::Core;
 use ide_graph::Graph;
@@ -27,6 +30,48 @@ impl<P: Problem> Core<P> {
         let keys = self.tables.keys(self.alloc)?;
         let items = self.items_of(&keys)?;
         Ok(items)
+    }
+
+    /// The present keys whose entry is not the one that they had when changes were last asked for,
+    /// ascending, each with its function and whether it is pending: none where nobody asked. It looks at
+    /// the noted keys alone.
+    ///
+    /// Refusal: `NoMemory`.
+    pub fn changed_items(&self) -> Result<Vec<(Key, P::F, bool)>, Refused>
+        ensures items { IfOk result (λ items. AreChangedItems self.now items.items) }
+        ensures few { IfOk result (λ items. length items.items ≤ noted_count self.now.changes) }
+        ensures refused { IfErr result (λ e. e ≡ Refused.NoMemory) }
+    {
+        let mut keys = self.left_keys()?;
+        keys.sort_unstable();
+        let items = self.items_of(&keys)?;
+        Ok(items)
+    }
+
+    /// The keys of the notes that are present and whose entry is not the noted one.
+    fn left_keys(&self) -> Result<Vec<Key>, AllocError>
+        ensures keys { IfOk result (λ keys. keys.items ≡ left_keys P.F.eq self.now (unwrap_or self.now.changes [])) }
+        ensures once { IsDistinct same_key (keys_of (unwrap_or self.now.changes [])) }
+    {
+        match &self.changes {
+            Some(notes) => notes
+                .iter()
+                .filter(|note| self.is_left(*note.0, note.1))
+                .map(|note| *note.0)
+                .collect(self.alloc),
+            None => Ok(Vec::new(self.alloc)),
+        }
+    }
+
+    /// Whether the key is present, and its entry is not that one.
+    fn is_left(&self, key: Key, before: &Entry<P::F>) -> bool
+        ensures { result ≡ is_left_of P.F.eq self.now (key, before.now) }
+    {
+        match (self.tables.get(key), before.function) {
+            (Some(now), Some(then)) => now != then || self.is_pending(key) != before.pending,
+            (Some(_), None) => true,
+            (None, _) => false,
+        }
     }
 
     /// The items of the keys.

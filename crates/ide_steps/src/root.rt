@@ -4,7 +4,7 @@ ghost use Rattle.std.specs.Map.{keys_of};
 ghost use Rattle.ide_tables.specs.Tables.{found};
 ghost use Rattle.ide_steps.specs.Changed.{Remembers};
 ghost use Rattle.ide_steps.specs.Core.{AreInside, IsUnchanged};
-ghost use Rattle.ide_steps.specs.Refusal.{IsRootName, IsRootRefusal, RootFault};
+ghost use Rattle.ide_steps.specs.Refusal.{IsNoRoot, IsRootName, IsRootNow, IsRootRefusal, RootFault};
 ghost use Rattle.ide_steps.specs.Rooted.{AllAbsent, AllAt, AreSeeds, Enters, IsBegun, MarksAll, Queues};
 ghost use Rattle.ide_steps.specs.Steps.{SameTasks};
 
@@ -48,6 +48,20 @@ impl<P: Problem> Core<P> {
         let jumps = self.absent_jumps(start, entries)?;
         self.begin(procedure, &jumps)?;
         Ok(())
+    }
+
+    /// The index of the procedure of that name, if it may be a root now: what [`Core::root`] tests before
+    /// it changes anything.
+    ///
+    /// Refusals, in this order: `NoProgram`; `NoProcedure`; `HasParameters`; `Already`.
+    pub fn root_of(&self, name: &[u8]) -> Result<usize, Refused>
+        ensures root { IfOk result (IsRootNow self.now.graph self.now.roots name.now) }
+        ensures refused { IfErr result (IsNoRoot self.now.graph self.now.roots name.now) }
+    {
+        let Some(loaded) = &self.loaded else {
+            return Err(Refused::NoProgram);
+        };
+        find_root(&loaded.graph, self.roots.as_slice(), name)
     }
 
     /// The jumps of the first `entries` facts of the start to themselves that are absent, each with
