@@ -227,7 +227,7 @@ module _ {D : Type 0} {G : Ghosts D} (head : Head) (records : List Entry) (store
   -- what is refused before any call
   pub refused_first : (old new : WriterHalf D G) (refused : Refused) → IsBeginRefusal old new refused → Writes head records stored old
       → new.journal.disk ≡ old.journal.disk → StepsTo head records stored old new (Err refused)
-  refused_first old new _ (memory keeps) writes disk = waits (record { disk = disk; writes = keeps head records stored writes })
+  refused_first old new _ (memory keeps work) writes disk = waits (record { work = work; disk = disk; writes = keeps head records stored writes })
   refused_first old new _ (limit never) writes disk = absurd (never head records stored writes)
 
   -- the journal has fewer records than there may be, where one waits

@@ -1,5 +1,6 @@
 -- Whatever hands do and whatever happens to the store, its images are good, and the work is counted.
-use Rattle.std.proofs.Common.{◌≡◌, ◌∙◌, ◌⊎◌, ◌+◌, ◌*◌, ◌≤◌, ◌++◌, ℕ, zero, suc, Bool, true, List, [], ◌∷◌, Option, Some, None, length, take, refl, ap, sym, subst, arith, inl, inr}
+use Rattle.std.proofs.Common.{◌≡◌, ◌∙◌, ◌⊎◌, ◌+◌, ◌*◌, ◌≤◌, ◌++◌, ℕ, zero, suc, Bool, true, false, cond, List, [], ◌∷◌, Option, Some, None, length, take, refl, ap, sym, subst, arith, inl, inr}
+use Rattle.std.specs.Option.{is_some}
 use Rattle.std.proofs.lemmas.Bool.{cases_lt}
 use Rattle.std.proofs.lemmas.List.{map-append, take-take, take_all}
 use Rattle.ide_batch.proofs.Folding.{lead}
@@ -14,13 +15,14 @@ use Rattle.ide_problem.specs.Flow.{Targets}
 use Rattle.ide_steps.specs.Room.{key_space}
 use Rattle.ide_steps.proofs.Rooted.{entered-present}
 use Rattle.ide_text.specs.Value.{ProgramValue}
+use Rattle.ide_wire.specs.Key.{same_key}
 use Rattle.ide_wire.specs.declared.key.Key.{Key}
 use Rattle.ide_theory.specs.Frame.{IsLawful}
-use Rattle.ide_theory.specs.Images.{Finish, IsSame, Load, Part, Root, absent_below, loaded, received, seeded_below, state_of, step}
+use Rattle.ide_theory.specs.Images.{Finish, IsSame, Load, Part, Root, absent_below, is_met, loaded, received, seeded_below, state_of, step}
 use Rattle.ide_theory.specs.Member.{IsIn}
 use Rattle.ide_theory.specs.Members.{not-in-empty}
 use Rattle.ide_theory.specs.Run.{ArePartsOf, Run, begins}
-use Rattle.ide_theory.specs.State.{Claim, State, part_done}
+use Rattle.ide_theory.specs.State.{Claim, State, lowered_by, part_done}
 use Rattle.ide_theory.proofs.Laws.Changes.{some-inj}
 use Rattle.ide_theory.proofs.Laws.ImageWays.{seeds-below}
 use Rattle.ide_theory.proofs.Laws.Paid.{claims-paid}
@@ -84,7 +86,7 @@ module _ {F L : Type 0} (A : LatticeAlgebra L) (B : EdgeAlgebra F L) (targets : 
   IsGoodImage image = (v : ProgramValue) → image.program ≡ Some v → (by : GraphBy v) → IsGood procedures (frame_by A B targets by) v image
 
   -- what is kept: images of records are good, and what the hands did is counted
-  record IsHeld (w : Hands F S) : Type 0 where
+  pub record IsHeld (w : Hands F S) : Type 0 where
     pub world : IsKept acts_by w.world
     pub stored : (n : ℕ) (image : ProgramImage F) → IsFolded acts_by (contents (take n w.world.sealed)) image → IsGoodImage image
     pub work : (v : ProgramValue) → w.world.image.program ≡ Some v → (by : GraphBy v)
@@ -92,20 +94,41 @@ module _ {F L : Type 0} (A : LatticeAlgebra L) (B : EdgeAlgebra F L) (targets : 
     pub begun : (v : ProgramValue) → w.world.image.program ≡ Some v → (by : GraphBy v)
         → HaveStarts procedures (frame_by A B targets by) v w.world.image.get w.world.image.roots
 
-  -- the records know the program and the roots
-  record IsNoted (image base : ProgramImage F) : Type 0 where
+  -- the records know the program and the roots, and no key that they have was taken away
+  pub record IsNoted (image base : ProgramImage F) : Type 0 where
     pub program : base.program ≡ image.program
     pub roots : base.roots ≡ image.roots
+    pub present : (key : Key) → is_some (base.get key) ≡ true → is_some (image.get key) ≡ true
 
-  record IsWhole (w : Hands F S) : Type 0 where
+  -- an image that is the other's knows all of it
+  noted_same : (image base : ProgramImage F) → image ≡ base → IsNoted image base
+  noted_same image base is = record {
+    program = ap (λ (i : ProgramImage F). i.program) (sym is);
+    roots = ap (λ (i : ProgramImage F). i.roots) (sym is);
+    present = λ key has. subst (λ (i : ProgramImage F). is_some (i.get key) ≡ true) (sym is) has;
+  }
+
+  -- a part takes no key away
+  still_present : (s : State F) (key : Key) (g : F) (k : Key) → is_some (s.get k) ≡ true → is_some ((received procedures B same s key g).get k) ≡ true
+  still_present s key g k has = by (is_met procedures B same s key g)
+    where
+      put_in : (b : Bool) (f : F) → is_some (cond b (Some f) (s.get k)) ≡ true
+      put_in true f = refl
+      put_in false f = has
+
+      by : (b : Bool) → is_some ((cond b s (lowered_by B s key g)).get k) ≡ true
+      by true = has
+      by false = put_in (same_key key k) _
+
+  pub record IsWhole (w : Hands F S) : Type 0 where
     pub held : IsHeld w
     pub noted : (base : ProgramImage F) → IsFolded acts_by (contents w.world.sealed) base → IsNoted w.world.image base
 
-  good_now : (w : Hands F S) → IsHeld w → IsGoodImage w.world.image
+  pub good_now : (w : Hands F S) → IsHeld w → IsGoodImage w.world.image
   good_now w held v is by =
       good_released procedures (frame_by A B targets by) v (known.lawful by) w.world.image w.claims w.tally (held.work v is by) (held.begun v is by)
 
-  run_now : (w : Hands F S) → IsHeld w → (v : ProgramValue) → w.world.image.program ≡ Some v → (by : GraphBy v)
+  pub run_now : (w : Hands F S) → IsHeld w → (v : ProgramValue) → w.world.image.program ≡ Some v → (by : GraphBy v)
       → Run (frame_by A B targets by) (state_with w.world.image w.claims)
   run_now w held v is by = let work = held.work v is by in run-on (frame_by A B targets by) (known.lawful by) work.run work.way
 
@@ -125,12 +148,12 @@ module _ {F L : Type 0} (A : LatticeAlgebra L) (B : EdgeAlgebra F L) (targets : 
           begun = held.begun;
         };
         noted = λ base folded.
-            let is = last_is acts_by exact laws w.world.sealed r (length w.world.history) catches.base w.world.image base catches.folded catches.leads folded in
-            record { program = ap (λ (i : ProgramImage F). i.program) (sym is); roots = ap (λ (i : ProgramImage F). i.roots) (sym is) };
+            noted_same w.world.image base
+            (last_is acts_by exact laws w.world.sealed r (length w.world.history) catches.base w.world.image base catches.folded catches.leads folded);
       }
 
   -- the records have an image
-  some_base : (w : Hands F S) → IsHeld w → (base : ProgramImage F) × IsFolded acts_by (contents w.world.sealed) base
+  pub some_base : (w : Hands F S) → IsHeld w → (base : ProgramImage F) × IsFolded acts_by (contents w.world.sealed) base
   some_base w held =
       let n : ℕ = length w.world.sealed in
       let base : ProgramImage F = image_after acts_by (take (mark_at w.world.sealed n) w.world.history) in
@@ -168,7 +191,9 @@ module _ {F L : Type 0} (A : LatticeAlgebra L) (B : EdgeAlgebra F L) (targets : 
           (part_steps (frame_by A B targets by) procedures same is_same (state_with w.world.image w.claims) h can.claim key g can.rest can.mine can.next)
           (whole.held.begun v is by));
     };
-    noted = λ base folded. record { program = (whole.noted base folded).program; roots = (whole.noted base folded).roots };
+    noted = λ base folded.
+        let noted = whole.noted base folded in
+        record { program = noted.program; roots = noted.roots; present = λ k has. still_present (state_of w.world.image) key g k (noted.present k has) };
   }
     where
       is_one : state_in A B targets same forms version S (next A B targets same forms version S w (Parts h key g))
@@ -184,7 +209,9 @@ module _ {F L : Type 0} (A : LatticeAlgebra L) (B : EdgeAlgebra F L) (targets : 
       work = λ v is by. finished_on (frame_by A B targets by) w.tally (state_with w.world.image w.claims) h c can.mine can.over (whole.held.work v is by);
       begun = whole.held.begun;
     };
-    noted = λ base folded. record { program = (whole.noted base folded).program; roots = (whole.noted base folded).roots };
+    noted = λ base folded.
+        let noted = whole.noted base folded in
+        record { program = noted.program; roots = noted.roots; present = noted.present };
   }
 
   releases_held : (w : Hands F S) (h : ℕ) → IsWhole w → CanRelease A B targets same forms version S w h
@@ -224,7 +251,7 @@ module _ {F L : Type 0} (A : LatticeAlgebra L) (B : EdgeAlgebra F L) (targets : 
       (can.running, can.fits, record { base = base.0; folded = base.1; leads = does })
 
   -- ---- a batch
-  batches_held : (w : Hands F S) (r : Entry) → IsWhole w → CanBatch A B targets same forms version S w r
+  pub batches_held : (w : Hands F S) (r : Entry) → IsWhole w → CanBatch A B targets same forms version S w r
       → IsWhole (record w { world = after acts_by w.world (Seals r) }) × IsFolded acts_by (contents (after acts_by w.world (Seals r)).sealed) w.world.image
   batches_held w r whole can =
       let noted = whole.noted can.base can.folded in
@@ -333,8 +360,7 @@ module _ {F L : Type 0} (A : LatticeAlgebra L) (B : EdgeAlgebra F L) (targets : 
           begun = λ v is by. (good v is by).begun;
         };
         noted = λ base other.
-            let same = one_image acts_by exact laws (contents (take (length found) w.world.sealed)) acts_by.empty base image other folded in
-            record { program = ap (λ (i : ProgramImage F). i.program) same; roots = ap (λ (i : ProgramImage F). i.roots) same };
+            noted_same image base (sym (one_image acts_by exact laws (contents (take (length found) w.world.sealed)) acts_by.empty base image other folded));
       }
     where
       m : ℕ
@@ -392,12 +418,12 @@ module _ {F L : Type 0} (A : LatticeAlgebra L) (B : EdgeAlgebra F L) (targets : 
   act_held w (Batches r) whole can = (batches_held w r whole can).0
   act_held w (Happens e) whole can = happens_held w e whole can
 
-  all_held : (w : Hands F S) (acts : List (Act F S)) → IsWhole w → AreAllowed A B targets same forms version S w acts
+  pub all_held : (w : Hands F S) (acts : List (Act F S)) → IsWhole w → AreAllowed A B targets same forms version S w acts
       → IsWhole (worked A B targets same forms version S w acts)
   all_held w [] whole can = whole
   all_held w (act ∷ acts) whole can = all_held (next A B targets same forms version S w act) acts (act_held w act whole can.0) can.1
 
-  idle_held : (work : S.Work) (disks : S.Disks) → S.Live [] 0 work disks → IsWhole (idle A B targets same forms version S work disks)
+  pub idle_held : (work : S.Work) (disks : S.Disks) → S.Live [] 0 work disks → IsWhole (idle A B targets same forms version S work disks)
   idle_held work disks live = record {
     held = record {
       world = kept_created acts_by exact laws work disks live;
@@ -405,7 +431,7 @@ module _ {F L : Type 0} (A : LatticeAlgebra L) (B : EdgeAlgebra F L) (targets : 
       work = λ v is by. cc (is);
       begun = λ v is by. cc (is);
     };
-    noted = λ base folded. record { program = ap (λ (i : ProgramImage F). i.program) (sym folded); roots = ap (λ (i : ProgramImage F). i.roots) (sym folded) };
+    noted = λ base folded. noted_same (loaded None) base folded;
   }
     where
       empty : (n : ℕ) (image : ProgramImage F) → IsFolded acts_by (contents (take n [])) image → IsGoodImage image

@@ -60,6 +60,7 @@ module _ {D : Type 0} {G : Ghosts D} where
 
     -- nothing was done, for want of memory
     pub record HasWaited (old new : WriterHalf D G) : Type 0 where
+      pub work : work_of new.journal ≡ work_of old.journal
       pub disk : new.journal.disk ≡ old.journal.disk
       pub writes : Writes head records stored new
 
@@ -98,5 +99,5 @@ module _ {D : Type 0} {G : Ghosts D} where
 
   -- why none is put under way: want of memory, or more records than there may be, which it never writes
   pub data IsBeginRefusal (old new : WriterHalf D G) : Refused → Type 0 where
-    memory : KeepsWriting old new → IsBeginRefusal old new NoMemory
+    memory : KeepsWriting old new → work_of new.journal ≡ work_of old.journal → IsBeginRefusal old new NoMemory
     limit : ((head : Head) (records : List Entry) (stored : ℕ) → Writes head records stored old → ⊥) → IsBeginRefusal old new Limit

@@ -1,11 +1,16 @@
+pub mod Acting
 pub mod Answers
 pub mod Half
 pub mod Hands
+pub mod Engine
 pub mod Machine
 pub mod OneDisk
+pub mod Opening
 pub mod Recovery
 pub mod Roots
 pub mod Store
+pub mod Table
+pub mod TableCalls
 pub mod Tally
 pub mod World
 pub mod Writing

@@ -1,13 +1,20 @@
 //! Laws of the store. The functions do nothing: their clauses are the laws.
 ghost use Rattle.ide_batch.specs.Items.{functions_by};
+ghost use Rattle.ide_store.specs.Acting.{CallsAreActs};
+ghost use Rattle.ide_store.specs.Engine.{HalvesOpen};
+ghost use Rattle.ide_store.specs.Opening.{HalvesBegin};
 ghost use Rattle.ide_store.specs.Recovery.{OneDiskAnswers, OneDiskRecovers};
 ghost use Rattle.ide_store.specs.Writing.{JournalsWriteStores};
 
+use crate::kept::Kept;
 use ide_disk::Disk;
 use ide_graph::{
-    ends_of_programs_are_nodes, graphs_of_programs_are_closed, sites_of_programs_are_joined,
+    ends_of_programs_are_nodes, exits_of_programs_are_owned,
+    graphs_of_one_text_have_the_same_edges, graphs_of_programs_are_closed,
+    sites_of_programs_are_joined,
 };
 use ide_problem::Problem;
+use ide_steps::tasks_owe_their_parts;
 use ide_theory::keys_stand_at_nodes;
 
 /// Over every list of steps, seals, disk calls, crashes and openings that can happen one after the
@@ -31,6 +38,47 @@ pub fn every_run_answers<P: Problem>()
     graphs_of_programs_are_closed();
     sites_of_programs_are_joined();
     keys_stand_at_nodes::<P>();
+}
+
+/// Each call of a core is an act of the store whose half that works it is made for, by what the call says
+/// of the core before and after it.
+pub fn calls_are_acts<P: Problem>()
+    ensures { CallsAreActs ⟦<P as Kept>⟧.analysis }
+{
+    ends_of_programs_are_nodes();
+    exits_of_programs_are_owned();
+    graphs_of_one_text_have_the_same_edges();
+    graphs_of_programs_are_closed();
+    sites_of_programs_are_joined();
+    keys_stand_at_nodes::<P>();
+    tasks_owe_their_parts::<P>();
+}
+
+/// A half that works begins on each new store, and goes on from each opening.
+pub fn halves_begin<P: Problem>()
+    ensures { HalvesBegin ⟦<P as Kept>⟧.analysis }
+{
+    ends_of_programs_are_nodes();
+    exits_of_programs_are_owned();
+    graphs_of_one_text_have_the_same_edges();
+    graphs_of_programs_are_closed();
+    sites_of_programs_are_joined();
+    keys_stand_at_nodes::<P>();
+    tasks_owe_their_parts::<P>();
+}
+
+/// The two halves of a store that was opened are at work on it: the one that goes on from the records that
+/// were found, and the one that found them.
+pub fn halves_open<P: Problem, D: Disk>()
+    ensures { HalvesOpen ⟦<P as Kept>⟧.analysis D.Disk }
+{
+    ends_of_programs_are_nodes();
+    exits_of_programs_are_owned();
+    graphs_of_one_text_have_the_same_edges();
+    graphs_of_programs_are_closed();
+    sites_of_programs_are_joined();
+    keys_stand_at_nodes::<P>();
+    tasks_owe_their_parts::<P>();
 }
 
 /// A journal that stands behind the stored records is a writer of a store on one disk, and each call that

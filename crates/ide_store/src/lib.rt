@@ -10,8 +10,21 @@
 //! that writes (`WriterHalf`, `specs/Half`).
 #![tactic(auto)]
 
+mod engine;
+mod kept;
 mod laws;
+mod opening;
+mod outbox;
+mod sealing;
+mod table;
 mod writer;
 
-pub use laws::{every_run_answers, every_run_recovers, journals_write_stores};
+pub use engine::Engine;
+pub use kept::Kept;
+pub use laws::{
+    calls_are_acts, every_run_answers, every_run_recovers, halves_begin, halves_open,
+    journals_write_stores,
+};
+pub use outbox::Ticket;
+pub use table::TableHalf;
 pub use writer::{MOST_RECORDS, WriterHalf};

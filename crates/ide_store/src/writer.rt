@@ -2,13 +2,14 @@
 ghost use Rattle.std.specs.Prelude.{◌≡◌, ◌<◌, ◌∷◌, ◌++◌, [], true, false, Ok, IfErr, IfOk, OnErr, OnOk};
 ghost use Rattle.std.specs.List.{All};
 ghost use Rattle.ide_journal.specs.Format.{IsEntry};
-ghost use Rattle.ide_journal.specs.Lists.{entry_of};
+ghost use Rattle.ide_journal.specs.Lists.{entries_of, entry_of};
 
 use ide_disk::Disk;
 use ide_journal::{Journal, RawRecord, Version};
 use ide_wire::Refused;
 use std::alloc::Global;
 use std::collections::VecDeque;
+use std::mem;
 
 /// The most records of a store.
 pub const MOST_RECORDS: u64 = 4_294_967_295;
@@ -16,13 +17,14 @@ pub const MOST_RECORDS: u64 = 4_294_967_295;
 /// A journal, and the sealed records that it does not have yet.
 #[derive(Drop)]
 pub struct WriterHalf<D: Disk> {
-    journal: Journal<D>,
+    pub(crate) journal: Journal<D>,
     /// The oldest first: the one under way, where one is.
     waiting: VecDeque<RawRecord>,
     ghost proper: { All (λ raw. IsEntry (entry_of raw)) waiting.items },
 }
 
 impl<D: Disk> WriterHalf<D> {
+    ghost use Rattle.ide_store.specs.Engine.{HandsOver};
     ghost use Rattle.ide_store.specs.Half.{AdvancesOver, BeginsNext, IsBeginRefusal, IsSameHalf, OpensStore, Rests, Seals, StepsOver, Writes};
     ghost use Rattle.ide_journal.specs.Format.{head_of};
     ghost use Rattle.ide_journal.specs.Refusals.{IsCreateRefusal, IsOpenRefusal};
@@ -59,6 +61,13 @@ impl<D: Disk> WriterHalf<D> {
             }
             Err(pair) => Err(pair),
         }
+    }
+
+    /// The version in which its records are spelled.
+    pub fn version(&self) -> Version
+        ensures { result ≡ self.now.journal.version }
+    {
+        self.journal.version()
     }
 
     /// How many records are stored.
@@ -136,6 +145,16 @@ impl<D: Disk> WriterHalf<D> {
                 Ok(true)
             }
             Err(refused) => Err(refused),
+        }
+    }
+
+    /// Takes over the sealed records that wait elsewhere, where none waits here. It takes no memory.
+    pub(crate) fn take_over(&mut self, sealed: &mut VecDeque<RawRecord>)
+        requires { All IsEntry (entries_of sealed.old.items) }
+        ensures { HandsOver self.old self.new sealed.old.items sealed.new.items }
+    {
+        if self.waiting.is_empty() {
+            mem::swap(&mut self.waiting, sealed);
         }
     }
 

@@ -1,5 +1,6 @@
-use Rattle.std.proofs.Common.{refl, inr, arith, subst, sym}
+use Rattle.std.proofs.Common.{◌≡◌, ◌∙◌, refl, inr, arith, subst, sym}
 use Rattle.ide_store.proofs.Half.{begun_half, found_is, still_behind, within_limit}
+use Rattle.ide_store.specs.Writing.{work_of}
 use Rattle.ide_store.specs.Half.{IsBeginRefusal, limit, memory}
 use Rattle.ide_store.proofs.writer.WriterHalf.begin_next.Goals as goal
 
@@ -29,8 +30,10 @@ returns-then-count-ge-MOST_RECORDS-clause-refused g c = limit (λ head records s
 
 pub returns-in-Err-clause-refused : goal.returns-in-Err-clause-refused
 returns-in-Err-clause-refused g c =
+    let work : work_of c.begin.new.self ≡ work_of c.args.self.now.journal =
+    λ i. record { gate = c.begin.ensures.gate i; stage = (c.in-Err.ensures.idle ∙ sym (c.if-not-is_idle.ensures.0 refl)) i } in
     subst (IsBeginRefusal c.args.self.now _) (sym c.in-Err.ensures.refused)
     (memory (λ head records stored writes. record {
       behind = still_behind head records stored c.args.self.now.journal c.begin.new.self writes.behind (c.if-not-is_idle.ensures.0 refl) c.in-Err.ensures.at_rest;
       waiting = writes.waiting;
-    }))
+    }) work)

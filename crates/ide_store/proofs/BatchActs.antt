@@ -1,0 +1,216 @@
+-- What changed since the last record is sealed; and where nothing did, the records give back the image.
+use Rattle.std.proofs.Common.{◌≡◌, ◌∙◌, ◌+◌, ◌≤◌, ◌<◌, ◌++◌, ℕ, Bool, true, false, List, [], ◌∷◌, Option, Some, None, length}
+use Rattle.std.proofs.Common.{refl, ap, sym, subst, arith, true≢false, append_assoc}
+use Rattle.std.specs.Prelude.{unwrap_or}
+use Rattle.std.specs.Option.{is_some}
+use Rattle.std.proofs.lemmas.List.{length-append, length-map, map-append, take_all}
+use Rattle.ide_batch.proofs.Folding.{lead}
+use Rattle.ide_batch.specs.Applied.{HasImage, IsGraphed}
+use Rattle.ide_batch.specs.Bodies.{IsEntryOf}
+use Rattle.ide_batch.specs.Fold.{IsBatch, ProgramImage, SaysChange, entry_at, named, procedures}
+use Rattle.ide_batch.specs.Items.{Item}
+use Rattle.ide_batch.specs.Records as records
+use Rattle.ide_batch.specs.Records.{RecordValue}
+use Rattle.ide_journal.specs.Format.{Entry, Head, IsEntry}
+use Rattle.ide_journal.specs.declared.version.Version.{Version}
+use Rattle.ide_steps.specs.Changed.{entry_of, entry_then, noted}
+use Rattle.ide_steps.specs.Core.{CoreData}
+use Rattle.ide_steps.specs.Items.{AreChangedItems}
+use Rattle.ide_steps.specs.Room.{IsWhole}
+use Rattle.ide_steps.specs.State.{state_of as core_state}
+use Rattle.ide_tables.specs.Tables.{found}
+use Rattle.ide_text.specs.Value.{ProgramValue}
+use Rattle.ide_theory.proofs.Laws.Changes.{none-some}
+use Rattle.ide_theory.proofs.Laws.Reached.{present-run}
+use Rattle.ide_wire.specs.declared.key.Key.{Key}
+use Rattle.ide_store.proofs.Good.{IsGood}
+use Rattle.ide_store.proofs.Hands.{good_now}
+use Rattle.ide_store.proofs.Machine.{machine_is_exact}
+use Rattle.ide_store.proofs.Marks.{folded_pushed, pushed}
+use Rattle.ide_store.proofs.OneDisk.{one_disk_keeps}
+use Rattle.ide_store.proofs.Reached.{Knows, reached_whole}
+use Rattle.ide_store.proofs.Said.{graph_kept}
+use Rattle.ide_store.proofs.Told.{says_change}
+use Rattle.ide_store.proofs.Unloaded.{IsStill, base_still, image_still}
+use Rattle.ide_store.specs.Acting.{BeginsAnew, SpellsChanges, SpellsRecord, WaitsFor}
+use Rattle.ide_store.specs.Answers.{GraphBy, frame_by}
+use Rattle.ide_store.specs.Hands.{Batches}
+use Rattle.ide_store.specs.Machine.{Does, ProgramStep, machine}
+use Rattle.ide_store.specs.OneDisk.{one_disk}
+use Rattle.ide_store.specs.Table.{Analysis, HasNothingNew, IsAct, IsReached, MayDo, StoreWorld, TableData, WorksOn, forms_of, told}
+use Rattle.ide_store.specs.World.{IsFolded, Rules, Sealed, contents}
+
+module _ {F L : Type 0} (a : Analysis F L) where
+  -- the rules of its machine
+  abbrev pub rules_at : Head → Rules (ProgramImage F) (ProgramStep F) Entry
+  rules_at head = machine a.functions a.same (forms_of a) head.version
+
+  -- over each graph of its program the image is good
+  abbrev IsGoodImage : ProgramImage F → Type 0
+  IsGoodImage image = (v : ProgramValue) → image.program ≡ Some v → (by : GraphBy v) → IsGood procedures (frame_by a.lattice a.functions a.targets by) v image
+
+  -- an absent key of an image does not wait
+  absent_still : Knows a → (image : ProgramImage F) (core : CoreData F) → IsWhole core → IsGraphed core.program core.graph
+      → image.program ≡ core.program → IsStill image → IsGoodImage image → (key : Key) → image.get key ≡ None → image.pending key ≡ false
+  absent_still knows image core whole graphed program still good key none = by core.program refl
+    where
+      by : (o : Option ProgramValue) → core.program ≡ o → image.pending key ≡ false
+      by None unloaded = still (program ∙ unloaded) key
+      by (Some v) is = waiting (image.pending key) refl
+        where
+          waiting : (b : Bool) → image.pending key ≡ b → image.pending key ≡ false
+          waiting false waits = waits
+          waiting true waits =
+              let graph = (graph_kept core whole graphed v is).0 in
+              let lawful = knows.known.lawful graph in
+              let present = present-run (frame_by a.lattice a.functions a.targets graph) lawful (good v (program ∙ is) graph).run key waits in
+              absurd (none-some (sym none ∙ present.1))
+
+  -- what a core has whose notes begin anew
+  pub entries_anew : (image : ProgramImage F) (core : CoreData F) → HasImage image core → core.changes ≡ Some [] → (key : Key)
+      → entry_at image key ≡ told (entry_then core key)
+  entries_anew image core has anew key =
+      let now : entry_at image key ≡ told (entry_of core key) = λ i. (has.get key i, has.pending key i) in
+      now ∙ sym (ap (λ notes. told (unwrap_or (noted notes key) (entry_of core key))) anew)
+
+  -- other notes make no other image
+  pub has_anew : (image : ProgramImage F) (old new : CoreData F) → BeginsAnew old new → HasImage image old → HasImage image new
+  has_anew image old new anew has = subst (HasImage image) (sym anew) (record {
+    program = has.program;
+    graphed = has.graphed;
+    roots = has.roots;
+    get = has.get;
+    pending = has.pending;
+  })
+
+  -- one record more is sealed
+  pub waits_more : (sealed : List (Sealed Entry)) (handed waiting new_waiting : List Entry) (r : Entry) (mark : ℕ) → contents sealed ≡ handed ++ waiting
+      → new_waiting ≡ waiting ++ r ∷ [] → contents (pushed sealed r mark) ≡ handed ++ new_waiting
+  waits_more sealed handed waiting new_waiting r mark waits more =
+      map-append (λ (s : Sealed Entry). s.content) sealed (record { content = r; mark = mark } ∷ [])
+      ∙ ap (λ records. records ++ r ∷ []) waits ∙ append_assoc handed waiting (r ∷ []) ∙ ap (λ records. handed ++ records) (sym more)
+
+  -- and counted
+  pub counts_more : (sealed : List (Sealed Entry)) (r : Entry) (mark old new : ℕ) → length sealed ≡ old → new ≡ old + 1
+      → length (pushed sealed r mark) ≡ new
+  counts_more sealed r mark old new is more =
+      let longer = length-append sealed (record { content = r; mark = mark } ∷ []) in omega arith
+
+  -- a record may be the next one
+  pub fits_next : (sealed : List (Sealed Entry)) (r : Entry) (most : ℕ) → IsEntry r → length sealed ≤ most
+      → IsEntry r × (length (contents sealed) ≤ most)
+  fits_next sealed r most proper less = (proper, let long = length-map sealed (λ (s : Sealed Entry). s.content) in omega arith)
+
+  -- a record in the version of the half is one in that of the store
+  pub spelled_at : (head : Head) (table : TableData F) (value : RecordValue F) (entry : Entry) → table.version ≡ head.version
+      → SpellsRecord a table value entry → IsEntryOf (forms_of a) head.version value entry
+  spelled_at head table value entry same spells = subst (λ (version : Version). IsEntryOf (forms_of a) version value entry) same spells.spelled
+
+  module _ (knows : Knows a) (head : Head) (w : StoreWorld a head) (reached : IsReached a head w) (table : TableData F)
+      (works : WorksOn a head w table) (whole : IsWhole table.core) where
+    -- the image is good
+    now_good : IsGoodImage w.world.image
+    now_good =
+        good_now a.lattice a.functions a.targets a.same (forms_of a) head.version (one_disk head) knows.is_same
+        (machine_is_exact a.functions a.same (forms_of a) knows.prefix_free head.version) (one_disk_keeps (rules_at head) head) knows.known
+        w (reached_whole a knows head w reached).held
+
+    -- and so is what the records give back
+    base_good : IsGoodImage works.base.image
+    base_good =
+        let all = take_all (length w.world.sealed) w.world.sealed (omega arith) in
+        (reached_whole a knows head w reached).held.stored (length w.world.sealed) works.base.image
+        (subst (λ (sealed : List (Sealed Entry)). IsFolded (rules_at head) (contents sealed) works.base.image) (sym all) works.base.folded)
+
+    -- an absent key was absent, and did not wait
+    was_absent : (key : Key) → found table.core.table key ≡ None → told (entry_then table.core key) ≡ told (entry_of table.core key)
+    was_absent key none =
+        sym (works.base.entries key) ∙ (λ i. (base_none i, base_waits i)) ∙ (λ i. (sym now_none i, sym now_waits i))
+        ∙ (λ i. (works.image.get key i, works.image.pending key i))
+      where
+        now_none : w.world.image.get key ≡ None
+        now_none = works.image.get key ∙ none
+
+        base_none : works.base.image.get key ≡ None
+        base_none = by (works.base.image.get key) refl
+          where
+            by : (o : Option F) → works.base.image.get key ≡ o → works.base.image.get key ≡ None
+            by None is = is
+            by (Some f) is =
+                let noted = (reached_whole a knows head w reached).noted works.base.image works.base.folded in
+                absurd (true≢false (sym (noted.present key (ap is_some is)) ∙ ap is_some now_none))
+
+        now_waits : w.world.image.pending key ≡ false
+        now_waits =
+            absent_still knows w.world.image table.core whole works.image.graphed works.image.program
+            (image_still a head knows w reached works.running) now_good key now_none
+
+        base_waits : works.base.image.pending key ≡ false
+        base_waits =
+            absent_still knows works.base.image table.core whole works.image.graphed (works.base.program ∙ works.image.program)
+            (base_still a head knows w reached works.base.image works.base.folded) base_good key base_none
+
+    -- the items that changed lead from what the records give back to the image
+    pub changes_told : (items : List (Item F)) → AreChangedItems table.core items → IsBatch items works.base.image w.world.image
+    changes_told items changed key =
+        let now : told (entry_of table.core key) ≡ entry_at w.world.image key = λ i. (sym (works.image.get key) i, sym (works.image.pending key) i) in
+        subst (λ (e : Option F × Bool). SaysChange (named items key) e (entry_at w.world.image key)) (sym (works.base.entries key))
+        (subst (λ (e : Option F × Bool). SaysChange (named items key) (told (entry_then table.core key)) e) now
+        (says_change a.same knows.is_same table.core items key changed (was_absent key)))
+
+    -- a record of them may be the next one
+    pub can_batch : (entry : Entry) → SpellsChanges a table entry → table.sealed < 4294967295 → MayDo a head w (Batches entry)
+    can_batch entry spells less = record {
+      running = works.running;
+      base = works.base.image;
+      folded = works.base.folded;
+      items = spells.items;
+      exact = changes_told spells.items spells.changed;
+      spelled = spelled_at head table (records.Batch spells.items) entry works.version spells.spells;
+      fits = fits_next w.world.sealed entry 4294967294 spells.spells.proper (let sealed = works.sealed in omega arith);
+    }
+
+    -- and its record gives back the image
+    pub batch_folded : (entry : Entry) → SpellsChanges a table entry
+        → IsFolded (rules_at head) (contents (pushed w.world.sealed entry (length w.world.history))) w.world.image
+    batch_folded entry spells =
+        let does : Does a.functions a.same (forms_of a) head.version entry works.base.image w.world.image = record {
+          value = records.Batch spells.items;
+          spelled = spelled_at head table (records.Batch spells.items) entry works.version spells.spells;
+          leads = sym (lead spells.items works.base.image w.world.image works.base.program works.base.roots (changes_told spells.items spells.changed));
+        } in
+        folded_pushed (rules_at head) w.world.sealed entry (length w.world.history) works.base.image w.world.image works.base.folded does
+
+  -- where no item changed, nothing is new
+  pub finds_nothing : Knows a → (table : TableData F) → IsWhole table.core → AreChangedItems table.core []
+      → (head : Head) (w : StoreWorld a head) → IsReached a head w → WorksOn a head w table → HasNothingNew a head w
+  finds_nothing knows table whole unchanged head w reached works = record {
+    base = works.base.image;
+    folded = works.base.folded;
+    entries = λ key. changes_told knows head w reached table works whole [] unchanged key;
+  }
+
+  -- the record of the items that changed is sealed
+  pub seals_batch : Knows a → (entry : Entry) (old new : TableData F) → IsWhole old.core → SpellsChanges a old entry → old.sealed < 4294967295
+      → WaitsFor (entry ∷ []) old new → BeginsAnew old.core new.core → IsAct a old new (λ head. Batches entry)
+  seals_batch knows entry old new whole spells less waits anew head w reached works =
+      let has : HasImage w.world.image new.core = has_anew w.world.image old.core new.core anew works.image in (
+        can_batch knows head w reached old works whole entry spells less,
+        record {
+          running = works.running;
+          working = waits.failed ∙ works.working;
+          version = waits.version ∙ works.version;
+          image = has;
+          claims = λ hand. works.claims hand ∙ ap (λ (core : CoreData F). (core_state a.targets a.functions core).claims hand) (sym anew);
+          base = record {
+            image = w.world.image;
+            folded = batch_folded knows head w reached old works whole entry spells;
+            program = refl;
+            roots = refl;
+            entries = entries_anew w.world.image new.core has (ap (λ (core : CoreData F). core.changes) anew);
+          };
+          sealed = counts_more w.world.sealed entry (length w.world.history) old.sealed new.sealed works.sealed waits.sealed;
+          handed = works.handed;
+          waits = waits_more w.world.sealed works.handed old.waiting new.waiting entry (length w.world.history) works.waits waits.waiting;
+        },
+      )

@@ -1,0 +1,116 @@
+-- A half that works begins on a new store, and goes on from an opening.
+use Rattle.std.proofs.Common.{◌≡◌, Bool, List, [], ◌∷◌, Some, None, length, take, refl, ap, sym, subst}
+use Rattle.std.specs.Option.{option_map}
+use Rattle.std.proofs.lemmas.List.{append-nil, length-take-le}
+use Rattle.ide_batch.specs.Applied.{HasImage}
+use Rattle.ide_batch.specs.AppliedAll.{AreEntriesOf, LeadOver}
+use Rattle.ide_batch.specs.Fold.{ProgramImage}
+use Rattle.ide_batch.specs.Fold as fold
+use Rattle.ide_batch.specs.Items.{Functions}
+use Rattle.ide_batch.specs.Records.{RecordValue}
+use Rattle.ide_journal.specs.Format.{Entry, Head}
+use Rattle.ide_journal.specs.declared.version.Version.{Version}
+use Rattle.ide_lattice.specs.Algebra.{EdgeAlgebra}
+use Rattle.ide_steps.specs.Core.{CoreData}
+use Rattle.ide_steps.specs.State.{claim_of}
+use Rattle.ide_theory.specs.Images.{loaded}
+use Rattle.ide_worklist.specs.Worklist.{IsFree}
+use Rattle.ide_store.specs.Hands.{rules}
+use Rattle.ide_store.specs.Machine.{machine}
+use Rattle.ide_store.specs.OneDisk.{one_disk}
+use Rattle.ide_store.specs.Opening.{HaveFold, BeginsOn, GoesOnFrom, HalvesBegin, half_over}
+use Rattle.ide_store.specs.Table.{Analysis, forms_of}
+use Rattle.ide_store.specs.World.{IsFolded, LeadTo, contents}
+use Rattle.ide_store.proofs.Machine.{machine_is_exact}
+use Rattle.ide_store.proofs.OneDisk.{one_disk_keeps}
+use Rattle.ide_store.proofs.Reached.{Knows, reached_whole}
+use Rattle.ide_store.proofs.World.{one_image, read}
+
+-- what values lead to, the records that spell them lead to
+spelled_lead : {F L : Type 0} (functions : EdgeAlgebra F L) (same : F → F → Bool) (forms : Functions F) (version : Version)
+    → (values : List (RecordValue F)) (entries : List Entry) (before now : ProgramImage F) → AreEntriesOf forms version values entries
+    → fold.LeadTo functions same values before now → LeadTo (machine functions same forms version) entries before now
+spelled_lead functions same forms version [] [] before now spelled leads = leads
+spelled_lead functions same forms version [] (entry ∷ entries) before now spelled leads = absurd spelled
+spelled_lead functions same forms version (value ∷ values) [] before now spelled leads = absurd spelled
+spelled_lead functions same forms version (value ∷ values) (entry ∷ entries) before now spelled (between, first, rest) = (
+  between,
+  record { value = value; spelled = spelled.0; leads = first },
+  spelled_lead functions same forms version values entries between now spelled.1 rest,
+)
+
+-- an image does not tell what changed
+noting_image : {F : Type 0} (image : ProgramImage F) (core : CoreData F) → HasImage image core → HasImage image (record core { changes = Some [] })
+noting_image image core has = record { program = has.program; graphed = has.graphed; roots = has.roots; get = has.get; pending = has.pending }
+
+module _ {F L : Type 0} (a : Analysis F L) (knows : Knows a) where
+  begins : (core : CoreData F) (version : Version) → HasImage (loaded None) core → IsFree core.pile → BeginsOn a (half_over core version 0)
+  begins core version has free head same work disk = record {
+    running = refl;
+    working = refl;
+    version = sym same;
+    image = noting_image (loaded None) core has;
+    claims = λ hand. ap (option_map (claim_of a.targets a.functions)) (sym (free hand));
+    base = record {
+      image = loaded None;
+      folded = refl;
+      program = refl;
+      roots = refl;
+      entries = λ key. λ i. (has.get key i, has.pending key i);
+    };
+    sealed = refl;
+    handed = [];
+    waits = refl;
+  }
+
+  -- what the records fold to is the image of a core to which they were applied
+  found_image : (old new : CoreData F) (head : Head) (found : List Entry) (image : ProgramImage F) → HasImage (loaded None) old
+      → LeadOver (forms_of a) head.version a.functions a.same found old new
+      → IsFolded (rules a.lattice a.functions a.targets a.same (forms_of a) head.version (one_disk head)) found image → HasImage image new
+  found_image old new head found image has over folded =
+      let by = machine a.functions a.same (forms_of a) head.version in
+      let now = over.leads (loaded None) has in
+      let leads = spelled_lead a.functions a.same (forms_of a) head.version over.values found (loaded None) now.0 over.spelled now.1 in
+      let exact = machine_is_exact a.functions a.same (forms_of a) knows.prefix_free head.version in
+      let one : now.0 ≡ image = one_image by exact (one_disk_keeps by head) found (loaded None) now.0 image leads folded in
+      subst (λ (i : ProgramImage F). HasImage i new) one now.2
+
+  goes_on : (old new : CoreData F) (version : Version) (found : List Entry) → HasImage (loaded None) old
+      → LeadOver (forms_of a) version a.functions a.same found old new → IsFree new.pile → GoesOnFrom a found (half_over new version (length found))
+  goes_on old new version found empty over free head same w reached image work disk may =
+      let by = machine a.functions a.same (forms_of a) head.version in
+      let exact = machine_is_exact a.functions a.same (forms_of a) knows.prefix_free head.version in
+      let held = (reached_whole a knows head w reached).held.world in
+      let is = read by exact (one_disk_keeps by head) w.world found held may.1.0 in
+      let has : HasImage image new =
+      found_image old new head found image empty (subst (λ (v : Version). LeadOver (forms_of a) v a.functions a.same found old new) (sym same) over) may.1.1 in
+      record {
+        running = refl;
+        working = refl;
+        version = sym same;
+        image = noting_image image new has;
+        claims = λ hand. ap (option_map (claim_of a.targets a.functions)) (sym (free hand));
+        base = record {
+          image = image;
+          folded = is.image image may.1.1;
+          program = refl;
+          roots = refl;
+          entries = λ key. λ i. (has.get key i, has.pending key i);
+        };
+        sealed = length-take-le (length found) w.world.sealed is.most;
+        handed = contents (take (length found) w.world.sealed);
+        waits = sym (append-nil (contents (take (length found) w.world.sealed)));
+      }
+
+  -- they give an image back
+  have_fold : (old new : CoreData F) (version : Version) (found : List Entry) → HasImage (loaded None) old
+      → LeadOver (forms_of a) version a.functions a.same found old new → HaveFold a version found
+  have_fold old new version found empty over =
+      let now = over.leads (loaded None) empty in
+      record { image = now.0; folded = spelled_lead a.functions a.same (forms_of a) version over.values found (loaded None) now.0 over.spelled now.1 }
+
+  pub halves_begin : HalvesBegin a
+  halves_begin = record {
+    begins = begins;
+    goes_on = λ old new version found empty over free. (have_fold old new version found empty over, goes_on old new version found empty over free);
+  }

@@ -1,0 +1,173 @@
+-- With no program loaded nothing waits: so it is of each world that acts lead to, and of what its records give back.
+use Rattle.std.proofs.Common.{◌≡◌, ◌∙◌, ℕ, zero, suc, false, List, [], ◌∷◌, ◌++◌, Option, Some, None, length, take, refl, ap, sym, subst, arith, inl, inr}
+use Rattle.std.proofs.lemmas.Bool.{cases_lt}
+use Rattle.std.proofs.lemmas.List.{length-append, take-append-le, take-take, take_all}
+use Rattle.std.proofs.lemmas.List.Sums.{fold-append}
+use Rattle.ide_batch.specs.Fold.{ProgramImage}
+use Rattle.ide_journal.specs.Format.{Entry, Head}
+use Rattle.ide_text.specs.Value.{ProgramValue}
+use Rattle.ide_theory.specs.Images.{Finish, Load, Part, Root}
+use Rattle.ide_theory.specs.State.{Claim}
+use Rattle.ide_theory.proofs.Laws.Changes.{none-some}
+use Rattle.ide_wire.specs.declared.key.Key.{Key}
+use Rattle.ide_store.proofs.Hands.{IsWhole, all_held, idle_held}
+use Rattle.ide_store.proofs.Machine.{machine_is_exact}
+use Rattle.ide_store.proofs.Marks.{mark_at, take_more}
+use Rattle.ide_store.proofs.OneDisk.{one_disk_keeps}
+use Rattle.ide_store.proofs.Reached.{Knows, reached_whole}
+use Rattle.ide_store.proofs.World.{IsKept, one_image}
+use Rattle.ide_store.specs.Hands.{Batches, Claims, Ends, Happens, Loads, Parts, ProgramEvent, Releases, Roots, IsOfStore, idle}
+use Rattle.ide_store.specs.Machine.{ProgramStep, machine}
+use Rattle.ide_store.specs.OneDisk.{one_disk}
+use Rattle.ide_store.specs.Table.{Analysis, IsReached, MayDo, MayDoAll, StoreAct, StoreWorld, after_act, after_acts, forms_of}
+use Rattle.ide_store.specs.World.{Acks, Begins, Calls, Crashes, Fails, IsFolded, Opens, Rules, Running, Seals, Steps, Stops, Stores, contents, image_after}
+
+-- with no program no key waits
+abbrev pub IsStill : {F : Type 0} → ProgramImage F → Type 0
+IsStill image = image.program ≡ None → (key : Key) → image.pending key ≡ false
+
+module _ {F L : Type 0} (a : Analysis F L) (head : Head) where
+  abbrev acts_by : Rules (ProgramImage F) (ProgramStep F) Entry
+  acts_by = machine a.functions a.same (forms_of a) head.version
+
+  -- the image after each beginning of the steps is still, and with no program no hand has a claim
+  record AreStill (history : List (ProgramStep F)) (held : ℕ → Option (Claim F)) : Type 0 where
+    pub images : (n : ℕ) → IsStill (image_after acts_by (take n history))
+    pub claims : (image_after acts_by history).program ≡ None → (h : ℕ) → held h ≡ None
+
+  -- one step more
+  stepped : (history : List (ProgramStep F)) (s : ProgramStep F) → ((n : ℕ) → IsStill (image_after acts_by (take n history)))
+      → IsStill (acts_by.step (image_after acts_by history) s) → (n : ℕ) → IsStill (image_after acts_by (take n (history ++ s ∷ [])))
+  stepped history s before now n = elim (cases_lt (length history) n) [
+    | inl over ↦ subst (λ (steps : List (ProgramStep F)). IsStill (image_after acts_by steps))
+        (sym (take_all n (history ++ s ∷ []) (let longer = length-append history (s ∷ []) in omega arith)))
+        (subst IsStill (sym (fold-append acts_by.step acts_by.empty history (s ∷ []))) now)
+    | inr under ↦ subst (λ (steps : List (ProgramStep F)). IsStill (image_after acts_by steps)) (sym (take-append-le n history (s ∷ []) under)) (before n)
+  ]
+
+  -- the program then
+  program_after : (history : List (ProgramStep F)) (s : ProgramStep F)
+      → (image_after acts_by (history ++ s ∷ [])).program ≡ (acts_by.step (image_after acts_by history) s).program
+  program_after history s = ap (λ (image : ProgramImage F). image.program) (fold-append acts_by.step acts_by.empty history (s ∷ []))
+
+  -- a step that leaves a program, whatever the hands have then
+  program_stays : (history : List (ProgramStep F)) (s : ProgramStep F) (old new : ℕ → Option (Claim F)) → AreStill history old
+      → ((acts_by.step (image_after acts_by history) s).program ≡ None → ⊥) → AreStill (history ++ s ∷ []) new
+  program_stays history s old new still some = record {
+    images = stepped history s still.images (λ none. absurd (some none));
+    claims = λ none. absurd (some (sym (program_after history s) ∙ none));
+  }
+
+  -- other claims, where there is a program
+  claims_change : (history : List (ProgramStep F)) (old new : ℕ → Option (Claim F)) → AreStill history old
+      → ((image_after acts_by history).program ≡ None → ⊥) → AreStill history new
+  claims_change history old new still some = record { images = still.images; claims = λ none. absurd (some none) }
+
+  -- a beginning of the steps, with no claim
+  cut_off : (history : List (ProgramStep F)) (claims : ℕ → Option (Claim F)) (m : ℕ) → AreStill history claims → AreStill (take m history) (λ h. None)
+  cut_off history claims m still = record { images = images; claims = λ none h. refl }
+    where
+      images : (n : ℕ) → IsStill (image_after acts_by (take n (take m history)))
+      images n = elim (cases_lt m n) [
+        | inl over ↦ subst (λ (steps : List (ProgramStep F)). IsStill (image_after acts_by steps)) (sym (take_more n m history (omega arith))) (still.images m)
+        | inr under ↦ subst (λ (steps : List (ProgramStep F)). IsStill (image_after acts_by steps)) (sym (take-take n m history under)) (still.images n)
+      ]
+
+  -- where a hand has a claim, there is a program
+  claimed : (history : List (ProgramStep F)) (claims : ℕ → Option (Claim F)) (h : ℕ) (claim : Claim F) → AreStill history claims → claims h ≡ Some claim
+      → (image_after acts_by history).program ≡ None → ⊥
+  claimed history claims h claim still mine none = none-some (sym (still.claims none h) ∙ mine)
+
+  -- and where the image has one
+  has_program : (history : List (ProgramStep F)) (image : ProgramImage F) (v : ProgramValue) → image ≡ image_after acts_by history → image.program ≡ Some v
+      → (image_after acts_by history).program ≡ None → ⊥
+  has_program history image v is some none = none-some (sym (ap (λ (i : ProgramImage F). i.program) is ∙ none) ∙ some)
+
+  -- so it is of a world
+  abbrev IsStillIn : StoreWorld a head → Type 0
+  IsStillIn w = AreStill w.world.history w.claims
+
+  -- what happens to the store keeps it
+  happens_still : (w : StoreWorld a head) (e : ProgramEvent F (one_disk head)) → IsStillIn w → IsOfStore e → IsStillIn (after_act a head w (Happens e))
+  happens_still w (Steps s) still own = absurd own
+  happens_still w (Seals r) still own = absurd own
+  happens_still w (Begins work) still own = still
+  happens_still w (Calls work disks) still own = still
+  happens_still w (Stores work disks) still own = still
+  happens_still w (Fails disks) still own = still
+  happens_still w Acks still own = still
+  happens_still w (Crashes left) still own = still
+  happens_still w (Opens found image work disks) still own = cut_off w.world.history w.claims _ still
+  happens_still w (Stops disks mode) still own = still
+
+  -- and so does each act
+  act_still : (w : StoreWorld a head) (act : StoreAct a head) → IsKept acts_by w.world → IsStillIn w → MayDo a head w act → IsStillIn (after_act a head w act)
+  act_still w (Claims h q parts) kept still can =
+      claims_change w.world.history w.claims _ still (has_program w.world.history w.world.image can.program (kept.image can.running) can.loaded)
+  act_still w (Parts h key g) kept still can =
+      program_stays w.world.history (Part key g) w.claims _ still (claimed w.world.history w.claims h can.claim still can.mine)
+  act_still w (Ends h c) kept still can =
+      program_stays w.world.history (Finish c.key c.lowered) w.claims _ still (claimed w.world.history w.claims h c still can.mine)
+  act_still w (Releases h) kept still can =
+      claims_change w.world.history w.claims _ still (claimed w.world.history w.claims h can.claim still can.mine)
+  act_still w (Loads v r) kept still can = program_stays w.world.history (Load v) w.claims _ still (λ none. none-some (sym none))
+  act_still w (Roots name None r) kept still can =
+      program_stays w.world.history (Root name) w.claims _ still (has_program w.world.history w.world.image can.program (kept.image can.running) can.loaded)
+  act_still w (Roots name (Some batch) r) kept still can =
+      program_stays w.world.history (Root name) w.claims _ still (has_program w.world.history w.world.image can.program (kept.image can.running) can.loaded)
+  act_still w (Batches r) kept still can = still
+  act_still w (Happens e) kept still can = happens_still w e still can.0
+
+  module _ (knows : Knows a) where
+    -- what acts keep besides
+    abbrev IsWholeIn : StoreWorld a head → Type 0
+    IsWholeIn w =
+        IsWhole a.lattice a.functions a.targets a.same (forms_of a) head.version (one_disk head) knows.is_same
+        (machine_is_exact a.functions a.same (forms_of a) knows.prefix_free head.version) (one_disk_keeps acts_by head) knows.known w
+
+    -- acts, one after the other
+    acts_still : (w : StoreWorld a head) (acts : List (StoreAct a head)) → IsWholeIn w → IsStillIn w → MayDoAll a head w acts
+        → IsStillIn (after_acts a head w acts)
+    acts_still w [] whole still can = still
+    acts_still w (act ∷ acts) whole still can =
+        let exact = machine_is_exact a.functions a.same (forms_of a) knows.prefix_free head.version in
+        let next : IsWholeIn (after_act a head w act) =
+        all_held a.lattice a.functions a.targets a.same (forms_of a) head.version (one_disk head) knows.is_same exact (one_disk_keeps acts_by head)
+        knows.known w (act ∷ []) whole (can.0, tt) in
+        acts_still (after_act a head w act) acts next (act_still w act whole.held.world still can.0) can.1
+
+    -- of no step
+    idle_still : (n : ℕ) → IsStill (image_after acts_by (take n []))
+    idle_still zero = λ none key. refl
+    idle_still (suc n) = λ none key. refl
+
+    -- so it is of each world that acts led to
+    reached_still : (w : StoreWorld a head) → IsReached a head w → IsStillIn w
+    reached_still w reached =
+        let exact = machine_is_exact a.functions a.same (forms_of a) knows.prefix_free head.version in
+        let begun = idle a.lattice a.functions a.targets a.same (forms_of a) head.version (one_disk head) reached.work reached.disk in
+        let whole : IsWholeIn begun =
+        idle_held a.lattice a.functions a.targets a.same (forms_of a) head.version (one_disk head) knows.is_same exact (one_disk_keeps acts_by head)
+        knows.known reached.work reached.disk reached.live in
+        subst IsStillIn reached.is (acts_still begun reached.acts whole (record { images = idle_still; claims = λ none h. refl }) reached.can)
+
+    -- while it runs, the image is still
+    pub image_still : (w : StoreWorld a head) → IsReached a head w → w.world.mode ≡ Running → IsStill w.world.image
+    image_still w reached running =
+        let history = w.world.history in
+        let kept = (reached_whole a knows head w reached).held.world in
+        subst IsStill (ap (image_after acts_by) (take_all (length history) history (omega arith)) ∙ sym (kept.image running))
+        ((reached_still w reached).images (length history))
+
+    -- and so is what the sealed records give back
+    pub base_still : (w : StoreWorld a head) → IsReached a head w → (base : ProgramImage F) → IsFolded acts_by (contents w.world.sealed) base
+        → IsStill base
+    base_still w reached base folded =
+        let n : ℕ = length w.world.sealed in
+        let marks = (reached_whole a knows head w reached).held.world.marks in
+        let exact = machine_is_exact a.functions a.same (forms_of a) knows.prefix_free head.version in
+        let image : ProgramImage F = image_after acts_by (take (mark_at w.world.sealed n) w.world.history) in
+        let all : IsFolded acts_by (contents w.world.sealed) image =
+        subst (λ sealed. IsFolded acts_by (contents sealed) image) (take_all n w.world.sealed (omega arith)) (marks.images n) in
+        subst IsStill (one_image acts_by exact (one_disk_keeps acts_by head) (contents w.world.sealed) acts_by.empty image base all folded)
+        ((reached_still w reached).images (mark_at w.world.sealed n))

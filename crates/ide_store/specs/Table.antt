@@ -1,0 +1,145 @@
+-- The half of a store that works: what it keeps of a world, and which calls of it are which acts.
+use Rattle.std.specs.Prelude.{◌≡◌, ℕ, ◌≤◌, ◌++◌, Bool, true, false, List, [], Option, length}
+use Rattle.std.specs.List.{All}
+use Rattle.std.specs.Option.{is_some}
+use Rattle.ide_batch.specs.Applied.{HasImage}
+use Rattle.ide_batch.specs.Fold.{ProgramImage, entry_at}
+use Rattle.ide_batch.specs.Items.{Functions, functions_by}
+use Rattle.ide_journal.specs.Format.{Entry, Head, IsEntry}
+use Rattle.ide_journal.specs.declared.version.Version.{Version}
+use Rattle.ide_lattice.specs.Algebra.{LatticeAlgebra, EdgeAlgebra}
+use Rattle.ide_problem.specs.Flow.{Targets}
+use Rattle.ide_steps.specs.Changed.{entry_then, noted_count}
+use Rattle.ide_steps.specs.Core.{CoreData, IsUnchanged}
+use Rattle.ide_steps.specs.State as core
+use Rattle.ide_steps.specs.declared.changes.Entry.{Entry as Noted}
+use Rattle.ide_theory.specs.State.{State}
+use Rattle.ide_wire.specs.declared.key.Key.{Key}
+use Rattle.ide_store.specs.Hands.{Act, Allowed, AreAllowed, Hands, IsCaughtUp, idle, next, rules, worked}
+use Rattle.ide_store.specs.OneDisk.{IsLive, Writer, one_disk}
+use Rattle.ide_store.specs.World.{IsFolded, Running, contents}
+use Rattle.ide_disk.specs.Disk.{DiskState}
+
+-- an analysis, as contracts see it: its lattice and its functions, what its flow does, and how functions are told apart
+-- and spelled
+pub record Analysis (F L : Type 0) : Type 0 where
+  pub lattice : LatticeAlgebra L
+  pub functions : EdgeAlgebra F L
+  pub targets : Targets F
+  pub same : F → F → Bool
+  pub proper : F → Bool
+  pub form : F → List ℕ
+
+-- what contracts see of the half that works: its core; in which version records are spelled; how many were sealed, and which
+-- of them wait for the writer; and whether a call of the writer failed
+pub record TableData (F : Type 0) : Type 0 where
+  pub core : CoreData F
+  pub version : Version
+  pub sealed : ℕ
+  pub waiting : List Entry
+  pub failed : Bool
+
+module _ {F L : Type 0} (a : Analysis F L) where
+  -- how its functions are spelled
+  abbrev pub forms_of : Functions F
+  forms_of = functions_by a.proper a.form a.same a.functions.all_top
+
+  -- the core as a state of the tabulation
+  abbrev pub state_of : TableData F → State F
+  state_of table = core.state_of a.targets a.functions table.core
+
+module _ {F : Type 0} where
+  -- all but the core is as it was
+  pub record KeepsRest (old new : TableData F) : Type 0 where
+    pub version : new.version ≡ old.version
+    pub sealed : new.sealed ≡ old.sealed
+    pub waiting : new.waiting ≡ old.waiting
+    pub failed : new.failed ≡ old.failed
+
+  -- and what contracts tell of the core
+  pub record IsSameTable (old new : TableData F) : Type 0 where
+    pub core : IsUnchanged old.core new.core
+    pub rest : KeepsRest old new
+
+-- what it always keeps: changes are noted, of no more keys than a batch may have; and all that waits was sealed
+pub record IsTable {F : Type 0} (core : CoreData F) (sealed : ℕ) (waiting : List Entry) : Type 0 where
+  pub noting : is_some core.changes ≡ true
+  pub few : noted_count core.changes ≤ 65536
+  pub proper : All IsEntry waiting
+  pub within : length waiting ≤ sealed
+  pub numbered : sealed ≤ 4294967295
+
+-- what a note says of a key, as an image does
+abbrev pub told : {F : Type 0} → Noted F → (Option F × Bool)
+told note = (note.function, note.pending)
+
+module _ {F L : Type 0} (a : Analysis F L) (head : Head) where
+  -- a world of the analysis, over one disk
+  abbrev pub StoreWorld : Type 0
+  StoreWorld = Hands F (one_disk head)
+
+  abbrev pub StoreAct : Type 0
+  StoreAct = Act F (one_disk head)
+
+  -- the act may be done, and the world after it
+  abbrev pub MayDo : StoreWorld → StoreAct → Type 0
+  MayDo w act = Allowed a.lattice a.functions a.targets a.same (forms_of a) head.version (one_disk head) w act
+
+  abbrev pub after_act : StoreWorld → StoreAct → StoreWorld
+  after_act w act = next a.lattice a.functions a.targets a.same (forms_of a) head.version (one_disk head) w act
+
+  abbrev pub MayDoAll : StoreWorld → List StoreAct → Type 0
+  MayDoAll w acts = AreAllowed a.lattice a.functions a.targets a.same (forms_of a) head.version (one_disk head) w acts
+
+  abbrev pub after_acts : StoreWorld → List StoreAct → StoreWorld
+  after_acts w acts = worked a.lattice a.functions a.targets a.same (forms_of a) head.version (one_disk head) w acts
+
+  -- a store that was just created, with no hand at work
+  abbrev pub new_store : Writer → DiskState → StoreWorld
+  new_store work disk = idle a.lattice a.functions a.targets a.same (forms_of a) head.version (one_disk head) work disk
+
+  -- acts that could be done one after the other led to the world from a new store
+  pub record IsReached (w : StoreWorld) : Type 0 where
+    pub work : Writer
+    pub disk : DiskState
+    pub live : IsLive head [] 0 work disk
+    pub acts : List StoreAct
+    pub can : MayDoAll (new_store work disk) acts
+    pub is : after_acts (new_store work disk) acts ≡ w
+
+  -- the image that the sealed records give back has the program and the roots of the world's, and the entries that keys had
+  -- when changes were last asked for
+  pub record IsBase (w : StoreWorld) (core : CoreData F) : Type 0 where
+    pub image : ProgramImage F
+    pub folded : IsFolded (rules a.lattice a.functions a.targets a.same (forms_of a) head.version (one_disk head)) (contents w.world.sealed) image
+    pub program : image.program ≡ w.world.image.program
+    pub roots : image.roots ≡ w.world.image.roots
+    pub entries : (key : Key) → entry_at image key ≡ told (entry_then core key)
+
+  -- nothing changed since the last record
+  abbrev pub HasNothingNew : StoreWorld → Type 0
+  HasNothingNew w = IsCaughtUp a.lattice a.functions a.targets a.same (forms_of a) head.version (one_disk head) w
+
+  -- the half works on the world: its core has the image and the claims, it knows what changed since the last record, and
+  -- the records that wait are the last of those that were sealed
+  pub record WorksOn (w : StoreWorld) (table : TableData F) : Type 0 where
+    pub running : w.world.mode ≡ Running
+    pub working : table.failed ≡ false
+    pub version : table.version ≡ head.version
+    pub image : HasImage w.world.image table.core
+    pub claims : (hand : ℕ) → w.claims hand ≡ (state_of a table).claims hand
+    pub base : IsBase w table.core
+    pub sealed : length w.world.sealed ≡ table.sealed
+    pub handed : List Entry
+    pub waits : contents w.world.sealed ≡ handed ++ table.waiting
+
+module _ {F L : Type 0} (a : Analysis F L) (old new : TableData F) where
+  -- over each world that acts led to, and on which the half worked, the act may be done, and the half works on the world after it
+  abbrev pub IsAct : ((head : Head) → StoreAct a head) → Type 0
+  IsAct act = (head : Head) (w : StoreWorld a head) → IsReached a head w → WorksOn a head w old
+      → MayDo a head w (act head) × WorksOn a head (after_act a head w (act head)) new
+
+  -- and so may some acts, one after the other, that are such as is told
+  abbrev pub AreActs : ((head : Head) → List (StoreAct a head) → Type 0) → Type 0
+  AreActs Are = (head : Head) (w : StoreWorld a head) → IsReached a head w → WorksOn a head w old
+      → (acts : List (StoreAct a head)) × Are head acts × MayDoAll a head w acts × WorksOn a head (after_acts a head w acts) new

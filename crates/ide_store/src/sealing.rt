@@ -1,0 +1,148 @@
+//! What is sealed: the records of loads and of roots, and of the keys that changed.
+ghost use Rattle.std.specs.Prelude.{◌≡◌, ◌<◌, None, false, Ok, option_map, IfErr, IfOk, IfSome, OnErr, OnOk};
+ghost use Rattle.ide_batch.specs.Records as records;
+ghost use Rattle.ide_journal.specs.Lists.{entry_of};
+ghost use Rattle.ide_text.specs.Parsed.{IsParsed};
+ghost use Rattle.ide_text.specs.Program.{text_of, value_of};
+ghost use Rattle.ide_store.specs.Acting.{SpellsFirst, SpellsRecord};
+ghost use Rattle.ide_store.specs.Table.{IsSameTable};
+ghost use Rattle.ide_store.specs.TableCalls.{BeginsRoot, FindsNothing, IsLoadStop, IsRefusal, IsRootStop, IsSealStop, LoadsProgram, SealsBatch};
+
+use crate::kept::Kept;
+use crate::laws::calls_are_acts;
+use crate::outbox::Ticket;
+use crate::table::TableHalf;
+use crate::writer::MOST_RECORDS;
+use ide_batch::{Record, may_be_spelled, to_raw};
+use ide_journal::RawRecord;
+use ide_problem::Problem;
+use ide_steps::cores_are_whole;
+use ide_text::{Program, parsing_and_printing_undo_each_other, print};
+use ide_wire::Refused;
+
+impl<P: Problem> TableHalf<P> {
+    /// Seals what changed since the last record, and answers its number: none where nothing did.
+    ///
+    /// Refusals, in this order: `Failed`; `Limit`, where 4,294,967,295 records are sealed, or a key that
+    /// changed has the always-top function, which no record spells; `NoMemory`. Nothing is sealed then.
+    pub fn seal(&mut self) -> Result<Option<Ticket>, Refused>
+        ensures seals { IfOk result (λ sealed. IfSome sealed (λ ticket. SealsBatch ⟦<P as Kept>⟧.analysis self.old self.new ticket.number)) }
+        ensures nothing { result ≡ Ok None → FindsNothing ⟦<P as Kept>⟧.analysis self.old self.new }
+        ensures working { OnOk result (self.old.failed ≡ false) }
+        ensures refused { IfErr result (IsRefusal self.old (IsSealStop ⟦<P as Kept>⟧.analysis self.old)) }
+        ensures unchanged { OnErr result (IsSameTable self.old self.new) }
+    {
+        calls_are_acts::<P>();
+        cores_are_whole(&self.core);
+        if self.failed {
+            return Err(Refused::Failed);
+        }
+        let Some(batch) = self.batch()? else {
+            return Ok(None);
+        };
+        self.outbox.reserve(1)?;
+        let _ = self.core.take_changes();
+        Ok(Some(self.outbox.push(batch)))
+    }
+
+    /// Loads a program, and seals its record: its number is answered. What was not sealed is dropped, as
+    /// the image is.
+    ///
+    /// Refusals, in this order: `Failed`; `Limit`, where 4,294,967,295 records are sealed; `NoMemory`.
+    /// Nothing is loaded then, and the program is dropped.
+    pub fn load(&mut self, program: Program) -> Result<Ticket, Refused>
+        ensures loads { IfOk result (λ ticket. LoadsProgram ⟦<P as Kept>⟧.analysis (value_of program) self.old self.new ticket.number) }
+        ensures working { OnOk result (self.old.failed ≡ false) }
+        ensures refused { IfErr result (IsRefusal self.old (IsLoadStop self.old)) }
+        ensures unchanged { OnErr result (IsSameTable self.old self.new) }
+    {
+        calls_are_acts::<P>();
+        cores_are_whole(&self.core);
+        if self.failed {
+            return Err(Refused::Failed);
+        }
+        if self.outbox.sealed >= MOST_RECORDS {
+            return Err(Refused::Limit);
+        }
+        let raw = self.load_record(&program)?;
+        self.outbox.reserve(1)?;
+        self.core.load(program)?;
+        Ok(self.outbox.push(raw))
+    }
+
+    /// Makes the procedure of that name a root. What changed is sealed first, if anything did, and then
+    /// the root's record, whose number is answered.
+    ///
+    /// Refusals, in this order: `Failed`; those of [`Core::root`] but for want of memory; `Limit`, where
+    /// there is no number left for two records, or as of [`TableHalf::seal`]; `NoMemory`. Nothing is
+    /// sealed then.
+    pub fn root(&mut self, name: &[u8]) -> Result<Ticket, Refused>
+        ensures begins { IfOk result (λ ticket. BeginsRoot ⟦<P as Kept>⟧.analysis name.now self.old self.new ticket.number) }
+        ensures working { OnOk result (self.old.failed ≡ false) }
+        ensures refused { IfErr result (IsRefusal self.old (IsRootStop ⟦<P as Kept>⟧.analysis self.old name.now)) }
+        ensures unchanged { OnErr result (IsSameTable self.old self.new) }
+    {
+        calls_are_acts::<P>();
+        cores_are_whole(&self.core);
+        if self.failed {
+            return Err(Refused::Failed);
+        }
+        let _ = self.core.root_of(name)?;
+        if self.outbox.sealed >= MOST_RECORDS - 1 {
+            return Err(Refused::Limit);
+        }
+        let first = self.batch()?;
+        let raw = self.root_record(name)?;
+        self.outbox.reserve(2)?;
+        self.core.root(name)?;
+        let _ = self.core.take_changes();
+        Ok(self.outbox.push_behind(first, raw))
+    }
+
+    /// The record of what changed since the last one, if anything did.
+    fn batch(&self) -> Result<Option<RawRecord>, Refused>
+        ensures spells { IfOk result (λ raw. SpellsFirst ⟦<P as Kept>⟧.analysis self.now (option_map entry_of raw)) }
+        ensures room { IfOk result (λ raw. IfSome raw (λ _. self.now.sealed < 4294967295)) }
+        ensures refused { IfErr result (IsSealStop ⟦<P as Kept>⟧.analysis self.now) }
+    {
+        if self.core.changed_count() > 0 && self.outbox.sealed >= MOST_RECORDS {
+            return Err(Refused::Limit);
+        }
+        let items = self.core.changed_items()?;
+        if items.is_empty() {
+            return Ok(None);
+        }
+        let change = Record::Batch(items);
+        if !may_be_spelled(&change) {
+            return Err(Refused::Limit);
+        }
+        let raw = to_raw(self.alloc, &change, self.version)?;
+        Ok(Some(raw))
+    }
+
+    /// The record of a load of the program.
+    fn load_record(&self, program: &Program) -> Result<RawRecord, Refused>
+        ensures spells { IfOk result (λ raw. SpellsRecord ⟦<P as Kept>⟧.analysis self.now (records.Load (text_of program.now)) (entry_of raw)) }
+        ensures parsed { IsParsed (text_of program.now) program.now }
+        ensures refused { IfErr result (λ e. e ≡ Refused.NoMemory) }
+    {
+        parsing_and_printing_undo_each_other();
+        let mut text = Vec::new(self.alloc);
+        print(program, &mut text)?;
+        to_raw(self.alloc, &Record::<P::F>::Load(text), self.version)
+    }
+
+    /// The record of a root of that name.
+    fn root_record(&self, name: &[u8]) -> Result<RawRecord, Refused>
+        ensures spells { IfOk result (λ raw. SpellsRecord ⟦<P as Kept>⟧.analysis self.now (records.Root name.now) (entry_of raw)) }
+        ensures refused { IfErr result (IsRootStop ⟦<P as Kept>⟧.analysis self.now name.now) }
+    {
+        let mut copy = Vec::new(self.alloc);
+        copy.extend_from_slice(name)?;
+        let change = Record::<P::F>::Root(copy);
+        if !may_be_spelled(&change) {
+            return Err(Refused::Limit);
+        }
+        to_raw(self.alloc, &change, self.version)
+    }
+}

@@ -1,0 +1,183 @@
+//! The half of a store that works: the core, and the records of what it did that wait for the writer.
+ghost use Rattle.std.specs.Prelude.{◌≡◌, ◌≤◌, ◌↔◌, length, slice_get, false, true, Ok, IfErr, IsTrue, OnErr, OnOk};
+ghost use Rattle.ide_steps.specs.Changed.{ended_key};
+ghost use Rattle.ide_steps.specs.ClaimRefusal.{IsClaimRefusal};
+ghost use Rattle.ide_steps.specs.Claiming.{FindsIdle, FindsQuiet, IfTask};
+ghost use Rattle.ide_steps.specs.Drain.{HasDonePart};
+ghost use Rattle.ide_steps.specs.Steps.{FindsNone, HasReceived, LowersPart, SkipsPart};
+ghost use Rattle.ide_worklist.specs.Worklist.{claim_at};
+ghost use Rattle.ide_store.specs.Table.{IsSameTable};
+ghost use Rattle.ide_store.specs.TableCalls.{DoesPart, EndOverflows, EndsClaim, HasRoomForEnd, HasRoomForPart, PartOverflows, GivesClaimBack, IsFinishStop, IsPartStop, IsRefusal, IsStaleClaim, TakesTask};
+
+use crate::kept::Kept;
+use crate::laws::calls_are_acts;
+use crate::outbox::Outbox;
+use ide_journal::Version;
+use ide_lattice::EdgeFn;
+use ide_problem::Problem;
+use ide_steps::{Claimed, Core, Parted, cores_are_whole};
+use ide_tasks::Work;
+use ide_wire::{Key, Refused};
+use std::alloc::Global;
+use std::marker::Model;
+
+/// The most keys of which changes are noted: those of one batch.
+const MOST_CHANGED: usize = 65_536;
+
+/// A core whose changes are noted, and the sealed records that the writer does not have yet.
+#[derive(Drop)]
+pub struct TableHalf<P: Problem> {
+    pub(crate) alloc: Global,
+    pub(crate) core: Core<P>,
+    pub(crate) version: Version,
+    pub(crate) outbox: Outbox,
+    pub(crate) failed: bool,
+}
+
+impl<P: Problem> Model for TableHalf<P> {
+    ghost use Rattle.ide_journal.specs.Lists.{entries_of};
+    ghost use Rattle.ide_store.specs.Table.{IsTable, TableData};
+
+    ghost Value = { TableData P.F };
+
+    ghost view = { λ t. record { core = t.core; version = t.version; sealed = t.outbox.sealed; waiting = entries_of t.outbox.waiting.items; failed = t.failed } };
+
+    ghost invariant = { λ t. IsTable t.core t.outbox.sealed (entries_of t.outbox.waiting.items) };
+}
+
+impl<P: Problem> TableHalf<P> {
+    /// The core, to be read.
+    pub fn core(&self) -> &Core<P>
+        ensures { result.now ≡ self.now.core }
+    {
+        &self.core
+    }
+
+    /// Claims a pending key that no hand has claimed. The work of the task that it answers is not stale.
+    ///
+    /// Refusals, in this order: `Failed`; those of [`Core::claim`].
+    pub fn claim(&mut self, hand: usize) -> Result<Claimed<P>, Refused>
+        ensures task { IfTask result (TakesTask ⟦<P as Kept>⟧.analysis hand self.old self.new) }
+        ensures idle { result ≡ Ok Claimed.Idle → FindsIdle self.old.core self.new.core }
+        ensures quiet { result ≡ Ok Claimed.Quiet → FindsQuiet self.old.core self.new.core }
+        ensures working { OnOk result (self.old.failed ≡ false) }
+        ensures refused { IfErr result (IsRefusal self.old (IsClaimRefusal self.old.core hand)) }
+        ensures unchanged { OnErr result (IsSameTable self.old self.new) }
+    {
+        calls_are_acts::<P>();
+        cores_are_whole(&self.core);
+        if self.failed {
+            return Err(Refused::Failed);
+        }
+        self.core.claim(hand)
+    }
+
+    /// Does the next part of the hand's work.
+    ///
+    /// Refusals, in this order: `Failed`; `Stale`, as of [`Core::part`]; `Limit`, where the part would
+    /// change a key beyond 65,536 changed ones: seal, then repeat it; `NoMemory`.
+    pub fn part(&mut self, hand: usize, work: &mut Work<P>) -> Result<Parted, Refused>
+        ensures lowered { result ≡ Ok Parted.Lowered → LowersPart P.targets P.F.edge hand self.old.core self.new.core work.old work.new }
+        ensures same { result ≡ Ok Parted.Same → SkipsPart P.targets P.F.edge hand self.old.core self.new.core work.old work.new }
+        ensures part { HasDonePart result → DoesPart ⟦<P as Kept>⟧.analysis hand self.old self.new work.old work.new }
+        ensures no_part { result ≡ Ok Parted.NoPart → FindsNone self.old.core self.new.core work.old work.new }
+        ensures working { OnOk result (self.old.failed ≡ false) }
+        ensures refused { IfErr result (IsRefusal self.old (IsPartStop P.targets P.F.edge self.old.core hand work.old)) }
+        ensures unchanged { OnErr result (IsSameTable self.old self.new × (work.new ≡ work.old)) }
+    {
+        calls_are_acts::<P>();
+        if self.failed {
+            return Err(Refused::Failed);
+        }
+        if self.part_overflows(hand, work) {
+            return Err(Refused::Limit);
+        }
+        self.core.part(hand, work)
+    }
+
+    /// Ends the hand's claim with all its parts done.
+    ///
+    /// Refusals, in this order: `Failed`; `Stale`, as of [`Core::finish`]; `Limit`, where the end would
+    /// change a key beyond 65,536 changed ones: seal, then repeat it; `NoMemory`.
+    pub fn finish(&mut self, hand: usize, work: &Work<P>) -> Result<(), Refused>
+        ensures ends { OnOk result (EndsClaim ⟦<P as Kept>⟧.analysis hand self.old self.new) }
+        ensures working { OnOk result (self.old.failed ≡ false) }
+        ensures refused { IfErr result (IsRefusal self.old (IsFinishStop P.targets P.F.edge self.old.core hand work.now)) }
+        ensures unchanged { OnErr result (IsSameTable self.old self.new) }
+    {
+        calls_are_acts::<P>();
+        if self.failed {
+            return Err(Refused::Failed);
+        }
+        if self.end_overflows(hand, work) {
+            return Err(Refused::Limit);
+        }
+        self.core.finish(hand, work)
+    }
+
+    /// Gives the hand's claim back. It takes no memory.
+    ///
+    /// Refusals, in this order: `Failed`; `Stale` where the hand has no claim.
+    pub fn release(&mut self, hand: usize) -> Result<(), Refused>
+        ensures gives { OnOk result (GivesClaimBack ⟦<P as Kept>⟧.analysis hand self.old self.new) }
+        ensures working { OnOk result (self.old.failed ≡ false) }
+        ensures refused { IfErr result (IsRefusal self.old (IsStaleClaim self.old hand)) }
+        ensures unchanged { OnErr result (IsSameTable self.old self.new) }
+    {
+        calls_are_acts::<P>();
+        if self.failed {
+            return Err(Refused::Failed);
+        }
+        self.core.release(hand)
+    }
+
+    /// Whether as many keys are noted as a batch may have, and the work's next part would change another
+    /// one. Staleness is told first, and only then: it takes time.
+    fn part_overflows(&self, hand: usize, work: &Work<P>) -> bool
+        ensures yes { IsTrue result → PartOverflows P.targets P.F.edge self.now.core hand work.now }
+        ensures no { result ≡ false → HasRoomForPart P.targets P.F.edge self.now.core hand work.now }
+    {
+        if self.core.changed_count() < MOST_CHANGED {
+            return false;
+        }
+        if !self.core.is_current(hand, work) {
+            return false;
+        }
+        let Some(part) = work.next() else {
+            return false;
+        };
+        if self.core.is_changed(part.0) {
+            return false;
+        }
+        !self.has_received(part.0, part.1)
+    }
+
+    /// Whether to meet the key's function with this one changes nothing.
+    fn has_received(&self, key: Key, function: P::F) -> bool
+        ensures { IsTrue result ↔ HasReceived P.targets P.F.edge self.now.core key function }
+    {
+        let before = self.core.get(key).unwrap_or(P::F::all_top());
+        before.meet(function) == before
+    }
+
+    /// Whether as many keys are noted as a batch may have, and the end of the hand's claim would change
+    /// another one.
+    fn end_overflows(&self, hand: usize, work: &Work<P>) -> bool
+        ensures yes { IsTrue result → EndOverflows P.targets P.F.edge self.now.core hand work.now }
+        ensures no { result ≡ false → HasRoomForEnd P.targets P.F.edge self.now.core hand work.now }
+    {
+        if self.core.changed_count() < MOST_CHANGED {
+            return false;
+        }
+        if !self.core.is_current(hand, work) {
+            return false;
+        }
+        if work.next().is_some() {
+            return false;
+        }
+        match self.core.claim_of(hand) {
+            Some(claim) => !claim.lowered && !self.core.is_changed(claim.key),
+            None => false,
+        }
+    }
+}
