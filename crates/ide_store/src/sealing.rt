@@ -23,8 +23,9 @@ use ide_wire::Refused;
 impl<P: Problem> TableHalf<P> {
     /// Seals what changed since the last record, and answers its number: none where nothing did.
     ///
-    /// Refusals, in this order: `Failed`; `Limit`, where 4,294,967,295 records are sealed, or a key that
-    /// changed has the always-top function, which no record spells; `NoMemory`. Nothing is sealed then.
+    /// Refusals, in this order: `Failed`; `Limit`, where something changed and 4,294,967,295 records are
+    /// sealed, or a key that changed has a function that no record spells; `NoMemory`. Nothing is sealed
+    /// then.
     pub fn seal(&mut self) -> Result<Option<Ticket>, Refused>
         ensures seals { IfOk result (λ sealed. IfSome sealed (λ ticket. SealsBatch ⟦<P as Kept>⟧.analysis self.old self.new ticket.number)) }
         ensures nothing { result ≡ Ok None → FindsNothing ⟦<P as Kept>⟧.analysis self.old self.new }
