@@ -58,10 +58,10 @@ impl<P: Problem> Core<P> {
         ensures root { IfOk result (IsRootNow self.now.graph self.now.roots name.now) }
         ensures refused { IfErr result (IsNoRoot self.now.graph self.now.roots name.now) }
     {
-        let Some(loaded) = &self.loaded else {
-            return Err(Refused::NoProgram);
-        };
-        find_root(&loaded.graph, self.roots.as_slice(), name)
+        match &self.loaded {
+            Some(loaded) => find_root(&loaded.graph, self.roots.as_slice(), name),
+            None => Err(Refused::NoProgram),
+        }
     }
 
     /// The jumps of the first `entries` facts of the start to themselves that are absent, each with

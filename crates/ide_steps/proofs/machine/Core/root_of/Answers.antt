@@ -4,11 +4,11 @@ use Rattle.std.specs.Prelude.{IfErr}
 use Rattle.ide_steps.proofs.Refusing.{no-root-of-fault}
 use Rattle.ide_steps.proofs.machine.Core.root_of.Goals as goal
 
-pub returns-in_default-clause-refused : goal.returns-in_default-clause-refused
-returns-in_default-clause-refused g c = record { why = no_program (search rules); not_memory = λ is. cc (is) }
+pub returns-in-None-clause-refused : goal.returns-in-None-clause-refused
+returns-in-None-clause-refused g c = record { why = no_program (search rules); not_memory = λ is. cc (is) }
 
-pub returns-clause-refused : goal.returns-clause-refused
-returns-clause-refused g c =
+pub returns-in-Some-clause-refused : goal.returns-in-Some-clause-refused
+returns-in-Some-clause-refused g c =
     let graph = c.deref.result.now.graph in
     let is : c.args.self.now.graph ≡ Some graph = search rules in
     let roots : c.as_slice.result.now ≡ c.args.self.now.roots = search rules in
