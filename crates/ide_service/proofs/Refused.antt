@@ -12,7 +12,7 @@ use Rattle.ide_lattice.specs.Algebra.{LatticeAlgebra, EdgeAlgebra}
 use Rattle.ide_problem.specs.Flow.{Targets}
 use Rattle.ide_steps.specs.CloseRefusal.{CloseFault, no_program as close_without, unfinished as waiting}
 use Rattle.ide_steps.specs.Core.{CoreData}
-use Rattle.ide_steps.specs.DrainRefusal.{IsDrainRefusal, busy as at_work, memory as drain_memory, no_program as drain_without, unfinished as others_at_work}
+use Rattle.ide_steps.specs.DrainRefusal.{IsDrainRefusal, busy as at_work, memory as drain_memory, no_drain, no_program as drain_without, unfinished as others_at_work}
 use Rattle.ide_steps.specs.Going.{GoesOn}
 use Rattle.ide_steps.specs.Refusal.{IsRootRefusal, fault as root_fault, memory as wants, no_program as no_program_loaded}
 use Rattle.ide_text.specs.Parsed.{IsParsed, IsRefusalOf}
@@ -91,9 +91,9 @@ module _ {F L : Type 0} (A : LatticeAlgebra L) (B : EdgeAlgebra F L) (targets : 
   -- a core that is started is drained, but for want of memory
   pub drain-refused : (text : List ℕ) (names : List (List ℕ)) (core : CoreData F) (graph : Supergraph) {refused : Refused}
       → IsPrepared A B targets text names core graph → IsDrainRefusal core refused → refused ≡ NoMemory
-  drain-refused text names core graph is (drain_without unloaded) = absurd (true≢false (sym (ap is_some is.is) ∙ unloaded))
-  drain-refused text names core graph is (at_work loaded claimed) = absurd (true≢false (sym claimed ∙ ap is_some (is.unclaimed 0)))
-  drain-refused text names core graph is (others_at_work loaded free hand other claimed) = absurd (true≢false (sym claimed ∙ ap is_some (is.unclaimed hand)))
+  drain-refused text names core graph is (no_drain (drain_without unloaded)) = absurd (true≢false (sym (ap is_some is.is) ∙ unloaded))
+  drain-refused text names core graph is (no_drain (at_work loaded claimed)) = absurd (true≢false (sym claimed ∙ ap is_some (is.unclaimed 0)))
+  drain-refused text names core graph is (no_drain (others_at_work loaded free hand other claimed)) = absurd (true≢false (sym claimed ∙ ap is_some (is.unclaimed hand)))
   drain-refused text names core graph is (drain_memory may) = refl
 
   -- and once it is quiet it is closed

@@ -55,6 +55,10 @@ module _ {F L : Type 0} (B : EdgeAlgebra F L) where
   abbrev pub IsStill : ℕ → (old new : CoreData F) → Type 0
   IsStill hand old new = (potential new ≡ potential old) × (ends_key (claim_at new.pile hand) ≡ ends_key (claim_at old.pile hand))
 
+  -- there is less to do than before, or as much
+  abbrev pub HasNoMore : ℕ → (old new : CoreData F) → Type 0
+  HasNoMore hand old new = (HasLess old new) ⊎ (IsStill hand old new)
+
 -- a part that lowered its key is one lowering
 abbrev pub lowerings_by : Parted → ℕ
 lowerings_by Lowered = 1

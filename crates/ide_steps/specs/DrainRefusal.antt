@@ -10,10 +10,14 @@ pub record MayDrain {F : Type 0} (core : CoreData F) : Type 0 where
   pub loaded : is_loaded core ≡ true
   pub free : IsFree core.pile
 
--- why it may not; or it may, and memory is wanting
-pub data IsDrainRefusal {F : Type 0} (core : CoreData F) : Refused → Type 0 where
-  no_program : is_loaded core ≡ false → IsDrainRefusal core NoProgram
-  busy : is_loaded core ≡ true → IsSome (claim_at core.pile 0) → IsDrainRefusal core Busy
+-- why it may not
+pub data IsNoDrain {F : Type 0} (core : CoreData F) : Refused → Type 0 where
+  no_program : is_loaded core ≡ false → IsNoDrain core NoProgram
+  busy : is_loaded core ≡ true → IsSome (claim_at core.pile 0) → IsNoDrain core Busy
   unfinished : is_loaded core ≡ true → claim_at core.pile 0 ≡ None
-      → (hand : ℕ) → nat_eq 0 hand ≡ false → IsSome (claim_at core.pile hand) → IsDrainRefusal core Unfinished
+      → (hand : ℕ) → nat_eq 0 hand ≡ false → IsSome (claim_at core.pile hand) → IsNoDrain core Unfinished
+
+-- why it is not drained: it may not; or it may, and memory is wanting
+pub data IsDrainRefusal {F : Type 0} (core : CoreData F) : Refused → Type 0 where
+  no_drain : {refused : Refused} → IsNoDrain core refused → IsDrainRefusal core refused
   memory : MayDrain core → IsDrainRefusal core NoMemory

@@ -1,8 +1,9 @@
 //! All steps that are left, by one hand.
-ghost use Rattle.std.specs.Prelude.{◌≡◌, ℕ, ◌-◌, ◌^◌, ◌<◌, ◌⊎◌, [], true, false, nat_eq, min, if◌then◌else◌, Ok, Some, None, IfErr, IfOk, OnOk, IsOkUnless};
+ghost use Rattle.std.specs.Prelude.{◌≡◌, ℕ, ◌-◌, ◌^◌, ◌<◌, ◌⊎◌, [], true, false, nat_eq, min, if◌then◌else◌, Ok, Some, None, IfErr, IfOk, OnErr, OnOk, IsOkUnless};
 ghost use Rattle.ide_steps.specs.Changed.{Remembers};
-ghost use Rattle.ide_steps.specs.Core.{is_loaded, AreInside};
-ghost use Rattle.ide_steps.specs.DrainRefusal.{IsDrainRefusal, MayDrain};
+ghost use Rattle.ide_steps.specs.Claiming.{FindsQuiet, FindsTask, KeepsAllBut};
+ghost use Rattle.ide_steps.specs.Core.{is_loaded, AreInside, IsUnchanged};
+ghost use Rattle.ide_steps.specs.DrainRefusal.{IsDrainRefusal, IsNoDrain, MayDrain};
 ghost use Rattle.ide_steps.specs.Drain.{AreOthersFree, ClaimsTask, Drains, ForTask, HasLess, RunsTask, RunsWork, StayOthersFree};
 ghost use Rattle.ide_steps.specs.Going.{GoesOn};
 ghost use Rattle.ide_steps.specs.Room.{AreTasksFew};
@@ -41,6 +42,23 @@ impl<P: Problem> Core<P> {
         ensures remembers { Remembers self.old self.new }
         ensures unchanged { IfErr result (λ e. (e ≡ Refused.NoMemory) ⊎ (self.new ≡ self.old)) }
     {
+        self.may_drain()?;
+        let drained = self.run_all();
+        images_have_room::<P>();
+        cores_are_whole(self);
+        if drained.is_err() {
+            let _ = self.release(DRAINING);
+        }
+        drained
+    }
+
+    /// Whether it may be drained: a program is loaded, and no hand has a claim.
+    ///
+    /// Refusals: those of [`Core::drain`] but for `NoMemory`.
+    pub fn may_drain(&self) -> Result<(), Refused>
+        ensures may { OnOk result (MayDrain self.now) }
+        ensures refused { IfErr result (IsNoDrain self.now) }
+    {
         if self.loaded.is_none() {
             return Err(Refused::NoProgram);
         }
@@ -50,13 +68,7 @@ impl<P: Problem> Core<P> {
         if self.worklist.claimed_elsewhere(DRAINING) {
             return Err(Refused::Unfinished);
         }
-        let drained = self.run_all();
-        images_have_room::<P>();
-        cores_are_whole(self);
-        if drained.is_err() {
-            let _ = self.release(DRAINING);
-        }
-        drained
+        Ok(())
     }
 
     /// Runs tasks until none is left, and counts them, up to the largest number of 64 bits.
@@ -103,13 +115,18 @@ impl<P: Problem> Core<P> {
         }
     }
 
-    /// Claims the next task, or none where no key is pending. It is a step, as the task owes what a
-    /// claim of its key does.
-    fn take_next(&mut self) -> Result<Option<Task<P>>, Refused>
+    /// Claims the next task as hand 0, where no hand has a claim: none where no key is pending. It is a
+    /// step, as the task owes what a claim of its key does.
+    ///
+    /// Refusal: `NoMemory`.
+    pub fn take_next(&mut self) -> Result<Option<Task<P>>, Refused>
         requires loaded { is_loaded self.old ≡ true }
         requires free { IsFree self.old.pile }
         ensures refused { IsOkUnless result Refused.NoMemory }
-        ensures quiet { result ≡ Ok None → self.new.pile.pending ≡ [] }
+        ensures task { ForTask result (FindsTask P.targets P.F.edge 0 self.old self.new) }
+        ensures quiet { result ≡ Ok None → FindsQuiet self.old self.new }
+        ensures keeps { KeepsAllBut 0 self.old self.new }
+        ensures unchanged { OnErr result (IsUnchanged self.old self.new) }
         ensures same { (self.new.table ≡ self.old.table) × (self.new.pile.pending ≡ self.old.pile.pending) }
         ensures fresh { ForTask result (λ _. ends_key (claim_at self.new.pile 0) ≡ true) }
         ensures progress { ForTask result (λ task. progress_at self.new.pile 0 ≡ Some (task, 0)) }

@@ -37,7 +37,8 @@ use Rattle.ide_store.specs.Answers.{GraphBy, frame_by}
 use Rattle.ide_store.specs.Hands.{Batches}
 use Rattle.ide_store.specs.Machine.{Does, ProgramStep, machine}
 use Rattle.ide_store.specs.OneDisk.{one_disk}
-use Rattle.ide_store.specs.Table.{Analysis, HasNothingNew, IsAct, IsReached, MayDo, StoreWorld, TableData, WorksOn, forms_of, told}
+use Rattle.ide_store.specs.Table.{Analysis, HasNothingNew, IsAct, IsReached, KeepsRest, MayDo, StoreWorld, TableData, WorksOn, forms_of, told}
+use Rattle.ide_store.specs.TableCalls.{FindsNothing}
 use Rattle.ide_store.specs.World.{IsFolded, Rules, Sealed, contents}
 
 module _ {F L : Type 0} (a : Analysis F L) where
@@ -181,13 +182,48 @@ module _ {F L : Type 0} (a : Analysis F L) where
         } in
         folded_pushed (rules_at head) w.world.sealed entry (length w.world.history) works.base.image w.world.image works.base.folded does
 
-  -- where no item changed, nothing is new
+  -- where no item changed, entries are as the records give them back
+  still_entries : Knows a → (table : TableData F) → IsWhole table.core → AreChangedItems table.core []
+      → (head : Head) (w : StoreWorld a head) → IsReached a head w → (works : WorksOn a head w table)
+      → (key : Key) → entry_at works.base.image key ≡ entry_at w.world.image key
+  still_entries knows table whole unchanged head w reached works key = changes_told knows head w reached table works whole [] unchanged key
+
+  -- so nothing is new
   pub finds_nothing : Knows a → (table : TableData F) → IsWhole table.core → AreChangedItems table.core []
       → (head : Head) (w : StoreWorld a head) → IsReached a head w → WorksOn a head w table → HasNothingNew a head w
   finds_nothing knows table whole unchanged head w reached works = record {
     base = works.base.image;
     folded = works.base.folded;
-    entries = λ key. changes_told knows head w reached table works whole [] unchanged key;
+    entries = still_entries knows table whole unchanged head w reached works;
+  }
+
+  -- and notes may begin anew
+  pub forgets_nothing : Knows a → (old new : TableData F) → IsWhole old.core → AreChangedItems old.core [] → KeepsRest old new
+      → BeginsAnew old.core new.core → FindsNothing a old new
+  forgets_nothing knows old new whole unchanged rest anew = record {
+    rest = rest;
+    caught_up = λ head w reached works.
+        let still = still_entries knows old whole unchanged head w reached works in
+        let has : HasImage w.world.image new.core = has_anew w.world.image old.core new.core anew works.image in (
+          record { base = works.base.image; folded = works.base.folded; entries = still },
+          record {
+            running = works.running;
+            working = rest.failed ∙ works.working;
+            version = rest.version ∙ works.version;
+            image = has;
+            claims = λ hand. works.claims hand ∙ ap (λ (core : CoreData F). (core_state a.targets a.functions core).claims hand) (sym anew);
+            base = record {
+              image = works.base.image;
+              folded = works.base.folded;
+              program = works.base.program;
+              roots = works.base.roots;
+              entries = λ key. still key ∙ entries_anew w.world.image new.core has (ap (λ (core : CoreData F). core.changes) anew) key;
+            };
+            sealed = works.sealed ∙ sym rest.sealed;
+            handed = works.handed;
+            waits = works.waits ∙ ap (λ (more : List Entry). works.handed ++ more) (sym rest.waiting);
+          },
+        );
   }
 
   -- the record of the items that changed is sealed

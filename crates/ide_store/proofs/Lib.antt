@@ -24,3 +24,5 @@ pub mod Stepping
 pub mod Begins
 pub mod Said
 pub mod Opened
+pub mod Drained
+pub mod Frozen

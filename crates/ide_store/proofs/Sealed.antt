@@ -20,7 +20,7 @@ use Rattle.ide_text.specs.Program.{value_of}
 use Rattle.ide_text.specs.declared.program.Program.{Program}
 use Rattle.ide_wire.specs.declared.key.Key.{Key}
 use Rattle.ide_store.specs.Acting.{BeginsAnew, CallsAreActs, SpellsChanges, SpellsFirst, SpellsRecord, WaitsFor}
-use Rattle.ide_store.specs.Table.{Analysis, IsTable, TableData}
+use Rattle.ide_store.specs.Table.{Analysis, IsTable, KeepsRest, TableData}
 use Rattle.ide_store.specs.TableCalls.{BeginsRoot, FindsNothing, LoadsProgram, SealsBatch, behind_first}
 
 -- who noted changes notes them anew
@@ -91,13 +91,11 @@ module _ {F L : Type 0} (a : Analysis F L) (acts : CallsAreActs a) (old new : Ta
   }
 
   -- nothing is sealed, since nothing changed
-  pub seals_nothing : (raw : Option RawRecord) → new ≡ old → raw ≡ None → SpellsFirst a now (option_map entry_of raw) → FindsNothing a old new
-  seals_nothing raw same none first = record {
-    nothing = same;
-    caught_up =
-        acts.nothing old whole (subst (λ (o : Option RawRecord). SpellsFirst a old (option_map entry_of o)) none
-        (subst (λ (t : TableData F). SpellsFirst a t (option_map entry_of raw)) (sym is_now) first));
-  }
+  pub seals_nothing : (raw : Option RawRecord) → raw ≡ None → SpellsFirst a now (option_map entry_of raw) → KeepsRest old new
+      → BeginsAnew old.core new.core → FindsNothing a old new
+  seals_nothing raw none first rest anew =
+      acts.nothing old new whole (subst (λ (o : Option RawRecord). SpellsFirst a old (option_map entry_of o)) none
+      (subst (λ (t : TableData F). SpellsFirst a t (option_map entry_of raw)) (sym is_now) first)) rest anew
 
   -- a root begins, behind what changed
   pub begins_root : (name : List ℕ) (first : Option Entry) (entry : Entry) (mid : CoreData F) (number : ℕ) → SpellsFirst a now first

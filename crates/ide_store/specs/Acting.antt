@@ -6,7 +6,7 @@ use Rattle.ide_batch.specs.Bodies.{IsEntryOf}
 use Rattle.ide_batch.specs.Items.{Item}
 use Rattle.ide_batch.specs.Records as records
 use Rattle.ide_batch.specs.Records.{RecordValue}
-use Rattle.ide_journal.specs.Format.{Entry, Head, IsEntry}
+use Rattle.ide_journal.specs.Format.{Entry, IsEntry}
 use Rattle.ide_steps.specs.Changed.{Remembers}
 use Rattle.ide_steps.specs.Claiming.{FindsTask, KeepsAllBut}
 use Rattle.ide_steps.specs.Core.{CoreData, IsSameProblem}
@@ -21,8 +21,8 @@ use Rattle.ide_text.specs.Program.{value_of}
 use Rattle.ide_text.specs.declared.program.Program.{Program}
 use Rattle.ide_worklist.specs.Worklist.{claim_at}
 use Rattle.ide_store.specs.Hands.{Batches, Loads, Roots}
-use Rattle.ide_store.specs.Table.{Analysis, HasNothingNew, IsAct, IsReached, KeepsRest, StoreWorld, TableData, WorksOn, forms_of}
-use Rattle.ide_store.specs.TableCalls.{DoesPart, EndsClaim, GivesClaimBack, TakesTask, behind_first}
+use Rattle.ide_store.specs.Table.{Analysis, IsAct, KeepsRest, TableData, forms_of}
+use Rattle.ide_store.specs.TableCalls.{DoesPart, EndsClaim, FindsNothing, GivesClaimBack, TakesTask, behind_first}
 
 -- the entries that keys have are those from which changes are noted on, and all else stays
 abbrev pub BeginsAnew : {F : Type 0} → (old new : CoreData F) → Type 0
@@ -78,5 +78,5 @@ pub record CallsAreActs {F L : Type 0} (a : Analysis F L) : Type 0 where
       → WaitsFor (behind_first first entry) old new → IsAct a old new (λ head. Roots name first entry)
   pub batch : (entry : Entry) (old new : TableData F) → IsWhole old.core → SpellsChanges a old entry → old.sealed < 4294967295
       → WaitsFor (entry ∷ []) old new → BeginsAnew old.core new.core → IsAct a old new (λ head. Batches entry)
-  pub nothing : (table : TableData F) → IsWhole table.core → AreChangedItems table.core []
-      → (head : Head) (w : StoreWorld a head) → IsReached a head w → WorksOn a head w table → HasNothingNew a head w
+  pub nothing : (old new : TableData F) → IsWhole old.core → AreChangedItems old.core [] → KeepsRest old new → BeginsAnew old.core new.core
+      → FindsNothing a old new

@@ -2,7 +2,9 @@ pub mod Acting
 pub mod Answers
 pub mod Half
 pub mod Hands
+pub mod Draining
 pub mod Engine
+pub mod Freezing
 pub mod Machine
 pub mod OneDisk
 pub mod Opening

@@ -21,7 +21,7 @@ use Rattle.ide_wire.specs.declared.refused.Refused.TheVariants.{Failed, Limit, N
 use Rattle.ide_worklist.specs.Worklist.{claim_at}
 use Rattle.ide_worklist.specs.declared.claim.Claim.{Claim as Held}
 use Rattle.ide_store.specs.Hands.{Batches, Claims, Ends, Loads, Parts, Releases, Roots}
-use Rattle.ide_store.specs.Table.{Analysis, HasNothingNew, IsAct, IsReached, StoreWorld, TableData, WorksOn, forms_of}
+use Rattle.ide_store.specs.Table.{Analysis, HasNothingNew, IsAct, IsReached, KeepsRest, StoreWorld, TableData, WorksOn, forms_of}
 
 -- one record more waits, with the number that is answered
 pub record SealsOne {F : Type 0} (old new : TableData F) (record_entry : Entry) (number : ℕ) : Type 0 where
@@ -70,8 +70,9 @@ module _ {F L : Type 0} (a : Analysis F L) where
 
   -- nothing changed since the last record, and nothing is sealed
   pub record FindsNothing (old new : TableData F) : Type 0 where
-    pub nothing : new ≡ old
-    pub caught_up : (head : Head) (w : StoreWorld a head) → IsReached a head w → WorksOn a head w old → HasNothingNew a head w
+    pub rest : KeepsRest old new
+    pub caught_up : (head : Head) (w : StoreWorld a head) → IsReached a head w → WorksOn a head w old
+        → HasNothingNew a head w × WorksOn a head w new
 
   -- the procedure of the name becomes a root; what changed is sealed first, if anything did, and then the root's record,
   -- whose number is answered

@@ -8,9 +8,10 @@
 //! crash may come between any two calls and within each, an opening's among them. The calls of the
 //! journal are the events of such a store (`specs/Writing`), and so are those of the half of a store
 //! that writes (`WriterHalf`, `specs/Half`). The calls of the half that works (`TableHalf`,
-//! `specs/TableCalls`) are what hands do. An [`Engine`] has both.
+//! `specs/TableCalls`, `specs/Draining`) are what hands do. An [`Engine`] has both.
 #![tactic(auto)]
 
+mod draining;
 mod engine;
 mod kept;
 mod laws;

@@ -4,8 +4,8 @@ ghost use Rattle.ide_batch.specs.Records as records;
 ghost use Rattle.ide_journal.specs.Lists.{entry_of};
 ghost use Rattle.ide_text.specs.Parsed.{IsParsed};
 ghost use Rattle.ide_text.specs.Program.{text_of, value_of};
-ghost use Rattle.ide_store.specs.Acting.{SpellsFirst, SpellsRecord};
-ghost use Rattle.ide_store.specs.Table.{IsSameTable};
+ghost use Rattle.ide_store.specs.Acting.{BeginsAnew, SpellsFirst, SpellsRecord};
+ghost use Rattle.ide_store.specs.Table.{IsSameTable, KeepsRest};
 ghost use Rattle.ide_store.specs.TableCalls.{BeginsRoot, FindsNothing, IsLoadStop, IsRefusal, IsRootStop, IsSealStop, LoadsProgram, SealsBatch};
 
 use crate::kept::Kept;
@@ -29,21 +29,15 @@ impl<P: Problem> TableHalf<P> {
     pub fn seal(&mut self) -> Result<Option<Ticket>, Refused>
         ensures seals { IfOk result (λ sealed. IfSome sealed (λ ticket. SealsBatch ⟦<P as Kept>⟧.analysis self.old self.new ticket.number)) }
         ensures nothing { result ≡ Ok None → FindsNothing ⟦<P as Kept>⟧.analysis self.old self.new }
+        ensures anew { OnOk result (BeginsAnew self.old.core self.new.core) }
         ensures working { OnOk result (self.old.failed ≡ false) }
         ensures refused { IfErr result (IsRefusal self.old (IsSealStop ⟦<P as Kept>⟧.analysis self.old)) }
         ensures unchanged { OnErr result (IsSameTable self.old self.new) }
     {
-        calls_are_acts::<P>();
-        cores_are_whole(&self.core);
         if self.failed {
             return Err(Refused::Failed);
         }
-        let Some(batch) = self.batch()? else {
-            return Ok(None);
-        };
-        self.outbox.reserve(1)?;
-        let _ = self.core.take_changes();
-        Ok(Some(self.outbox.push(batch)))
+        self.seal_changes()
     }
 
     /// Loads a program, and seals its record: its number is answered. What was not sealed is dropped, as
@@ -98,6 +92,25 @@ impl<P: Problem> TableHalf<P> {
         self.core.root(name)?;
         let _ = self.core.take_changes();
         Ok(self.outbox.push_behind(first, raw))
+    }
+
+    /// Seals what changed since the last record, if anything did, and notes changes anew.
+    pub(crate) fn seal_changes(&mut self) -> Result<Option<Ticket>, Refused>
+        ensures seals { IfOk result (λ sealed. IfSome sealed (λ ticket. SealsBatch ⟦<P as Kept>⟧.analysis self.old self.new ticket.number)) }
+        ensures nothing { result ≡ Ok None → FindsNothing ⟦<P as Kept>⟧.analysis self.old self.new }
+        ensures anew { OnOk result (BeginsAnew self.old.core self.new.core) }
+        ensures refused { IfErr result (IsSealStop ⟦<P as Kept>⟧.analysis self.old) }
+        ensures unchanged { OnErr result ((self.new.core ≡ self.old.core) × KeepsRest self.old self.new) }
+    {
+        calls_are_acts::<P>();
+        cores_are_whole(&self.core);
+        let Some(batch) = self.batch()? else {
+            let _ = self.core.take_changes();
+            return Ok(None);
+        };
+        self.outbox.reserve(1)?;
+        let _ = self.core.take_changes();
+        Ok(Some(self.outbox.push(batch)))
     }
 
     /// The record of what changed since the last one, if anything did.

@@ -1,11 +1,14 @@
 //! The half of a store that works: the core, and the records of what it did that wait for the writer.
-ghost use Rattle.std.specs.Prelude.{◌≡◌, ◌≤◌, ◌↔◌, length, slice_get, false, true, Ok, IfErr, IsTrue, OnErr, OnOk};
+ghost use Rattle.std.specs.Prelude.{◌≡◌, ◌≤◌, ◌↔◌, [], Some, length, slice_get, false, true, Ok, IfErr, IfOk, IsTrue, OnErr, OnOk};
 ghost use Rattle.ide_steps.specs.Changed.{ended_key};
 ghost use Rattle.ide_steps.specs.ClaimRefusal.{IsClaimRefusal};
 ghost use Rattle.ide_steps.specs.Claiming.{FindsIdle, FindsQuiet, IfTask};
+ghost use Rattle.ide_steps.specs.CloseRefusal.{IsFreezeRefusal};
 ghost use Rattle.ide_steps.specs.Drain.{HasDonePart};
+ghost use Rattle.ide_steps.specs.Frozen.{graph_in};
 ghost use Rattle.ide_steps.specs.Steps.{FindsNone, HasReceived, LowersPart, SkipsPart};
 ghost use Rattle.ide_worklist.specs.Worklist.{claim_at};
+ghost use Rattle.ide_store.specs.Freezing.{IsImageOver};
 ghost use Rattle.ide_store.specs.Table.{IsSameTable};
 ghost use Rattle.ide_store.specs.TableCalls.{DoesPart, EndOverflows, EndsClaim, HasRoomForEnd, HasRoomForPart, PartOverflows, GivesClaimBack, IsFinishStop, IsPartStop, IsRefusal, IsStaleClaim, TakesTask};
 
@@ -15,14 +18,14 @@ use crate::outbox::Outbox;
 use ide_journal::Version;
 use ide_lattice::EdgeFn;
 use ide_problem::Problem;
-use ide_steps::{Claimed, Core, Parted, cores_are_whole};
+use ide_steps::{Claimed, Closed, Core, Parted, cores_are_whole};
 use ide_tasks::Work;
 use ide_wire::{Key, Refused};
 use std::alloc::Global;
 use std::marker::Model;
 
 /// The most keys of which changes are noted: those of one batch.
-const MOST_CHANGED: usize = 65_536;
+pub(crate) const MOST_CHANGED: usize = 65_536;
 
 /// A core whose changes are noted, and the sealed records that the writer does not have yet.
 #[derive(Drop)]
@@ -129,6 +132,25 @@ impl<P: Problem> TableHalf<P> {
             return Err(Refused::Failed);
         }
         self.core.release(hand)
+    }
+
+    /// The image as it stands, copied, with its program and roots: that of the store's world. The half
+    /// goes on.
+    ///
+    /// Refusals, in this order: `Failed`; those of [`Core::freeze`].
+    pub fn freeze(&self) -> Result<Closed<P>, Refused>
+        ensures frozen { IfOk result (IsImageOver ⟦<P as Kept>⟧.analysis self.now) }
+        ensures graph { IfOk result (λ closed. self.now.core.graph ≡ Some (graph_in closed)) }
+        ensures table { IfOk result (λ closed. closed.tables ≡ self.now.core.table) }
+        ensures roots { IfOk result (λ closed. closed.roots.items ≡ self.now.core.roots) }
+        ensures quiet { IfOk result (λ _. self.now.core.pile.pending ≡ []) }
+        ensures working { IfOk result (λ _. self.now.failed ≡ false) }
+        ensures refused { IfErr result (IsRefusal self.now (IsFreezeRefusal self.now.core)) }
+    {
+        if self.failed {
+            return Err(Refused::Failed);
+        }
+        self.core.freeze()
     }
 
     /// Whether as many keys are noted as a batch may have, and the work's next part would change another

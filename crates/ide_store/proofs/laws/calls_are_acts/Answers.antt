@@ -1,5 +1,5 @@
 use Rattle.ide_store.specs.Table.{Analysis}
-use Rattle.ide_store.proofs.BatchActs.{finds_nothing, seals_batch}
+use Rattle.ide_store.proofs.BatchActs.{forgets_nothing, seals_batch}
 use Rattle.ide_store.proofs.ClaimActs.{hands_claim}
 use Rattle.ide_store.proofs.HandActs.{hands_finish, hands_lower, hands_release, hands_skip}
 use Rattle.ide_store.proofs.Known.{known}
@@ -36,5 +36,5 @@ returns g c =
       load = seals_load a;
       root = seals_root a knows;
       batch = seals_batch a knows;
-      nothing = finds_nothing a knows;
+      nothing = forgets_nothing a knows;
     }

@@ -1,22 +1,27 @@
 use Rattle.std.proofs.Common.{None, ap, cond, refl, rules, subst, sym, ◌∙◌}
-use Rattle.std.proofs.lemmas.Result.{IfErr-weaker}
+use Rattle.std.proofs.lemmas.Result.{IfErr-weaker, err_from_is_err_and}
+use Rattle.ide_steps.proofs.States.{handed-on}
 use Rattle.ide_worklist.specs.Worklist.{claim_at}
-use Rattle.ide_steps.specs.DrainRefusal.{IsDrainRefusal, busy, memory, no_program, unfinished}
+use Rattle.ide_steps.specs.DrainRefusal.{IsDrainRefusal, memory, no_drain}
 use Rattle.ide_steps.proofs.Free.{free-without}
 use Rattle.ide_steps.proofs.Going.{goes-on, goes-on-then, goes-released, goes-same}
 use Rattle.ide_steps.proofs.Bounded.{few-of}
 use Rattle.ide_steps.proofs.Noted.{remembers-on, remembers-same}
 use Rattle.ide_steps.proofs.machine.Core.drain.Goals as goal
 
-pub returns-then-is_some-clause-goes : goal.returns-then-is_some-clause-goes
-returns-then-is_some-clause-goes g c =
+pub returns-in_err-may_drain-clause-goes : goal.returns-in_err-may_drain-clause-goes
+returns-in_err-may_drain-clause-goes g c =
     goes-on g.P.L.Lattice.algebra g.P.F.EdgeFn.edge g.P.Problem.targets c.args.self.now c.args.self.now
     (goes-same g.P.L.Lattice.algebra g.P.F.EdgeFn.edge g.P.Problem.targets 0 c.args.self.now c.args.self.now refl)
 
-pub returns-then-claimed_elsewhere-clause-goes : goal.returns-then-claimed_elsewhere-clause-goes
-returns-then-claimed_elsewhere-clause-goes g c =
-    goes-on g.P.L.Lattice.algebra g.P.F.EdgeFn.edge g.P.Problem.targets c.args.self.now c.args.self.now
-    (goes-same g.P.L.Lattice.algebra g.P.F.EdgeFn.edge g.P.Problem.targets 0 c.args.self.now c.args.self.now refl)
+pub returns-in_err-may_drain-clause-refused : goal.returns-in_err-may_drain-clause-refused
+returns-in_err-may_drain-clause-refused g c =
+    let p = err_from_is_err_and c.from_residual.result c.from_residual.ensures.1 in
+    handed-on (IsDrainRefusal {F = g.row.P-F.Denot} c.args.self.now) c.from_residual.result c.in_err-may_drain.field-0.0 p.0 p.1 p.2
+    (no_drain c.in_err-may_drain.ensures.refused)
+
+pub returns-in_err-may_drain-clause-remembers : goal.returns-in_err-may_drain-clause-remembers
+returns-in_err-may_drain-clause-remembers g c = remembers-same _ _ refl refl refl
 
 pub returns-then-is_err-clause-goes : goal.returns-then-is_err-clause-goes
 returns-then-is_err-clause-goes g c =
@@ -35,17 +40,6 @@ returns-else-is_err-clause-few g c =
     few-of g.P.L.Lattice.algebra g.P.F.EdgeFn.edge g.P.Problem.targets (c.images_have_room.ensures) c.run_all-drained.result c.args.self.now c.run_all-drained.new.self
     c.cores_are_whole.ensures c.run_all-drained.ensures.claims
 
-pub returns-then-is_none-clause-refused : goal.returns-then-is_none-clause-refused
-returns-then-is_none-clause-refused g c = no_program (search rules)
-
-pub returns-then-is_some-clause-refused : goal.returns-then-is_some-clause-refused
-returns-then-is_some-clause-refused g c = busy (search rules) (search rules)
-
-pub returns-then-claimed_elsewhere-clause-refused : goal.returns-then-claimed_elsewhere-clause-refused
-returns-then-claimed_elsewhere-clause-refused g c =
-    let other = c.claimed_elsewhere.ensures.some c.if-claimed_elsewhere.true in
-    unfinished (search rules) (search rules) other.0 other.1 (rw (← c.self.view_is) other.2)
-
 pub returns-then-is_err-clause-refused : goal.returns-then-is_err-clause-refused
 returns-then-is_err-clause-refused g c =
     IfErr-weaker c.run_all-drained.result _ _
@@ -57,15 +51,6 @@ returns-else-is_err-clause-refused g c =
     IfErr-weaker c.run_all-drained.result _ _
     (λ refused is. subst (IsDrainRefusal {F = g.row.P-F.Denot} c.args.self.now) (sym is) (memory (record { loaded = search rules; free = search rules })))
     c.run_all-drained.ensures.refused
-
-pub returns-then-is_none-clause-remembers : goal.returns-then-is_none-clause-remembers
-returns-then-is_none-clause-remembers g c = remembers-same _ _ refl refl refl
-
-pub returns-then-is_some-clause-remembers : goal.returns-then-is_some-clause-remembers
-returns-then-is_some-clause-remembers g c = remembers-same _ _ refl refl refl
-
-pub returns-then-claimed_elsewhere-clause-remembers : goal.returns-then-claimed_elsewhere-clause-remembers
-returns-then-claimed_elsewhere-clause-remembers g c = remembers-same _ _ refl refl refl
 
 pub returns-then-is_err-clause-remembers : goal.returns-then-is_err-clause-remembers
 returns-then-is_err-clause-remembers g c =

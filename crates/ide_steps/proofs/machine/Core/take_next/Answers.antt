@@ -72,6 +72,14 @@ returns-in-Task-clause-progress g c = λ task is.
     rw (← same) (c.in_ok-task.ensures.task c.in-Task.task (ap Ok c.in-Task.is)).progress
 
 pub returns-in-Quiet-clause-quiet : goal.returns-in-Quiet-clause-quiet
-returns-in-Quiet-clause-quiet g c = λ is.
-    let found = c.in_ok-task.ensures.quiet (ap Ok c.in-Quiet.is) in
-    c.claim.ensures.keeps.pending ∙ found.quiet
+returns-in-Quiet-clause-quiet g c = λ is. c.in_ok-task.ensures.quiet (ap Ok c.in-Quiet.is)
+
+pub returns-in-Task-clause-task : goal.returns-in-Task-clause-task
+returns-in-Task-clause-task g c = λ task is.
+    let same : c.in-Task.task ≡ task = cc (is) in
+    rw (← same) (c.in_ok-task.ensures.task c.in-Task.task (ap Ok c.in-Task.is))
+
+pub returns-in-Idle-clause-unchanged : goal.returns-in-Idle-clause-unchanged
+returns-in-Idle-clause-unchanged g c =
+    let is = ap Ok c.in-Idle.is in
+    absurd (some-unclaimed c.args.self.now.pile c.requires.free (c.in_ok-task.ensures.idle is).waiting (c.in_ok-task.ensures.idle is).idle)

@@ -1,56 +1,15 @@
-use Rattle.std.proofs.Common.{◌∙◌, ◌+◌, ◌++◌, [], ◌∷◌, ap, arith, refl, sym}
-use Rattle.std.proofs.lemmas.Result.{err_from_is_err_and}
-use Rattle.ide_steps.proofs.States.{handed-on}
-use Rattle.ide_wire.specs.declared.refused.Refused.TheVariants.{NoMemory}
-use Rattle.ide_journal.specs.Lists.{entry_of}
-use Rattle.ide_store.specs.TableCalls.{IsRefusal, IsSealStop, after_failure, by_itself, wants_memory}
-use Rattle.ide_store.proofs.Sealed.{one_proper, sealed_keeps, seals_changes, seals_nothing, spelled_batch, waits_one, where_some}
+use Rattle.std.proofs.Common.{◌∙◌, ap, sym}
+use Rattle.ide_store.specs.TableCalls.{after_failure}
+use Rattle.ide_store.proofs.Drained.{same_table}
+use Rattle.ide_store.proofs.Stops.{own_stop}
 use Rattle.ide_store.proofs.table.TableHalf.seal.Goals as goal
 
 pub returns-then-self-clause-refused : goal.returns-then-self-clause-refused
 returns-then-self-clause-refused g c = rw (← c.self.view_is) (after_failure c.if-self.true)
 
-pub returns-in_err-batch-clause-refused : goal.returns-in_err-batch-clause-refused
-returns-in_err-batch-clause-refused g c =
-    let p = err_from_is_err_and c.from_residual.result c.from_residual.ensures.1 in
-    handed-on (IsRefusal c.args.self.now (IsSealStop _ c.args.self.now)) c.from_residual.result c.in_err-batch.field-0.0 p.0 p.1 p.2
-    (by_itself (ap (λ table. table.failed) (sym c.self.view_is) ∙ c.if-self.false) c.in_err-batch.ensures.refused)
+pub returns-clause-refused : goal.returns-clause-refused
+returns-clause-refused g c =
+    own_stop c.seal_changes.result c.args.self.now _ _ (ap (λ table. table.failed) (sym c.self.view_is) ∙ c.if-self.false) (λ refused why. why) c.seal_changes.ensures.refused
 
-pub returns-in_default-clause-nothing : goal.returns-in_default-clause-nothing
-returns-in_default-clause-nothing g c =
-    rw (← c.self.view_is)
-    (λ same. seals_nothing _ c.calls_are_acts.ensures _ _ c.cores_are_whole.ensures c.args.self.now c.self.view_is c.in_ok-batch.field-0 refl c.in_default.is
-    c.in_ok-batch.ensures.spells)
-
-pub returns-in_err-reserve-clause-refused : goal.returns-in_err-reserve-clause-refused
-returns-in_err-reserve-clause-refused g c =
-    let p = err_from_is_err_and c.from_residual-in_err-reserve.result c.from_residual-in_err-reserve.ensures.1 in
-    handed-on (IsRefusal c.args.self.now (IsSealStop _ c.args.self.now)) c.from_residual-in_err-reserve.result NoMemory p.0 p.1 p.2
-    (by_itself (ap (λ table. table.failed) (sym c.self.view_is) ∙ c.if-self.false) wants_memory)
-
-pub invariant_of-self-2 : goal.invariant_of-self-2
-invariant_of-self-2 g c =
-    let room = where_some c.in_ok-batch.field-0 c.in-Some.batch c.in-Some.is c.in_ok-batch.ensures.room in
-    let sealed = ap (λ table. table.sealed) c.self.view_is in
-    let one = c.push.ensures.sealed in
-    let same = c.in_ok-reserve.ensures.sealed in
-    let spelled = spelled_batch _ c.args.self.now c.in_ok-batch.field-0 c.in-Some.batch c.in-Some.is c.in_ok-batch.ensures.spells in
-    sealed_keeps c.self.inside.core c.take_changes.new.self c.self.inside.outbox.sealed c.push.new.self.sealed _ _ _ c.self.invariant
-    (ap (λ core. core.changes) c.take_changes.ensures.stays) (one_proper (entry_of c.in-Some.batch) spelled.spells.proper)
-    (waits_one c.self.inside.outbox.waiting.items c.push.new.self.waiting.items c.in-Some.batch (c.push.ensures.waiting ∙ ap (λ items. items ++ c.in-Some.batch ∷ []) c.in_ok-reserve.ensures.waiting))
-    (omega (arith, one, same)) (omega (arith, one, same, room, sealed))
-
-pub returns-clause-seals : goal.returns-clause-seals
-returns-clause-seals g c =
-    let room = where_some c.in_ok-batch.field-0 c.in-Some.batch c.in-Some.is c.in_ok-batch.ensures.room in
-    let sealed = ap (λ table. table.sealed) c.self.view_is in
-    rw (← c.self.view_is)
-    (seals_changes _ c.calls_are_acts.ensures _ _ c.cores_are_whole.ensures c.args.self.now c.self.view_is c.in_ok-batch.field-0 c.in-Some.batch c.push.result.number
-    c.in-Some.is c.in_ok-batch.ensures.spells (omega (arith, room, sealed))
-    (record {
-      version = refl;
-      failed = refl;
-      waiting = waits_one c.self.inside.outbox.waiting.items c.push.new.self.waiting.items c.in-Some.batch (c.push.ensures.waiting ∙ ap (λ items. items ++ c.in-Some.batch ∷ []) c.in_ok-reserve.ensures.waiting);
-      sealed = c.push.ensures.sealed ∙ ap (λ n. n + 1) c.in_ok-reserve.ensures.sealed;
-    })
-    c.take_changes.ensures.stays (c.push.ensures.ticket ∙ c.in_ok-reserve.ensures.sealed))
+pub returns-clause-unchanged : goal.returns-clause-unchanged
+returns-clause-unchanged g c = same_table c.seal_changes.result _ _ c.seal_changes.ensures.unchanged

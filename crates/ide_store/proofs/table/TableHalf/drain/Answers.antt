@@ -1,0 +1,62 @@
+use Rattle.std.proofs.Common.{◌≡◌, ◌∙◌, ◌+◌, ◌≤◌, ℕ, false, refl, rules, subst, sym, ap, arith, inl, inr}
+use Rattle.std.proofs.lemmas.Result.{err_from_is_err_and}
+use Rattle.ide_steps.proofs.States.{handed-on}
+use Rattle.ide_store.specs.Draining.{IsDrainStop, no_drain}
+use Rattle.ide_store.specs.Table.{TableData}
+use Rattle.ide_store.specs.TableCalls.{IsRefusal, after_failure, by_itself}
+use Rattle.ide_store.proofs.Drained.{drain_names, drain_stop, works_still, works_then}
+use Rattle.ide_steps.specs.DrainRefusal.{IsNoDrain, MayDrain}
+use Rattle.ide_store.proofs.table.TableHalf.drain.Goals as goal
+
+-- what was read of the half is so of it
+working : {F : Type 0} (inside now : TableData F) → inside ≡ now → inside.failed ≡ false → now.failed ≡ false
+working inside now is none = ap (λ (table : TableData _). table.failed) (sym is) ∙ none
+
+pub returns-then-self-clause-refused : goal.returns-then-self-clause-refused
+returns-then-self-clause-refused g c = rw (← c.self.view_is) (after_failure c.if-self.true)
+
+pub returns-then-self-clause-stops : goal.returns-then-self-clause-stops
+returns-then-self-clause-stops g c = (0, 0, omega arith, works_still _ _ _ (λ head w reached on. on))
+
+pub returns-in_err-may_drain-clause-refused : goal.returns-in_err-may_drain-clause-refused
+returns-in_err-may_drain-clause-refused g c =
+    let p = err_from_is_err_and c.from_residual.result c.from_residual.ensures.1 in
+    handed-on (IsRefusal c.args.self.now (IsDrainStop _ c.args.self.now c.args.self.now)) c.from_residual.result c.in_err-may_drain.field-0.0 p.0 p.1 p.2
+    (by_itself (working _ _ c.self.view_is c.if-self.false)
+    (no_drain (subst (λ (table : TableData g.row.P-F.Denot). IsNoDrain table.core c.in_err-may_drain.field-0.0) c.self.view_is c.in_err-may_drain.ensures.refused)))
+
+pub returns-in_err-may_drain-clause-stops : goal.returns-in_err-may_drain-clause-stops
+returns-in_err-may_drain-clause-stops g c = (0, 0, omega arith, works_still _ _ _ (λ head w reached on. on))
+
+pub returns-then-is_err-clause-refused : goal.returns-then-is_err-clause-refused
+returns-then-is_err-clause-refused g c =
+    drain_stop _ c.run_all-drained.result c.args.self.now c.run_all-drained.new.self c.give_back.new.self (working _ _ c.self.view_is c.if-self.false)
+    (subst (λ (table : TableData g.row.P-F.Denot). MayDrain table.core) c.self.view_is c.in_ok-may_drain.ensures.may)
+    c.give_back.ensures.stop c.run_all-drained.ensures.refused
+
+pub returns-then-is_err-clause-stops : goal.returns-then-is_err-clause-stops
+returns-then-is_err-clause-stops g c =
+    let before = c.run_all-drained.ensures.works in
+    let back = c.give_back.ensures.works in
+    let few = back.1 in (
+      before.0 + 0,
+      0 + back.0,
+      omega (arith, few),
+      works_then _ c.args.self.now c.run_all-drained.new.self c.give_back.new.self before.0 0 0 back.0 before.1 back.2,
+    )
+
+pub returns-then-is_err-clause-unchanged : goal.returns-then-is_err-clause-unchanged
+returns-then-is_err-clause-unchanged g c = drain_names _ _ c.run_all-drained.result c.run_all-drained.new.self c.run_all-drained.ensures.refused
+
+pub returns-else-is_err-clause-refused : goal.returns-else-is_err-clause-refused
+returns-else-is_err-clause-refused g c =
+    drain_stop _ c.run_all-drained.result c.args.self.now c.run_all-drained.new.self c.run_all-drained.new.self (working _ _ c.self.view_is c.if-self.false)
+    (subst (λ (table : TableData g.row.P-F.Denot). MayDrain table.core) c.self.view_is c.in_ok-may_drain.ensures.may)
+    (λ e stop. stop) c.run_all-drained.ensures.refused
+
+pub returns-else-is_err-clause-stops : goal.returns-else-is_err-clause-stops
+returns-else-is_err-clause-stops g c =
+    let before = c.run_all-drained.ensures.works in (before.0, 0, omega arith, before.1)
+
+pub returns-else-is_err-clause-unchanged : goal.returns-else-is_err-clause-unchanged
+returns-else-is_err-clause-unchanged g c = drain_names _ _ c.run_all-drained.result c.run_all-drained.new.self c.run_all-drained.ensures.refused

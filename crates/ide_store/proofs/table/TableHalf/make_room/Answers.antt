@@ -1,0 +1,42 @@
+use Rattle.std.proofs.Common.{◌≡◌, ◌∙◌, [], Some, ap, arith, refl, subst, sym}
+use Rattle.std.proofs.lemmas.Result.{err_from_is_err_and}
+use Rattle.ide_steps.proofs.States.{handed-on}
+use Rattle.ide_steps.specs.Changed.{noted_count}
+use Rattle.ide_store.specs.Draining.{IsWorkStop, full_batch_stays}
+use Rattle.ide_store.specs.Table.{TableData}
+use Rattle.ide_store.proofs.Drained.{anew_core, equal_core, seal_works, stop_stays, works_still}
+use Rattle.ide_store.proofs.table.TableHalf.make_room.Goals as goal
+
+pub returns-then-changed_count-lt-MOST_CHANGED-clause-works : goal.returns-then-changed_count-lt-MOST_CHANGED-clause-works
+returns-then-changed_count-lt-MOST_CHANGED-clause-works g c = works_still _ _ _ (λ head w reached on. on)
+
+pub returns-clause-works : goal.returns-clause-works
+returns-clause-works g c = seal_works _ c.seal_changes.result _ _ c.seal_changes.ensures.seals c.seal_changes.ensures.nothing c.seal_changes.ensures.unchanged
+
+pub returns-clause-room : goal.returns-clause-room
+returns-clause-room g c =
+    let none = ap (λ core. noted_count core.changes) c.in_ok-seal_changes.ensures.anew in
+    omega (arith, none)
+
+pub returns-clause-core : goal.returns-clause-core
+returns-clause-core g c = anew_core c.args.self.now.core c.seal_changes.new.self.core c.in_ok-seal_changes.ensures.anew
+
+pub returns-in_err-seal_changes-clause-works : goal.returns-in_err-seal_changes-clause-works
+returns-in_err-seal_changes-clause-works g c =
+    seal_works _ c.seal_changes.result _ _ c.seal_changes.ensures.seals c.seal_changes.ensures.nothing c.seal_changes.ensures.unchanged
+
+pub returns-in_err-seal_changes-clause-core : goal.returns-in_err-seal_changes-clause-core
+returns-in_err-seal_changes-clause-core g c = equal_core c.args.self.now.core c.seal_changes.new.self.core c.in_err-seal_changes.ensures.unchanged.0
+
+pub returns-in_err-seal_changes-clause-refused : goal.returns-in_err-seal_changes-clause-refused
+returns-in_err-seal_changes-clause-refused g c =
+    let p = err_from_is_err_and c.from_residual.result c.from_residual.ensures.1 in
+    let old = c.args.self.now in
+    let new = c.seal_changes.new.self in
+    let same = c.in_err-seal_changes.ensures.unchanged in
+    let most = c.if-changed_count-lt-MOST_CHANGED.false in
+    let count = c.changed_count.ensures in
+    let here = ap (λ (table : TableData g.row.P-F.Denot). noted_count table.core.changes) c.self.view_is in
+    handed-on (IsWorkStop _ new) c.from_residual.result c.in_err-seal_changes.field-0.0 p.0 p.1 p.2
+    (stop_stays _ old new _ (ap (λ core. core.table) same.0) (ap (λ core. core.changes) same.0) same.1.sealed
+    (full_batch_stays (omega (arith, most, count, here)) c.in_err-seal_changes.ensures.refused))

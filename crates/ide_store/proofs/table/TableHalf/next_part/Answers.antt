@@ -1,0 +1,13 @@
+use Rattle.ide_store.proofs.Drained.{only_memory, own_still, works_then}
+use Rattle.ide_store.proofs.table.TableHalf.next_part.Goals as goal
+
+pub do_part-requires-clause-own : goal.do_part-requires-clause-own
+do_part-requires-clause-own g c =
+    own_still _ _ c.make_room.ensures.core g.P.Problem.targets g.P.F.EdgeFn.edge 0 c.args.work.now c.requires
+
+pub returns-clause-works : goal.returns-clause-works
+returns-clause-works g c =
+    works_then _ c.args.self.now c.make_room.new.self c.do_part.new.self 0 0 0 0 c.make_room.ensures.works c.do_part.ensures.works
+
+pub returns-clause-refused : goal.returns-clause-refused
+returns-clause-refused g c = only_memory _ c.do_part.result c.do_part.new.self c.do_part.ensures.refused

@@ -1,0 +1,47 @@
+use Rattle.std.proofs.Common.{◌+◌, cond, refl, subst, arith}
+use Rattle.std.proofs.lemmas.Result.{err_from_is_err_and}
+use Rattle.ide_steps.proofs.States.{handed-on}
+use Rattle.ide_store.specs.Draining.{IsWorkStop, WorksBy}
+use Rattle.ide_store.proofs.Drained.{works_still, works_then}
+use Rattle.ide_store.proofs.table.TableHalf.run_all.Goals as goal
+
+pub loop-tasks-init : goal.loop-tasks-init
+loop-tasks-init g c = ((0, refl, works_still _ _ _ (λ head w reached on. on)), c.requires)
+
+pub loop-tasks-preserved : goal.loop-tasks-preserved
+loop-tasks-preserved g c =
+    let before = c.loop-tasks.invariant.0 in
+    let here = before.1 in
+    let more = c.saturating_add-tasks.ensures in (
+      (
+        before.0 + 1,
+        omega (arith, here, more),
+        works_then _ c.args.self.now c.loop-tasks.self c.run_next.new.self before.0 0 1 0 before.2
+            (subst (λ b. WorksBy _ c.loop-tasks.self c.run_next.new.self (cond b 1 0) 0) c.if-branch.true c.in_ok-run_next.ensures.works),
+      ),
+      c.in_ok-run_next.ensures.may,
+    )
+
+pub returns-clause-drains : goal.returns-clause-drains
+returns-clause-drains g c =
+    let before = c.loop-tasks.invariant.0 in
+    let here = before.1 in (
+      before.0 + 0,
+      omega (arith, here),
+      works_then _ c.args.self.now c.loop-tasks.self c.run_next.new.self before.0 0 0 0 before.2
+          (subst (λ b. WorksBy _ c.loop-tasks.self c.run_next.new.self (cond b 1 0) 0) c.if-branch.false c.in_ok-run_next.ensures.works),
+    )
+
+pub returns-clause-works : goal.returns-clause-works
+returns-clause-works g c = let drains = returns-clause-drains g c in (drains.0, drains.2)
+
+pub returns-in_err-run_next-clause-works : goal.returns-in_err-run_next-clause-works
+returns-in_err-run_next-clause-works g c =
+    let before = c.loop-tasks.invariant.0 in
+    let worked = c.run_next.ensures.worked in
+    (before.0 + worked.0, works_then _ c.args.self.now c.loop-tasks.self c.run_next.new.self before.0 0 worked.0 0 before.2 worked.1)
+
+pub returns-in_err-run_next-clause-refused : goal.returns-in_err-run_next-clause-refused
+returns-in_err-run_next-clause-refused g c =
+    let p = err_from_is_err_and c.from_residual.result c.from_residual.ensures.1 in
+    handed-on (IsWorkStop _ c.run_next.new.self) c.from_residual.result c.in_err-run_next.field-0.0 p.0 p.1 p.2 c.in_err-run_next.ensures.refused
