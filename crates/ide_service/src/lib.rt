@@ -1,4 +1,5 @@
-//! The solver as a service: from the bytes of a text to the bytes of its answers.
+//! The solver as a service: from the bytes of a text to the bytes of its answers, and what is so of every
+//! run that a store keeps ([`every_run`]).
 //!
 //! ```text
 //! let mut out = Vec::new(alloc);
@@ -6,6 +7,8 @@
 //! ```
 #![tactic(auto)]
 
+mod runs;
 mod solver;
 
+pub use runs::every_run;
 pub use solver::{solve, values_of};

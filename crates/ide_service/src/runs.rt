@@ -1,0 +1,27 @@
+//! What is so of every run that is kept in a store.
+ghost use Rattle.ide_store.specs.Recovery.{OneDiskAnswers};
+
+use ide_problem::Problem;
+use ide_store::every_run_answers;
+
+/// Over every list of worker steps, seals, disk calls, commands, crashes and openings that can happen one
+/// after the other from a new store on one disk, with any number of hands, and a crash between any two
+/// calls, within a disk call or within an opening, with any bytes that the disk may then leave:
+///
+/// 1. while the store runs, its image is that after the history of its steps;
+/// 2. each opening that can happen gives the image after a beginning of the history, with functions and
+///    pending marks alike, at least as long as it was when the last acknowledged record was sealed;
+/// 3. an opening finds a list of records, so that one can happen;
+/// 4. over each graph of the image's program, wherever nothing is pending, however often it was stopped,
+///    loaded and rooted, each value that follows from the image is the best one for its program and roots;
+/// 5. since the last opening or load, claims are at most the keys that were pending then, lowerings, claims
+///    given back and entries of roots; and lowerings and entries at most `HEIGHT` for each jump of a node
+///    and two facts and each summary of a call and two facts.
+///
+/// It does nothing: its clause is the law. What each call of an [`ide_store::Engine`] is among these, the
+/// contract of the call says.
+pub fn every_run<P: Problem>()
+    ensures { OneDiskAnswers P.L.algebra P.F.edge P.targets P.F.eq P.F.proper P.F.form }
+{
+    every_run_answers::<P>();
+}
