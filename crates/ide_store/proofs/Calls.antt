@@ -1,5 +1,5 @@
 -- Calls of a half that works, from those of its core.
-use Rattle.std.proofs.Common.{◌≡◌, ◌∙◌, ◌≤◌, ℕ, true, List, Result, Ok, Err, length, drop, ap, sym, subst, arith, inl, inr}
+use Rattle.std.proofs.Common.{◌≡◌, ◌∙◌, ◌≤◌, ℕ, true, List, Result, Ok, Err, None, cond, length, drop, ap, sym, subst, arith, inl, inr}
 use Rattle.std.specs.Prelude.{OnErr, OnOk}
 use Rattle.std.specs.Option.{is_some}
 use Rattle.std.proofs.lemmas.List.{length-drop}
@@ -16,7 +16,8 @@ use Rattle.ide_steps.specs.declared.part.Parted.{Parted}
 use Rattle.ide_steps.specs.declared.part.Parted.TheVariants.{Lowered, Same}
 use Rattle.ide_tasks.specs.Work.{WorkData}
 use Rattle.ide_wire.specs.declared.refused.Refused.{Refused}
-use Rattle.ide_worklist.specs.Worklist.{claim_at}
+use Rattle.ide_theory.proofs.Laws.Targets.{nat_eq-refl}
+use Rattle.ide_worklist.specs.Worklist.{Pile, PutsClaim, claim_at}
 use Rattle.ide_store.specs.Acting.{CallsAreActs}
 use Rattle.ide_store.specs.Table.{Analysis, IsTable, KeepsRest, TableData}
 use Rattle.ide_store.specs.TableCalls.{DoesPart, EndsClaim, HasRoomForEnd}
@@ -63,3 +64,9 @@ end_keeps targets B (Ok x) hand old new work sealed waiting kept remembers own e
     table_kept old new sealed waiting kept remembers.noting (omega (arith, notes.count, fits))
 end_keeps targets B (Err refused) hand old new work sealed waiting kept remembers own ends notes stays now is room =
     subst (λ (core : CoreData _). IsTable core sealed waiting) (sym stays) kept
+
+-- a hand that gave its claim away has none
+pub put_none : {T E : Type 0} {Task : Type 0} (result : Result T E) (hand : ℕ) (old new : Pile Task) → OnOk result (PutsClaim hand None old new)
+    → OnOk result (claim_at new hand ≡ None)
+put_none (Ok x) hand old new puts = puts hand ∙ ap (λ b. cond b None (claim_at old hand)) (nat_eq-refl hand)
+put_none (Err e) hand old new puts = tt

@@ -26,3 +26,5 @@ pub mod Said
 pub mod Opened
 pub mod Drained
 pub mod Frozen
+pub mod Crashes
+pub mod MayCrash

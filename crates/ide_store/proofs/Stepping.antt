@@ -10,6 +10,7 @@ use Rattle.ide_disk.specs.Disk.{DiskState}
 use Rattle.ide_disk.specs.declared.disk.Disk.{Ghosts}
 use Rattle.ide_journal.specs.Format.{Entry, Head, IsEntry}
 use Rattle.ide_journal.specs.Lists.{HoldsWithOrWithout, IsAtRest, entries_of, entry_of}
+use Rattle.ide_journal.specs.Refusals.{CountsFaults}
 use Rattle.ide_journal.specs.declared.journal.Journal.{Journal}
 use Rattle.ide_journal.specs.declared.record.RawRecord.{RawRecord}
 use Rattle.ide_wire.specs.declared.refused.Refused.{Refused}
@@ -71,7 +72,7 @@ module _ (handed more : List Entry) (stored : ℕ) where
     disk_is = call.disk_is;
   }
 
-  fails_over : (head : Head) (after : DiskState) → Fails head handed stored after → Fails head (handed ++ more) stored after
+  pub fails_over : (head : Head) (after : DiskState) → Fails head handed stored after → Fails head (handed ++ more) stored after
   fails_over head after call =
       let less = (next_taken handed stored call.entry call.under_way).0 in
       let within : stored ≤ length handed = omega (arith, less) in
@@ -128,7 +129,7 @@ module _ {F L : Type 0} (a : Analysis F L) (head : Head) where
 
 module _ {F L : Type 0} (a : Analysis F L) {D : Type 0} {G : Ghosts D} (head : Head) where
   -- these records were handed over, behind which the others are left: none where all are stored
-  record AreHanded (w : StoreWorld a head) (mid : WriterHalf D G) (left : List Entry) : Type 0 where
+  pub record AreHanded (w : StoreWorld a head) (mid : WriterHalf D G) (left : List Entry) : Type 0 where
     pub handed : List Entry
     pub split : contents w.world.sealed ≡ handed ++ left
     pub writes : Writes head handed w.world.stored mid
@@ -137,7 +138,7 @@ module _ {F L : Type 0} (a : Analysis F L) {D : Type 0} {G : Ghosts D} (head : H
     pub disk : w.world.disks ≡ G.state mid.journal.disk
 
   -- all that were sealed are handed over, or those that wait are, as before
-  handed_over : (w : StoreWorld a head) (table : TableData F) (old mid : WriterHalf D G) (sealed left : List RawRecord)
+  pub handed_over : (w : StoreWorld a head) (table : TableData F) (old mid : WriterHalf D G) (sealed left : List RawRecord)
       → IsTable table.core table.sealed table.waiting → table.waiting ≡ entries_of sealed → HandsOver old mid sealed left
       → AreAtWork a head w table old → AreHanded w mid (entries_of left)
   handed_over w table old mid sealed left is waiting (took none items over journal) at =
@@ -275,6 +276,14 @@ module _ {F L : Type 0} (a : Analysis F L) {D : Type 0} {G : Ghosts D} (head : H
 pub handed_journal : {D : Type 0} {G : Ghosts D} (old mid : WriterHalf D G) (sealed left : List RawRecord) → HandsOver old mid sealed left → mid.journal ≡ old.journal
 handed_journal old mid sealed left (took none all nothing same) = same
 handed_journal old mid sealed left (kept all rest same some) = same
+
+module _ {D : Type 0} {G : Ghosts D} (old mid : WriterHalf D G) (sealed left : List RawRecord) (hands : HandsOver old mid sealed left) where
+  -- and so does the disk: it is as honest, and a call counts the failures that it counts from there
+  pub handed_honest : G.honest old.journal.disk → G.honest mid.journal.disk
+  handed_honest honest = subst (λ (journal : Journal D G). G.honest journal.disk) (sym (handed_journal old mid sealed left hands)) honest
+
+  pub handed_faults : (new : D) (result : Result Bool Refused) → CountsFaults G result mid.journal.disk new → CountsFaults G result old.journal.disk new
+  handed_faults new result counts = subst (λ (journal : Journal D G). CountsFaults G result journal.disk new) (handed_journal old mid sealed left hands) counts
 
 abbrev refuses : Refused → Result Bool Refused
 refuses refused = Err refused

@@ -1,20 +1,23 @@
 -- A store that works and writes: which calls of it are which acts of its world.
-use Rattle.std.specs.Prelude.{◌≡◌, ◌⊎◌, ℕ, Bool, true, false, List, [], Result, Ok, Err, length}
+use Rattle.std.specs.Prelude.{◌≡◌, ◌⊎◌, ℕ, Bool, true, false, List, [], ◌∷◌, Result, Ok, Err, length}
 use Rattle.ide_batch.specs.Fold.{ProgramImage}
-use Rattle.ide_disk.specs.Disk.{DiskState}
+use Rattle.ide_disk.specs.Disk.{DiskState, settled}
 use Rattle.ide_disk.specs.declared.disk.Disk.{Ghosts}
 use Rattle.ide_journal.specs.Format.{Entry, Head, head_of}
 use Rattle.ide_journal.specs.Lists.{entries_of}
+use Rattle.ide_journal.specs.Moments.{LeavesOnly}
+use Rattle.ide_journal.specs.Refusals.{IsOpenRefusal}
 use Rattle.ide_journal.specs.declared.record.RawRecord.{RawRecord}
 use Rattle.ide_wire.specs.declared.refused.Refused.{Refused}
 use Rattle.ide_wire.specs.declared.refused.Refused.TheVariants.{Disk, NoMemory}
 use Rattle.ide_store.specs.Half.{OpensStore, Writes}
 use Rattle.ide_store.specs.Hands.{Happens, ProgramEvent}
 use Rattle.ide_store.specs.OneDisk.{IsLive, one_disk}
-use Rattle.ide_store.specs.Opening.{GoesOnFrom, HaveFold}
-use Rattle.ide_store.specs.Table.{Analysis, IsReached, MayDo, StoreWorld, TableData, WorksOn, after_act, new_store}
-use Rattle.ide_store.specs.World.{Calls, Fails, Opens, Stores}
+use Rattle.ide_store.specs.Opening.{GoesOnFrom, HaveFold, IsOpenStop}
+use Rattle.ide_store.specs.Table.{Analysis, IsReached, MayDo, MayDoAll, StoreWorld, TableData, WorksOn, after_act, new_store}
+use Rattle.ide_store.specs.World.{Calls, Closed, Crashes, Fails, Mode, Opens, Running, Stops, Stores}
 use Rattle.ide_store.specs.Writing.{work_of}
+use Rattle.ide_store.specs.declared.engine.Engine.{Engine}
 use Rattle.ide_store.specs.declared.writer.WriterHalf.{WriterHalf}
 
 -- the records that were sealed are handed over, where none waited with the writer; or one did, and they wait on
@@ -65,6 +68,40 @@ module _ {F L : Type 0} (a : Analysis F L) {D : Type 0} {G : Ghosts D} (head : H
   abbrev pub StepsDiskOver : (table new_table : TableData F) (old new : WriterHalf D G) → Result Bool Refused → Type 0
   StepsDiskOver table new_table old new result = (w : StoreWorld a head) → IsReached a head w → AreAtWork w table old
       → StepsDisk w table new_table new result
+
+module _ {F L : Type 0} (a : Analysis F L) (head : Head) where
+  -- a crash that leaves these bytes may happen to the world: at once, or behind a call or an opening that does not end
+  pub data MayCrash (w : StoreWorld a head) (left : List ℕ) : Type 0 where
+    at_once : MayDo a head w (Happens (Crashes left)) → MayCrash w left
+    within_call : MayDoAll a head w (Happens (Fails (settled left)) ∷ Happens (Crashes left) ∷ []) → MayCrash w left
+    within_opening : MayDoAll a head w (Happens (Stops (settled left) Closed) ∷ Happens (Crashes left) ∷ []) → MayCrash w left
+
+  module _ {D : Type 0} {G : Ghosts D} where
+    -- whatever a crash at any moment of the step leaves, it may happen to each world on which the halves were at work
+    abbrev pub CrashesOver : TableData F → (old new : WriterHalf D G) → Type 0
+    CrashesOver table old new = (w : StoreWorld a head) → IsReached a head w → AreAtWork a head w table old
+        → LeavesOnly G old.journal.disk new.journal.disk (MayCrash w)
+
+  module _ {D : Type 0} (G : Ghosts D) (old new : D) where
+    -- whatever a crash at any moment of an opening leaves, it may happen to each world whose disk it was
+    abbrev pub CrashesOpening : Type 0
+    CrashesOpening = (w : StoreWorld a head) → IsReached a head w → w.world.disks ≡ G.state old → LeavesOnly G old new (MayCrash w)
+
+    -- an opening that stopped may have happened to each such world
+    abbrev pub StopsOpening : Type 0
+    StopsOpening = (w : StoreWorld a head) → IsReached a head w → w.world.disks ≡ G.state old
+        → (mode : Mode) → (mode ≡ Running → ⊥) → MayDo a head w (Happens (Stops (G.state new) mode))
+
+-- why a store is not opened: for the journal's reason; or it was opened, and the half that works is not
+pub data IsEngineStop {F L : Type 0} (a : Analysis F L) {D : Type 0} (G : Ghosts D) (tag : ℕ) (old new : D) : Refused → Type 0 where
+  no_journal : {refused : Refused} → IsOpenRefusal G tag old new refused → IsEngineStop a G tag old new refused
+  no_table : {refused : Refused} (writer : WriterHalf D G) (records : List RawRecord) → OpensStore tag old writer records → new ≡ writer.journal.disk
+      → IsOpenStop a writer.journal.version (entries_of records) refused → IsEngineStop a G tag old new refused
+
+-- the disk after an opening, in the engine or beside the refusal
+abbrev pub disk_after : {P D F L : Type 0} {G : Ghosts D} → Result (Engine P D F L G) (Refused × D) → D
+disk_after (Ok engine) = engine.writer.journal.disk
+disk_after (Err pair) = pair.1
 
 -- over the records that an opening found, and a half that goes on from them, the two are at work
 abbrev pub HalvesOpen : {F L : Type 0} → Analysis F L → {D : Type 0} → Ghosts D → Type 0

@@ -1,8 +1,10 @@
 -- What the writing half of a store does to the records that were sealed.
-use Rattle.std.specs.Prelude.{◌≡◌, ◌⊎◌, ℕ, ◌+◌, ◌<◌, Bool, true, false, List, [], ◌∷◌, ◌++◌, Result, Ok, Err, drop, length, map}
+use Rattle.std.specs.Prelude.{◌≡◌, ◌⊎◌, ℕ, ◌+◌, ◌<◌, Bool, true, false, List, [], ◌∷◌, ◌++◌, Some, Result, Ok, Err, drop, length, map, slice_get, take}
+use Rattle.ide_disk.specs.Disk.{CrashLeaves, DiskState}
 use Rattle.ide_disk.specs.declared.disk.Disk.{Ghosts}
 use Rattle.ide_journal.specs.Format.{Entry, Head, Holds, head_of}
-use Rattle.ide_journal.specs.Lists.{entries_of, entry_of}
+use Rattle.ide_journal.specs.Lists.{HoldsWithOrWithout, entries_of, entry_of}
+use Rattle.ide_journal.specs.Moments.{LeavesOnly}
 use Rattle.ide_wire.specs.declared.refused.Refused.{Refused}
 use Rattle.ide_wire.specs.declared.refused.Refused.TheVariants.{NoMemory, Disk, Limit}
 use Rattle.ide_journal.specs.declared.record.RawRecord.{RawRecord}
@@ -11,6 +13,12 @@ use Rattle.ide_journal.specs.declared.journal.Journal.{Journal}
 use Rattle.ide_journal.specs.declared.stage.Stage.TheVariants.{Idle, Begun}
 use Rattle.ide_store.specs.Writing.{HasNext, StandsBehind, work_of}
 use Rattle.ide_store.specs.declared.writer.WriterHalf.{WriterHalf}
+
+-- what a crash within a step may leave: what one before it may leave; or the stored records, or these and the next one
+pub data LeavesStep (head : Head) (records : List Entry) (stored : ℕ) (disk : DiskState) (left : List ℕ) : Type 0 where
+  as_before : CrashLeaves disk left → LeavesStep head records stored disk left
+  next_or_not : (entry : Entry) → slice_get records stored ≡ Some entry → HoldsWithOrWithout head (take stored records) entry left
+      → LeavesStep head records stored disk left
 
 module _ {D : Type 0} {G : Ghosts D} where
   -- these are all that were sealed; so many of them are stored, and the others wait
@@ -23,6 +31,11 @@ module _ {D : Type 0} {G : Ghosts D} where
     pub held : Holds (head_of half.journal.version tag) (entries_of records) (G.state disk).now
     pub event : Opens (head_of half.journal.version tag) (G.state disk) (work_of half.journal) (G.state half.journal.disk)
     pub writes : Writes (head_of half.journal.version tag) (entries_of records) (length records) half
+
+  -- the disk after an opening, in the half or beside the refusal
+  abbrev pub disk_after : {R : Type 0} → Result (WriterHalf D G × R) (Refused × D) → D
+  disk_after (Ok pair) = pair.0.journal.disk
+  disk_after (Err pair) = pair.1
 
   -- the journal is as it was, and the records that wait
   pub record IsSameHalf (old new : WriterHalf D G) : Type 0 where
@@ -82,6 +95,11 @@ module _ {D : Type 0} {G : Ghosts D} where
   abbrev pub StepsOver : (old new : WriterHalf D G) → Result Bool Refused → Type 0
   StepsOver old new result = (head : Head) (records : List Entry) (stored : ℕ) → Writes head records stored old
       → StepsTo head records stored old new result
+
+  -- over whatever records it writes, a crash at any moment of the step leaves no more
+  abbrev pub CrashesStep : (old new : WriterHalf D G) → Type 0
+  CrashesStep old new = (head : Head) (records : List Entry) (stored : ℕ) → Writes head records stored old
+      → LeavesOnly G old.journal.disk new.journal.disk (LeavesStep head records stored (G.state old.journal.disk))
 
   abbrev pub BeginsNext : (old new : WriterHalf D G) → Type 0
   BeginsNext old new = (head : Head) (records : List Entry) (stored : ℕ) → Writes head records stored old → HasBegun head records stored old new

@@ -1,5 +1,5 @@
 //! A store that works and writes: a core whose steps are kept on a disk.
-ghost use Rattle.std.specs.Prelude.{◌≡◌, ◌↔◌, IfErr, IfOk, IsTrue};
+ghost use Rattle.std.specs.Prelude.{◌≡◌, ◌↔◌, true, Err, IfErr, IfOk, IsTrue, OnOk};
 
 use crate::kept::Kept;
 use crate::laws::{halves_open, journals_write_stores};
@@ -22,15 +22,17 @@ pub struct Engine<P: Problem, D: Disk> {
 }
 
 impl<P: Problem, D: Disk> Engine<P, D> {
-    ghost use Rattle.ide_store.specs.Engine.{AreNew, AreOpened, StepsDiskOver};
+    ghost use Rattle.ide_store.specs.Engine.{AreNew, AreOpened, CrashesOpening, CrashesOver, IsEngineStop, StepsDiskOver, StopsOpening, disk_after};
+    ghost use Rattle.ide_disk.specs.OneCall.{FailsOnce};
     ghost use Rattle.ide_journal.specs.Format.{Head, head_of};
-    ghost use Rattle.ide_journal.specs.Refusals.{IsCreateRefusal};
+    ghost use Rattle.ide_journal.specs.Refusals.{CountsFaults, IsCreateRefusal};
 
     /// Makes a store of that version with no program and no record on the disk, whatever it held.
     ///
     /// Refusals: those of [`WriterHalf::create`]; the disk comes back.
     pub fn create(alloc: Global, disk: D, version: Version) -> Result<Self, (Refused, D)>
         ensures made { D.honest disk → IfOk result (λ engine. AreNew ⟦<P as Kept>⟧.analysis (head_of version P.TAG) engine.table engine.writer) }
+        ensures honest { D.honest disk → IfOk result (λ engine. D.honest engine.writer.journal.disk) }
         ensures refused { IfErr result (λ pair. IsCreateRefusal D.Disk disk pair.1 pair.0) }
     {
         journals_write_stores::<D>();
@@ -47,6 +49,17 @@ impl<P: Problem, D: Disk> Engine<P, D> {
     /// Refusals: those of [`WriterHalf::open`] and of [`TableHalf::open`]; the disk comes back.
     pub fn open(alloc: Global, disk: D) -> Result<Self, (Refused, D)>
         ensures opened { D.honest disk → IfOk result (λ engine. AreOpened ⟦<P as Kept>⟧.analysis (head_of engine.writer.journal.version P.TAG) (D.state disk) engine.table engine.writer) }
+        ensures honest { D.honest disk → D.honest (disk_after result) }
+
+        // What a crash at any moment of the call leaves, one of each world whose disk it was may leave.
+        // An opening that is refused has stopped in each of them.
+        ensures crashes { D.honest disk → (head : Head) → CrashesOpening ⟦<P as Kept>⟧.analysis head D.Disk disk (disk_after result) }
+        ensures stops { D.honest disk → (head : Head) → IfErr result (λ pair. StopsOpening ⟦<P as Kept>⟧.analysis head D.Disk disk pair.1) }
+        ensures refused { D.honest disk → IfErr result (λ pair. IsEngineStop ⟦<P as Kept>⟧.analysis D.Disk P.TAG disk pair.1 pair.0) }
+
+        // `Disk` is answered where a call of the disk failed, and at Ok none did.
+        ensures fault { IfErr result (λ pair. pair.0 ≡ Refused.Disk → FailsOnce D.Disk disk pair.1) }
+        ensures failures { OnOk result (D.failures (disk_after result) ≡ D.failures disk) }
     {
         halves_open::<P, D>();
         match WriterHalf::open(alloc, disk, P::TAG) {
@@ -67,6 +80,17 @@ impl<P: Problem, D: Disk> Engine<P, D> {
     /// is refused; `NoMemory`, before the first call for a record.
     pub fn disk_step(&mut self) -> Result<bool, Refused>
         ensures steps { D.honest self.old.writer.journal.disk → (head : Head) → StepsDiskOver ⟦<P as Kept>⟧.analysis head self.old.table self.new.table self.old.writer self.new.writer result }
+        ensures honest { D.honest self.old.writer.journal.disk → D.honest self.new.writer.journal.disk }
+
+        // What a crash at any moment of the call leaves, one of each world on which the halves were at
+        // work may leave.
+        ensures crashes { D.honest self.old.writer.journal.disk → (head : Head) → CrashesOver ⟦<P as Kept>⟧.analysis head self.old.table self.old.writer self.new.writer }
+
+        // `Disk` is answered where a call of the disk failed, and at Ok none did. From then on nothing
+        // is done.
+        ensures failures { CountsFaults D.Disk result self.old.writer.journal.disk self.new.writer.journal.disk }
+        ensures failed { self.old.table.failed ≡ true → (result ≡ Err Refused.Failed) × (self.new ≡ self.old) }
+        ensures fails { result ≡ Err Refused.Disk → self.new.table.failed ≡ true }
     {
         if self.table.failed {
             return Err(Refused::Failed);

@@ -1,5 +1,5 @@
 //! The half of a store that works: the core, and the records of what it did that wait for the writer.
-ghost use Rattle.std.specs.Prelude.{◌≡◌, ◌≤◌, ◌↔◌, [], Some, length, slice_get, false, true, Ok, IfErr, IfOk, IsTrue, OnErr, OnOk};
+ghost use Rattle.std.specs.Prelude.{◌≡◌, ◌≤◌, ◌↔◌, [], None, Some, length, slice_get, false, true, Ok, IfErr, IfOk, IsTrue, OnErr, OnOk};
 ghost use Rattle.ide_steps.specs.Changed.{ended_key};
 ghost use Rattle.ide_steps.specs.ClaimRefusal.{IsClaimRefusal};
 ghost use Rattle.ide_steps.specs.Claiming.{FindsIdle, FindsQuiet, IfTask};
@@ -104,6 +104,7 @@ impl<P: Problem> TableHalf<P> {
     /// change a key beyond 65,536 changed ones: seal, then repeat it; `NoMemory`.
     pub fn finish(&mut self, hand: usize, work: &Work<P>) -> Result<(), Refused>
         ensures ends { OnOk result (EndsClaim ⟦<P as Kept>⟧.analysis hand self.old self.new) }
+        ensures free { OnOk result (claim_at self.new.core.pile hand ≡ None) }
         ensures working { OnOk result (self.old.failed ≡ false) }
         ensures refused { IfErr result (IsRefusal self.old (IsFinishStop P.targets P.F.edge self.old.core hand work.now)) }
         ensures unchanged { OnErr result (IsSameTable self.old self.new) }
@@ -123,6 +124,7 @@ impl<P: Problem> TableHalf<P> {
     /// Refusals, in this order: `Failed`; `Stale` where the hand has no claim.
     pub fn release(&mut self, hand: usize) -> Result<(), Refused>
         ensures gives { OnOk result (GivesClaimBack ⟦<P as Kept>⟧.analysis hand self.old self.new) }
+        ensures free { OnOk result (claim_at self.new.core.pile hand ≡ None) }
         ensures working { OnOk result (self.old.failed ≡ false) }
         ensures refused { IfErr result (IsRefusal self.old (IsStaleClaim self.old hand)) }
         ensures unchanged { OnErr result (IsSameTable self.old self.new) }

@@ -1,5 +1,5 @@
 //! The half of a store that writes: it takes sealed records to the disk, one disk call at a time.
-ghost use Rattle.std.specs.Prelude.{◌≡◌, ◌<◌, ◌∷◌, ◌++◌, [], true, false, Ok, IfErr, IfOk, OnErr, OnOk};
+ghost use Rattle.std.specs.Prelude.{◌≡◌, ◌<◌, ◌∷◌, ◌++◌, [], true, false, Err, Ok, IfErr, IfOk, OnErr, OnOk};
 ghost use Rattle.std.specs.List.{All};
 ghost use Rattle.ide_journal.specs.Format.{IsEntry};
 ghost use Rattle.ide_journal.specs.Lists.{entries_of, entry_of};
@@ -25,10 +25,13 @@ pub struct WriterHalf<D: Disk> {
 
 impl<D: Disk> WriterHalf<D> {
     ghost use Rattle.ide_store.specs.Engine.{HandsOver};
-    ghost use Rattle.ide_store.specs.Half.{AdvancesOver, BeginsNext, IsBeginRefusal, IsSameHalf, OpensStore, Rests, Seals, StepsOver, Writes};
+    ghost use Rattle.ide_store.specs.Half.{AdvancesOver, BeginsNext, CrashesStep, IsBeginRefusal, IsSameHalf, OpensStore, Rests, Seals, StepsOver, Writes, disk_after};
+    ghost use Rattle.ide_disk.specs.OneCall.{FailsOnce};
     ghost use Rattle.ide_journal.specs.Format.{head_of};
-    ghost use Rattle.ide_journal.specs.Refusals.{IsCreateRefusal, IsOpenRefusal};
-    ghost use Rattle.ide_journal.specs.Stands.{IsIdle};
+    ghost use Rattle.ide_journal.specs.Opening.{KeepsRecords};
+    ghost use Rattle.ide_journal.specs.Records.{LeavesRecords};
+    ghost use Rattle.ide_journal.specs.Refusals.{CountsFaults, IsCreateRefusal, IsOpenRefusal};
+    ghost use Rattle.ide_journal.specs.Stands.{HasFailed, IsIdle};
 
     /// Makes a store of that version with no record on the disk, whatever it held.
     ///
@@ -36,6 +39,7 @@ impl<D: Disk> WriterHalf<D> {
     pub fn create(alloc: Global, disk: D, tag: u8, version: Version) -> Result<Self, (Refused, D)>
         requires { 0 < tag }
         ensures made { D.honest disk → IfOk result (Writes (head_of version tag) [] 0) }
+        ensures honest { D.honest disk → IfOk result (λ half. D.honest half.journal.disk) }
         ensures refused { IfErr result (λ pair. IsCreateRefusal D.Disk disk pair.1 pair.0) }
     {
         match Journal::create(alloc, disk, tag, version) {
@@ -52,7 +56,16 @@ impl<D: Disk> WriterHalf<D> {
     /// Refusals: those of [`Journal::open`]; the disk comes back.
     pub fn open(alloc: Global, disk: D, tag: u8) -> Result<(Self, Vec<RawRecord>), (Refused, D)>
         ensures opened { D.honest disk → IfOk result (λ pair. OpensStore tag disk pair.0 pair.1.items) }
+        ensures honest { D.honest disk → D.honest (disk_after result) }
+
+        // A crash at any moment of the call leaves what one before it could leave, or the list that
+        // the disk held.
+        ensures any_moment { D.honest disk → KeepsRecords D.Disk disk (disk_after result) }
         ensures refused { D.honest disk → IfErr result (λ pair. IsOpenRefusal D.Disk tag disk pair.1 pair.0) }
+
+        // `Disk` is answered where a call of the disk failed, and at Ok none did.
+        ensures fault { IfErr result (λ pair. pair.0 ≡ Refused.Disk → FailsOnce D.Disk disk pair.1) }
+        ensures failures { OnOk result (D.failures (disk_after result) ≡ D.failures disk) }
     {
         match Journal::open(alloc, disk, tag) {
             Ok((journal, records)) => {
@@ -99,6 +112,13 @@ impl<D: Disk> WriterHalf<D> {
     /// first call of a record.
     pub fn disk_step(&mut self) -> Result<bool, Refused>
         ensures steps { D.honest self.old.journal.disk → StepsOver self.old self.new result }
+        ensures honest { D.honest self.old.journal.disk → D.honest self.new.journal.disk }
+
+        // A crash at any moment of the call leaves what one before it could leave, or the stored
+        // records, or these and the next one.
+        ensures any_moment { D.honest self.old.journal.disk → CrashesStep self.old self.new }
+        ensures failures { CountsFaults D.Disk result self.old.journal.disk self.new.journal.disk }
+        ensures failed { HasFailed self.old.journal → result ≡ Err Refused.Failed }
     {
         match self.begin_next() {
             Ok(true) => self.advance(),
@@ -114,6 +134,7 @@ impl<D: Disk> WriterHalf<D> {
         ensures busy { result ≡ Ok true → (IsIdle self.new.journal → ⊥) }
         ensures rests { result ≡ Ok false → Rests self.old self.new }
         ensures disk { self.new.journal.disk ≡ self.old.journal.disk }
+        ensures failed { HasFailed self.old.journal → (result ≡ Ok true) × HasFailed self.new.journal }
         ensures refused { IfErr result (IsBeginRefusal self.old self.new) }
     {
         if !self.journal.is_idle() {
@@ -136,6 +157,10 @@ impl<D: Disk> WriterHalf<D> {
     fn advance(&mut self) -> Result<bool, Refused>
         requires { IsIdle self.old.journal → ⊥ }
         ensures advances { D.honest self.old.journal.disk → AdvancesOver self.old self.new result }
+        ensures honest { D.honest self.old.journal.disk → D.honest self.new.journal.disk }
+        ensures any_moment { D.honest self.old.journal.disk → LeavesRecords self.old.journal self.new.journal }
+        ensures failures { CountsFaults D.Disk result self.old.journal.disk self.new.journal.disk }
+        ensures failed { HasFailed self.old.journal → result ≡ Err Refused.Failed }
     {
         match self.journal.advance() {
             Ok(_) => {

@@ -1,7 +1,7 @@
 use Rattle.std.proofs.Common.{◌≡◌, ap, false, refl, subst}
 use Rattle.ide_store.specs.Table.{TableData}
 use Rattle.ide_store.specs.TableCalls.{after_failure, by_itself, end_overflows, end_refused}
-use Rattle.ide_store.proofs.Calls.{end_keeps, ends_claim}
+use Rattle.ide_store.proofs.Calls.{end_keeps, ends_claim, put_none}
 use Rattle.ide_store.proofs.Stops.{own_stop}
 use Rattle.ide_store.proofs.table.TableHalf.finish.Goals as goal
 
@@ -27,3 +27,6 @@ returns-clause-ends g c =
 
 pub returns-clause-refused : goal.returns-clause-refused
 returns-clause-refused g c = rw (← c.self.view_is) (own_stop c.finish.result _ _ _ c.if-self.false (λ refused why. end_refused why) c.finish.ensures.refused)
+
+pub returns-clause-free : goal.returns-clause-free
+returns-clause-free g c = put_none c.finish.result c.args.hand c.self.inside.core.pile c.finish.new.self.pile c.finish.ensures.claims
