@@ -7,8 +7,11 @@
 //! ```
 #![tactic(auto)]
 
+mod half;
+mod hands;
 mod runs;
 mod solver;
 
+pub use hands::{Ended, Gate, Hands, Point, hand_loop};
 pub use runs::every_run;
 pub use solver::{solve, values_of};

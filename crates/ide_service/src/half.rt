@@ -1,0 +1,46 @@
+//! The half of a store that works, as what hands work over.
+ghost use Rattle.std.specs.Prelude.{◌≡◌, [], None, false};
+ghost use Rattle.ide_worklist.specs.Worklist.{claim_at};
+
+use crate::hands::Hands;
+use ide_problem::Problem;
+use ide_steps::{Claimed, Parted};
+use ide_store::TableHalf;
+use ide_tasks::Work;
+use ide_wire::Refused;
+
+/// A half after a failed disk call has no use for claims: it is opened again.
+impl<P: Problem> Hands<P> for TableHalf<P> {
+    ghost rests = { λ table. table.core.pile.pending ≡ [] };
+
+    ghost is_free = { λ table hand. table.failed ≡ false → claim_at table.core.pile hand ≡ None };
+
+    fn claim(&mut self, hand: usize) -> Result<Claimed<P>, Refused> {
+        TableHalf::claim(self, hand)
+    }
+
+    fn parts(&mut self, hand: usize, work: &mut Work<P>, most: usize) -> Result<usize, Refused> {
+        for count in 0..most {
+            if TableHalf::part(self, hand, work)? == Parted::NoPart {
+                return Ok(count);
+            }
+        }
+        Ok(most)
+    }
+
+    fn finish(&mut self, hand: usize, work: &Work<P>) -> Result<(), Refused> {
+        TableHalf::finish(self, hand, work)
+    }
+
+    fn release(&mut self, hand: usize) {
+        let _ = TableHalf::release(self, hand);
+    }
+
+    fn seal(&mut self) -> Result<(), Refused> {
+        let _ = TableHalf::seal(self)?;
+        Ok(())
+    }
+
+    /// It has the half to itself, so that no other hand works meanwhile.
+    fn pause(&mut self) {}
+}
