@@ -269,7 +269,12 @@ fn opens_what_a_crash_leaves(rt: HostRuntime) -> Result<(), Fail> {
 }
 
 /// The bytes are written at a place of the disk.
-fn damage(rt: &impl Abort, disk: &mut MemDisk, at: u64, bytes: &[u8]) -> Result<(), Fail> {
+pub(crate) fn damage(
+    rt: &impl Abort,
+    disk: &mut MemDisk,
+    at: u64,
+    bytes: &[u8],
+) -> Result<(), Fail> {
     assert!(rt; at <= disk.len()?);
     disk.write(at, bytes)?;
     Ok(())
@@ -290,7 +295,7 @@ fn is_damaged(rt: &(impl Abort + AllocGlobal), at: u64, bytes: &[u8]) -> Result<
 }
 
 /// The disk is cut to a length.
-fn cut(rt: &impl Abort, disk: &mut MemDisk, len: u64) -> Result<(), Fail> {
+pub(crate) fn cut(rt: &impl Abort, disk: &mut MemDisk, len: u64) -> Result<(), Fail> {
     assert!(rt; len <= disk.len()?);
     disk.cut(len)?;
     Ok(())

@@ -1,0 +1,171 @@
+//! Batches: no more keys change between two records than a batch may have.
+//!
+//! The program is as wide as a text may be, so that a few tasks change so many keys: the tests are also
+//! run with checks and unproved, where a task costs a thousand times as much.
+use crate::engines::{Given, Hand, create, load, root, seal};
+use ide_disk::MemDisk;
+use ide_instances::CopyConst;
+use ide_journal::Version;
+use ide_problem::Problem;
+use ide_steps::Parted;
+use ide_store::{Engine, TableHalf};
+use ide_wire::Refused;
+use std::alloc::{AllocError, Global};
+use std::process::Abort;
+use std::test::Fail;
+
+/// How many procedures have locals.
+const WIDE: usize = 16;
+
+/// How many locals each of them has. With `@zero` and `@result` these are 4,096 facts, which begin at its start.
+const LOCALS: usize = 4094;
+
+/// Adds the declarations of so many locals.
+fn add_locals(text: &mut String, count: usize) -> Result<(), AllocError> {
+    for number in 0..count {
+        writeln!(text, "var v{number}")?;
+    }
+    Ok(())
+}
+
+/// Adds so many procedures with locals and no statement.
+fn add_procedures(text: &mut String, count: usize) -> Result<(), AllocError> {
+    for number in 0..count {
+        writeln!(text, "proc p{number}")?;
+        add_locals(text, LOCALS)?;
+        text.push_str("end\n")?;
+    }
+    Ok(())
+}
+
+/// The text of so many procedures with locals, and of an empty `main` behind them.
+fn wide_text(alloc: Global, count: usize) -> Result<String, AllocError> {
+    let mut text = String::new(alloc);
+    add_procedures(&mut text, count)?;
+    text.push_str("proc main\nend\n")?;
+    Ok(text)
+}
+
+/// Makes so many procedures roots, the last first.
+fn root_all<P: Problem>(
+    alloc: Global,
+    table: &mut TableHalf<P>,
+    count: usize,
+) -> Result<(), Refused> {
+    for number in (0..count).rev() {
+        let name = format!(in alloc; "p{number}")?;
+        root(table, name.as_str())?;
+    }
+    Ok(())
+}
+
+/// Loads the program, and makes each procedure a root.
+fn begin_wide<P: Problem>(
+    rt: &(impl Abort + AllocGlobal),
+    table: &mut TableHalf<P>,
+) -> Result<(), Fail> {
+    let text = wide_text(rt.alloc(), WIDE)?;
+    assert!(rt; load(rt.alloc(), table, text.as_str()) == Ok(0));
+    assert!(rt; root(table, "main") == Ok(1));
+    root_all(rt.alloc(), table, WIDE)?;
+    assert!(rt; seal(table) == Ok(None));
+    Ok(())
+}
+
+/// The hand of that number, with a claim.
+fn claimed<P: Problem>(
+    rt: &(impl Abort + AllocGlobal),
+    table: &mut TableHalf<P>,
+    number: usize,
+) -> Result<Hand<P>, Fail> {
+    let mut hand = Hand::new(number);
+    assert!(rt;
+        hand.claim(rt.alloc(), table) == Ok(Given::Task),
+        "hand {number}"
+    );
+    Ok(hand)
+}
+
+/// So many hands, each with a claim.
+fn claim_all<P: Problem>(
+    rt: &(impl Abort + AllocGlobal),
+    table: &mut TableHalf<P>,
+    count: usize,
+) -> Result<Vec<Hand<P>>, Fail> {
+    let mut hands = Vec::new(rt.alloc());
+    for number in 0..count {
+        hands.push(claimed(rt, table, number)?)?;
+    }
+    Ok(hands)
+}
+
+/// Asserts that each hand does 4,096 parts.
+fn expect_parts<P: Problem>(rt: &impl Abort, table: &mut TableHalf<P>, hands: &mut [Hand<P>]) {
+    for hand in hands {
+        assert!(rt; hand.parts(table, 5000) == Ok(4096));
+    }
+}
+
+/// Asserts what the end of each hand's claim gives.
+fn expect_ends<P: Problem>(
+    rt: &impl Abort,
+    table: &mut TableHalf<P>,
+    hands: &mut [Hand<P>],
+    want: Result<(), Refused>,
+) {
+    for hand in hands {
+        assert!(rt; hand.finish(table) == want);
+    }
+}
+
+/// Asserts that a part and ends of claims are refused over as many changed keys as a batch may have, and that
+/// this changes nothing.
+fn expect_full<P: Problem>(
+    rt: &impl Abort,
+    table: &mut TableHalf<P>,
+    hands: &mut [Hand<P>],
+    last: &mut Hand<P>,
+) {
+    expect_parts(rt, table, hands);
+    assert!(rt; table.core().changed_count() == 65536);
+    assert!(rt; last.part(table) == Err(Refused::Limit));
+    assert!(rt; last.finish(table) == Err(Refused::Stale));
+    expect_ends(rt, table, hands, Err(Refused::Limit));
+    assert!(rt; last.part(table) == Err(Refused::Limit));
+    assert!(rt; table.core().changed_count() == 65536);
+    assert!(rt; table.core().key_count() == 65536 + 17);
+}
+
+/// Asserts that both are done once what changed is sealed, as one record.
+fn expect_room<P: Problem>(
+    rt: &impl Abort,
+    table: &mut TableHalf<P>,
+    hands: &mut [Hand<P>],
+    last: &mut Hand<P>,
+) {
+    assert!(rt; seal(table) == Ok(Some(18)));
+    assert!(rt; last.part(table) == Ok(Parted::Lowered));
+    expect_ends(rt, table, hands, Ok(()));
+    assert!(rt; table.core().changed_count() == 17);
+    assert!(rt; seal(table) == Ok(Some(19)));
+}
+
+/// Asserts it of a half with no program.
+fn expect_full_batch<P: Problem>(
+    rt: &(impl Abort + AllocGlobal),
+    table: &mut TableHalf<P>,
+) -> Result<(), Fail> {
+    begin_wide(rt, table)?;
+    let mut hands = claim_all(rt, table, WIDE)?;
+    let mut last = claimed(rt, table, WIDE)?;
+    expect_full(rt, table, hands.as_mut_slice(), &mut last);
+    expect_room(rt, table, hands.as_mut_slice(), &mut last);
+    Ok(())
+}
+
+// The step that would change key 65,537 is refused until what changed is sealed, be it a part or an end.
+#[test]
+fn a_full_batch_is_sealed_before_one_key_more(rt: HostRuntime) -> Result<(), Fail> {
+    let mut engine: Engine<CopyConst, MemDisk> = create(rt.alloc(), Version::Two)?;
+    expect_full_batch(&rt, &mut engine.table)
+}
