@@ -1,2 +1,3 @@
 pub mod Alike
 pub mod Rooted
+pub mod Storing

@@ -5,6 +5,10 @@
 //! - `parse FILE`, `graph FILE` and `tabulate FILE` do the same work up to that phase alone, and
 //!   print the procedures, the nodes and facts, and what `solve` prints;
 //! - `print FILE` solves the text and makes the dump of its values, and prints how long that is;
+//! - `keep FILE` solves as far as `tabulate`, in a store on a disk in memory, and prints how many records
+//!   were stored, how long the disk is, and how many keys and tasks there were;
+//! - `resume FILE` does so, opens the store from its disk and prints the same of it;
+//! - `bytes FILE` does what `keep` does and copies the bytes of the disk once;
 //! - `append LENGTH COUNT` stores so many records with bodies of that length in a journal on a disk
 //!   in memory, and prints how many there are and how long the file is;
 //! - `reopen LENGTH COUNT` does so and reads them back;
@@ -19,6 +23,7 @@ mod batches;
 mod counts;
 mod phases;
 mod records;
+mod stores;
 
 use anyhow::{Context, Result, bail};
 use batches::{Batches, copy_each, read, spell};
@@ -28,6 +33,7 @@ use ide_journal::Version;
 use phases::{count_procedures, graph_of, measure_dump, solve, tabulate};
 use records::{Sizes, Stored, append, copy, reopen};
 use std::{env, fs};
+use stores::{Amounts, copy_disk, keep, resume};
 
 fn main(rt: HostRuntime) -> Result<()> {
     let words: Vec<String> = env::args(&rt)?.collect(rt.alloc())?;
@@ -55,8 +61,11 @@ fn run_phase(rt: &HostRuntime, phase: &str, text: &[u8]) -> Result<()> {
         "tabulate" => print_counts(rt, tabulate(rt.alloc(), text)?),
         "solve" => print_counts(rt, solve(rt.alloc(), text)?),
         "print" => print_bytes(rt, measure_dump(rt.alloc(), text)?),
+        "keep" => print_amounts(rt, keep(rt.alloc(), text)?),
+        "resume" => print_amounts(rt, resume(rt.alloc(), text)?),
+        "bytes" => print_bytes(rt, copy_disk(rt.alloc(), text)?),
         _ => bail!(
-            "parse, graph, tabulate, solve, print, append, reopen, copy, spell, read or recopy is wanted"
+            "parse, graph, tabulate, solve, print, keep, resume, bytes, append, reopen, copy, spell, read or recopy is wanted"
         ),
     }
 }
@@ -123,6 +132,15 @@ fn print_counts(rt: &HostRuntime, counts: Counts) -> Result<()> {
 /// Prints how many records there are and how long their file is.
 fn print_stored(rt: &HostRuntime, stored: Stored) -> Result<()> {
     println!(rt; "records {} bytes {}", stored.records, stored.bytes)?;
+    Ok(())
+}
+
+/// Prints what a store came to.
+fn print_amounts(rt: &HostRuntime, amounts: Amounts) -> Result<()> {
+    println!(rt;
+        "records {} bytes {} keys {} tasks {}",
+        amounts.records, amounts.bytes, amounts.keys, amounts.tasks
+    )?;
     Ok(())
 }
 
