@@ -108,7 +108,7 @@ module _ {F L : Type 0} (a : Analysis F L) where
   spelled_at head table value entry same spells = subst (λ (version : Version). IsEntryOf (forms_of a) version value entry) same spells.spelled
 
   module _ (knows : Knows a) (head : Head) (w : StoreWorld a head) (reached : IsReached a head w) (table : TableData F)
-      (works : WorksOn a head w table) (whole : IsWhole table.core) where
+      {handed : List Entry} (works : WorksOn a head w table handed) (whole : IsWhole table.core) where
     -- the image is good
     now_good : IsGoodImage w.world.image
     now_good =
@@ -184,13 +184,13 @@ module _ {F L : Type 0} (a : Analysis F L) where
 
   -- where no item changed, entries are as the records give them back
   still_entries : Knows a → (table : TableData F) → IsWhole table.core → AreChangedItems table.core []
-      → (head : Head) (w : StoreWorld a head) → IsReached a head w → (works : WorksOn a head w table)
+      → (head : Head) (w : StoreWorld a head) {handed : List Entry} → IsReached a head w → (works : WorksOn a head w table handed)
       → (key : Key) → entry_at works.base.image key ≡ entry_at w.world.image key
   still_entries knows table whole unchanged head w reached works key = changes_told knows head w reached table works whole [] unchanged key
 
   -- so nothing is new
   pub finds_nothing : Knows a → (table : TableData F) → IsWhole table.core → AreChangedItems table.core []
-      → (head : Head) (w : StoreWorld a head) → IsReached a head w → WorksOn a head w table → HasNothingNew a head w
+      → (head : Head) (w : StoreWorld a head) {handed : List Entry} → IsReached a head w → WorksOn a head w table handed → HasNothingNew a head w
   finds_nothing knows table whole unchanged head w reached works = record {
     base = works.base.image;
     folded = works.base.folded;
@@ -202,7 +202,7 @@ module _ {F L : Type 0} (a : Analysis F L) where
       → BeginsAnew old.core new.core → FindsNothing a old new
   forgets_nothing knows old new whole unchanged rest anew = record {
     rest = rest;
-    caught_up = λ head w reached works.
+    caught_up = λ head w handed reached works.
         let still = still_entries knows old whole unchanged head w reached works in
         let has : HasImage w.world.image new.core = has_anew w.world.image old.core new.core anew works.image in (
           record { base = works.base.image; folded = works.base.folded; entries = still },
@@ -220,8 +220,7 @@ module _ {F L : Type 0} (a : Analysis F L) where
               entries = λ key. still key ∙ entries_anew w.world.image new.core has (ap (λ (core : CoreData F). core.changes) anew) key;
             };
             sealed = works.sealed ∙ sym rest.sealed;
-            handed = works.handed;
-            waits = works.waits ∙ ap (λ (more : List Entry). works.handed ++ more) (sym rest.waiting);
+            waits = works.waits ∙ ap (λ (more : List Entry). handed ++ more) (sym rest.waiting);
           },
         );
   }
@@ -229,7 +228,7 @@ module _ {F L : Type 0} (a : Analysis F L) where
   -- the record of the items that changed is sealed
   pub seals_batch : Knows a → (entry : Entry) (old new : TableData F) → IsWhole old.core → SpellsChanges a old entry → old.sealed < 4294967295
       → WaitsFor (entry ∷ []) old new → BeginsAnew old.core new.core → IsAct a old new (λ head. Batches entry)
-  seals_batch knows entry old new whole spells less waits anew head w reached works =
+  seals_batch knows entry old new whole spells less waits anew head w handed reached works =
       let has : HasImage w.world.image new.core = has_anew w.world.image old.core new.core anew works.image in (
         can_batch knows head w reached old works whole entry spells less,
         record {
@@ -246,7 +245,6 @@ module _ {F L : Type 0} (a : Analysis F L) where
             entries = entries_anew w.world.image new.core has (ap (λ (core : CoreData F). core.changes) anew);
           };
           sealed = counts_more w.world.sealed entry (length w.world.history) old.sealed new.sealed works.sealed waits.sealed;
-          handed = works.handed;
-          waits = waits_more w.world.sealed works.handed old.waiting new.waiting entry (length w.world.history) works.waits waits.waiting;
+          waits = waits_more w.world.sealed handed old.waiting new.waiting entry (length w.world.history) works.waits waits.waiting;
         },
       )

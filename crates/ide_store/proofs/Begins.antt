@@ -1,11 +1,11 @@
 -- Halves that begin, from what their core and their waiting records are.
-use Rattle.std.proofs.Common.{◌≡◌, ◌≤◌, ◌++◌, ℕ, false, List, [], ◌∷◌, Option, Some, None, length, get_or, refl, ap, sym, subst, arith}
+use Rattle.std.proofs.Common.{◌≡◌, ◌≤◌, ℕ, false, List, [], ◌∷◌, Option, Some, None, length, get_or, refl, ap, sym, subst, arith}
 use Rattle.std.specs.Option.{is_some}
 use Rattle.std.specs.List.{All}
 use Rattle.std.proofs.lemmas.List.Elements.{All-from_recursion, All-nil, recursion_from_All}
 use Rattle.std.specs.List.{AllByRecursion}
 use Rattle.ide_disk.specs.declared.disk.Disk.{Ghosts}
-use Rattle.ide_journal.specs.Format.{Entry, Head, IsEntry}
+use Rattle.ide_journal.specs.Format.{Head, IsEntry}
 use Rattle.ide_journal.specs.Lists.{entries_of, entry_of}
 use Rattle.ide_journal.specs.declared.record.RawRecord.{RawRecord}
 use Rattle.ide_journal.specs.declared.version.Version.{Version}
@@ -53,16 +53,8 @@ module _ {F : Type 0} (core new : CoreData F) (anew : new ≡ record core { chan
 
 -- two halves that begin are at work on a new store
 pub new_halves : {F L : Type 0} (a : Analysis F L) {D : Type 0} {G : Ghosts D} (head : Head) (table : TableData F) (writer : WriterHalf D G) → JournalsWriteStores G
-    → BeginsOn a table → head.version ≡ table.version → table.waiting ≡ [] → Writes head [] 0 writer → AreNew a head table writer
-new_halves a head table writer stores begins version none writes =
-    let live = (stores head [] 0).live writer.journal writes.behind in
-    let works = begins head version _ _ in
-    let handed : works.handed ≡ [] = no_more works.handed table.waiting (sym works.waits) in
-    record {
-      live = live;
-      at_work = record { works = works; writes = subst (λ (entries : List Entry). Writes head entries 0 writer) (sym handed) writes; work = refl; disk = refl };
-    }
-  where
-    no_more : (first rest : List Entry) → first ++ rest ≡ [] → first ≡ []
-    no_more [] rest is = refl
-    no_more (x ∷ first) rest is = absurd (cc (is))
+    → BeginsOn a table → head.version ≡ table.version → Writes head [] 0 writer → AreNew a head table writer
+new_halves a head table writer stores begins version writes = record {
+  live = (stores head [] 0).live writer.journal writes.behind;
+  at_work = record { handed = []; works = begins head version _ _; writes = writes; work = refl; disk = refl };
+}

@@ -1,11 +1,11 @@
 -- The claim of a hand is an act of the store: its parts are those that the key owes over each graph of the program.
-use Rattle.std.proofs.Common.{◌≡◌, ◌∙◌, ◌≤◌, ◌^◌, ℕ, true, Option, Some, slice_get, option_map, refl, ap, sym, subst, arith, true≢false}
+use Rattle.std.proofs.Common.{◌≡◌, ◌∙◌, ◌≤◌, ◌^◌, ℕ, true, List, Option, Some, slice_get, option_map, refl, ap, sym, subst, arith, true≢false}
 use Rattle.std.specs.Option.{is_some}
 use Rattle.ide_graph.specs.SameGraphs.{AreSameGraphs}
 use Rattle.ide_graph.specs.Supergraph.{Supergraph}
 use Rattle.ide_graph.specs.declared.site.Site.{Site}
 use Rattle.ide_graph.specs.declared.site.Site.TheVariants.{Normal, Call, Exit}
-use Rattle.ide_journal.specs.Format.{Head}
+use Rattle.ide_journal.specs.Format.{Entry, Head}
 use Rattle.ide_lattice.specs.Algebra.{EdgeAlgebra}
 use Rattle.ide_problem.specs.Flow.{Targets}
 use Rattle.ide_steps.specs.Claiming.{FindsTask, KeepsAllBut}
@@ -82,7 +82,7 @@ module _ {F L : Type 0} (a : Analysis F L) (knows : Knows a) where
         edges = other.edges;
       })
 
-  module _ (head : Head) (w : StoreWorld a head) (table : TableData F) (reached : IsReached a head w) (on : WorksOn a head w table) where
+  module _ (head : Head) (w : StoreWorld a head) (table : TableData F) {handed : List Entry} (reached : IsReached a head w) (on : WorksOn a head w table handed) where
     -- where a key waits, a program is loaded
     loaded_where : (key : Key) → w.world.image.pending key ≡ true → (v : ProgramValue) × (w.world.image.program ≡ Some v)
     loaded_where key waits =
@@ -116,7 +116,7 @@ module _ {F L : Type 0} (a : Analysis F L) (knows : Knows a) where
 
   pub hands_claim : (hand : ℕ) (old new : TableData F) (task : TaskData F) → IsWhole old.core → KeepsRest old new
       → KeepsAllBut hand old.core new.core → FindsTask a.targets a.functions hand old.core new.core task → TakesTask a hand old new task
-  hands_claim hand old new task kept_whole rest keeps finds head w reached on =
+  hands_claim hand old new task kept_whole rest keeps finds head w handed reached on =
       let waits : w.world.image.pending task.key ≡ true = on.image.pending task.key ∙ finds.taken.pending in
       let loaded = loaded_where head w old reached on task.key waits in (
         record {

@@ -1,5 +1,5 @@
 -- What one hand does, one act after the other.
-use Rattle.std.proofs.Common.{◌≡◌, ◌∙◌, ◌+◌, ◌*◌, ◌-◌, ◌^◌, ◌<◌, ◌≤◌, ◌++◌, ◌⊎◌, ℕ, Bool, true, false, cond, List, [], ◌∷◌, Option, Some, None, Result, Ok, Err, refl, ap, sym, subst, arith, inl, inr, length}
+use Rattle.std.proofs.Common.{◌≡◌, ◌∙◌, ◌+◌, ◌*◌, ◌-◌, ◌^◌, ◌<◌, ◌++◌, ◌⊎◌, ℕ, Bool, true, false, cond, List, [], ◌∷◌, Option, Some, None, Result, Ok, Err, refl, ap, sym, subst, arith, inl, inr, length}
 use Rattle.std.specs.Prelude.{IfErr, IfOk, IfSome, IsOkUnless, OnErr, OnOk, nat_eq}
 use Rattle.std.specs.Option.{is_some}
 use Rattle.std.proofs.lemmas.Bool.{eqb-true}
@@ -34,49 +34,20 @@ use Rattle.ide_worklist.specs.declared.claim.Claim.{Claim as Held}
 use Rattle.ide_store.specs.Acting.{BeginsAnew, CallsAreActs}
 use Rattle.ide_store.specs.Draining.{AreByDrainer, IsByHand, IsDrainStop, IsSameCore, IsWorkStop, WorksBy, count_of, full_batch_stays, is_claim, is_release, memory_is_wanting, stops}
 use Rattle.ide_store.specs.Hands.{Batches, Claims, Ends, Parts, Releases}
-use Rattle.ide_store.specs.Table.{Analysis, IsAct, IsReached, IsSameTable, KeepsRest, MayDoAll, StoreAct, StoreWorld, TableData, WorksOn, after_act, after_acts, new_store, state_of}
+use Rattle.ide_store.specs.Table.{Analysis, IsAct, IsReached, IsSameTable, KeepsRest, StoreAct, StoreWorld, TableData, WorksOn, after_acts}
 use Rattle.ide_store.specs.TableCalls.{FindsNothing, IsRefusal, IsSealStop, by_itself, SealsBatch, no_number_left, not_spelled, wants_memory}
 use Rattle.ide_store.specs.declared.outbox.Ticket.{Ticket}
+use Rattle.ide_store.proofs.Acts.{count_more, may_more, after_more, reached_more}
 use Rattle.ide_store.proofs.HandActs.{state_is, then_stays, works_on}
 
--- ---- lists of acts
-module _ {F L : Type 0} (a : Analysis F L) (head : Head) where
-  -- acts may be done behind others
-  may_more : (w : StoreWorld a head) (first more : List (StoreAct a head)) → MayDoAll a head w first
-      → MayDoAll a head (after_acts a head w first) more → MayDoAll a head w (first ++ more)
-  may_more w [] more can then = then
-  may_more w (act ∷ first) more can then = (can.0, may_more (after_act a head w act) first more can.1 then)
-
-  after_more : (w : StoreWorld a head) (first more : List (StoreAct a head))
-      → after_acts a head w (first ++ more) ≡ after_acts a head (after_acts a head w first) more
-  after_more w [] more = refl
-  after_more w (act ∷ first) more = after_more (after_act a head w act) first more
-
-  count_more : (is : StoreAct a head → Bool) (first more : List (StoreAct a head)) → count_of a head is (first ++ more) ≡ count_of a head is first + count_of a head is more
-  count_more is [] more = omega arith
-  count_more is (act ∷ first) more =
-      let rest = count_more is first more in omega (arith, rest)
-
-  -- they lead from worlds that acts led to to such worlds
-  reached_more : (w : StoreWorld a head) (acts : List (StoreAct a head)) → IsReached a head w → MayDoAll a head w acts → IsReached a head (after_acts a head w acts)
-  reached_more w acts reached can =
-      let begun = new_store a head reached.work reached.disk in
-      record {
-        work = reached.work;
-        disk = reached.disk;
-        live = reached.live;
-        acts = reached.acts ++ acts;
-        can = may_more begun reached.acts acts reached.can (subst (λ (u : StoreWorld a head). MayDoAll a head u acts) (sym reached.is) can);
-        is = after_more begun reached.acts acts ∙ ap (λ (u : StoreWorld a head). after_acts a head u acts) reached.is;
-      }
-
+-- ---- lists of acts of one hand
 module _ {F L : Type 0} (a : Analysis F L) where
   -- one hand goes on from where it came to
   pub works_then : (old mid new : TableData F) (claims releases more_claims more_releases : ℕ) → WorksBy a old mid claims releases
       → WorksBy a mid new more_claims more_releases → WorksBy a old new (claims + more_claims) (releases + more_releases)
-  works_then old mid new claims releases more_claims more_releases first then head w reached works =
-      let one = first head w reached works in
-      let two = then head (after_acts a head w one.0) (reached_more a head w one.0 reached one.2) one.3 in (
+  works_then old mid new claims releases more_claims more_releases first then head w handed reached works =
+      let one = first head w handed reached works in
+      let two = then head (after_acts a head w one.0) handed (reached_more a head w one.0 reached one.2) one.3 in (
         one.0 ++ two.0,
         record {
           own = All-append (IsByHand a head 0) one.0 two.0 one.1.own two.1.own;
@@ -86,23 +57,26 @@ module _ {F L : Type 0} (a : Analysis F L) where
               let here = one.1.released in let there = two.1.released in let sum = count_more a head (is_release a head) one.0 two.0 in omega (arith, here, there, sum);
         },
         may_more a head w one.0 two.0 one.2 two.2,
-        subst (λ (u : StoreWorld a head). WorksOn a head u new) (sym (after_more a head w one.0 two.0)) two.3,
+        subst (λ (u : StoreWorld a head). WorksOn a head u new handed) (sym (after_more a head w one.0 two.0)) two.3,
       )
 
   -- by one act
   pub works_once : (old new : TableData F) (claims releases : ℕ) (act : (head : Head) → StoreAct a head) → IsAct a old new act
       → ((head : Head) → AreByDrainer a head claims releases (act head ∷ [])) → WorksBy a old new claims releases
-  works_once old new claims releases act is by head w reached works =
-      let done = is head w reached works in (act head ∷ [], by head, (done.0, tt), done.1)
+  works_once old new claims releases act is by head w handed reached works =
+      let done = is head w handed reached works in (act head ∷ [], by head, (done.0, tt), done.1)
 
   -- by none, where the half works on the same worlds
-  pub works_still : (old new : TableData F) → ((head : Head) (w : StoreWorld a head) → IsReached a head w → WorksOn a head w old → WorksOn a head w new) → WorksBy a old new 0 0
-  works_still old new still head w reached works = ([], record { own = All-nil (IsByHand a head 0); claimed = refl; released = refl }, tt, still head w reached works)
+  pub works_still : (old new : TableData F)
+      → ((head : Head) (w : StoreWorld a head) (handed : List Entry) → IsReached a head w → WorksOn a head w old handed → WorksOn a head w new handed)
+      → WorksBy a old new 0 0
+  works_still old new still head w handed reached works =
+      ([], record { own = All-nil (IsByHand a head 0); claimed = refl; released = refl }, tt, still head w handed reached works)
 
   -- as it does where all stays
   pub works_unchanged : (old new : TableData F) → KeepsRest old new → IsUnchanged old.core new.core → WorksBy a old new 0 0
   works_unchanged old new rest same =
-      works_still old new (λ head w reached on.
+      works_still old new (λ head w handed reached on.
       works_on a head w old new w.world.image w.claims w.world.history w.tally on rest
       (record { program = same.program; graph = same.graph; roots = same.roots }) refl refl
       (state_is a head w old on ∙ sym (state-unchanged a.lattice a.functions a.targets old.core new.core same))
@@ -193,7 +167,7 @@ module _ {F L : Type 0} (a : Analysis F L) where
       → OnErr result ((new.core ≡ old.core) × KeepsRest old new) → WorksBy a old new 0 0
   seal_works (Ok (Some ticket)) old new seals nothing same =
       plain old new (λ head. Batches seals.entry) seals.act (λ head. tt) (λ head. refl) (λ head. refl)
-  seal_works (Ok None) old new seals nothing same = works_still a old new (λ head w reached on. ((nothing refl).caught_up head w reached on).1)
+  seal_works (Ok None) old new seals nothing same = works_still a old new (λ head w handed reached on. ((nothing refl).caught_up head w handed reached on).1)
   seal_works (Err e) old new seals nothing same = works_unchanged a old new same.1 (unchanged_equal old.core new.core same.0)
 
   module _ (acts : CallsAreActs a) (old new : TableData F) (rest : KeepsRest old new) where

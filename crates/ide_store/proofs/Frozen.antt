@@ -1,5 +1,5 @@
 -- A frozen core has the image of each world on which its half works.
-use Rattle.std.proofs.Common.{◌≡◌, ◌∙◌, List, [], Option, Some, Result, Ok, Err, ap, refl, sym}
+use Rattle.std.proofs.Common.{◌≡◌, ◌∙◌, [], Option, Some, Result, Ok, Err, ap, sym}
 use Rattle.std.specs.Prelude.{IfOk, map}
 use Rattle.std.specs.List.{list_any}
 use Rattle.ide_batch.specs.Applied.{named_in}
@@ -19,7 +19,7 @@ pub image_of : {P F L : Type 0} (a : Analysis F L) (result : Result (Closed P L 
     → IfOk result (λ closed. closed.roots.items ≡ table.core.roots)
     → IfOk result (λ _. table.core.pile.pending ≡ [])
     → IfOk result (IsImageOver a table)
-image_of a (Ok closed) table program graph functions roots quiet = λ head w reached works. record {
+image_of a (Ok closed) table program graph functions roots quiet = λ head w handed reached works. record {
   program = works.image.program ∙ program;
   roots =
       ap (λ (o : Option Supergraph). map (named_in o) w.world.image.roots) (sym graph) ∙ works.image.roots

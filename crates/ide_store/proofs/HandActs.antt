@@ -88,7 +88,7 @@ has_next {F = F} targets functions core hand work part own at =
 
 module _ {F L : Type 0} (a : Analysis F L) (head : Head) where
   -- the image and the claims of a world are those of the core that works on it
-  pub state_is : (w : StoreWorld a head) (table : TableData F) → WorksOn a head w table → state_with w.world.image w.claims ≡ state_of a table
+  pub state_is : (w : StoreWorld a head) (table : TableData F) {handed : List Entry} → WorksOn a head w table handed → state_with w.world.image w.claims ≡ state_of a table
   state_is w table on = λ i. record {
     get = λ key. on.image.get key i;
     pending = λ key. on.image.pending key i;
@@ -97,11 +97,11 @@ module _ {F L : Type 0} (a : Analysis F L) (head : Head) where
 
   -- the half works on the world of its new state, where nothing is sealed and entries of then stay
   pub works_on : (w : StoreWorld a head) (old new : TableData F) (image : ProgramImage F) (claims : ℕ → Option (Claim F)) (history : List (ProgramStep F))
-      (tally : Tally F) → WorksOn a head w old → KeepsRest old new → IsSameProblem old.core new.core
+      (tally : Tally F) {handed : List Entry} → WorksOn a head w old handed → KeepsRest old new → IsSameProblem old.core new.core
       → image.program ≡ w.world.image.program → image.roots ≡ w.world.image.roots → state_with image claims ≡ state_of a new
       → ((key : Key) → entry_then new.core key ≡ entry_then old.core key)
-      → WorksOn a head (record { world = record w.world { image = image; history = history }; claims = claims; tally = tally }) new
-  works_on w old new image claims history tally on rest problem program roots state entries = record {
+      → WorksOn a head (record { world = record w.world { image = image; history = history }; claims = claims; tally = tally }) new handed
+  works_on w old new image claims history tally {handed} on rest problem program roots state entries = record {
     running = on.running;
     working = rest.failed ∙ on.working;
     version = rest.version ∙ on.version;
@@ -125,8 +125,7 @@ module _ {F L : Type 0} (a : Analysis F L) (head : Head) where
       entries = λ key. on.base.entries key ∙ ap told (sym (entries key));
     };
     sealed = on.sealed ∙ sym rest.sealed;
-    handed = on.handed;
-    waits = on.waits ∙ ap (λ (more : List Entry). on.handed ++ more) (sym rest.waiting);
+    waits = on.waits ∙ ap (λ (more : List Entry). handed ++ more) (sym rest.waiting);
   }
 
 module _ {F L : Type 0} (a : Analysis F L) where
@@ -136,7 +135,7 @@ module _ {F L : Type 0} (a : Analysis F L) where
   hands_finish hand old new notes rest problem remembers (held, is, over, state) = record {
     held = held;
     is = is;
-    act = λ head w reached on. (
+    act = λ head w handed reached on. (
       record { running = on.running; mine = on.claims hand ∙ ap (option_map (claim_of a.targets a.functions)) is; over = over },
       works_on a head w old new _ _ _ _ on rest problem refl refl
           (ap (λ (s : State F). finished s hand (claim_of a.targets a.functions held)) (state_is a head w old on) ∙ sym state) (remembers.entries notes),
@@ -146,7 +145,7 @@ module _ {F L : Type 0} (a : Analysis F L) where
   pub hands_release : (hand : ℕ) (old new : TableData F) → KeepsRest old new → IsSameProblem old.core new.core
       → new.core.table ≡ old.core.table → new.core.pile.pending ≡ old.core.pile.pending → new.core.changes ≡ old.core.changes
       → (claim_at old.core.pile hand ≡ None → ⊥) → GivesBack a.targets a.functions hand old.core new.core → GivesClaimBack a hand old new
-  hands_release hand old new rest problem table pending changes some state head w reached on =
+  hands_release hand old new rest problem table pending changes some state head w handed reached on =
       let held = some_of (claim_at old.core.pile hand) some in (
         record {
           running = on.running;
@@ -163,7 +162,7 @@ module _ {F L : Type 0} (a : Analysis F L) where
       → slice_get work.parts work.done ≡ Some part
       → state_of a new ≡ part_done (received procedures a.functions a.same (state_of a old) part.0 part.1) hand
       → IsAct a old new (λ head. Parts hand part.0 part.1)
-  does_next hand old new work part notes rest problem remembers own at state head w reached on =
+  does_next hand old new work part notes rest problem remembers own at state head w handed reached on =
       let has = has_next a.targets a.functions old.core hand work part own at in (
         record {
           running = on.running;

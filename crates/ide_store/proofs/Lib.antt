@@ -12,6 +12,7 @@ pub mod World
 pub mod Writing
 pub mod Stops
 pub mod ClaimActs
+pub mod Acts
 pub mod HandActs
 pub mod Calls
 pub mod BatchActs
@@ -19,6 +20,7 @@ pub mod RecordActs
 pub mod Told
 pub mod Unloaded
 pub mod Sealed
+pub mod Runs
 pub mod Openings
 pub mod Stepping
 pub mod Begins

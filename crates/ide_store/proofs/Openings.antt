@@ -1,5 +1,5 @@
 -- A half that works begins on a new store, and goes on from an opening.
-use Rattle.std.proofs.Common.{◌≡◌, Bool, List, [], ◌∷◌, Some, None, length, take, refl, ap, sym, subst}
+use Rattle.std.proofs.Common.{◌≡◌, ◌∙◌, Bool, List, [], ◌∷◌, Some, None, length, take, refl, ap, sym, subst}
 use Rattle.std.specs.Option.{option_map}
 use Rattle.std.proofs.lemmas.List.{append-nil, length-take-le}
 use Rattle.ide_batch.specs.Applied.{HasImage}
@@ -10,6 +10,7 @@ use Rattle.ide_batch.specs.Items.{Functions}
 use Rattle.ide_batch.specs.Records.{RecordValue}
 use Rattle.ide_journal.specs.Format.{Entry, Head}
 use Rattle.ide_journal.specs.declared.version.Version.{Version}
+use Rattle.ide_journal.proofs.OneList.{holds_one_list}
 use Rattle.ide_lattice.specs.Algebra.{EdgeAlgebra}
 use Rattle.ide_steps.specs.Core.{CoreData}
 use Rattle.ide_steps.specs.State.{claim_of}
@@ -59,7 +60,6 @@ module _ {F L : Type 0} (a : Analysis F L) (knows : Knows a) where
       entries = λ key. λ i. (has.get key i, has.pending key i);
     };
     sealed = refl;
-    handed = [];
     waits = refl;
   }
 
@@ -82,6 +82,8 @@ module _ {F L : Type 0} (a : Analysis F L) (knows : Knows a) where
       let exact = machine_is_exact a.functions a.same (forms_of a) knows.prefix_free head.version in
       let held = (reached_whole a knows head w reached).held.world in
       let is = read by exact (one_disk_keeps by head) w.world found held may.1.0 in
+      let first : contents (take (length found) w.world.sealed) ≡ found =
+      (holds_one_list head head (contents (take (length found) w.world.sealed)) found w.world.disks.now is.holds may.1.0).1 in
       let has : HasImage image new =
       found_image old new head found image empty (subst (λ (v : Version). LeadOver (forms_of a) v a.functions a.same found old new) (sym same) over) may.1.1 in
       record {
@@ -98,8 +100,7 @@ module _ {F L : Type 0} (a : Analysis F L) (knows : Knows a) where
           entries = λ key. λ i. (has.get key i, has.pending key i);
         };
         sealed = length-take-le (length found) w.world.sealed is.most;
-        handed = contents (take (length found) w.world.sealed);
-        waits = sym (append-nil (contents (take (length found) w.world.sealed)));
+        waits = first ∙ sym (append-nil found);
       }
 
   -- they give an image back

@@ -42,7 +42,7 @@ module _ {F L : Type 0} (a : Analysis F L) where
       → IsParsed text program → SpellsRecord a old (records.Load text) entry → old.sealed < 4294967295
       → WaitsFor (entry ∷ []) old new → IsLoadedWith program new.core → new.core.changes ≡ Some []
       → IsAct a old new (λ head. Loads (value_of program) entry)
-  seals_load program text entry old new whole parsed spells less waits loads anew head w reached works =
+  seals_load program text entry old new whole parsed spells less waits loads anew head w handed reached works =
       let v : ProgramValue = value_of program in
       let now : ProgramImage F = loaded (Some v) in
       let mark : ℕ = length (w.world.history ++ Load v ∷ []) in
@@ -76,13 +76,12 @@ module _ {F L : Type 0} (a : Analysis F L) where
             entries = entries_anew a now new.core has anew;
           };
           sealed = counts_more a w.world.sealed entry mark old.sealed new.sealed works.sealed waits.sealed;
-          handed = works.handed;
-          waits = waits_more a w.world.sealed works.handed old.waiting new.waiting entry mark works.waits waits.waiting;
+          waits = waits_more a w.world.sealed handed old.waiting new.waiting entry mark works.waits waits.waiting;
         },
       )
 
   -- ---- a procedure becomes a root
-  module _ (head : Head) (w : StoreWorld a head) (old : TableData F) (works : WorksOn a head w old) (whole : IsWhole old.core)
+  module _ (head : Head) (w : StoreWorld a head) (old : TableData F) {handed : List Entry} (works : WorksOn a head w old handed) (whole : IsWhole old.core)
       (mid : CoreData F) (name : List ℕ) (begins : IsBegun a.lattice a.functions a.targets old.core mid name) where
     -- the program of the graph, and where the procedure begins
     abbrev said : IsGraphSaid old.core.program begins.graph
@@ -157,7 +156,7 @@ module _ {F L : Type 0} (a : Analysis F L) where
     -- where the records give back the image, the half works on the world in which the procedure is a root
     works_rooted : IsFolded (rules_at a head) (contents w.world.sealed) w.world.image → (entry : Entry) (new : TableData F)
         → IsEntryOf (forms_of a) head.version (records.Root name) entry → BeginsAnew mid new.core → WaitsFor (entry ∷ []) old new
-        → WorksOn a head (after_act a head w (Roots name None entry)) new
+        → WorksOn a head (after_act a head w (Roots name None entry)) new handed
     works_rooted folded entry new spelled anew waits =
         let mark : ℕ = length (w.world.history ++ Root name ∷ []) in
         let does : Does a.functions a.same (forms_of a) head.version entry w.world.image rooted = record {
@@ -182,8 +181,7 @@ module _ {F L : Type 0} (a : Analysis F L) where
             entries = entries_anew a rooted new.core has (ap (λ (core : CoreData F). core.changes) anew);
           };
           sealed = counts_more a w.world.sealed entry mark old.sealed new.sealed works.sealed waits.sealed;
-          handed = works.handed;
-          waits = waits_more a w.world.sealed works.handed old.waiting new.waiting entry mark works.waits waits.waiting;
+          waits = waits_more a w.world.sealed handed old.waiting new.waiting entry mark works.waits waits.waiting;
         }
 
   -- the half once what changed is sealed, before a root's record
@@ -220,7 +218,7 @@ module _ {F L : Type 0} (a : Analysis F L) where
       → SpellsFirst a old first → SpellsRecord a old (records.Root name) entry → old.sealed < 4294967294
       → IsBegun a.lattice a.functions a.targets old.core mid name → BeginsAnew mid new.core
       → WaitsFor (behind_first first entry) old new → IsAct a old new (λ head. Roots name first entry)
-  seals_root knows name None entry old new mid whole unchanged spells less begins anew waits head w reached works =
+  seals_root knows name None entry old new mid whole unchanged spells less begins anew waits head w handed reached works =
       let nothing = finds_nothing a knows old whole unchanged head w reached works in
       let noted = (reached_whole a knows head w reached).noted nothing.base nothing.folded in
       let same : nothing.base ≡ w.world.image =
@@ -235,12 +233,12 @@ module _ {F L : Type 0} (a : Analysis F L) where
         can_begin head w old works whole mid name begins None entry spells nothing fits,
         works_rooted head w old works whole mid name begins folded entry new (spelled_at a head old (records.Root name) entry works.version spells) anew waits,
       )
-  seals_root knows name (Some batch) entry old new mid whole changed spells less begins anew waits head w reached works =
+  seals_root knows name (Some batch) entry old new mid whole changed spells less begins anew waits head w handed reached works =
       let between : TableData F = half_between batch old in
       let can = can_batch a knows head w reached old works whole batch changed (omega arith) in
       let folded = batch_folded a knows head w reached old works whole batch changed in
       let first : WaitsFor (batch ∷ []) old between = record { version = refl; failed = refl; waiting = refl; sealed = refl } in
-      let before = seals_batch a knows batch old between whole changed (omega arith) first refl head w reached works in
+      let before = seals_batch a knows batch old between whole changed (omega arith) first refl head w handed reached works in
       let rest : WaitsFor (entry ∷ []) between new = record {
         version = waits.version;
         failed = waits.failed;

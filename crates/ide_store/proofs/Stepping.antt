@@ -107,8 +107,8 @@ module _ (handed more : List Entry) (stored : ℕ) where
 module _ {F L : Type 0} (a : Analysis F L) (head : Head) where
   -- the half works on a world of which others are stored, where other records are left with it
   abbrev works_after : (w : StoreWorld a head) (table : TableData F) (stored : ℕ) (work : Writer) (disks : DiskState) (handed left : List Entry)
-      → WorksOn a head w table → contents w.world.sealed ≡ handed ++ left
-      → WorksOn a head (record w { world = record w.world { stored = stored; work = work; disks = disks } }) (record table { waiting = left })
+      {before : List Entry} → WorksOn a head w table before → contents w.world.sealed ≡ handed ++ left
+      → WorksOn a head (record w { world = record w.world { stored = stored; work = work; disks = disks } }) (record table { waiting = left }) handed
   works_after w table stored work disks handed left works split = record {
     running = works.running;
     working = works.working;
@@ -123,7 +123,6 @@ module _ {F L : Type 0} (a : Analysis F L) (head : Head) where
       entries = works.base.entries;
     };
     sealed = works.sealed;
-    handed = handed;
     waits = split;
   }
 
@@ -142,7 +141,7 @@ module _ {F L : Type 0} (a : Analysis F L) {D : Type 0} {G : Ghosts D} (head : H
       → IsTable table.core table.sealed table.waiting → table.waiting ≡ entries_of sealed → HandsOver old mid sealed left
       → AreAtWork a head w table old → AreHanded w mid (entries_of left)
   handed_over w table old mid sealed left is waiting (took none items over journal) at =
-      let handed : List Entry = at.works.handed in
+      let handed : List Entry = at.handed in
       let before = at.writes.behind in
       let all : w.world.stored ≡ length handed = none_waits w.world.stored handed before.some (sym (ap (map entry_of) none) ∙ at.writes.waiting) in
       let split : contents w.world.sealed ≡ handed ++ entries_of sealed = at.works.waits ∙ ap (λ (xs : List Entry). handed ++ xs) waiting in
@@ -165,19 +164,19 @@ module _ {F L : Type 0} (a : Analysis F L) {D : Type 0} {G : Ghosts D} (head : H
         disk = at.disk ∙ ap (λ (j : Journal D G). G.state j.disk) (sym journal);
       }
   handed_over w table old mid sealed left is waiting (kept items over journal some) at = record {
-    handed = at.works.handed;
-    split = at.works.waits ∙ ap (λ (xs : List Entry). at.works.handed ++ xs) (waiting ∙ ap entries_of (sym over));
+    handed = at.handed;
+    split = at.works.waits ∙ ap (λ (xs : List Entry). at.handed ++ xs) (waiting ∙ ap entries_of (sym over));
     writes = record {
-      behind = subst (λ (j : Journal D G). StandsBehind head at.works.handed w.world.stored j) (sym journal) at.writes.behind;
+      behind = subst (λ (j : Journal D G). StandsBehind head at.handed w.world.stored j) (sym journal) at.writes.behind;
       waiting = ap entries_of items ∙ at.writes.waiting;
     };
     none = λ stored.
-        absurd (some (none_mapped entry_of old.waiting.items (at.writes.waiting ∙ drop_all w.world.stored at.works.handed (omega (arith, stored)))));
+        absurd (some (none_mapped entry_of old.waiting.items (at.writes.waiting ∙ drop_all w.world.stored at.handed (omega (arith, stored)))));
     work = at.work ∙ ap work_of (sym journal);
     disk = at.disk ∙ ap (λ (j : Journal D G). G.state j.disk) (sym journal);
   }
 
-  module _ (w : StoreWorld a head) (table : TableData F) (mid new : WriterHalf D G) (left : List Entry) (works : WorksOn a head w table)
+  module _ (w : StoreWorld a head) (table : TableData F) (mid new : WriterHalf D G) (left : List Entry) {before : List Entry} (works : WorksOn a head w table before)
       (has : AreHanded w mid left) where
     -- the half works on as it did, with what is left
     abbrev now : TableData F
@@ -187,6 +186,7 @@ module _ {F L : Type 0} (a : Analysis F L) {D : Type 0} {G : Ghosts D} (head : H
     at_work_on : (stored : ℕ) → Writes head has.handed stored new
         → AreAtWork a head (record w { world = record w.world { stored = stored; work = work_of new.journal; disks = G.state new.journal.disk } }) now new
     at_work_on stored writes = record {
+      handed = has.handed;
       works = works_after a head w table stored (work_of new.journal) (G.state new.journal.disk) has.handed left works has.split;
       writes = writes;
       work = refl;
@@ -226,6 +226,7 @@ module _ {F L : Type 0} (a : Analysis F L) {D : Type 0} {G : Ghosts D} (head : H
     at_work_still : Writes head has.handed w.world.stored new → work_of new.journal ≡ work_of mid.journal → new.journal.disk ≡ mid.journal.disk
         → AreAtWork a head w now new
     at_work_still writes work disk = record {
+      handed = has.handed;
       works = works_after a head w table w.world.stored w.world.work w.world.disks has.handed left works has.split;
       writes = writes;
       work = has.work ∙ sym work;

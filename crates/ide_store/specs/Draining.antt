@@ -6,7 +6,7 @@ use Rattle.ide_steps.specs.Core.{CoreData}
 use Rattle.ide_steps.specs.DrainRefusal.{IsNoDrain, MayDrain}
 use Rattle.ide_wire.specs.declared.refused.Refused.{Refused}
 use Rattle.ide_wire.specs.declared.refused.Refused.TheVariants.{NoMemory}
-use Rattle.ide_store.specs.Hands.{Act, Batches, Claims, Ends, Happens, Loads, Parts, Releases, Roots}
+use Rattle.ide_store.specs.Hands.{Batches, Claims, Ends, Happens, Loads, Parts, Releases, Roots}
 use Rattle.ide_store.specs.Table.{Analysis, AreActs, StoreAct, TableData}
 use Rattle.ide_store.specs.TableCalls.{IsFull, IsSealStop}
 

@@ -28,8 +28,9 @@ pub data HandsOver {D : Type 0} {G : Ghosts D} (old new : WriterHalf D G) (seale
 module _ {F L : Type 0} (a : Analysis F L) {D : Type 0} {G : Ghosts D} (head : Head) where
   -- the two halves are at work on the world: the one works on it, and the other writes the records that it was handed
   pub record AreAtWork (w : StoreWorld a head) (table : TableData F) (writer : WriterHalf D G) : Type 0 where
-    pub works : WorksOn a head w table
-    pub writes : Writes head works.handed w.world.stored writer
+    pub handed : List Entry
+    pub works : WorksOn a head w table handed
+    pub writes : Writes head handed w.world.stored writer
     pub work : w.world.work ≡ work_of writer.journal
     pub disk : w.world.disks ≡ G.state writer.journal.disk
 
@@ -107,4 +108,4 @@ disk_after (Err pair) = pair.1
 abbrev pub HalvesOpen : {F L : Type 0} → Analysis F L → {D : Type 0} → Ghosts D → Type 0
 HalvesOpen a {D} G = (tag : ℕ) (disk : D) (writer : WriterHalf D G) (records : List RawRecord) (table : TableData _)
     → OpensStore tag disk writer records → HaveFold a writer.journal.version (entries_of records) → GoesOnFrom a (entries_of records) table
-    → table.version ≡ writer.journal.version → table.waiting ≡ [] → AreOpened a (head_of writer.journal.version tag) (G.state disk) table writer
+    → table.version ≡ writer.journal.version → AreOpened a (head_of writer.journal.version tag) (G.state disk) table writer

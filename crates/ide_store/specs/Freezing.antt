@@ -1,7 +1,7 @@
 -- What a frozen image is of a store's world.
-use Rattle.std.specs.Prelude.{◌≡◌, ℕ, false, Some, map}
+use Rattle.std.specs.Prelude.{◌≡◌, false, List, Some, map}
 use Rattle.ide_batch.specs.Applied.{named_in}
-use Rattle.ide_journal.specs.Format.{Head}
+use Rattle.ide_journal.specs.Format.{Entry, Head}
 use Rattle.ide_steps.specs.Frozen.{graph_in, program_in}
 use Rattle.ide_steps.specs.declared.closed.Closed.{Closed}
 use Rattle.ide_tables.specs.Tables.{found}
@@ -18,4 +18,5 @@ module _ {P F L : Type 0} (a : Analysis F L) where
 
   -- of each world that acts led to, and on which the half works
   abbrev pub IsImageOver : TableData F → Closed P L F → Type 0
-  IsImageOver table closed = (head : Head) (w : StoreWorld a head) → IsReached a head w → WorksOn a head w table → IsImageOf head w closed
+  IsImageOver table closed = (head : Head) (w : StoreWorld a head) (handed : List Entry) → IsReached a head w → WorksOn a head w table handed
+      → IsImageOf head w closed

@@ -10,6 +10,7 @@ pub mod OneDisk
 pub mod Opening
 pub mod Recovery
 pub mod Roots
+pub mod Runs
 pub mod Store
 pub mod Table
 pub mod TableCalls

@@ -25,13 +25,13 @@ module _ {F L : Type 0} (a : Analysis F L) where
   -- the half works on each new store of its version
   abbrev pub BeginsOn : TableData F → Type 0
   BeginsOn table = (head : Head) → head.version ≡ table.version → (work : Writer) (disk : DiskState)
-      → WorksOn a head (new_store a head work disk) table
+      → WorksOn a head (new_store a head work disk) table []
 
-  -- it works on the world after each opening that finds these records, in a store of its version
+  -- it works on the world after each opening that finds these records, in a store of its version: the writer has them all
   abbrev pub GoesOnFrom : List Entry → TableData F → Type 0
   GoesOnFrom found table = (head : Head) → head.version ≡ table.version → (w : StoreWorld a head) → IsReached a head w
       → (image : ProgramImage F) (work : Writer) (disk : DiskState) → MayDo a head w (Happens (Opens found image work disk))
-      → WorksOn a head (after_act a head w (Happens (Opens found image work disk))) table
+      → WorksOn a head (after_act a head w (Happens (Opens found image work disk))) table found
 
   -- the records of a store of that version give an image back
   pub record HaveFold (version : Version) (found : List Entry) : Type 0 where

@@ -121,8 +121,8 @@ module _ {F L : Type 0} (a : Analysis F L) (head : Head) where
   HasNothingNew w = IsCaughtUp a.lattice a.functions a.targets a.same (forms_of a) head.version (one_disk head) w
 
   -- the half works on the world: its core has the image and the claims, it knows what changed since the last record, and
-  -- the records that wait are the last of those that were sealed
-  pub record WorksOn (w : StoreWorld) (table : TableData F) : Type 0 where
+  -- of the sealed records these were handed over to the writer, and the others wait
+  pub record WorksOn (w : StoreWorld) (table : TableData F) (handed : List Entry) : Type 0 where
     pub running : w.world.mode ≡ Running
     pub working : table.failed ≡ false
     pub version : table.version ≡ head.version
@@ -130,16 +130,16 @@ module _ {F L : Type 0} (a : Analysis F L) (head : Head) where
     pub claims : (hand : ℕ) → w.claims hand ≡ (state_of a table).claims hand
     pub base : IsBase w table.core
     pub sealed : length w.world.sealed ≡ table.sealed
-    pub handed : List Entry
     pub waits : contents w.world.sealed ≡ handed ++ table.waiting
 
 module _ {F L : Type 0} (a : Analysis F L) (old new : TableData F) where
-  -- over each world that acts led to, and on which the half worked, the act may be done, and the half works on the world after it
+  -- over each world that acts led to, and on which the half worked, the act may be done, and the half works on the world
+  -- after it, with the same records handed over
   abbrev pub IsAct : ((head : Head) → StoreAct a head) → Type 0
-  IsAct act = (head : Head) (w : StoreWorld a head) → IsReached a head w → WorksOn a head w old
-      → MayDo a head w (act head) × WorksOn a head (after_act a head w (act head)) new
+  IsAct act = (head : Head) (w : StoreWorld a head) (handed : List Entry) → IsReached a head w → WorksOn a head w old handed
+      → MayDo a head w (act head) × WorksOn a head (after_act a head w (act head)) new handed
 
   -- and so may some acts, one after the other, that are such as is told
   abbrev pub AreActs : ((head : Head) → List (StoreAct a head) → Type 0) → Type 0
-  AreActs Are = (head : Head) (w : StoreWorld a head) → IsReached a head w → WorksOn a head w old
-      → (acts : List (StoreAct a head)) × Are head acts × MayDoAll a head w acts × WorksOn a head (after_acts a head w acts) new
+  AreActs Are = (head : Head) (w : StoreWorld a head) (handed : List Entry) → IsReached a head w → WorksOn a head w old handed
+      → (acts : List (StoreAct a head)) × Are head acts × MayDoAll a head w acts × WorksOn a head (after_acts a head w acts) new handed

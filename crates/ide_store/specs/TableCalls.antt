@@ -71,8 +71,8 @@ module _ {F L : Type 0} (a : Analysis F L) where
   -- nothing changed since the last record, and nothing is sealed
   pub record FindsNothing (old new : TableData F) : Type 0 where
     pub rest : KeepsRest old new
-    pub caught_up : (head : Head) (w : StoreWorld a head) → IsReached a head w → WorksOn a head w old
-        → HasNothingNew a head w × WorksOn a head w new
+    pub caught_up : (head : Head) (w : StoreWorld a head) (handed : List Entry) → IsReached a head w → WorksOn a head w old handed
+        → HasNothingNew a head w × WorksOn a head w new handed
 
   -- the procedure of the name becomes a root; what changed is sealed first, if anything did, and then the root's record,
   -- whose number is answered

@@ -4,6 +4,7 @@ ghost use Rattle.ide_store.specs.Acting.{CallsAreActs};
 ghost use Rattle.ide_store.specs.Engine.{HalvesOpen};
 ghost use Rattle.ide_store.specs.Opening.{HalvesBegin};
 ghost use Rattle.ide_store.specs.Recovery.{OneDiskAnswers, OneDiskRecovers};
+ghost use Rattle.ide_store.specs.Runs.{EnginesStayOnRuns};
 ghost use Rattle.ide_store.specs.Writing.{JournalsWriteStores};
 
 use crate::kept::Kept;
@@ -71,14 +72,15 @@ pub fn halves_begin<P: Problem>()
 /// were found, and the one that found them.
 pub fn halves_open<P: Problem, D: Disk>()
     ensures { HalvesOpen ⟦<P as Kept>⟧.analysis D.Disk }
+{}
+
+/// Whichever calls of its halves are made, an engine stays on a run, until a call of its disk fails: the
+/// halves are at work on a world that acts led to from a new store. An opening goes on with the run that
+/// left its disk, whatever crashed; and what is frozen is of that run, and answers with best values.
+pub fn engines_stay_on_runs<P: Problem, D: Disk>()
+    ensures { EnginesStayOnRuns P ⟦<P as Kept>⟧.analysis D.Disk }
 {
-    ends_of_programs_are_nodes();
-    exits_of_programs_are_owned();
-    graphs_of_one_text_have_the_same_edges();
-    graphs_of_programs_are_closed();
-    sites_of_programs_are_joined();
-    keys_stand_at_nodes::<P>();
-    tasks_owe_their_parts::<P>();
+    every_run_answers::<P>();
 }
 
 /// A journal that stands behind the stored records is a writer of a store on one disk, and each call that

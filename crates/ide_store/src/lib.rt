@@ -24,8 +24,8 @@ mod writer;
 pub use engine::Engine;
 pub use kept::Kept;
 pub use laws::{
-    calls_are_acts, every_run_answers, every_run_recovers, halves_begin, halves_open,
-    journals_write_stores,
+    calls_are_acts, engines_stay_on_runs, every_run_answers, every_run_recovers, halves_begin,
+    halves_open, journals_write_stores,
 };
 pub use outbox::Ticket;
 pub use table::TableHalf;

@@ -70,7 +70,7 @@ impl<P: Problem> TableHalf<P> {
         ensures task { IfTask result (TakesTask ⟦<P as Kept>⟧.analysis hand self.old self.new) }
         ensures idle { result ≡ Ok Claimed.Idle → FindsIdle self.old.core self.new.core }
         ensures quiet { result ≡ Ok Claimed.Quiet → FindsQuiet self.old.core self.new.core }
-        ensures rest { OnOk result (KeepsRest self.old self.new) }
+        ensures rest { KeepsRest self.old self.new }
         ensures working { OnOk result (self.old.failed ≡ false) }
         ensures refused { IfErr result (IsRefusal self.old (IsClaimRefusal self.old.core hand)) }
         ensures unchanged { OnErr result (IsSameTable self.old self.new) }
@@ -92,7 +92,7 @@ impl<P: Problem> TableHalf<P> {
         ensures same { result ≡ Ok Parted.Same → SkipsPart P.targets P.F.edge hand self.old.core self.new.core work.old work.new }
         ensures part { HasDonePart result → DoesPart ⟦<P as Kept>⟧.analysis hand self.old self.new work.old work.new }
         ensures no_part { result ≡ Ok Parted.NoPart → FindsNone self.old.core self.new.core work.old work.new }
-        ensures rest { OnOk result (KeepsRest self.old self.new) }
+        ensures rest { KeepsRest self.old self.new }
         ensures working { OnOk result (self.old.failed ≡ false) }
         ensures refused { IfErr result (IsRefusal self.old (IsPartStop P.targets P.F.edge self.old.core hand work.old)) }
         ensures unchanged { OnErr result (IsSameTable self.old self.new × (work.new ≡ work.old)) }
@@ -114,7 +114,7 @@ impl<P: Problem> TableHalf<P> {
     pub fn finish(&mut self, hand: usize, work: &Work<P>) -> Result<(), Refused>
         ensures ends { OnOk result (EndsClaim ⟦<P as Kept>⟧.analysis hand self.old self.new) }
         ensures free { OnOk result (claim_at self.new.core.pile hand ≡ None) }
-        ensures rest { OnOk result (KeepsRest self.old self.new) }
+        ensures rest { KeepsRest self.old self.new }
         ensures working { OnOk result (self.old.failed ≡ false) }
         ensures refused { IfErr result (IsRefusal self.old (IsFinishStop P.targets P.F.edge self.old.core hand work.now)) }
         ensures unchanged { OnErr result (IsSameTable self.old self.new) }
@@ -135,7 +135,7 @@ impl<P: Problem> TableHalf<P> {
     pub fn release(&mut self, hand: usize) -> Result<(), Refused>
         ensures gives { OnOk result (GivesClaimBack ⟦<P as Kept>⟧.analysis hand self.old self.new) }
         ensures free { OnOk result (claim_at self.new.core.pile hand ≡ None) }
-        ensures rest { OnOk result (KeepsRest self.old self.new) }
+        ensures rest { KeepsRest self.old self.new }
         ensures working { OnOk result (self.old.failed ≡ false) }
         ensures refused { IfErr result (IsRefusal self.old (IsStaleClaim self.old hand)) }
         ensures unchanged { OnErr result (IsSameTable self.old self.new) }

@@ -15,5 +15,5 @@ returns-in-Ok-clause-made g c honest =
       proper = g.P.F.Wire.proper;
       form = g.P.F.Wire.form;
     } in
-    new_halves a _ c.new-table.result c.in-Ok.writer c.journals_write_stores.ensures c.new-table.ensures.begins (sym c.new-table.ensures.version) c.new-table.ensures.rests
+    new_halves a _ c.new-table.result c.in-Ok.writer c.journals_write_stores.ensures c.new-table.ensures.begins (sym c.new-table.ensures.version)
     (subst (λ (tag : ℕ). Writes (head_of c.args.version tag) [] 0 c.in-Ok.writer) c.TAG.ensures (c.in-Ok.ensures.made honest))

@@ -35,7 +35,7 @@ returns-in-Ok-open-clause-opened g c honest =
     (subst (λ (v : Version). HaveFold a v (entries_of records)) c.version.ensures
     (subst (λ (raws : List RawRecord). HaveFold a c.version.result (entries_of raws)) found c.in-Ok-open.ensures.folds))
     (subst (λ (raws : List RawRecord). GoesOnFrom a (entries_of raws) c.in-Ok-open.table) found c.in-Ok-open.ensures.opened)
-    (c.in-Ok-open.ensures.version ∙ c.version.ensures) c.in-Ok-open.ensures.rests
+    (c.in-Ok-open.ensures.version ∙ c.version.ensures)
 
 pub returns-in-Ok-open-clause-honest : goal.returns-in-Ok-open-clause-honest
 returns-in-Ok-open-clause-honest g c = c.in-Ok.ensures.honest

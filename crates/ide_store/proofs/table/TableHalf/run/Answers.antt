@@ -1,4 +1,4 @@
-use Rattle.std.proofs.Common.{◌≡◌, ◌∙◌, inr, refl}
+use Rattle.std.proofs.Common.{inr, refl}
 use Rattle.std.proofs.lemmas.Result.{err_from_is_err_and}
 use Rattle.ide_steps.proofs.States.{handed-on}
 use Rattle.ide_store.specs.Draining.{IsWorkStop}
@@ -7,7 +7,7 @@ use Rattle.ide_store.proofs.table.TableHalf.run.Goals as goal
 
 pub loop-work-init : goal.loop-work-init
 loop-work-init g c = (
-  works_still _ _ _ (λ head w reached on. on),
+  works_still _ _ _ (λ head w handed reached on. on),
   inr (refl, c.requires.fresh),
   c.requires.own,
   λ h other none. none,

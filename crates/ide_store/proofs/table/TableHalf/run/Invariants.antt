@@ -1,4 +1,4 @@
-use Rattle.std.proofs.Common.{ℕ, ◌-◌, length}
+use Rattle.std.proofs.Common.{◌-◌, length}
 use Rattle.ide_steps.specs.Core.{IsSameProblem}
 use Rattle.ide_steps.specs.Drain.{StayOthersFree}
 use Rattle.ide_steps.specs.Steps.{IsCurrent}

@@ -1,8 +1,6 @@
-use Rattle.std.proofs.Common.{◌≡◌, ◌∙◌, ℕ, true, false, cond, is_some, Some, Ok, None, ap, sym, subst, refl}
-use Rattle.std.specs.Prelude.{OnOk}
+use Rattle.std.proofs.Common.{◌∙◌, cond, is_some, Some, Ok, ap, sym, subst}
 use Rattle.std.proofs.lemmas.Result.{err_from_is_err_and}
 use Rattle.ide_steps.proofs.States.{handed-on}
-use Rattle.ide_steps.specs.Steps.{IsCurrent}
 use Rattle.ide_tasks.specs.Parts.{owed}
 use Rattle.ide_store.specs.Draining.{IsWorkStop, WorksBy, memory_is_wanting}
 use Rattle.ide_wire.specs.declared.refused.Refused.TheVariants.{NoMemory}

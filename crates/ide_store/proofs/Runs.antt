@@ -1,0 +1,201 @@
+-- The halves of an engine stay at work on a world that acts led to: acts of the half that works leave the disk and what is
+-- stored as they are, and keep the records that were handed over, so the writer stands to the world after them as it did.
+use Rattle.std.proofs.Common.{◌≡◌, ◌∙◌, ◌<◌, ℕ, Bool, true, false, List, [], ◌∷◌, Option, Some, None, Result, refl, ap, sym, subst}
+use Rattle.std.specs.List.{All}
+use Rattle.std.proofs.lemmas.List.Elements.{All-cons, All-nil, All-from_recursion, recursion_from_All}
+use Rattle.std.specs.List.{AllByRecursion}
+use Rattle.ide_disk.specs.Disk.{DiskState, settled}
+use Rattle.ide_disk.specs.declared.disk.Disk.{Ghosts}
+use Rattle.ide_journal.specs.Format.{Head}
+use Rattle.ide_steps.specs.Frozen.{program_in}
+use Rattle.ide_steps.specs.declared.closed.Closed.{Closed}
+use Rattle.ide_tables.specs.Tables.{found}
+use Rattle.ide_theory.specs.Best.{IsBest}
+use Rattle.ide_theory.specs.Value.{IsStarted, value_at}
+use Rattle.ide_wire.specs.declared.key.Key.{Key}
+use Rattle.ide_wire.specs.declared.refused.Refused.{Refused}
+use Rattle.ide_store.specs.Answers.{GraphBy, frame_by, roots_by}
+use Rattle.ide_store.specs.Draining.{AreByDrainer, IsByHand, WorksBy}
+use Rattle.ide_store.specs.Engine.{AreOpened, MayCrash, StepsDisk, StepsDiskOver, all_stored, at_once, did_call, did_fail, no_memory, within_call, within_opening}
+use Rattle.ide_store.specs.Half.{Writes}
+use Rattle.ide_store.specs.Hands.{Batches, Claims, Ends, Happens, IsSound, Loads, Parts, Releases, Roots}
+use Rattle.ide_store.specs.OneDisk.{IsLive, Writer, one_disk}
+use Rattle.ide_store.specs.Recovery.{OneDiskAnswers}
+use Rattle.ide_store.specs.Runs.{AreOnRun, AreOnRunUnlessFailed, EnginesStayOnRuns, IsBestImage, IsImageOfRun, IsLeft, IsOfTable}
+use Rattle.ide_store.specs.Table.{Analysis, AreActs, IsAct, IsReached, MayDoAll, StoreAct, StoreWorld, TableData, after_act, after_acts, forms_of, new_store}
+use Rattle.ide_store.specs.World.{Closed as Shut, Crashes, Fails, Opens, Stops}
+use Rattle.ide_store.specs.Writing.{work_of}
+use Rattle.ide_store.specs.declared.writer.WriterHalf.{WriterHalf}
+use Rattle.ide_store.proofs.Acts.{reached_more}
+use Rattle.ide_store.proofs.Drained.{works_still, works_unchanged}
+
+-- ---- the disk beneath the half that works
+module _ {F L : Type 0} (a : Analysis F L) (head : Head) where
+  -- the writer stands as it did, on the disk as it was, with as much stored
+  record IsSameBelow (old new : StoreWorld a head) : Type 0 where
+    pub stored : new.world.stored ≡ old.world.stored
+    pub work : new.world.work ≡ old.world.work
+    pub disks : new.world.disks ≡ old.world.disks
+
+  -- so it does behind an act of the half that works
+  act_below : (w : StoreWorld a head) (act : StoreAct a head) → IsOfTable a head act → IsSameBelow w (after_act a head w act)
+  act_below w (Claims h q parts) of = record { stored = refl; work = refl; disks = refl }
+  act_below w (Parts h key g) of = record { stored = refl; work = refl; disks = refl }
+  act_below w (Ends h c) of = record { stored = refl; work = refl; disks = refl }
+  act_below w (Releases h) of = record { stored = refl; work = refl; disks = refl }
+  act_below w (Loads v r) of = record { stored = refl; work = refl; disks = refl }
+  act_below w (Roots name None r) of = record { stored = refl; work = refl; disks = refl }
+  act_below w (Roots name (Some batch) r) of = record { stored = refl; work = refl; disks = refl }
+  act_below w (Batches r) of = record { stored = refl; work = refl; disks = refl }
+  act_below w (Happens e) of = absurd of
+
+  -- and behind some, one after the other
+  acts_below : (w : StoreWorld a head) (acts : List (StoreAct a head)) → AllByRecursion (IsOfTable a head) acts
+      → IsSameBelow w (after_acts a head w acts)
+  acts_below w [] of = record { stored = refl; work = refl; disks = refl }
+  acts_below w (act ∷ acts) of =
+      let one = act_below w act of.0 in
+      let more = acts_below (after_act a head w act) acts of.1 in
+      record { stored = more.stored ∙ one.stored; work = more.work ∙ one.work; disks = more.disks ∙ one.disks }
+
+  -- what one hand does is of that half
+  own_of_table : (act : StoreAct a head) → IsByHand a head 0 act → IsOfTable a head act
+  own_of_table (Claims h q parts) own = tt
+  own_of_table (Parts h key g) own = tt
+  own_of_table (Ends h c) own = tt
+  own_of_table (Releases h) own = tt
+  own_of_table (Loads v r) own = tt
+  own_of_table (Roots name first r) own = tt
+  own_of_table (Batches r) own = tt
+  own_of_table (Happens e) own = own
+
+  -- a new store is a world that acts led to
+  reached_new : (work : Writer) (disk : DiskState) → IsLive head [] 0 work disk → IsReached a head (new_store a head work disk)
+  reached_new work disk live = record { work = work; disk = disk; live = live; acts = []; can = tt; is = refl }
+
+  -- what acts lead to leaves a disk
+  left_by : (w : StoreWorld a head) → IsReached a head w → (acts : List (StoreAct a head)) → MayDoAll a head w acts
+      → IsLeft a head (after_acts a head w acts).world.disks
+  left_by w reached acts can = record { world = after_acts a head w acts; reached = reached_more a head w acts reached can; stands = refl }
+
+  -- a crash leaves the disk of a world that acts led to
+  crash_leaves : (w : StoreWorld a head) → IsReached a head w → (left : List ℕ) → MayCrash a head w left → IsLeft a head (settled left)
+  crash_leaves w reached left (at_once can) = left_by w reached (Happens (Crashes left) ∷ []) (can, tt)
+  crash_leaves w reached left (within_call can) = left_by w reached (Happens (Fails (settled left)) ∷ Happens (Crashes left) ∷ []) can
+  crash_leaves w reached left (within_opening can) = left_by w reached (Happens (Stops (settled left) Shut) ∷ Happens (Crashes left) ∷ []) can
+
+module _ {F L : Type 0} (a : Analysis F L) {D : Type 0} {G : Ghosts D} where
+  -- ---- calls of the half that works
+  acts_stay : (old new : TableData F) (writer : WriterHalf D G) (Are : (head : Head) → List (StoreAct a head) → Type 0)
+      → ((head : Head) (acts : List (StoreAct a head)) → Are head acts → All (IsOfTable a head) acts) → AreActs a old new Are
+      → AreOnRun a old writer → AreOnRun a new writer
+  acts_stay old new writer Are own acts on =
+      let head = on.head in
+      let at = on.at_work in
+      let done = acts head on.world at.handed on.reached at.works in
+      let same = acts_below a head on.world done.0 (recursion_from_All (IsOfTable a head) done.0 (own head done.0 done.1)) in
+      record {
+        head = head;
+        world = after_acts a head on.world done.0;
+        reached = reached_more a head on.world done.0 on.reached done.2;
+        at_work = record {
+          handed = at.handed;
+          works = done.3;
+          writes = subst (λ (n : ℕ). Writes head at.handed n writer) (sym same.stored) at.writes;
+          work = same.work ∙ at.work;
+          disk = same.disks ∙ at.disk;
+        };
+      }
+
+  act_stays : (old new : TableData F) (writer : WriterHalf D G) (act : (head : Head) → StoreAct a head)
+      → ((head : Head) → IsOfTable a head (act head)) → IsAct a old new act → AreOnRun a old writer → AreOnRun a new writer
+  act_stays old new writer act of is =
+      acts_stay old new writer (λ head acts. acts ≡ act head ∷ [])
+      (λ head acts same. subst (All (IsOfTable a head)) (sym same) (All-cons (IsOfTable a head) (act head) [] (of head) (All-nil (IsOfTable a head))))
+      (λ head w handed reached works. let done = is head w handed reached works in (act head ∷ [], refl, (done.0, tt), done.1))
+
+  works_stay : (old new : TableData F) (writer : WriterHalf D G) (claims releases : ℕ) → WorksBy a old new claims releases
+      → AreOnRun a old writer → AreOnRun a new writer
+  works_stay old new writer claims releases =
+      acts_stay old new writer (λ head. AreByDrainer a head claims releases)
+      (λ head acts by. All-from_recursion (IsOfTable a head) acts (all_own head acts (recursion_from_All (IsByHand a head 0) acts by.own)))
+    where
+      all_own : (head : Head) (acts : List (StoreAct a head)) → AllByRecursion (IsByHand a head 0) acts → AllByRecursion (IsOfTable a head) acts
+      all_own head [] own = tt
+      all_own head (act ∷ acts) own = (own_of_table a head act own.0, all_own head acts own.1)
+
+  -- ---- a call of the disk
+  step_stays : (old new : TableData F) (writer after : WriterHalf D G) (result : Result Bool Refused)
+      → ((head : Head) → StepsDiskOver a head old new writer after result) → AreOnRun a old writer → AreOnRunUnlessFailed a new after
+  step_stays old new writer after result steps on = made result (steps on.head on.world on.reached on.at_work)
+    where
+      made : (result : Result Bool Refused) → StepsDisk a on.head on.world old new after result → AreOnRunUnlessFailed a new after
+      made _ (did_call call) working = record {
+        head = on.head;
+        world = after_act a on.head on.world (Happens call.event);
+        reached = reached_more a on.head on.world (Happens call.event ∷ []) on.reached (call.can, tt);
+        at_work = call.at_work;
+      }
+      made _ (did_fail fault) working =
+          let no : true ≡ false = sym (ap (λ (t : TableData F). t.failed) fault.failed) ∙ working in
+          cc (no)
+      made _ (all_stored all at_work) working = record { head = on.head; world = on.world; reached = on.reached; at_work = at_work }
+      made _ (no_memory at_work) working = record { head = on.head; world = on.world; reached = on.reached; at_work = at_work }
+
+  -- ---- an opening
+  opening_stays : (head : Head) (before : DiskState) (table : TableData F) (writer : WriterHalf D G) → IsLeft a head before
+      → AreOpened a head before table writer → AreOnRun a table writer
+  opening_stays head before table writer left opens =
+      let is = opens left.world left.reached left.stands in
+      let act : StoreAct a head = Happens (Opens is.0 is.1 (work_of writer.journal) (G.state writer.journal.disk)) in
+      record {
+        head = head;
+        world = after_act a head left.world act;
+        reached = reached_more a head left.world (act ∷ []) left.reached (is.2.0, tt);
+        at_work = is.2.1;
+      }
+
+module _ {F L : Type 0} (a : Analysis F L) (answers : OneDiskAnswers a.lattice a.functions a.targets a.same a.proper a.form) where
+  -- what is so of every run is so of the world
+  sound : (head : Head) (w : StoreWorld a head) → IsReached a head w
+      → IsSound a.lattice a.functions a.targets a.same (forms_of a) head.version (one_disk head) w
+  sound head w reached =
+      subst (λ (u : StoreWorld a head). IsSound a.lattice a.functions a.targets a.same (forms_of a) head.version (one_disk head) u) reached.is
+      (answers head reached.work reached.disk reached.live reached.acts reached.can)
+
+  -- so the frozen image of a run answers with best values
+  best_image : {P : Type 0} (closed : Closed P L F) → IsImageOfRun a closed → (by : GraphBy (program_in closed)) → IsBestImage a closed by
+  best_image closed on by =
+      let K = frame_by a.lattice a.functions a.targets by in
+      let names = on.world.world.image.roots in
+      let R = roots_by a.lattice a.functions a.targets by names in
+      let get : on.world.world.image.get ≡ found closed.tables = λ i key. on.image.functions key i in
+      let said = (sound on.head on.world on.reached).answers (program_in closed) on.image.program by in
+      record {
+        names = names;
+        named = on.image.roots;
+        best =
+            subst (λ (g : Key → Option F). (start : ℕ → ℕ → L) → IsStarted K R g start → (n d : ℕ) → d < by.graph.facts
+            → IsBest K R n d (value_at K g start n d))
+            get (said.best on.image.quiet);
+      }
+
+  pub engines_stay_on_runs : {P D : Type 0} {G : Ghosts D} → EnginesStayOnRuns P a G
+  engines_stay_on_runs {P} {D} {G} = record {
+    made = λ head table writer new.
+        let work = work_of writer.journal in
+        let disk = G.state writer.journal.disk in
+        record { head = head; world = new_store a head work disk; reached = reached_new a head work disk new.live; at_work = new.at_work };
+    opened = opening_stays a;
+    leaves = λ table writer on. record { world = on.world; reached = on.reached; stands = on.at_work.disk };
+    crashes = crash_leaves a;
+    act = act_stays a;
+    works = works_stay a;
+    nothing = λ old new writer finds.
+        works_stay a old new writer 0 0 (works_still a old new (λ head w handed reached works. (finds.caught_up head w handed reached works).1));
+    same = λ old new writer same. works_stay a old new writer 0 0 (works_unchanged a old new same.rest same.core);
+    step = step_stays a;
+    frozen = λ table writer closed image on.
+        record { head = on.head; world = on.world; reached = on.reached; image = image on.head on.world on.at_work.handed on.reached on.at_work.works };
+    best = best_image;
+  }
