@@ -1,5 +1,6 @@
 pub mod Begun
 pub mod Refused
 pub mod Results
+pub mod Served
 pub mod Solved
 pub mod Started

@@ -13,5 +13,5 @@ mod runs;
 mod solver;
 
 pub use hands::{Ended, Gate, Hands, Point, hand_loop};
-pub use runs::every_run;
+pub use runs::{every_run, values_of_runs_are_best};
 pub use solver::{solve, values_of};

@@ -1,8 +1,16 @@
 //! What is so of every run that is kept in a store.
+ghost use Rattle.ide_service.specs.Served.{ValuesOfRunsAreBest};
 ghost use Rattle.ide_store.specs.Recovery.{OneDiskAnswers};
 
+use ide_graph::{
+    ends_of_programs_are_nodes, exits_of_programs_are_owned,
+    graphs_of_one_text_have_the_same_edges, graphs_of_programs_are_closed,
+    sites_of_programs_are_joined,
+};
 use ide_problem::Problem;
-use ide_store::every_run_answers;
+use ide_steps::tasks_owe_their_parts;
+use ide_store::{Kept, every_run_answers};
+use ide_theory::{graphs_are_supergraphs, keys_stand_at_nodes};
 
 /// Over every list of worker steps, seals, disk calls, commands, crashes and openings that can happen one
 /// after the other from a new store on one disk, with any number of hands, and a crash between any two
@@ -24,4 +32,19 @@ pub fn every_run<P: Problem>()
     ensures { OneDiskAnswers P.L.algebra P.F.edge P.targets P.F.eq P.F.proper P.F.form }
 {
     every_run_answers::<P>();
+}
+
+/// Where an image that a run of a store came to is frozen, values that are best over it are the best ones
+/// for the program and the roots of that run, at each node and fact.
+pub fn values_of_runs_are_best<P: Problem>()
+    ensures { ValuesOfRunsAreBest P ⟦<P as Kept>⟧.analysis }
+{
+    ends_of_programs_are_nodes();
+    exits_of_programs_are_owned();
+    graphs_are_supergraphs::<P>();
+    graphs_of_one_text_have_the_same_edges();
+    graphs_of_programs_are_closed();
+    sites_of_programs_are_joined();
+    keys_stand_at_nodes::<P>();
+    tasks_owe_their_parts::<P>();
 }
