@@ -7,11 +7,13 @@
 //! ```
 #![tactic(auto)]
 
+mod answers;
 mod half;
 mod hands;
 mod runs;
 mod solver;
 
+pub use answers::values_of_table;
 pub use hands::{Ended, Gate, Hands, Point, hand_loop};
 pub use runs::{every_run, values_of_runs_are_best};
 pub use solver::{solve, values_of};

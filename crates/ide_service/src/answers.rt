@@ -1,0 +1,33 @@
+//! The answers of the half of a store that works.
+ghost use Rattle.std.specs.Prelude.{◌≡◌, Some, IfErr, IfOk};
+ghost use Rattle.ide_service.specs.Served.{AreAnswersOver, IsAnswerRefusal, IsAnswerable};
+
+use crate::runs::values_of_runs_are_best;
+use ide_problem::Problem;
+use ide_steps::cores_are_whole;
+use ide_store::{Kept, TableHalf};
+use ide_values::{ValuePhase, Values};
+use ide_wire::Refused;
+use std::alloc::Global;
+
+/// The values of the image as it stands, by so many workers: at each node and fact the best value for the
+/// program and the roots of the run that led to the image, however often that was stopped and opened
+/// again. The half goes on.
+///
+/// Refusals, in this order: those of [`TableHalf::freeze`]; those of [`ValuePhase::values`].
+pub fn values_of_table<P: Problem>(
+    alloc: Global,
+    table: &TableHalf<P>,
+    workers: usize,
+) -> Result<Values<P>, Refused>
+    ensures best { IfOk result (AreAnswersOver ⟦<P as Kept>⟧.analysis table.now) }
+    ensures graph { IfOk result (λ values. table.now.core.graph ≡ Some values.graph) }
+    ensures roots { IfOk result (λ values. values.roots ≡ table.now.core.roots) }
+    ensures answerable { IfOk result (λ _. IsAnswerable table.now) }
+    ensures refused { IfErr result (IsAnswerRefusal table.now workers) }
+{
+    cores_are_whole(table.core());
+    values_of_runs_are_best::<P>();
+    let closed = table.freeze()?;
+    closed.values(alloc, workers)
+}
