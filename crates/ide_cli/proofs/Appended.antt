@@ -13,3 +13,9 @@ four_appended old x y z w one two three all first second third fourth =
 -- what is appended is the count itself
 pub count_appended : (old counted all : List ℕ) (n m : ℕ) → all ≡ old ++ (counted ++ decimal n) → n ≡ m → all ≡ old ++ (counted ++ decimal m)
 count_appended old counted all n m appended same = appended ∙ ap (λ (k : ℕ). old ++ (counted ++ decimal k)) same
+
+pub six_appended : (old x y z w u v one two three four five all : List ℕ) → one ≡ old ++ x → two ≡ one ++ y → three ≡ two ++ z → four ≡ three ++ w
+    → five ≡ four ++ u → all ≡ five ++ v → all ≡ old ++ (x ++ (y ++ (z ++ (w ++ (u ++ v)))))
+six_appended old x y z w u v one two three four five all first second third fourth fifth sixth =
+    two_appended old x (y ++ (z ++ (w ++ (u ++ v)))) one all first
+    (two_appended one y (z ++ (w ++ (u ++ v))) two all second (four_appended two z w u v three four five all third fourth fifth sixth))

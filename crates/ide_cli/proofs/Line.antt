@@ -11,7 +11,8 @@ use Rattle.std.specs.Box.{box_value}
 use Rattle.clap.specs.declared.parser.matches.ArgMatches.{ArgMatches}
 use Rattle.clap.specs.declared.parser.matches.ArgMatches.TheViews.{out-ArgMatches, out-SubCommand}
 use Rattle.clap.specs.declared.parser.matches.SubCommand.{SubCommand}
-use Rattle.ide_cli.specs.Line.{HasShape, IsCommand, IsIdesolve, IsOfLine}
+use Rattle.ide_cli.specs.Commands.{HasShape, IsIdesolve}
+use Rattle.ide_cli.specs.Line.{IsCommand, IsOfLine}
 use Rattle.ide_cli.specs.declared.words.Words.{Words}
 
 -- the settings of the command above the others
@@ -50,3 +51,8 @@ of_line app line matches name rows words program has faultless is are words_are 
   found = sym (has (simple app program)).1 ∙ both (out-ArgMatches matches).subcommand name rows is are;
   words_are = words_are;
 }
+
+-- a subcommand more, behind those of the command line so far
+pub of_next : {shape : Shape} {old sub new : Command} {app : App} → AddsSubcommand old sub new → HasShape shape sub → app_of old ≡ app
+    → app_of new ≡ with_subcommand app shape
+of_next {shape} added has is = of_subcommand added has ∙ ap (λ (a : App). with_subcommand a shape) is

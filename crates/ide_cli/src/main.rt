@@ -4,9 +4,14 @@
 //! ends with the status that it answers.
 #![tactic(auto)]
 
+mod calls;
+mod commands;
 mod counts;
 mod explain;
+mod failure;
 mod run;
+mod status;
+mod stores;
 mod words;
 
 use std::process::ExitCode;

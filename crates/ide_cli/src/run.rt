@@ -6,6 +6,8 @@ ghost use Rattle.ide_text.specs.Parsed.{IsRefusalOf};
 
 use crate::counts::append_counts;
 use crate::explain::meaning_of;
+use crate::failure::{Failure, read_file};
+use crate::stores::{create, obey};
 use crate::words::{Instance, Words, read_words};
 use clap::error::ErrorKind;
 use ide_graph::Graph;
@@ -15,9 +17,9 @@ use ide_text::parse;
 use ide_wire::Refused;
 use std::alloc::Global;
 use std::convert::AsStr;
+use std::fs::{File, Files};
+use std::io;
 use std::io::Write;
-use std::rt::Files;
-use std::{fs, io};
 
 /// The status of a run that did what it was asked.
 const DONE: u8 = 0;
@@ -26,24 +28,9 @@ const REFUSED: u8 = 1;
 /// The status where the words are none of the program's.
 const WRONG_WORDS: u8 = 2;
 
-/// Why a command has no answer.
-#[derive(Drop)]
-enum Failure<'a> {
-    /// The file of that name cannot be opened or read.
-    CannotRead(&'a str),
-    /// A call was refused.
-    Refused(Refused),
-}
-
-impl<'a> From<Refused> for Failure<'a> {
-    fn from(refused: Refused) -> Failure<'a> {
-        Failure::Refused(refused)
-    }
-}
-
 /// Runs the command of a line, whose first word is the program's name, and answers the status.
 /// Nothing is written to `out` before the command has its whole answer.
-pub(crate) fn run<R: Files + AllocGlobal, S: AsStr, O: Write, E: Write>(
+pub(crate) fn run<R: Files<File = File> + AllocGlobal, S: AsStr, O: Write, E: Write>(
     rt: &R,
     line: &[S],
     out: &mut O,
@@ -98,7 +85,7 @@ fn write_out<O: Write>(out: &mut O, text: &[u8]) -> io::Result<()> {
 }
 
 /// Appends what the command prints.
-fn answer<'a, R: Files + AllocGlobal>(
+fn answer<'a, R: Files<File = File> + AllocGlobal>(
     rt: &R,
     words: Words<'a>,
     out: &mut Vec<u8>,
@@ -123,6 +110,8 @@ fn answer<'a, R: Files + AllocGlobal>(
             check(rt.alloc(), text.as_slice(), out)?;
         }
         Words::Explain { name } => explain(name, out)?,
+        Words::Create { store, instance } => create(rt, store, instance, out)?,
+        Words::On { store, command } => obey(rt, store, command, out)?,
     }
     Ok(())
 }
@@ -149,14 +138,6 @@ fn solve_by(
         Instance::Uninit => solve::<Uninit>(alloc, text, &roots, out),
         Instance::Copy => solve::<CopyConst>(alloc, text, &roots, out),
         Instance::Shift => solve::<ShiftConst>(alloc, text, &roots, out),
-    }
-}
-
-/// The bytes of the file.
-fn read_file<'a, R: Files + AllocGlobal>(rt: &R, file: &'a str) -> Result<Vec<u8>, Failure<'a>> {
-    match fs::read(rt, file) {
-        Ok(bytes) => Ok(bytes),
-        Err(_) => Err(Failure::CannotRead(file)),
     }
 }
 

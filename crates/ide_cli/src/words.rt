@@ -1,12 +1,13 @@
 //! The words of the command line.
-ghost use Rattle.std.specs.Prelude.{◌≡◌, false, IfOk, map};
-ghost use Rattle.clap.specs.Words.{app_of, found_of, rows_of, rule_of};
-ghost use Rattle.ide_cli.specs.Line.{HasShape, IsExplain, IsIdesolve, IsOfLine, IsOnce, check, given, name_of, wanted};
+ghost use Rattle.std.specs.Prelude.{◌≡◌, IfOk, IfSome, map};
+ghost use Rattle.clap.specs.Words.{found_of, rows_of};
+ghost use Rattle.ide_cli.specs.Commands.{name_of};
+ghost use Rattle.ide_cli.specs.Line.{IsCommand, IsOfLine, IsStoreCommand, Spells, given};
 ghost use Rattle.ide_cli.specs.declared.words.Instance.{Instance};
 
-use crate::explain::NAMES;
+use crate::commands::idesolve;
 use clap::error::ErrorKind;
-use clap::{Arg, ArgAction, ArgMatches, Command, Error};
+use clap::{ArgMatches, Error};
 use std::alloc::Global;
 use std::convert::AsStr;
 
@@ -27,6 +28,44 @@ pub(crate) enum Words<'a> {
     Explain {
         name: &'a str,
     },
+    /// `create STORE INSTANCE`
+    Create {
+        store: &'a str,
+        instance: Instance,
+    },
+    /// A command on the store in that file.
+    On {
+        store: &'a str,
+        command: StoreCommand<'a>,
+    },
+}
+
+/// What is asked of a store, behind the word STORE.
+#[derive(Clone, Copy, PartialEq, Eq, Debug)]
+pub(crate) enum StoreCommand<'a> {
+    /// `load STORE FILE`
+    Load {
+        file: &'a str,
+    },
+    /// `root STORE PROC`
+    Root {
+        procedure: &'a str,
+    },
+    /// `work STORE --workers N --quiet`
+    Work {
+        workers: usize,
+        quiet: bool,
+    },
+    /// `ask STORE PROC NODE FACT`
+    Ask {
+        procedure: &'a str,
+        position: u32,
+        fact: &'a str,
+    },
+    /// `dump STORE`
+    Dump,
+    /// `status STORE`
+    Status,
 }
 
 /// The analyses that a command line may name.
@@ -41,18 +80,7 @@ pub(crate) enum Instance {
 }
 
 /// The names of the analyses.
-static INSTANCES: [&str; 3] = ["uninit", "copy", "shift"];
-
-/// What stands below the list of commands.
-const HELP: &str = "Example: idesolve once copy FILE main
-
-Status 0: the answer is on the standard output. Status 1: refused, for the reason on the standard
-error, or the output could not be written. Status 2: the words are no command.";
-
-/// What stands below the words of `once`.
-const ANALYSES: &str = "uninit  variables that may be read before they are written
-copy    constants, through numbers and copies
-shift   constants, through sums and differences with a number too";
+pub(crate) static INSTANCES: [&str; 3] = ["uninit", "copy", "shift"];
 
 impl Instance {
     /// The analysis of that name, one of [`INSTANCES`].
@@ -75,85 +103,68 @@ pub(crate) fn read_words<'a, S: AsStr>(alloc: Global, line: &'a [S]) -> Result<W
 {
     let mut command = idesolve(alloc)?;
     let matches = command.try_get_matches_from_mut(line)?;
-    match matches.subcommand() {
-        Some(("once", given)) => Ok(Words::Once {
+    if let Some((name, given)) = matches.subcommand() {
+        if let Some(words) = words_of(name, given) {
+            return Ok(words);
+        }
+    }
+    Err(command.error(ErrorKind::InvalidSubcommand, "there is no such command")?)
+}
+
+/// The command of that name with the words that were given for it. There is always one where `clap`
+/// found no fault.
+fn words_of<'a>(name: &str, given: &ArgMatches<'a>) -> Option<Words<'a>>
+    ensures { IfSome result (λ words. IsCommand words name.now (rows_of (found_of given.now))) }
+{
+    let words = match name {
+        "once" => Words::Once {
             instance: Instance::of(text_of(given, "INSTANCE")),
             file: text_of(given, "FILE"),
             procedure: text_of(given, "PROC"),
-        }),
-        Some(("check", given)) => Ok(Words::Check {
+        },
+        "check" => Words::Check {
             file: text_of(given, "FILE"),
-        }),
-        Some(("explain", given)) => Ok(Words::Explain {
+        },
+        "explain" => Words::Explain {
             name: text_of(given, "NAME"),
-        }),
-        _ => Err(command.error(ErrorKind::InvalidSubcommand, "there is no such command")?),
-    }
+        },
+        "create" => Words::Create {
+            store: text_of(given, "STORE"),
+            instance: Instance::of(text_of(given, "INSTANCE")),
+        },
+        _ => Words::On {
+            store: text_of(given, "STORE"),
+            command: store_command(name, given)?,
+        },
+    };
+    Some(words)
 }
 
-/// The command line of the program.
-fn idesolve<'a>(alloc: Global) -> Result<Command<'a>, Error>
-    ensures { IfOk result (λ command. IsIdesolve (app_of command)) }
+/// The same of the commands on a store that is there.
+fn store_command<'a>(name: &str, given: &ArgMatches<'a>) -> Option<StoreCommand<'a>>
+    ensures { IfSome result (λ command. IsStoreCommand command name.now (rows_of (found_of given.now))) }
 {
-    Ok(
-        Command::new(alloc, "idesolve")
-            .about("Solves interprocedural distributive environment problems")
-            .version("0.1.0")
-            .after_help(HELP)
-            .subcommand_required(true)
-            .subcommand(once(alloc)?)?
-            .subcommand(check(alloc)?)?
-            .subcommand(explain(alloc)?)?,
-    )
-}
-
-/// `once INSTANCE FILE PROC`
-fn once<'a>(alloc: Global) -> Result<Command<'a>, Error>
-    ensures { IfOk result IsOnce }
-{
-    let instance = required(alloc, "INSTANCE", "The analysis").value_parser(INSTANCES.as_slice());
-    Ok(
-        Command::new(alloc, "once")
-            .about("Solves a program text in memory and prints the values")
-            .after_help(ANALYSES)
-            .arg(instance)?
-            .arg(required(alloc, "FILE", "The program text"))?
-            .arg(required(alloc, "PROC", "The root procedure"))?,
-    )
-}
-
-/// `check FILE`
-fn check<'a>(alloc: Global) -> Result<Command<'a>, Error>
-    ensures { IfOk result (HasShape check) }
-{
-    Ok(
-        Command::new(alloc, "check")
-            .about("Reads a program text and prints its counts, or its first fault")
-            .arg(required(alloc, "FILE", "The program text"))?,
-    )
-}
-
-/// `explain NAME`
-fn explain<'a>(alloc: Global) -> Result<Command<'a>, Error>
-    ensures { IfOk result IsExplain }
-{
-    let name = required(alloc, "NAME", "E1 to E16, or F1 to F9").value_parser(NAMES.as_slice());
-    Ok(
-        Command::new(alloc, "explain")
-            .about("Prints what a refusal or a fault means")
-            .arg(name)?,
-    )
-}
-
-/// A word that has to be given.
-fn required<'a>(alloc: Global, name: &'a str, help: &'a str) -> Arg<'a>
-    ensures rule { rule_of result ≡ wanted name.now }
-    ensures local { result.global ≡ false }
-{
-    Arg::new(alloc, name)
-        .help(help)
-        .required(true)
-        .action(ArgAction::Set)
+    let command = match name {
+        "load" => StoreCommand::Load {
+            file: text_of(given, "FILE"),
+        },
+        "root" => StoreCommand::Root {
+            procedure: text_of(given, "PROC"),
+        },
+        "work" => StoreCommand::Work {
+            workers: number_of(given, "N")? as usize,
+            quiet: text_of(given, "quiet") == "true",
+        },
+        "ask" => StoreCommand::Ask {
+            procedure: text_of(given, "PROC"),
+            position: number_of(given, "NODE")?,
+            fact: text_of(given, "FACT"),
+        },
+        "dump" => StoreCommand::Dump,
+        "status" => StoreCommand::Status,
+        _ => return None,
+    };
+    Some(command)
 }
 
 /// The text of a word that was given.
@@ -161,4 +172,11 @@ fn text_of<'a>(matches: &ArgMatches<'a>, name: &str) -> &'a str
     ensures { result.now ≡ given name.now (rows_of (found_of matches.now)) }
 {
     matches.get_str(name).unwrap_or("")
+}
+
+/// The number that a word spells.
+fn number_of<'a>(matches: &ArgMatches<'a>, name: &str) -> Option<u32>
+    ensures { IfSome result (Spells (given name.now (rows_of (found_of matches.now)))) }
+{
+    text_of(matches, name).parse::<u32>().ok()
 }

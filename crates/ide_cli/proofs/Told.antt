@@ -1,0 +1,45 @@
+-- What the calls of a store say of it, put together: what a seal came to, and the values of an image.
+use Rattle.std.proofs.Common.{◌≡◌, ◌∙◌, ℕ, Bool, List, [], refl, ap, sym, subst}
+use Rattle.std.specs.Prelude.{Option, Some, None, IfSome, is_some, option_map}
+use Rattle.std.specs.Option.{option_copied}
+use Rattle.std.specs.Borrow.{Bor}
+use Rattle.ide_graph.specs.Supergraph.{Supergraph}
+use Rattle.ide_store.specs.Table.{Analysis, TableData}
+use Rattle.ide_store.specs.TableCalls.{FindsNothing, SealsBatch}
+use Rattle.ide_store.specs.declared.outbox.Ticket.{Ticket}
+use Rattle.ide_tables.specs.Tables.{Table}
+use Rattle.ide_values.specs.Closed.{FollowFrom}
+use Rattle.ide_values.specs.Frozen.{AreBestOf}
+use Rattle.ide_values.specs.Values.{ValuesData}
+use Rattle.ide_cli.specs.Asked.{AreNow}
+use Rattle.ide_cli.specs.Stored.{SealsRest, seals_batch, seals_nothing}
+
+module _ {F L : Type 0} (a : Analysis F L) where
+  pub seals_rest : (drained kept : TableData F) (sealed : Option Ticket) → (sealed ≡ None → FindsNothing a drained kept)
+      → IfSome sealed (λ ticket. SealsBatch a drained kept ticket.number) → SealsRest a drained kept
+  seals_rest drained kept None nothing batch = seals_nothing (nothing refl)
+  seals_rest drained kept (Some ticket) nothing batch = seals_batch ticket.number batch
+
+  pub are_now : (table : TableData F) (values : ValuesData L) (graph : Supergraph) (tables : Table F) (roots : List ℕ)
+      → table.core.pile.pending ≡ [] → table.core.graph ≡ Some graph → tables ≡ table.core.table → roots ≡ table.core.roots
+      → values.graph ≡ graph → values.roots ≡ roots → FollowFrom a.lattice a.functions a.targets graph tables roots values.values
+      → AreBestOf a.lattice a.functions a.targets tables values → AreNow a table values
+  are_now table values graph tables roots quiet has same_tables same_roots is_graph is_roots follow best =
+      let A = a.lattice in
+      let B = a.functions in
+      let T = a.targets in
+      record {
+        quiet = quiet;
+        graph = has ∙ ap (λ (g : Supergraph). Some g) (sym is_graph);
+        roots = is_roots ∙ same_roots;
+        follow = subst (λ (t : Table F). FollowFrom A B T values.graph t values.roots values.values) same_tables
+            (subst (λ (g : Supergraph). FollowFrom A B T g tables values.roots values.values) (sym is_graph)
+            (subst (λ (r : List ℕ). FollowFrom A B T graph tables r values.values) (sym is_roots) follow));
+        best = subst (λ (t : Table F). AreBestOf A B T t values) same_tables best;
+      }
+
+-- something is there where what it stands for is
+pub is_there : {X Y : Type 0} (f : X → Y) (o : Option (Bor X)) (p : Option Y) (b : Bool) → b ≡ is_some o → option_map f (option_copied o) ≡ p
+    → b ≡ is_some p
+is_there {X} {Y} f None p b same is = same ∙ ap (λ (q : Option Y). is_some q) is
+is_there {X} {Y} f (Some x) p b same is = same ∙ ap (λ (q : Option Y). is_some q) is

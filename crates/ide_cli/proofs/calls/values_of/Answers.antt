@@ -1,0 +1,11 @@
+use Rattle.ide_steps.specs.Frozen.{graph_in}
+use Rattle.ide_cli.proofs.Told.{are_now}
+use Rattle.ide_cli.proofs.calls.values_of.Goals as goal
+
+pub returns : goal.returns
+returns g c =
+    let closed = c.in_ok-closed.closed in
+    let frozen = c.in_ok-closed.ensures in
+    let values = c.in_ok-values.ensures in
+    are_now _ c.args.table.now c.in_ok-values.values (graph_in closed) closed.tables closed.roots.items frozen.quiet frozen.graph frozen.table
+    frozen.roots values.graph values.roots values.follow values.best

@@ -1,0 +1,33 @@
+-- What is printed of the values of a store.
+use Rattle.std.specs.Prelude.{◌≡◌, ◌++◌, ℕ, List, [], Some, codes}
+use Rattle.ide_graph.specs.Supergraph.{IsFoundAt}
+use Rattle.ide_store.specs.Table.{Analysis, TableData}
+use Rattle.ide_values.specs.Closed.{FollowFrom}
+use Rattle.ide_values.specs.Frozen.{AreBestOf}
+use Rattle.ide_values.specs.Values.{ValuesData, dump_of_values, value_of}
+
+module _ {F L : Type 0} (a : Analysis F L) where
+  -- nothing is pending, and the values follow from the tables, for the program and its roots; each is best where a run over
+  -- the program came to these tables
+  pub record AreNow (table : TableData F) (values : ValuesData L) : Type 0 where
+    pub quiet : table.core.pile.pending ≡ []
+    pub graph : table.core.graph ≡ Some values.graph
+    pub roots : values.roots ≡ table.core.roots
+    pub follow : FollowFrom a.lattice a.functions a.targets values.graph table.core.table values.roots values.values
+    pub best : AreBestOf a.lattice a.functions a.targets table.core.table values
+
+  module _ (shown : L → List ℕ) (table : TableData F) where
+    -- the text is the value of the fact of that name at the position of the procedure, as it is shown
+    pub record Answers (procedure : List ℕ) (position : ℕ) (name : List ℕ) (text : List ℕ) : Type 0 where
+      pub values : ValuesData L
+      pub now : AreNow table values
+      pub node : ℕ
+      pub fact : ℕ
+      pub found : IsFoundAt values.graph procedure position name node fact
+      pub is : text ≡ shown (value_of a.lattice values node fact) ++ codes "\n"
+
+    -- the text is the dump of the values
+    pub record Dumps (text : List ℕ) : Type 0 where
+      pub values : ValuesData L
+      pub now : AreNow table values
+      pub is : text ≡ dump_of_values a.lattice shown values

@@ -1,0 +1,136 @@
+//! What each command on a store does, over any disk, and what it prints.
+ghost use Rattle.std.specs.Prelude.{◌≡◌, ◌++◌, ℕ, List, OnOk, IfOk};
+ghost use Rattle.ide_cli.specs.Asked.{Answers, AreNow, Dumps};
+ghost use Rattle.ide_cli.specs.Stored.{LoadsText, MakesRoot, PrintsStored, StoreAll, WorksAll, quiet_line, stored_line};
+
+use ide_disk::Disk;
+use ide_lattice::Lattice;
+use ide_problem::Problem;
+use ide_store::{Engine, Kept, TableHalf, Ticket};
+use ide_text::parse;
+use ide_values::{ValuePhase, Values};
+use ide_wire::Refused;
+use itoa::Buffer;
+use std::alloc::{AllocError, Global};
+
+/// The most disk calls that are made for one command: more than a store has room for.
+const CALLS: u64 = u64::MAX;
+
+/// Loads the program that the text spells, and appends its record's number once it is stored.
+pub(crate) fn load<P: Problem, D: Disk>(
+    alloc: Global,
+    engine: &mut Engine<P, D>,
+    text: &[u8],
+    out: &mut Vec<u8>,
+) -> Result<(), Refused>
+    ensures { OnOk result (PrintsStored (LoadsText ⟦<P as Kept>⟧.analysis engine.old engine.new text.now) out.old out.new) }
+{
+    let program = parse(alloc, text)?;
+    let ticket = engine.table.load(program)?;
+    store_all(engine)?;
+    append_stored(ticket, out)?;
+    Ok(())
+}
+
+/// Makes the procedure of that name a root, and appends its record's number once it is stored.
+pub(crate) fn root<P: Problem, D: Disk>(
+    engine: &mut Engine<P, D>,
+    name: &[u8],
+    out: &mut Vec<u8>,
+) -> Result<(), Refused>
+    ensures { OnOk result (PrintsStored (MakesRoot ⟦<P as Kept>⟧.analysis engine.old engine.new name.now) out.old out.new) }
+{
+    let ticket = engine.table.root(name)?;
+    store_all(engine)?;
+    append_stored(ticket, out)?;
+    Ok(())
+}
+
+/// Does all that is pending, and appends `quiet` once the last batch is stored.
+pub(crate) fn work<P: Problem, D: Disk>(
+    engine: &mut Engine<P, D>,
+    workers: usize,
+    out: &mut Vec<u8>,
+) -> Result<(), Refused>
+    ensures text { OnOk result (out.new.items ≡ out.old.items ++ quiet_line) }
+    ensures works { OnOk result (WorksAll ⟦<P as Kept>⟧.analysis engine.old engine.new) }
+{
+    work_on(engine, workers)?;
+    out.extend_from_slice(b"quiet\n")?;
+    Ok(())
+}
+
+/// Does all that is pending, and stores it.
+fn work_on<P: Problem, D: Disk>(engine: &mut Engine<P, D>, workers: usize) -> Result<(), Refused>
+    ensures { OnOk result (WorksAll ⟦<P as Kept>⟧.analysis engine.old engine.new) }
+{
+    // One hand does it, however many are asked for: a service with a lock is to take its place.
+    let _ = workers;
+    let _ = engine.table.drain()?;
+    let _ = engine.table.seal()?;
+    store_all(engine)?;
+    Ok(())
+}
+
+/// Makes disk calls until all that was sealed is stored.
+fn store_all<P: Problem, D: Disk>(engine: &mut Engine<P, D>) -> Result<(), Refused>
+    ensures { OnOk result (StoreAll ⟦<P as Kept>⟧.analysis engine.old.table engine.new.table engine.old.writer engine.new.writer) }
+{
+    for _ in 0..CALLS {
+        if !engine.disk_step()? {
+            return Ok(());
+        }
+    }
+    Err(Refused::Limit)
+}
+
+/// Appends the number of a stored record.
+fn append_stored(ticket: Ticket, out: &mut Vec<u8>) -> Result<(), AllocError>
+    ensures { OnOk result (out.new.items ≡ out.old.items ++ stored_line ticket.number) }
+{
+    out.extend_from_slice(b"stored ")?;
+    out.extend_from_slice(Buffer::new().format(ticket.number).as_bytes())?;
+    out.extend_from_slice(b"\n")
+}
+
+/// Appends the value of a fact at a position of a procedure.
+///
+/// Refusals, in this order: those of [`TableHalf::freeze`], of `Graph::find` and of `Values::at`.
+pub(crate) fn ask<P: Problem>(
+    alloc: Global,
+    table: &TableHalf<P>,
+    procedure: &[u8],
+    position: u32,
+    fact: &[u8],
+    out: &mut Vec<u8>,
+) -> Result<(), Refused>
+    ensures { OnOk result ((text : List ℕ) × (out.new.items ≡ out.old.items ++ text) × Answers ⟦<P as Kept>⟧.analysis P.L.shown table.now procedure.now position fact.now text) }
+{
+    let values = values_of(alloc, table)?;
+    let (node, fact) = values.loaded().graph.find(procedure, position, fact)?;
+    let value = values.at(node, fact)?;
+    value.show(out)?;
+    out.extend_from_slice(b"\n")?;
+    Ok(())
+}
+
+/// Appends the dump of all values.
+pub(crate) fn dump<P: Problem>(
+    alloc: Global,
+    table: &TableHalf<P>,
+    out: &mut Vec<u8>,
+) -> Result<(), Refused>
+    ensures { OnOk result ((text : List ℕ) × (out.new.items ≡ out.old.items ++ text) × Dumps ⟦<P as Kept>⟧.analysis P.L.shown table.now text) }
+{
+    let values = values_of(alloc, table)?;
+    values.dump(out)
+}
+
+/// The values of the image as it stands.
+fn values_of<P: Problem>(alloc: Global, table: &TableHalf<P>) -> Result<Values<P>, Refused>
+    ensures { IfOk result (AreNow ⟦<P as Kept>⟧.analysis table.now) }
+{
+    let closed = table.freeze()?;
+    let values = closed.values(alloc, 1)?;
+    Ok(values)
+}
