@@ -10,7 +10,7 @@ use Rattle.ide_batch.specs.Fold.{procedures}
 use Rattle.ide_graph.proofs.PlaceLemmas.{position_within}
 use Rattle.ide_graph.specs.Numbers.{procedure_of, start_of}
 use Rattle.ide_graph.specs.Supergraph.{Supergraph}
-use Rattle.ide_journal.specs.Format.{Head}
+use Rattle.ide_journal.specs.Format.{Entry, Head}
 use Rattle.ide_lattice.specs.Algebra.{LatticeAlgebra, EdgeAlgebra}
 use Rattle.ide_problem.specs.Flow.{Targets}
 use Rattle.ide_steps.specs.Frozen.{graph_in, program_in}
@@ -152,9 +152,9 @@ module _ (P : Type 0) {F L : Type 0} (a : Analysis F L) (knows : Knows a) (graph
 module _ {P F L : Type 0} (a : Analysis F L) (table : TableData F) (closed : Closed P L F) (whole : IsWhole table.core)
     (at : table.core.graph ≡ Some (graph_in closed)) where
   -- the graph of a frozen half is that of its program
-  pub said_in : (head : Head) (w : StoreWorld a head) → WorksOn a head w table → IsImageOf a head w closed
+  pub said_in : (head : Head) (w : StoreWorld a head) (handed : List Entry) → WorksOn a head w table handed → IsImageOf a head w closed
       → IsGraphSaid (Some (program_in closed)) (graph_in closed)
-  said_in head w works image =
+  said_in head w handed works image =
       subst (λ (o : Option ProgramValue). IsGraphSaid o (graph_in closed)) (sym works.image.program ∙ image.program) (whole.said (graph_in closed) at)
 
   -- so the values of its image are best in each world on which it works
@@ -165,6 +165,6 @@ module _ {P F L : Type 0} (a : Analysis F L) (table : TableData F) (closed : Clo
       → IfOk result (AreBestOf a.lattice a.functions a.targets closed.tables)
       → IfOk result (AreAnswersOver a table)
   answers_over law result frozen programs graphs rooted bests =
-      if-ok {S = AreAnswersOver a table} result programs graphs rooted bests (λ values program graph roots best head w reached works.
-      let image = frozen head w reached works in
-      law closed values (said_in head w works image) program graph roots best head w reached image)
+      if-ok {S = AreAnswersOver a table} result programs graphs rooted bests (λ values program graph roots best head w handed reached works.
+      let image = frozen head w handed reached works in
+      law closed values (said_in head w handed works image) program graph roots best head w reached image)

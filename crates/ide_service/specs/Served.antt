@@ -1,8 +1,8 @@
 -- What the values of a store's run are: of a world that acts led to, the best ones for its program and its roots; and why a
 -- half does not answer them.
-use Rattle.std.specs.Prelude.{◌≡◌, ℕ, ◌<◌, false, true, [], Some, map}
+use Rattle.std.specs.Prelude.{◌≡◌, ℕ, ◌<◌, false, true, List, [], Some, map}
 use Rattle.ide_batch.specs.Applied.{named_in}
-use Rattle.ide_journal.specs.Format.{Head}
+use Rattle.ide_journal.specs.Format.{Entry, Head}
 use Rattle.ide_steps.specs.CloseRefusal.{IsFreezeRefusal}
 use Rattle.ide_steps.specs.Core.{is_loaded}
 use Rattle.ide_steps.specs.Frozen.{graph_in, program_in}
@@ -42,7 +42,8 @@ module _ {F L : Type 0} (a : Analysis F L) where
 
   -- of each world that acts led to, and on which the half works
   abbrev pub AreAnswersOver : TableData F → ValuesData L → Type 0
-  AreAnswersOver table values = (head : Head) (w : StoreWorld a head) → IsReached a head w → WorksOn a head w table → AreAnswersOf head w values
+  AreAnswersOver table values = (head : Head) (w : StoreWorld a head) (handed : List Entry) → IsReached a head w → WorksOn a head w table handed
+      → AreAnswersOf head w values
 
 module _ (P : Type 0) {F L : Type 0} (a : Analysis F L) where
   -- where a frozen image is that of a world that acts led to, with the graph of its program, values that are best over the

@@ -37,6 +37,32 @@ pub trait Gate {
     /// How many parts a hand may do between two questions.
     fn stride(&self) -> usize
         ensures { 0 < result };
+
+    /// How many whole tasks a hand may do before each of those of which it asks.
+    fn ahead(&self) -> usize;
+}
+
+/// A gate that lets everybody go on.
+#[derive(Clone, Copy, Debug)]
+pub struct Open {
+    /// How many whole tasks a hand may do before each of those of which it asks.
+    pub ahead: usize,
+}
+
+impl Gate for Open {
+    ghost may_stop = { λ _ _. ⊥ };
+
+    fn pass(&self, _point: Point) -> bool {
+        true
+    }
+
+    fn stride(&self) -> usize {
+        usize::MAX
+    }
+
+    fn ahead(&self) -> usize {
+        self.ahead
+    }
 }
 
 /// Hands over one image, of which each claims a key at a time.
@@ -117,7 +143,7 @@ pub fn hand_loop<R: Wait, P: Problem, H: Hands<P>, G: Gate>(
 }
 
 /// Does the task that the hand claimed, and leaves it with no claim: false where the gate stopped it.
-fn run_task<R: Wait, P: Problem, H: Hands<P>, G: Gate>(
+pub(crate) fn run_task<R: Wait, P: Problem, H: Hands<P>, G: Gate>(
     rt: &R,
     alloc: Global,
     hands: &mut H,

@@ -11,9 +11,15 @@ mod answers;
 mod half;
 mod hands;
 mod runs;
+mod service;
+mod shared;
+mod sharing;
 mod solver;
+mod together;
 
 pub use answers::values_of_table;
-pub use hands::{Ended, Gate, Hands, Point, hand_loop};
+pub use hands::{Ended, Gate, Hands, Open, Point, hand_loop};
 pub use runs::{every_run, values_of_runs_are_best};
+pub use service::Service;
 pub use solver::{solve, values_of};
+pub use together::{Crew, Team, work_together};

@@ -1,0 +1,191 @@
+//! A service: a store that several hands work on at once, with one that writes what they did.
+ghost use Rattle.std.specs.Prelude.{◌≡◌, ℕ, false, Ok};
+ghost use Rattle.ide_service.specs.declared.hands.Point.{Point};
+
+use crate::hands::{Ended, Gate, Point, hand_loop};
+use crate::shared::{Shared, Stepped};
+use crate::sharing::SharingHand;
+use ide_disk::Disk;
+use ide_problem::Problem;
+use ide_steps::Closed;
+use ide_store::{Engine, Ticket};
+use ide_text::Program;
+use ide_wire::Refused;
+use std::alloc::Global;
+use std::sync::{Condvar, Mutex, MutexGuard, Wait};
+use std::time::{Clock, Duration};
+
+/// How many milliseconds a committer sleeps between two seals: as much work may be lost where the process
+/// is killed.
+const BETWEEN_SEALS: u64 = 100;
+
+/// A store that hands share, under one lock. Each of its calls takes the lock for single calls of the
+/// engine, and lets it go.
+pub struct Service<P: Problem, D: Disk> {
+    alloc: Global,
+    store: Mutex<Shared<P, D>>,
+    /// Whether the hands have ended, so that the committer may.
+    stop: Mutex<bool>,
+    /// Told where that changes.
+    stopped: Condvar,
+}
+
+impl<P: Problem, D: Disk> Service<P, D> {
+    /// A service over the engine.
+    pub fn new(alloc: Global, engine: Engine<P, D>) -> Self {
+        Service {
+            alloc,
+            store: Mutex::new(Shared { engine }),
+            stop: Mutex::new(false),
+            stopped: Condvar::new(),
+        }
+    }
+
+    /// Lets the hand claim and end tasks until no key is pending, or until the gate stops it. Where every
+    /// pending key is claimed it waits; where a batch is full it is sealed. The hand has no claim at the
+    /// end.
+    ///
+    /// Refusals, in this order: `Failed`; `Limit`, where the hand's number is over 63, or as of a seal;
+    /// `NoProgram`; `Busy`, where the hand had a claim; `NoMemory`.
+    pub fn work<R: Wait + Clock, G: Gate>(
+        &self,
+        rt: &R,
+        hand: usize,
+        gate: &G,
+    ) -> Result<Ended, Refused>
+        ensures stopped { result ≡ Ok Ended.Stopped → (point : Point) × G.may_stop gate.now point }
+    {
+        let mut hands = SharingHand::new(rt, self, gate.ahead());
+        hand_loop(rt, self.alloc, &mut hands, hand, gate)
+    }
+
+    /// Seals what changed and stores what was sealed, again and again, until stop is raised and nothing is
+    /// left to seal or to store, or until the gate stops it. Where it is refused it raises stop.
+    ///
+    /// Refusals: `Failed`; `Limit`, as of a seal; `NoMemory`; `Disk`, after which each call is refused.
+    pub fn commit<R: Wait + Clock, G: Gate>(&self, rt: &R, gate: &G) -> Result<Ended, Refused>
+        ensures stopped { result ≡ Ok Ended.Stopped → (point : Point) × G.may_stop gate.now point }
+    {
+        let ended = self.commit_rounds(rt, gate);
+        if ended.is_err() {
+            self.raise_stop(rt);
+        }
+        ended
+    }
+
+    /// Seals and stores until stop was raised before a round began.
+    fn commit_rounds<R: Wait + Clock, G: Gate>(&self, rt: &R, gate: &G) -> Result<Ended, Refused>
+        ensures stopped { result ≡ Ok Ended.Stopped → (point : Point) × G.may_stop gate.now point }
+    {
+        for _ in rt.forever() {
+            let last = self.wait_for_stop(rt);
+            let _ = self.seal(rt)?;
+            if !self.store_all(rt, gate)? {
+                return Ok(Ended::Stopped);
+            }
+            if last {
+                return Ok(Ended::Quiet);
+            }
+        }
+        unreachable!()
+    }
+
+    /// Makes disk calls until all that was sealed is stored: false where the gate stopped it.
+    fn store_all<R: Wait, G: Gate>(&self, rt: &R, gate: &G) -> Result<bool, Refused>
+        ensures stopped { result ≡ Ok false → (point : Point) × G.may_stop gate.now point }
+    {
+        for _ in rt.forever() {
+            if self.is_stored(rt) {
+                return Ok(true);
+            }
+            if !gate.pass(Point::BeforeSync) {
+                return Ok(false);
+            }
+            self.store_next(rt)?;
+            if !gate.pass(Point::Stored) {
+                return Ok(false);
+            }
+        }
+        unreachable!()
+    }
+
+    /// Stores the oldest record that is sealed and not stored, if there is one, by one hold of the lock for
+    /// each disk call.
+    fn store_next<R: Wait>(&self, rt: &R) -> Result<(), Refused> {
+        for _ in rt.forever() {
+            match self.store.lock(rt).disk_step()? {
+                Stepped::Called => {}
+                Stepped::Stored | Stepped::AllStored => return Ok(()),
+            }
+        }
+        unreachable!()
+    }
+
+    /// Whether all that was sealed is stored.
+    fn is_stored<R: Wait>(&self, rt: &R) -> bool {
+        self.store.lock(rt).is_stored()
+    }
+
+    /// Waits until stop is raised, or a while, and answers whether it was raised.
+    fn wait_for_stop<R: Wait + Clock>(&self, rt: &R) -> bool {
+        let while_long = Duration::from_millis(BETWEEN_SEALS);
+        let stop = self.stop.lock(rt);
+        let (stop, _) = self
+            .stopped
+            .wait_timeout_while(rt, stop, while_long, |stop| !*stop);
+        *stop
+    }
+
+    /// Tells the committer that the hands have ended: it stores what is left, and ends.
+    pub fn raise_stop<R: Wait>(&self, rt: &R) {
+        *self.stop.lock(rt) = true;
+        self.stopped.notify_all();
+    }
+
+    /// Loads a program: see [`ide_store::TableHalf::load`]. No hand has a claim then.
+    pub fn load<R: Wait>(&self, rt: &R, program: Program) -> Result<Ticket, Refused> {
+        self.store.lock(rt).load(program)
+    }
+
+    /// Makes the procedure of that name a root: see [`ide_store::TableHalf::root`].
+    pub fn root<R: Wait>(&self, rt: &R, name: &[u8]) -> Result<Ticket, Refused> {
+        self.store.lock(rt).root(name)
+    }
+
+    /// Seals what changed since the last record, if anything did: see [`ide_store::TableHalf::seal`].
+    pub fn seal<R: Wait>(&self, rt: &R) -> Result<Option<Ticket>, Refused> {
+        self.store.lock(rt).seal()
+    }
+
+    /// The image as it stands, copied: see [`ide_store::TableHalf::freeze`].
+    pub fn freeze<R: Wait>(&self, rt: &R) -> Result<Closed<P>, Refused> {
+        self.store.lock(rt).freeze()
+    }
+
+    /// How many records are stored: those numbered below are acknowledged.
+    pub fn acked<R: Wait>(&self, rt: &R) -> u64 {
+        self.store.lock(rt).acked()
+    }
+
+    /// Takes the lock, for a hand's call.
+    pub(crate) fn shared<R: Wait>(&self, rt: &R) -> MutexGuard<'_, Shared<P, D>> {
+        self.store.lock(rt)
+    }
+
+    /// Where the hands allocate.
+    pub(crate) fn alloc(&self) -> Global {
+        self.alloc
+    }
+
+    /// The engine, once nobody works on it.
+    pub fn into_engine(self) -> Engine<P, D> {
+        let Service {
+            alloc: _,
+            store,
+            stop: _,
+            stopped: _,
+        } = self;
+        let Shared { engine } = store.into_inner();
+        engine
+    }
+}
