@@ -31,11 +31,12 @@ try:
 install: idesolve
 	install -D idesolve $(DESTDIR)$(PREFIX)/bin/idesolve
 
-# Times the program on generated texts, its phases, stores, the journal on a disk in memory, and batches, and prints a table of each.
+# Times the program on generated texts, its phases, stores, hands, the journal on a disk in memory, and batches, and prints a table of each.
 bench: idesolve
 	bench/run
 	bench/phases
 	bench/stores
+	bench/workers
 	bench/journal
 	bench/batches
 

@@ -9,6 +9,8 @@
 //!   were stored, how long the disk is, and how many keys and tasks there were;
 //! - `resume FILE` does so, opens the store from its disk and prints the same of it;
 //! - `bytes FILE` does what `keep` does and copies the bytes of the disk once;
+//! - `work FILE WORKERS AHEAD` does what `keep` does, with so many hands, each of which does so many tasks in one
+//!   hold of the store's lock, and one that writes;
 //! - `append LENGTH COUNT` stores so many records with bodies of that length in a journal on a disk
 //!   in memory, and prints how many there are and how long the file is;
 //! - `reopen LENGTH COUNT` does so and reads them back;
@@ -32,12 +34,31 @@ use ide_graph::Graph;
 use ide_journal::Version;
 use phases::{count_procedures, graph_of, measure_dump, solve, tabulate};
 use records::{Sizes, Stored, append, copy, reopen};
+use std::fs::Files;
+use std::sync::Wait;
+use std::thread::Threads;
+use std::time::Clock;
 use std::{env, fs};
-use stores::{Amounts, copy_disk, keep, resume};
+use stores::{Amounts, copy_disk, keep, resume, work};
 
 fn main(rt: HostRuntime) -> Result<()> {
     let words: Vec<String> = env::args(&rt)?.collect(rt.alloc())?;
+    if word(words.as_slice(), 1)? == "work" {
+        let amounts = run_workers(&rt, words.as_slice())?;
+        return print_amounts(&rt, amounts);
+    }
     run(&rt, words.as_slice())
+}
+
+/// Lets as many hands work on a text as the words ask for.
+fn run_workers<R: Threads + Wait + Clock + Sync + Files + AllocGlobal>(
+    rt: &R,
+    words: &[String],
+) -> Result<Amounts> {
+    let text: Vec<u8> = fs::read(rt, word(words, 2)?).context("the text cannot be read")?;
+    let workers = number(word(words, 3)?)?;
+    let ahead = number(word(words, 4)?)?;
+    work(rt, text.as_slice(), workers, ahead)
 }
 
 /// Does what the words ask for, and prints what it came to.
@@ -65,7 +86,7 @@ fn run_phase(rt: &HostRuntime, phase: &str, text: &[u8]) -> Result<()> {
         "resume" => print_amounts(rt, resume(rt.alloc(), text)?),
         "bytes" => print_bytes(rt, copy_disk(rt.alloc(), text)?),
         _ => bail!(
-            "parse, graph, tabulate, solve, print, keep, resume, bytes, append, reopen, copy, spell, read or recopy is wanted"
+            "parse, graph, tabulate, solve, print, keep, resume, bytes, work, append, reopen, copy, spell, read or recopy is wanted"
         ),
     }
 }

@@ -9,9 +9,13 @@ use ide_disk::{Disk, MemDisk};
 use ide_instances::CopyConst;
 use ide_journal::Version;
 use ide_problem::Problem;
+use ide_service::{Crew, Open, Service, work_together};
 use ide_store::{Engine, Kept};
 use ide_text::parse;
 use std::alloc::Global;
+use std::sync::Wait;
+use std::thread::Threads;
+use std::time::Clock;
 
 /// The most bytes of a store.
 const ROOM: usize = 16_777_216;
@@ -44,10 +48,16 @@ fn open(alloc: Global, disk: MemDisk) -> Result<Engine<CopyConst, MemDisk>> {
     }
 }
 
-/// Tabulates a text's program with `main` as the root, stores what that did, and answers how many tasks it took.
-fn store_run(alloc: Global, engine: &mut Engine<CopyConst, MemDisk>, text: &[u8]) -> Result<u64> {
+/// Loads a text's program, with `main` as the root.
+fn begin(alloc: Global, engine: &mut Engine<CopyConst, MemDisk>, text: &[u8]) -> Result<()> {
     engine.table.load(parse(alloc, text)?)?;
     engine.table.root(b"main")?;
+    Ok(())
+}
+
+/// Tabulates a text's program, stores what that did, and answers how many tasks it took.
+fn store_run(alloc: Global, engine: &mut Engine<CopyConst, MemDisk>, text: &[u8]) -> Result<u64> {
+    begin(alloc, engine, text)?;
     let tasks = engine.table.drain()?;
     engine.table.seal()?;
     store_all(engine)?;
@@ -86,6 +96,26 @@ pub(crate) fn keep(alloc: Global, text: &[u8]) -> Result<Amounts> {
     let mut engine = create(alloc)?;
     let tasks = store_run(alloc, &mut engine, text)?;
     measure_store(engine, tasks)
+}
+
+/// Keeps a text's run in a store, with so many hands, each of which does so many tasks in one hold of the lock,
+/// and one that writes; how many tasks that took nobody counts.
+pub(crate) fn work<R: Threads + Wait + Clock + Sync + AllocGlobal>(
+    rt: &R,
+    text: &[u8],
+    workers: usize,
+    ahead: usize,
+) -> Result<Amounts> {
+    let mut engine = create(rt.alloc())?;
+    begin(rt.alloc(), &mut engine, text)?;
+    let service = Service::new(rt.alloc(), engine);
+    let crew = Crew {
+        rt,
+        service: &service,
+        gate: &Open { ahead },
+    };
+    work_together(rt, rt.alloc(), &crew, workers)?;
+    measure_store(service.into_engine(), 0)
 }
 
 /// Keeps a text's run in a store, and opens that store from its disk.

@@ -21,6 +21,7 @@ const BETWEEN_SEALS: u64 = 100;
 
 /// A store that hands share, under one lock. Each of its calls takes the lock for single calls of the
 /// engine, and lets it go.
+#[derive(Drop)]
 pub struct Service<P: Problem, D: Disk> {
     alloc: Global,
     store: Mutex<Shared<P, D>>,

@@ -27,6 +27,7 @@ pub trait Team {
 }
 
 /// The hands of a service and its committer, whom one gate may stop.
+#[derive(Drop)]
 pub struct Crew<'a, R: Wait + Clock, P: Problem, D: Disk, G: Gate> {
     pub rt: &'a R,
     pub service: &'a Service<P, D>,
