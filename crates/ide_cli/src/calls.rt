@@ -46,26 +46,24 @@ pub(crate) fn root<P: Problem, D: Disk>(
     Ok(())
 }
 
-/// Does all that is pending, and appends `quiet` once the last batch is stored.
-pub(crate) fn work<P: Problem, D: Disk>(
+/// Does what the hands left pending, and appends `quiet` once all is stored. Where nothing is pending and all is
+/// stored, as the hands leave it, it makes no disk call.
+pub(crate) fn end_work<P: Problem, D: Disk>(
     engine: &mut Engine<P, D>,
-    workers: usize,
     out: &mut Vec<u8>,
 ) -> Result<(), Refused>
     ensures text { OnOk result (out.new.items ≡ out.old.items ++ quiet_line) }
     ensures works { OnOk result (WorksAll ⟦<P as Kept>⟧.analysis engine.old engine.new) }
 {
-    work_on(engine, workers)?;
+    work_alone(engine)?;
     out.extend_from_slice(b"quiet\n")?;
     Ok(())
 }
 
-/// Does all that is pending, and stores it.
-fn work_on<P: Problem, D: Disk>(engine: &mut Engine<P, D>, workers: usize) -> Result<(), Refused>
+/// Does all that is pending by one hand, and stores it.
+fn work_alone<P: Problem, D: Disk>(engine: &mut Engine<P, D>) -> Result<(), Refused>
     ensures { OnOk result (WorksAll ⟦<P as Kept>⟧.analysis engine.old engine.new) }
 {
-    // One hand does it, however many are asked for: a service with a lock is to take its place.
-    let _ = workers;
     let _ = engine.table.drain()?;
     let _ = engine.table.seal()?;
     store_all(engine)?;

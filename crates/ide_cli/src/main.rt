@@ -13,6 +13,7 @@ mod run;
 mod status;
 mod stores;
 mod words;
+mod working;
 
 use std::process::ExitCode;
 use std::{env, io};

@@ -20,6 +20,9 @@ use std::convert::AsStr;
 use std::fs::{File, Files};
 use std::io;
 use std::io::Write;
+use std::sync::Wait;
+use std::thread::Threads;
+use std::time::Clock;
 
 /// The status of a run that did what it was asked.
 const DONE: u8 = 0;
@@ -30,12 +33,14 @@ const WRONG_WORDS: u8 = 2;
 
 /// Runs the command of a line, whose first word is the program's name, and answers the status.
 /// Nothing is written to `out` before the command has its whole answer.
-pub(crate) fn run<R: Files<File = File> + AllocGlobal, S: AsStr, O: Write, E: Write>(
+pub(crate) fn run<R, S: AsStr, O: Write, E: Write>(
     rt: &R,
     line: &[S],
     out: &mut O,
     err: &mut E,
 ) -> u8
+where
+    R: Files<File = File> + AllocGlobal + Threads + Wait + Clock + Sync,
     ensures status { (result ≡ DONE) ⊎ (result ≡ REFUSED) ⊎ (result ≡ WRONG_WORDS) }
     ensures done { result ≡ DONE → err.new ≡ err.old }
     ensures wrong_words { result ≡ WRONG_WORDS → out.new ≡ out.old }
@@ -85,7 +90,7 @@ fn write_out<O: Write>(out: &mut O, text: &[u8]) -> io::Result<()> {
 }
 
 /// Appends what the command prints.
-fn answer<'a, R: Files<File = File> + AllocGlobal>(
+fn answer<'a, R: Files<File = File> + AllocGlobal + Threads + Wait + Clock + Sync>(
     rt: &R,
     words: Words<'a>,
     out: &mut Vec<u8>,

@@ -9,6 +9,7 @@ use crate::calls;
 use crate::failure::{Failure, read_file};
 use crate::status::Status;
 use crate::words::{Instance, StoreCommand};
+use crate::working::work;
 use ide_disk::Disk;
 use ide_file::FileDisk;
 use ide_instances::{CopyConst, ShiftConst, Uninit};
@@ -19,10 +20,13 @@ use ide_wire::Refused;
 use std::alloc::Global;
 use std::fs::{File, Files};
 use std::path::Path;
+use std::sync::Wait;
+use std::thread::Threads;
+use std::time::Clock;
 
 /// An open store, by its analysis.
 #[derive(Drop)]
-enum Store<D: Disk> {
+pub(crate) enum Store<D: Disk> {
     Uninit(Engine<Uninit, D>),
     Copy(Engine<CopyConst, D>),
     Shift(Engine<ShiftConst, D>),
@@ -60,7 +64,7 @@ fn made<P: Problem, D: Disk + Drop>(alloc: Global, disk: D) -> Result<Engine<P, 
 /// Does a command on the store in the file of that name, and appends what it prints.
 ///
 /// The store's file is opened first, and then a text is read, before any call can be refused.
-pub(crate) fn obey<'a, R: Files<File = File> + AllocGlobal>(
+pub(crate) fn obey<'a, R: Files<File = File> + AllocGlobal + Threads + Wait + Clock + Sync>(
     rt: &R,
     store: &'a str,
     command: StoreCommand<'a>,
@@ -73,7 +77,12 @@ pub(crate) fn obey<'a, R: Files<File = File> + AllocGlobal>(
         StoreCommand::Load { file } => read_file(rt, file)?,
         _ => Vec::new(rt.alloc()),
     };
-    match open(rt.alloc(), disk)? {
+    let opened = open(rt.alloc(), disk)?;
+    if let StoreCommand::Work { workers, .. } = command {
+        work(rt, opened, workers, out)?;
+        return Ok(());
+    }
+    match opened {
         Store::Uninit(engine) => call(rt.alloc(), engine, command, &text, out)?,
         Store::Copy(engine) => call(rt.alloc(), engine, command, &text, out)?,
         Store::Shift(engine) => call(rt.alloc(), engine, command, &text, out)?,
@@ -103,8 +112,8 @@ fn open<D: Disk + Drop>(alloc: Global, disk: D) -> Result<Store<D>, Refused> {
     }
 }
 
-/// Makes the calls of a command on an open store, and appends what it prints. The text is the one to
-/// be loaded, where one is.
+/// Makes the calls of a command on an open store by one hand, and appends what it prints. The text is the one
+/// to be loaded, where one is.
 fn call<P: Problem, D: Disk + Drop>(
     alloc: Global,
     mut engine: Engine<P, D>,
@@ -115,7 +124,7 @@ fn call<P: Problem, D: Disk + Drop>(
     match command {
         StoreCommand::Load { .. } => calls::load(alloc, &mut engine, text, out),
         StoreCommand::Root { procedure } => calls::root(&mut engine, procedure.as_bytes(), out),
-        StoreCommand::Work { workers, .. } => calls::work(&mut engine, workers, out),
+        StoreCommand::Work { .. } => calls::end_work(&mut engine, out),
         StoreCommand::Ask {
             procedure,
             position,

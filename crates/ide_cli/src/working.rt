@@ -1,0 +1,47 @@
+//! Work on a store in a file, by several hands and one that writes.
+//!
+//! It is written for each analysis by itself: the kit gives no proof of threads that are sent what rests on a
+//! bound on a type parameter's own type, as that a problem's functions may be sent.
+use crate::calls::end_work;
+use crate::stores::Store;
+use ide_file::FileDisk;
+use ide_service::{Crew, Open, Service, work_together};
+use ide_wire::Refused;
+use std::fs::File;
+use std::sync::Wait;
+use std::thread::Threads;
+use std::time::Clock;
+
+/// How many tasks a hand does in one hold of the store's lock: so many take tens of microseconds, beside
+/// which a lock that is handed on costs little.
+const AHEAD: usize = 64;
+
+/// Lets so many hands do all that is pending in the engine while one stores what they do, and appends `quiet`.
+macro_rules! work_on {
+    ($rt:expr, $engine:expr, $workers:expr, $out:expr) => {{
+        let service = Service::new($rt.alloc(), $engine);
+        let crew = Crew {
+            rt: $rt,
+            service: &service,
+            gate: &Open { ahead: AHEAD },
+        };
+        work_together($rt, $rt.alloc(), &crew, $workers)?;
+        let mut engine = service.into_engine();
+        end_work(&mut engine, $out)
+    }};
+}
+
+/// Lets so many hands do all that is pending in the store while one stores what they do, and appends `quiet` once
+/// the last batch is stored.
+pub(crate) fn work<R: Threads + Wait + Clock + Sync + AllocGlobal>(
+    rt: &R,
+    store: Store<FileDisk<File>>,
+    workers: usize,
+    out: &mut Vec<u8>,
+) -> Result<(), Refused> {
+    match store {
+        Store::Uninit(engine) => work_on!(rt, engine, workers, out),
+        Store::Copy(engine) => work_on!(rt, engine, workers, out),
+        Store::Shift(engine) => work_on!(rt, engine, workers, out),
+    }
+}
