@@ -3,10 +3,10 @@
 use crate::engines::{
     Given, Hand, begin, create, disk_step, expect_kept, items_of, load, root, seal, store_all,
 };
-use crate::stores::has_length;
 use ide_disk::MemDisk;
 use ide_instances::{ConstFn, ConstValue, CopyConst, ShiftConst, Uninit};
 use ide_journal::Version;
+use ide_journal_tests::harms::has_length;
 use ide_problem::Problem;
 use ide_steps::Parted;
 use ide_store::{Engine, TableHalf};

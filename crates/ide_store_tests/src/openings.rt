@@ -1,10 +1,10 @@
 //! Openings of disks that hold no store of the analysis, or a store that is damaged.
 use crate::engine::seal_empty_main;
 use crate::engines::{create, open, store_all};
-use crate::journal::{cut, damage};
 use ide_disk::{Disk, MemDisk};
 use ide_instances::{CopyConst, Uninit};
 use ide_journal::{RawRecord, Version};
+use ide_journal_tests::harms::{cut, damage};
 use ide_problem::Problem;
 use ide_store::{Engine, WriterHalf};
 use ide_wire::Refused;
@@ -84,7 +84,7 @@ fn other_files_are_refused(rt: HostRuntime) -> Result<(), Fail> {
     expect_no_store(&rt, 0x49)?;
     expect_no_store(&rt, 0xff)?;
     let mut disk = stored_run(&rt)?;
-    cut(&rt, &mut disk, 4096)?;
+    cut(&mut disk, 4096)?;
     let _disk = expect_refused::<Uninit>(&rt, rt.alloc(), disk, Refused::NotAStore)?;
     Ok(())
 }
@@ -94,7 +94,7 @@ fn other_files_are_refused(rt: HostRuntime) -> Result<(), Fail> {
 fn an_open_gate_at_the_end_is_refused(rt: HostRuntime) -> Result<(), Fail> {
     for version in [Version::One, Version::Two] {
         let mut disk = empty_store(rt.alloc(), version)?;
-        damage(&rt, &mut disk, 4096, &[1])?;
+        damage(&mut disk, 4096, &[1])?;
         let _disk = expect_refused::<Uninit>(&rt, rt.alloc(), disk, Refused::Damaged(0))?;
     }
     Ok(())

@@ -1,7 +1,7 @@
 //! The half of a store that writes, on a disk in memory: how many steps records take, and what they leave.
-use crate::stores::has_length;
 use ide_disk::MemDisk;
 use ide_journal::{RawRecord, Version};
+use ide_journal_tests::harms::has_length;
 use ide_store::WriterHalf;
 use ide_wire::Refused;
 use std::alloc::Global;

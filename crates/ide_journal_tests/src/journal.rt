@@ -1,5 +1,6 @@
 //! The bytes of a store over a disk in memory.
-use crate::stores::{begin_record, create, has_length, store};
+use crate::harms::{cut, damage, has_length};
+use crate::stores::{begin_record, create, store};
 use ide_disk::{Disk, Leave, MemDisk};
 use ide_journal::{Journal, RawRecord, Version, tag};
 use ide_wire::Refused;
@@ -268,22 +269,10 @@ fn opens_what_a_crash_leaves(rt: HostRuntime) -> Result<(), Fail> {
     Ok(())
 }
 
-/// The bytes are written at a place of the disk.
-pub(crate) fn damage(
-    rt: &impl Abort,
-    disk: &mut MemDisk,
-    at: u64,
-    bytes: &[u8],
-) -> Result<(), Fail> {
-    assert!(rt; at <= disk.len()?);
-    disk.write(at, bytes)?;
-    Ok(())
-}
-
 /// A disk with one record, in version 2, on which these bytes stand at a place.
 fn damaged_disk(rt: &(impl Abort + AllocGlobal), at: u64, bytes: &[u8]) -> Result<MemDisk, Fail> {
     let mut disk = begun_disk(rt, 4, false)?;
-    damage(rt, &mut disk, at, bytes)?;
+    damage(&mut disk, at, bytes)?;
     Ok(disk)
 }
 
@@ -294,17 +283,10 @@ fn is_damaged(rt: &(impl Abort + AllocGlobal), at: u64, bytes: &[u8]) -> Result<
     Ok(())
 }
 
-/// The disk is cut to a length.
-pub(crate) fn cut(rt: &impl Abort, disk: &mut MemDisk, len: u64) -> Result<(), Fail> {
-    assert!(rt; len <= disk.len()?);
-    disk.cut(len)?;
-    Ok(())
-}
-
 /// The disk is refused once it is cut to a length.
 fn is_cut(rt: &(impl Abort + AllocGlobal), len: u64, expected: Refused) -> Result<(), Fail> {
     let mut disk = begun_disk(rt, 4, false)?;
-    cut(rt, &mut disk, len)?;
+    cut(&mut disk, len)?;
     let _disk = refuses(rt, rt.alloc(), disk, 1, expected)?;
     Ok(())
 }

@@ -1,5 +1,5 @@
 //! Stores on disks in memory, and the records that are put on them.
-use ide_disk::{Disk, MemDisk};
+use ide_disk::MemDisk;
 use ide_journal::{Journal, Phase, RawRecord, Version};
 use ide_wire::Refused;
 use std::alloc::Global;
@@ -60,12 +60,4 @@ pub(crate) fn store(
     advances(rt, journal, Phase::GateWritten);
     advances(rt, journal, Phase::Stored);
     Ok(())
-}
-
-/// Whether the disk has so many bytes.
-pub(crate) fn has_length(disk: &mut MemDisk, expected: u64) -> bool {
-    match disk.len() {
-        Ok(len) => len == expected,
-        Err(_) => false,
-    }
 }
