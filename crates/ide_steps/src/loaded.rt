@@ -9,8 +9,8 @@ use ide_graph::{Graph, Site};
 use ide_problem::Problem;
 use ide_tasks::Sources;
 use ide_text::Program;
-use ide_wire::{Node, Refused};
-use std::alloc::{AllocError, Global};
+use ide_wire::Refused;
+use std::alloc::Global;
 
 /// A program with its supergraph and the inverse of its call flow. It never changes.
 #[derive(Drop)]
@@ -36,16 +36,6 @@ impl<P: Problem> Loaded<P> {
             graph,
             sources,
         })
-    }
-
-    /// For each node, whether it is a call node. Tables that watch these read the jumps to a fact at
-    /// a call from their index, and need not look at every key: it is there for that cost alone.
-    pub fn call_nodes(&self, alloc: Global) -> Result<Vec<bool>, AllocError> {
-        let mut are_calls = Vec::with_capacity(alloc, self.graph.node_count())?;
-        for node in 0..self.graph.node_count() {
-            are_calls.push(is_call(self.graph.site(node as Node)))?;
-        }
-        Ok(are_calls)
     }
 }
 

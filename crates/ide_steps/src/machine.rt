@@ -81,7 +81,7 @@ impl<P: Problem> Core<P> {
             alloc,
             loaded: None,
             roots: Vec::new(alloc),
-            tables: Tables::new(alloc, Vec::new(alloc)),
+            tables: Tables::new(alloc),
             worklist: Worklist::new(alloc),
             changes: None,
         }
@@ -104,10 +104,9 @@ impl<P: Problem> Core<P> {
         ensures unchanged { OnErr result (self.new ≡ self.old) }
     {
         let loaded = Loaded::of(self.alloc, program)?;
-        let call_nodes = loaded.call_nodes(self.alloc)?;
         let loaded = Arc::new(self.alloc, loaded)?;
         self.loaded = Some(loaded);
-        self.tables = Tables::new(self.alloc, call_nodes);
+        self.tables = Tables::new(self.alloc);
         self.worklist.clear();
         self.roots.clear();
         changes::begin_anew(self.alloc, &mut self.changes);

@@ -1,5 +1,5 @@
-pub mod Copies
-pub mod Partners
 pub mod Falls
 pub mod Keys
+pub mod Places
+pub mod Rows
 pub mod Sets

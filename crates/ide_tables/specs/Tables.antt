@@ -1,18 +1,18 @@
 -- What a table says in contracts: the function of each present key.
-use Rattle.std.specs.Prelude.{◌≡◌, ℕ, ◌+◌, ◌<◌, ◌≤◌, ◌^◌, Bool, true, false, ◌&&◌, filter, nat_eq, length, List, [], ◌∷◌, Option, None, Some, if◌then◌else◌}
-use Rattle.std.specs.List.{AllByRecursion, filter_map, list_any, slice_index_or}
+use Rattle.std.specs.Global.{Vec}
+use Rattle.std.specs.Prelude.{◌≡◌, ℕ, zero, suc, ◌+◌, ◌-◌, ◌<◌, ◌≤◌, ◌^◌, Bool, length, slice_get, unwrap_or, vec_capacity, vec_len, List, [], ◌∷◌, Option, None, Some, IsSome, if◌then◌else◌}
+use Rattle.std.specs.List.{All, AllByRecursion, IsDistinct, list_any}
 use Rattle.std.specs.List.Sorted.{IsStrictlySortedBy}
 use Rattle.std.specs.Map.{lookup, keys_of}
 use Rattle.std.specs.BTreeMap.{is_at}
-use Rattle.std.specs.BTreeMap.Range.{range_contains}
 use Rattle.std.specs.Option.{is_some, option_map}
 use Rattle.std.specs.Ordering.{nat_cmp}
 use Rattle.std.specs.declared.cmp.Ordering.{Ordering}
-use Rattle.std.specs.declared.ops.Bound.TheVariants.{Included}
 use Rattle.ide_lattice.specs.Algebra.{EdgeAlgebra}
 use Rattle.ide_wire.specs.declared.key.Key.{Key}
 use Rattle.ide_wire.specs.declared.key.Key.TheVariants.{Jump, Summary}
 use Rattle.ide_wire.specs.Key.{same_key}
+use Rattle.ide_pages.specs.Pages.{Numbers, cell_of, number_at}
 
 -- a table: its present keys with their functions. Their order is the one in which a walk meets them, and means nothing else
 pub record Table (F : Type 0) : Type 0 where
@@ -89,54 +89,40 @@ AreJumpsTo node fact table partners = ArePartners (λ d. Jump node d fact) table
 abbrev pub AreSummariesFrom : {F : Type 0} → ℕ → ℕ → Table F → List (ℕ × F) → Type 0
 AreSummariesFrom node fact table partners = ArePartners (Summary node fact) table partners
 
--- the place of a key in the index: a jump's facts change places, so that the jumps to one fact stand side by side
-abbrev pub place_of : Key → Key
-place_of (Jump n a b) = Jump n b a
-place_of (Summary n a b) = Summary n a b
+-- the entries, with f at the key: the key stays where it stands, and a new one goes last
+abbrev pub with_entry : {F : Type 0} → List (Key × F) → Key → F → List (Key × F)
+with_entry [] key f = (key, f) ∷ []
+with_entry (e ∷ es) key f = if same_key key e.0 then (e.0, f) ∷ es else e ∷ with_entry es key f
 
--- the fact that a place lists: of a jump where it starts, of a summary where it returns
-abbrev pub listed_fact : Key → ℕ
-listed_fact (Jump n b a) = a
-listed_fact (Summary n a b) = b
+-- the entries, with those of the list put in, one after the other
+abbrev pub with_all : {F : Type 0} → List (Key × F) → List (Key × F) → List (Key × F)
+with_all es [] = es
+with_all es (x ∷ xs) = with_all (with_entry es x.0 x.1) xs
 
--- the fact that a place lists, with the function of its key, if that is present
-abbrev pub partner_of : {F : Type 0} → List (Key × F) → Key → Option (ℕ × F)
-partner_of entries place = option_map (λ f. (listed_fact place, f)) (lookup (same_key (place_of place)) entries)
+-- the place behind a first entry
+abbrev pub behind : ℕ → ℕ
+behind zero = 0
+behind (suc n) = suc (suc n)
 
--- the facts that the places from the first to the last list, with the functions of their keys
-abbrev pub partners_from : {F : Type 0} → (Key → Key → Ordering) → List (Key × F) → Key → Key → List Key → List (ℕ × F)
-partners_from cmp entries from to places = filter_map (partner_of entries) (filter (range_contains cmp (Included from) (Included to)) places)
+-- one more than the index of the key's entry: 0, if it has none
+abbrev pub place_in : {F : Type 0} → Key → List (Key × F) → ℕ
+place_in key [] = 0
+place_in key (e ∷ es) = if same_key key e.0 then 1 else behind (place_in key es)
 
--- whether the key is of a jump at the node to the fact
-abbrev pub is_jump_to : ℕ → ℕ → Key → Bool
-is_jump_to node fact (Jump n a b) = nat_eq n node && nat_eq b fact
-is_jump_to node fact (Summary n a b) = false
+-- the number at each key is the place of its entry, and no two entries are of one key
+pub record IsIndexed {F : Type 0} (places : Numbers) (entries : List (Key × F)) : Type 0 where
+  pub places_are : (key : Key) → number_at places key ≡ place_in key entries
+  pub distinct : IsDistinct same_key (keys_of entries)
 
--- whether the index notes the key: a summary, or a jump at a node that the table watches
-abbrev pub is_noted : List Bool → Key → Bool
-is_noted watched (Jump n a b) = slice_index_or watched n false
-is_noted watched (Summary n a b) = true
+-- there is room for so many entries more, and a place for each
+pub record MayGrowBy {F : Type 0} (count : ℕ) (entries : Vec (Key × F)) : Type 0 where
+  pub free : vec_len entries + count ≤ vec_capacity entries
+  pub few : vec_len entries + count < 2 ^ 32
 
--- whether the index has the key's place
-abbrev pub has_place : (Key → Key → Ordering) → List Key → Key → Bool
-has_place cmp places key = list_any (is_at (cmp (place_of key))) places
+-- each key of the list has a cell
+abbrev pub HaveCells : {F : Type 0} → Numbers → List (Key × F) → Type 0
+HaveCells places list = All (λ entry. IsSome (cell_of places entry.0)) list
 
--- the places have that of the key, if it is present
-abbrev pub IsPlaced : {F : Type 0} → (Key → Key → Ordering) → List (Key × F) → List Key → Key → Type 0
-IsPlaced cmp entries places key = is_some (lookup (same_key key) entries) ≡ true → has_place cmp places key ≡ true
-
--- the places have those of the present jumps at the node to the fact
-abbrev pub AreJumpsPlaced : {F : Type 0} → (Key → Key → Ordering) → List (Key × F) → List Key → ℕ → ℕ → Type 0
-AreJumpsPlaced cmp entries places node fact = (d : ℕ) → IsPlaced cmp entries places (Jump node d fact)
-
--- the index has the place of each present key that it notes; the place of an absent key lists nothing
-abbrev pub IsIndex : {F : Type 0} → (Key → Key → Ordering) → List Bool → List (Key × F) → List Key → Type 0
-IsIndex cmp watched entries places = (key : Key) → is_noted watched key ≡ true → IsPlaced cmp entries places key
-
--- the index keeps its places
-abbrev pub KeepsPlaces : (Key → Key → Ordering) → List Key → List Key → Type 0
-KeepsPlaces cmp old new = (q : Key) → has_place cmp old q ≡ true → has_place cmp new q ≡ true
-
--- the index has the places of those of the keys that it notes
-abbrev pub NotesAll : (Key → Key → Ordering) → List Bool → List Key → List Key → Type 0
-NotesAll cmp watched places keys = (q : Key) → is_noted watched q ≡ true → list_any (same_key q) keys ≡ true → has_place cmp places q ≡ true
+-- the fact with the function of the entry at the place, or with f where there is none
+abbrev pub partner_at : {F : Type 0} → F → List (Key × F) → ℕ × ℕ → ℕ × F
+partner_at f entries listed = (listed.0, unwrap_or (option_map (λ entry. entry.1) (slice_get entries (listed.1 - 1))) f)

@@ -1,21 +1,18 @@
 //! The map from keys to functions.
-ghost use Rattle.std.specs.Prelude.{◌≡◌, ℕ, ◌+◌, ◌<◌, ◌≤◌, ◌^◌, [], true, false, length, slice_get, if◌then◌else◌, ◌↔◌, None, IfSome, IfOk, OnOk, OnErr, IsOkUnless};
+ghost use Rattle.std.specs.Prelude.{◌≡◌, ℕ, ◌+◌, ◌<◌, ◌≤◌, ◌^◌, [], true, false, length, slice_get, ◌↔◌, None, IfSome, IfOk, OnOk, OnErr, IsOkUnless};
 ghost use Rattle.std.specs.List.{IsDistinct};
 ghost use Rattle.std.specs.Map.{keys_of};
 ghost use Rattle.ide_wire.specs.declared.refused.Refused.TheVariants.{NoMemory};
-ghost use Rattle.indexmap.specs.IndexMap.{insert_all, insert_entry, spare, get};
-ghost use Rattle.ide_wire.specs.declared.key.Key.{Key};
 ghost use Rattle.ide_wire.specs.Key.{same_key};
 ghost use Rattle.ide_wire.specs.KeyOrder.{key_cmp};
 ghost use Rattle.ide_tables.specs.Spent.{Spends, spent};
-ghost use Rattle.ide_tables.specs.Tables.{Table, FallsAt, IsIndex, AreJumpsPlaced, AreJumpsTo, AreKeys, AreSummariesFrom, found, function_at, is_kept, CountsKey, Sets, SetsAll, Lowers};
+ghost use Rattle.ide_tables.specs.Tables.{Table, FallsAt, AreJumpsTo, AreKeys, AreSummariesFrom, IsIndexed, found, function_at, is_kept, CountsKey, Sets, SetsAll, Lowers};
 
-use crate::index;
+use crate::entries;
 use ide_lattice::EdgeFn;
+use ide_pages::Pages;
 use ide_wire::{Fact, Key, Node, Refused};
-use indexmap::IndexMap;
-use std::alloc::{AllocError, Global};
-use std::collections::BTreeSet;
+use std::alloc::Global;
 use std::marker::Model;
 
 /// Whether a table changed.
@@ -31,29 +28,27 @@ pub enum Change {
 /// gives top.
 #[derive(Drop)]
 pub struct Tables<F: EdgeFn> {
-    functions: IndexMap<Key, F>,
-    watched: Vec<bool>,
-    places: BTreeSet<Key>,
+    entries: Vec<(Key, F)>,
+    /// For each key one more than the index of its entry.
+    places: Pages,
 }
 
 impl<F: EdgeFn> Model for Tables<F> {
     ghost Value = { Table F };
 
-    ghost view = { λ t. record { entries = t.functions.entries } };
+    ghost view = { λ t. record { entries = t.entries.items } };
 
-    ghost invariant = { λ t. IsIndex ⟦<Key as Ord>⟧.cmp t.watched.items t.functions.entries t.places.keys };
+    ghost invariant = { λ t. IsIndexed t.places t.entries.items };
 }
 
 impl<F: EdgeFn> Tables<F> {
-    /// A table with no present key, which watches the nodes whose place in `watched` says so: it
-    /// indexes the jumps at those. It allocates nothing.
-    pub fn new(alloc: Global, watched: Vec<bool>) -> Self
+    /// A table with no present key. It allocates nothing.
+    pub fn new(alloc: Global) -> Self
         ensures entries { result.entries ≡ [] }
     {
         Tables {
-            functions: IndexMap::new(alloc),
-            watched,
-            places: BTreeSet::new(alloc),
+            entries: Vec::new(alloc),
+            places: Pages::new(alloc),
         }
     }
 
@@ -61,7 +56,7 @@ impl<F: EdgeFn> Tables<F> {
     pub fn get(&self, key: Key) -> Option<F>
         ensures { result ≡ found self.now key }
     {
-        self.functions.get(&key).copied()
+        entries::function_at(&self.entries, self.places.number(key))
     }
 
     /// The function that the key stands for: always top, if it is not present.
@@ -79,7 +74,7 @@ impl<F: EdgeFn> Tables<F> {
         ensures count { result ≡ length self.now.entries }
         ensures distinct { IsDistinct same_key (keys_of self.now.entries) }
     {
-        self.functions.len()
+        self.entries.len()
     }
 
     /// The entry at `index`, in an order of which nothing is said but that it stays while the
@@ -89,8 +84,7 @@ impl<F: EdgeFn> Tables<F> {
         ensures end { (result ≡ None) ↔ (length self.now.entries ≤ index) }
         ensures present { IfSome result (λ entry. found self.now entry.0 ≡ Some entry.1) }
     {
-        let (key, function) = self.functions.get_index(index)?;
-        Some((*key, *function))
+        entries::entry_at(&self.entries, index)
     }
 
     /// The present keys, ascending: jumps before summaries, then by node and facts.
@@ -98,29 +92,24 @@ impl<F: EdgeFn> Tables<F> {
         ensures keys { IfOk result (λ keys. AreKeys key_cmp self.now keys.items) }
         ensures refused { IsOkUnless result NoMemory }
     {
-        let mut keys = keys_of(alloc, &self.functions)?;
+        let mut keys = entries::keys_of(alloc, &self.entries)?;
         keys.sort_unstable();
         Ok(keys)
     }
 
-    /// The jumps at the call node to the fact: for each the fact at the start of its procedure,
-    /// and its function, ascending by fact. They are read from the index, if the node is watched;
-    /// else each present key is looked at, and those that are found are sorted.
-    pub fn jumps_at(&self, alloc: Global, call: Node, fact: Fact) -> Result<Vec<(Fact, F)>, Refused>
-        ensures partners { IfOk result (λ list. AreJumpsTo call fact self.now list.items) }
+    /// The jumps at the node to the fact: for each the fact at the start of its procedure, and its
+    /// function, ascending by fact. It takes a look-up for each.
+    pub fn jumps_at(&self, alloc: Global, node: Node, fact: Fact) -> Result<Vec<(Fact, F)>, Refused>
+        ensures partners { IfOk result (λ list. AreJumpsTo node fact self.now list.items) }
         ensures refused { IsOkUnless result NoMemory }
     {
-        if index::is_watched(&self.watched, call as usize) {
-            let partners = jumps_in(alloc, &self.functions, &self.places, call, fact)?;
-            return Ok(partners);
-        }
-        let places = index::jump_places(alloc, &self.functions, call, fact)?;
-        let partners = jumps_in(alloc, &self.functions, &places, call, fact)?;
+        let row = self.places.jumps_to(alloc, node, fact)?;
+        let partners = entries::partners_of(alloc, &self.entries, &row)?;
         Ok(partners)
     }
 
     /// The summaries at the call node from the fact: for each the fact at the return site, and its
-    /// function, ascending by fact. They are read from the index.
+    /// function, ascending by fact. It takes a look-up for each.
     pub fn summaries_at(
         &self,
         alloc: Global,
@@ -130,25 +119,19 @@ impl<F: EdgeFn> Tables<F> {
         ensures partners { IfOk result (λ list. AreSummariesFrom call fact self.now list.items) }
         ensures refused { IsOkUnless result NoMemory }
     {
-        let first = Key::Summary(call, fact, 0);
-        let last = Key::Summary(call, fact, Fact::MAX);
-        let partners = index::partners(alloc, &self.functions, &self.places, first, last)?;
+        let row = self.places.summaries_from(alloc, call, fact)?;
+        let partners = entries::partners_of(alloc, &self.entries, &row)?;
         Ok(partners)
     }
 
-    /// A table with the same entries, in the same order. It watches the same nodes.
+    /// A table with the same entries, in the same order.
     pub fn copy(&self, alloc: Global) -> Result<Tables<F>, Refused>
         ensures ok { IfOk result (λ copy. copy ≡ self.now) }
         ensures refused { IsOkUnless result NoMemory }
     {
-        let functions = copied(alloc, &self.functions)?;
-        let watched = self.watched.to_vec(alloc)?;
-        let places = copied_places(&self.places)?;
-        Ok(Tables {
-            functions,
-            watched,
-            places,
-        })
+        let entries = Vec::from_slice(alloc, &self.entries)?;
+        let places = self.places.copy(alloc)?;
+        Ok(Tables { entries, places })
     }
 
     /// Meets the key's function with `f`, and says whether that changed it. `NoMemory` leaves the
@@ -164,12 +147,14 @@ impl<F: EdgeFn> Tables<F> {
         ensures err { OnErr result (self.new ≡ self.old) }
         ensures refused { IsOkUnless result NoMemory }
     {
-        let old = self.function(key);
+        let cell = self.places.make_room(key)?;
+        let old = entries::function_in(&self.entries, self.places.number_in(cell));
         let new = fallen(old, f);
         if new == old {
             return Ok(Change::Same);
         }
-        self.set(key, new)?;
+        entries::reserve(&mut self.entries, 1)?;
+        entries::put(&mut self.entries, &mut self.places, cell, key, new);
         Ok(Change::Lowered)
     }
 
@@ -182,9 +167,9 @@ impl<F: EdgeFn> Tables<F> {
         ensures err { OnErr result (self.new ≡ self.old) }
         ensures refused { IsOkUnless result NoMemory }
     {
-        self.functions.reserve(1)?;
-        index::note(&mut self.places, &self.watched, key)?;
-        put(&mut self.functions, key, f);
+        entries::reserve(&mut self.entries, 1)?;
+        let cell = self.places.make_room(key)?;
+        entries::put(&mut self.entries, &mut self.places, cell, key, f);
         Ok(())
     }
 
@@ -195,30 +180,14 @@ impl<F: EdgeFn> Tables<F> {
         ensures err { OnErr result (self.new ≡ self.old) }
         ensures refused { IsOkUnless result NoMemory }
     {
-        self.functions.reserve(entries.len())?;
-        index::note_all(&mut self.places, &self.watched, entries)?;
-        put_all(&mut self.functions, entries);
+        entries::reserve(&mut self.entries, entries.len())?;
+        entries::make_room(&mut self.places, entries)?;
+        entries::put_all(&mut self.entries, &mut self.places, entries);
         Ok(())
     }
 }
 
-// The present jumps at the node to the fact, ascending by fact, if the places have theirs.
-fn jumps_in<F: EdgeFn>(
-    alloc: Global,
-    functions: &IndexMap<Key, F>,
-    places: &BTreeSet<Key>,
-    node: Node,
-    fact: Fact,
-) -> Result<Vec<(Fact, F)>, AllocError>
-    requires { AreJumpsPlaced ⟦<Key as Ord>⟧.cmp functions.now.entries places.now.keys node fact }
-    ensures { IfOk result (λ list. AreJumpsTo node fact (record { entries = functions.now.entries }) list.items) }
-{
-    let first = Key::Jump(node, fact, 0);
-    let last = Key::Jump(node, fact, Fact::MAX);
-    index::partners(alloc, functions, places, first, last)
-}
-
-// The meet of both: it is of smaller rank, where it is another function.
+/// The meet of both: it is of smaller rank, where it is another function.
 fn fallen<F: EdgeFn>(old: F, f: F) -> F
     ensures meet { result ≡ F.edge.meet old f }
     ensures most { F.edge.rank old ≤ F.edge.height }
@@ -227,55 +196,4 @@ fn fallen<F: EdgeFn>(old: F, f: F) -> F
     // Each function that a program holds is proper.
     let _ = old.proper() && f.proper();
     old.meet(f)
-}
-
-// The keys, in the map's order.
-fn keys_of<F: EdgeFn>(alloc: Global, functions: &IndexMap<Key, F>) -> Result<Vec<Key>, AllocError>
-    ensures keys { IfOk result (λ keys. keys.items ≡ keys_of functions.now.entries) }
-    ensures distinct { IsDistinct same_key (keys_of functions.now.entries) }
-{
-    functions.keys().copied().collect(alloc)
-}
-
-// The same entries, in the same order.
-fn copied<F: EdgeFn>(
-    alloc: Global,
-    functions: &IndexMap<Key, F>,
-) -> Result<IndexMap<Key, F>, AllocError>
-    ensures { IfOk result (λ copy. copy.entries ≡ functions.now.entries) }
-{
-    let mut copy = IndexMap::with_capacity(alloc, functions.len())?;
-    for entry in functions {
-        copy.insert(*entry.0, *entry.1)?;
-    }
-    Ok(copy)
-}
-
-// The same places.
-fn copied_places(places: &BTreeSet<Key>) -> Result<BTreeSet<Key>, AllocError>
-    ensures { IfOk result (λ copy. copy.keys ≡ places.now.keys) }
-{
-    places.clone()
-}
-
-// Sets the entries, for which there is room.
-fn put_all<F: EdgeFn>(functions: &mut IndexMap<Key, F>, entries: &[(Key, F)])
-    requires { length entries.now ≤ spare functions.old }
-    ensures entries { functions.new.entries ≡ insert_all same_key functions.old.entries entries.now }
-{
-    for entry in entries {
-        put(functions, entry.0, entry.1);
-    }
-}
-
-// Sets the key's function, for which there is room, and says how many keys are present then.
-fn put<F: EdgeFn>(functions: &mut IndexMap<Key, F>, key: Key, function: F) -> usize
-    requires { 0 < spare functions.old }
-    ensures room { spare functions.old ≤ spare functions.new + 1 }
-    ensures found { (q : Key) → get same_key functions.new q ≡ (if same_key key q then Some function else get same_key functions.old q) }
-    ensures entries { functions.new.entries ≡ insert_entry same_key functions.old.entries key function }
-    ensures count { result ≡ length functions.new.entries }
-{
-    let _ = functions.insert(key, function);
-    functions.len()
 }

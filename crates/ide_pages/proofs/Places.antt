@@ -1,0 +1,86 @@
+-- Keys and their pages, and the place at which a list has what passes a test.
+use Rattle.std.proofs.Common.{◌≡◌, ℕ, zero, suc, ◌+◌, ◌*◌, ◌/◌, ◌%◌, ◌<◌, refl, sym, ap, ◌∙◌, arith, List, [], ◌∷◌, ◌++◌, length, get_or, Some, None, Bool, true, false, cond, ◌||◌}
+use Rattle.std.specs.Prelude.{position}
+use Rattle.std.specs.List.{IsDistinct, list_any, position_from}
+use Rattle.std.proofs.lemmas.Bool.{or_parts}
+use Rattle.std.proofs.lemmas.Iterator.Adapters.{position_from-zero}
+use Rattle.std.proofs.lemmas.Map.Keys.{IsDistinct-tail, apart_from_distinct}
+use Rattle.ide_wire.specs.declared.key.Key.{Key}
+use Rattle.ide_wire.specs.declared.key.Key.TheVariants.{Jump, Summary}
+use Rattle.ide_wire.specs.Key.{same_key, same_key_refl, same_key_symm, node_of}
+use Rattle.ide_pages.specs.Pages.{key_on, page_of}
+
+-- ---- a key, its page and its offset
+
+block-of : (block offset : ℕ) → offset < 64 → (64 * block + offset) / 64 ≡ block
+block-of block offset l = omega arith
+
+offset-of : (block offset : ℕ) → offset < 64 → (64 * block + offset) % 64 ≡ offset
+offset-of block offset l = omega arith
+
+node-of : (node : ℕ) → 64 * (node / 64) + node % 64 ≡ node
+node-of node = omega arith
+
+pub page_of-key_on : (page : Key) (offset : ℕ) → offset < 64 → page_of (key_on page offset) ≡ page
+page_of-key_on (Jump block a b) offset l = ap (λ n. Jump n a b) (block-of block offset l)
+page_of-key_on (Summary block a b) offset l = ap (λ n. Summary n a b) (block-of block offset l)
+
+pub offset-key_on : (page : Key) (offset : ℕ) → offset < 64 → node_of (key_on page offset) % 64 ≡ offset
+offset-key_on (Jump block a b) offset l = offset-of block offset l
+offset-key_on (Summary block a b) offset l = offset-of block offset l
+
+pub key_on-page_of : (key : Key) → key_on (page_of key) (node_of key % 64) ≡ key
+key_on-page_of (Jump n a b) = ap (λ m. Jump m a b) (node-of n)
+key_on-page_of (Summary n a b) = ap (λ m. Summary m a b) (node-of n)
+
+-- ---- the place of what passes a test
+
+module _ {X : Type 0} (test : X → Bool) where
+  from-none : (i : ℕ) (xs : List X) → position_from test i xs ≡ None → list_any test xs ≡ false
+  from-none i [] e = refl
+  from-none i (x ∷ xs) e =
+      elim (test x) as (λ b. cond b (Some i) (position_from test (i + 1) xs) ≡ None → (b || list_any test xs) ≡ false) [
+        | true ↦ λ e. absurd (cc)
+        | false ↦ λ e. from-none (i + 1) xs e
+      ] e
+
+  from-absent : (i : ℕ) (xs : List X) → list_any test xs ≡ false → position_from test i xs ≡ None
+  from-absent i [] none = refl
+  from-absent i (x ∷ xs) none =
+      let parts = or_parts (test x) (list_any test xs) none in
+      ap (λ b. cond b (Some i) (position_from test (i + 1) xs)) parts.0 ∙ from-absent (i + 1) xs parts.1
+
+  from-last : (i : ℕ) (xs : List X) (y : X) → list_any test xs ≡ false → test y ≡ true → position_from test i (xs ++ y ∷ []) ≡ Some (i + length xs)
+  from-last i [] y none own = let same : i ≡ i + 0 = omega arith in ap (λ b. cond b (Some i) None) own ∙ ap Some same
+  from-last i (x ∷ xs) y none own =
+      let parts = or_parts (test x) (list_any test xs) none in
+      let same : (i + 1) + length xs ≡ i + length (x ∷ xs) = omega arith in
+      ap (λ b. cond b (Some i) (position_from test (i + 1) (xs ++ y ∷ []))) parts.0 ∙ from-last (i + 1) xs y parts.1 own ∙ ap Some same
+
+  pub position-none : (xs : List X) → position test xs ≡ None → list_any test xs ≡ false
+  position-none xs e = from-none 0 xs (sym (position_from-zero test xs) ∙ e)
+
+  pub position-absent : (xs : List X) → list_any test xs ≡ false → position test xs ≡ None
+  position-absent xs none = position_from-zero test xs ∙ from-absent 0 xs none
+
+  pub position-last : (xs : List X) (y : X) → list_any test xs ≡ false → test y ≡ true → position test (xs ++ y ∷ []) ≡ Some (length xs)
+  position-last xs y none own =
+      let same : 0 + length xs ≡ length xs = omega arith in
+      position_from-zero test (xs ++ y ∷ []) ∙ from-last 0 xs y none own ∙ ap Some same
+
+-- a key of a list of keys that differ stands where it stands
+from-at : (i : ℕ) (keys : List Key) (k : ℕ) (d : Key) → IsDistinct same_key keys → k < length keys → position_from (same_key (get_or keys k d)) i keys ≡ Some (i + k)
+from-at i [] k d apart l = absurd (omega arith)
+from-at i (x ∷ xs) zero d apart l =
+    let same : i ≡ i + zero = omega arith in
+    ap (λ b. cond b (Some i) (position_from (same_key x) (i + 1) xs)) (same_key_refl x) ∙ ap Some same
+from-at i (x ∷ xs) (suc k) d apart l =
+    let other : same_key (get_or xs k d) x ≡ false = same_key_symm (get_or xs k d) x ∙ apart_from_distinct same_key (x ∷ xs) zero (suc k) d apart (omega arith) l in
+    let same : (i + 1) + k ≡ i + suc k = omega arith in
+    ap (λ b. cond b (Some i) (position_from (same_key (get_or xs k d)) (i + 1) xs)) other
+    ∙ from-at (i + 1) xs k d (IsDistinct-tail same_key x xs apart) (omega arith) ∙ ap Some same
+
+pub position-at : (keys : List Key) (k : ℕ) (d : Key) → IsDistinct same_key keys → k < length keys → position (same_key (get_or keys k d)) keys ≡ Some k
+position-at keys k d apart l =
+    let same : 0 + k ≡ k = omega arith in
+    position_from-zero (same_key (get_or keys k d)) keys ∙ from-at 0 keys k d apart l ∙ ap Some same

@@ -1,0 +1,168 @@
+-- What contracts say of numbers at keys: the number of each key, the cell that has it, and the pages that there are.
+use Rattle.std.specs.Prelude.{◌≡◌, ℕ, ◌+◌, ◌*◌, ◌/◌, ◌%◌, ◌<◌, ◌^◌, Bool, true, List, [], ◌∷◌, ◌++◌, length, filter, nat_eq, position, Option, None, Some, if◌then◌else◌}
+use Rattle.std.specs.List.{AllByRecursion, IsDistinct, filter_map, list_any, slice_index_or}
+use Rattle.std.specs.List.Sorted.{IsStrictlySortedBy}
+use Rattle.std.specs.Map.{lookup, keys_of}
+use Rattle.std.specs.BTreeMap.{is_at}
+use Rattle.std.specs.BTreeMap.Range.{range_contains}
+use Rattle.std.specs.Option.{option_map, option_to_list, unwrap_or}
+use Rattle.std.specs.Ordering.{nat_cmp}
+use Rattle.std.specs.declared.ops.Bound.TheVariants.{Included}
+use Rattle.ide_wire.specs.declared.key.Key.{Key}
+use Rattle.ide_wire.specs.declared.key.Key.TheVariants.{Jump, Summary}
+use Rattle.ide_wire.specs.Key.{same_key, node_of}
+use Rattle.ide_wire.specs.KeyOrder.{key_cmp}
+
+-- numbers at keys: for each cell its key with its number, where that is not 0; and the pages, 64 cells each, in the order of their cells
+pub record Numbers : Type 0 where
+  pub slots : List (Option (Key × ℕ))
+  pub pages : List Key
+
+-- the keys whose number is not 0, with it. Their order is that of the cells, and means nothing else
+abbrev pub entries : Numbers → List (Key × ℕ)
+entries numbers = filter_map (λ slot. slot) numbers.slots
+
+-- the number of the key: 0, if it has no entry
+abbrev pub number_at : Numbers → Key → ℕ
+number_at numbers key = unwrap_or (lookup (same_key key) (entries numbers)) 0
+
+-- the page that a key is on: it has the keys of 64 nodes, of one kind and one pair of facts
+abbrev pub page_of : Key → Key
+page_of (Jump n a b) = Jump (n / 64) a b
+page_of (Summary n a b) = Summary (n / 64) a b
+
+-- the cell at an offset of the page, if there is the page
+abbrev pub cell_on : List Key → ℕ → Key → Option ℕ
+cell_on pages offset page = option_map (λ index. 64 * index + offset) (position (same_key page) pages)
+
+-- the cell of the key, if there is its page
+abbrev pub cell_of : Numbers → Key → Option ℕ
+cell_of numbers key = cell_on numbers.pages (node_of key % 64) (page_of key)
+
+-- what the cell shows: its key with its number, where that is not 0; nothing behind the last cell
+abbrev pub slot_at : Numbers → ℕ → Option (Key × ℕ)
+slot_at numbers cell = slice_index_or numbers.slots cell None
+
+-- the number in the cell: 0 behind the last one
+abbrev pub number_in : Numbers → ℕ → ℕ
+number_in numbers cell = unwrap_or (option_map (λ entry. entry.1) (slot_at numbers cell)) 0
+
+-- it is the number of each key that has the cell
+abbrev pub IsNumberIn : Numbers → ℕ → ℕ → Type 0
+IsNumberIn numbers cell n = (key : Key) → cell_of numbers key ≡ Some cell → n ≡ number_at numbers key
+
+-- a number that is not 0
+abbrev pub nonzero : ℕ → Option ℕ
+nonzero n = if nat_eq n 0 then None else Some n
+
+-- the key with the number, where that is not 0
+abbrev pub shown : Key → ℕ → Option (Key × ℕ)
+shown key n = option_map (λ m. (key, m)) (nonzero n)
+
+-- the key's entry, of which there is none where its number is 0
+abbrev pub own : Key → ℕ → List (Key × ℕ)
+own key n = option_to_list (shown key n)
+
+-- the key's number is put in place of the one before: every other entry stays, also in its order
+pub record Puts (old new : Numbers) (key : Key) (number : ℕ) : Type 0 where
+  pub numbers : (q : Key) → number_at new q ≡ (if same_key key q then number else number_at old q)
+  pub before : List (Key × ℕ)
+  pub after : List (Key × ℕ)
+  pub was : entries old ≡ before ++ own key (number_at old key) ++ after
+  pub is : entries new ≡ before ++ own key number ++ after
+  pub pages : new.pages ≡ old.pages
+
+-- each key that had a cell has the same one
+abbrev pub KeepsCells : (old new : Numbers) → Type 0
+KeepsCells old new = (q : Key) (cell : ℕ) → cell_of old q ≡ Some cell → cell_of new q ≡ Some cell
+
+-- the row, ascending by fact, has the numbers of the keys `at` a fact that are not 0
+pub record AreRow (at : ℕ → Key) (numbers : Numbers) (row : List (ℕ × ℕ)) : Type 0 where
+  pub ascending : IsStrictlySortedBy nat_cmp (keys_of row)
+  pub within : AllByRecursion (λ d. d < 2 ^ 16) (keys_of row)
+  pub exact : (d : ℕ) → d < 2 ^ 16 → lookup (is_at (nat_cmp d)) row ≡ nonzero (number_at numbers (at d))
+
+-- it has those of the jumps at the node to the fact
+abbrev pub IsRowOfJumps : ℕ → ℕ → Numbers → List (ℕ × ℕ) → Type 0
+IsRowOfJumps node fact numbers row = AreRow (λ d. Jump node d fact) numbers row
+
+-- it has those of the summaries at the call from the fact
+abbrev pub IsRowOfSummaries : ℕ → ℕ → Numbers → List (ℕ × ℕ) → Type 0
+IsRowOfSummaries call fact numbers row = AreRow (Summary call fact) numbers row
+
+-- the key at an offset of the page
+abbrev pub key_on : Key → ℕ → Key
+key_on (Jump block a b) offset = Jump (64 * block + offset) a b
+key_on (Summary block a b) offset = Summary (64 * block + offset) a b
+
+-- the page at an index, where one that is not there stands for any page
+abbrev pub page_at : List Key → ℕ → Key
+page_at pages index = slice_index_or pages index (Jump 0 0 0)
+
+-- the key of the cell
+abbrev pub key_at : List Key → ℕ → Key
+key_at pages cell = key_on (page_at pages (cell / 64)) (cell % 64)
+
+-- what the cells from the first on show, where `at` gives the key of each
+abbrev pub slots_from : (ℕ → Key) → ℕ → List ℕ → List (Option (Key × ℕ))
+slots_from at first [] = []
+slots_from at first (n ∷ ns) = shown (at first) n ∷ slots_from at (first + 1) ns
+
+-- the numbers that the cells of the pages have
+abbrev pub numbers_of : List Key → List ℕ → Numbers
+numbers_of pages cells = record { slots = slots_from (key_at pages) 0 cells; pages = pages }
+
+-- the number in a cell, if there is one, or 0
+abbrev pub number_of : List ℕ → Option ℕ → ℕ
+number_of cells None = 0
+number_of cells (Some cell) = slice_index_or cells cell 0
+
+-- the number at an offset of the page, or 0
+abbrev pub number_on : List Key → List ℕ → ℕ → Key → ℕ
+number_on pages cells offset page = number_of cells (cell_on pages offset page)
+
+-- how many entries a cell with the number makes
+abbrev pub weight : ℕ → ℕ
+weight n = if nat_eq n 0 then 0 else 1
+
+-- the place of a page among the places: a jump's facts change places, so that the pages of the jumps to one fact stand side by side
+abbrev pub place_of : Key → Key
+place_of (Jump n a b) = Jump n b a
+place_of (Summary n a b) = Summary n a b
+
+-- whether the places have the page's
+abbrev pub has_place : List Key → Key → Bool
+has_place places page = list_any (is_at (key_cmp (place_of page))) places
+
+-- the places that there were are there
+abbrev pub KeepsPlaces : (old new : List Key) → Type 0
+KeepsPlaces old new = (q : Key) → has_place old q ≡ true → has_place new q ≡ true
+
+-- the places have those of the pages; the place of a page that is not there lists nothing
+abbrev pub ArePlaced : (places pages : List Key) → Type 0
+ArePlaced places pages = (page : Key) → list_any (same_key page) pages ≡ true → has_place places page ≡ true
+
+-- the fact that a place lists: of a jump where it starts, of a summary where it returns
+abbrev pub listed_fact : Key → ℕ
+listed_fact (Jump n b a) = a
+listed_fact (Summary n a b) = b
+
+-- the fact that a place lists, with the number on its page, where that is not 0
+abbrev pub partner_of : (Key → ℕ) → Key → Option (ℕ × ℕ)
+partner_of number place = option_map (λ n. (listed_fact place, n)) (nonzero (number (place_of place)))
+
+-- the row from the first to the last, which stand as places do, at one node: the facts that the places of their pages and of those
+-- between list, with the node's numbers, where those are not 0
+abbrev pub row_of : (pages : List Key) (cells : List ℕ) (places : List Key) → (first last : Key) → List (ℕ × ℕ)
+row_of pages cells places first last =
+    filter_map (partner_of (number_on pages cells (node_of first % 64)))
+    (filter (range_contains key_cmp (Included (page_of first)) (Included (page_of last))) places)
+
+-- what holds of the fields: each page has 64 cells and stands once, its keys' nodes are numbers of 32 bits, its place is among the
+-- places, and the count is that of the entries
+pub record ArePages (pages : List Key) (cells : List ℕ) (places : List Key) (count : ℕ) : Type 0 where
+  pub paged : length cells ≡ 64 * length pages
+  pub distinct : IsDistinct same_key pages
+  pub small : (index : ℕ) → node_of (page_at pages index) < 2 ^ 26
+  pub placed : ArePlaced places pages
+  pub counted : count ≡ length (entries (numbers_of pages cells))

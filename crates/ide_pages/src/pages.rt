@@ -1,0 +1,256 @@
+//! The map from keys to numbers.
+ghost use Rattle.std.specs.Prelude.{◌≡◌, ◌≢◌, ℕ, Some, Ok, ◌+◌, ◌*◌, ◌<◌, ◌≤◌, ◌^◌, ◌↔◌, ◌++◌, [], ◌∷◌, true, false, length, replicate, slice_set, slice_index_or, if◌then◌else◌, None, IfSome, IfOk, OnOk, OnErr, IsOkUnless, vec_capacity, vec_len};
+ghost use Rattle.std.specs.List.{AllByRecursion, IsDistinct, list_any};
+ghost use Rattle.std.specs.Map.{keys_of};
+ghost use Rattle.indexmap.specs.IndexSet.{spare};
+ghost use Rattle.ide_wire.specs.declared.key.Key.{Key};
+ghost use Rattle.ide_wire.specs.declared.key.Key.TheVariants.{Jump, Summary};
+ghost use Rattle.ide_wire.specs.declared.refused.Refused.TheVariants.{NoMemory};
+ghost use Rattle.ide_wire.specs.Key.{same_key};
+ghost use Rattle.ide_pages.specs.Pages.{Numbers, ArePages, IsRowOfJumps, IsRowOfSummaries, IsNumberIn, KeepsCells, KeepsPlaces, Puts, cell_of, entries, has_place, number_at, number_in, numbers_of, slot_at, weight};
+
+use crate::{keys, rows};
+use ide_wire::{Fact, Key, Node, Refused};
+use indexmap::IndexSet;
+use std::alloc::{AllocError, Global};
+use std::collections::BTreeSet;
+use std::marker::Model;
+
+/// A finite map from keys to numbers, where an absent key has 0.
+#[derive(Drop)]
+pub struct Pages {
+    pages: IndexSet<Key>,
+    cells: Vec<u32>,
+    places: BTreeSet<Key>,
+    count: usize,
+}
+
+impl Model for Pages {
+    ghost Value = { Numbers };
+
+    ghost view = { λ p. numbers_of p.pages.keys p.cells.items };
+
+    ghost invariant = { λ p. ArePages p.pages.keys p.cells.items p.places.keys p.count };
+}
+
+impl Pages {
+    /// A map in which each key has 0, with no page. It allocates nothing.
+    pub fn new(alloc: Global) -> Self
+        ensures slots { result.slots ≡ [] }
+        ensures pages { result.pages ≡ [] }
+    {
+        Pages {
+            pages: IndexSet::new(alloc),
+            cells: Vec::new(alloc),
+            places: BTreeSet::new(alloc),
+            count: 0,
+        }
+    }
+
+    /// How many keys have a number that is not 0.
+    pub fn len(&self) -> usize
+        ensures count { result ≡ length (entries self.now) }
+        ensures distinct { IsDistinct same_key (keys_of (entries self.now)) }
+        ensures nonzero { AllByRecursion (λ entry. entry.1 ≢ 0) (entries self.now) }
+    {
+        self.count
+    }
+
+    /// The key's number. One look-up.
+    pub fn number(&self, key: Key) -> u32
+        ensures { result ≡ number_at self.now key }
+    {
+        rows::number_on(
+            &self.pages,
+            &self.cells,
+            keys::offset_of(key),
+            keys::page_of(key),
+        )
+    }
+
+    /// The key's cell, if there is its page. One look-up.
+    pub fn cell(&self, key: Key) -> Option<usize>
+        ensures { result ≡ cell_of self.now key }
+    {
+        rows::cell_on(
+            &self.pages,
+            &self.cells,
+            keys::offset_of(key),
+            keys::page_of(key),
+        )
+    }
+
+    /// How many cells there are: 64 for each page.
+    pub fn cell_count(&self) -> usize
+        ensures { result ≡ length self.now.slots }
+    {
+        self.cells.len()
+    }
+
+    /// The number in the cell, which is that of the cell's key: 0 behind the last cell. No look-up.
+    pub fn number_in(&self, cell: usize) -> u32
+        ensures number { result ≡ number_in self.now cell }
+        ensures same { IsNumberIn self.now cell result }
+    {
+        rows::number_in(&self.cells, cell)
+    }
+
+    /// The cell's key, or `None` behind the last cell. No look-up.
+    pub fn key_in(&self, cell: usize) -> Option<Key>
+        ensures key { IfSome result (λ key. cell_of self.now key ≡ Some cell) }
+        ensures end { (result ≡ None) ↔ (length self.now.slots ≤ cell) }
+    {
+        rows::key_at(&self.pages, cell)
+    }
+
+    /// The cell's key with its number, or `None` where the number is 0, and behind the last cell.
+    /// No look-up.
+    pub fn slot(&self, cell: usize) -> Option<(Key, u32)>
+        ensures slot { result ≡ slot_at self.now cell }
+        ensures present { IfSome result (λ entry. number_at self.now entry.0 ≡ entry.1) }
+    {
+        let number = rows::number_in(&self.cells, cell);
+        if number == 0 {
+            return None;
+        }
+        let key = rows::key_at(&self.pages, cell)?;
+        Some((key, number))
+    }
+
+    /// The key's cell, for which a page of 64 zeros is made where there is none. `NoMemory` leaves
+    /// the map as it was. Where there is the page it takes one look-up, and no memory.
+    pub fn make_room(&mut self, key: Key) -> Result<usize, Refused>
+        ensures cell { IfOk result (λ cell. cell_of self.new key ≡ Some cell) }
+        ensures there { IfSome (cell_of self.old key) (λ cell. result ≡ Ok cell) }
+        ensures entries { entries self.new ≡ entries self.old }
+        ensures cells { KeepsCells self.old self.new }
+        ensures err { OnErr result (self.new ≡ self.old) }
+        ensures refused { IsOkUnless result NoMemory }
+    {
+        let page = keys::page_of(key);
+        let offset = keys::offset_of(key);
+        if let Some(cell) = rows::cell_on(&self.pages, &self.cells, offset, page) {
+            return Ok(cell);
+        }
+        self.cells.reserve(64)?;
+        self.pages.reserve(1)?;
+        add_place(&mut self.places, page)?;
+        let index = add_page(&mut self.pages, &mut self.cells, page);
+        Ok(64 * index + offset)
+    }
+
+    /// Puts the number into the cell, which is the key's. Of the key the clauses speak; the call
+    /// does not look at it. No look-up, and no memory.
+    pub fn set(&mut self, cell: usize, key: Key, number: u32)
+        requires { cell_of self.old key ≡ Some cell }
+        ensures { Puts self.old self.new key number }
+    {
+        let old = self.cells[cell];
+        self.cells[cell] = number;
+        self.count = counted(self.count, old, number);
+    }
+
+    /// The jumps at the node to the fact whose number is not 0: for each the fact at the start of
+    /// its procedure, and its number, ascending by fact. One look-up for each page of such jumps.
+    pub fn jumps_to(
+        &self,
+        alloc: Global,
+        node: Node,
+        fact: Fact,
+    ) -> Result<Vec<(Fact, u32)>, Refused>
+        ensures row { IfOk result (λ row. IsRowOfJumps node fact self.now row.items) }
+        ensures refused { IsOkUnless result NoMemory }
+    {
+        let first = Key::Jump(node, fact, 0);
+        let last = Key::Jump(node, fact, Fact::MAX);
+        let row = rows::row(alloc, &self.pages, &self.cells, &self.places, first, last)?;
+        Ok(row)
+    }
+
+    /// The summaries at the call from the fact whose number is not 0: for each the fact at the
+    /// return site, and its number, ascending by fact. One look-up for each page of such summaries.
+    pub fn summaries_from(
+        &self,
+        alloc: Global,
+        call: Node,
+        fact: Fact,
+    ) -> Result<Vec<(Fact, u32)>, Refused>
+        ensures row { IfOk result (λ row. IsRowOfSummaries call fact self.now row.items) }
+        ensures refused { IsOkUnless result NoMemory }
+    {
+        let first = Key::Summary(call, fact, 0);
+        let last = Key::Summary(call, fact, Fact::MAX);
+        let row = rows::row(alloc, &self.pages, &self.cells, &self.places, first, last)?;
+        Ok(row)
+    }
+
+    /// A map with the same numbers in the same cells.
+    pub fn copy(&self, alloc: Global) -> Result<Pages, Refused>
+        ensures ok { IfOk result (λ copy. copy ≡ self.now) }
+        ensures refused { IsOkUnless result NoMemory }
+    {
+        let pages = copied_pages(&self.pages)?;
+        let cells = self.cells.to_vec(alloc)?;
+        let places = copied_places(&self.places)?;
+        Ok(Pages {
+            pages,
+            cells,
+            places,
+            count: self.count,
+        })
+    }
+}
+
+// The count of the entries, where a cell's number takes the place of another.
+fn counted(count: usize, old: u32, number: u32) -> usize
+    requires within { weight old ≤ count }
+    requires few { count + weight number < 2 ^ 64 + weight old }
+    ensures { result + weight old ≡ count + weight number }
+{
+    if old == 0 && number != 0 {
+        count + 1
+    } else if old != 0 && number == 0 {
+        count - 1
+    } else {
+        count
+    }
+}
+
+// Adds the page's place.
+fn add_place(places: &mut BTreeSet<Key>, page: Key) -> Result<(), AllocError>
+    ensures added { OnOk result (has_place places.new.keys page ≡ true) }
+    ensures kept { KeepsPlaces places.old.keys places.new.keys }
+{
+    places.insert(keys::place_of(page))?;
+    Ok(())
+}
+
+// Adds a page of zeros behind the others, for which there is room, and answers its index.
+fn add_page(pages: &mut IndexSet<Key>, cells: &mut Vec<u32>, page: Key) -> usize
+    requires absent { list_any (same_key page) pages.old.keys ≡ false }
+    requires room { 0 < spare pages.old }
+    requires cells { vec_len cells.old + 64 ≤ vec_capacity cells.old }
+    ensures index { result ≡ length pages.old.keys }
+    ensures pages { pages.new.keys ≡ pages.old.keys ++ page ∷ [] }
+    ensures cells { cells.new.items ≡ cells.old.items ++ replicate 64 0 }
+    ensures distinct { IsDistinct same_key pages.new.keys }
+{
+    let index = pages.len();
+    let _ = cells.extend_from_slice(&[0; 64]);
+    let _ = pages.insert(page);
+    index
+}
+
+// The same pages, in the same order.
+fn copied_pages(pages: &IndexSet<Key>) -> Result<IndexSet<Key>, AllocError>
+    ensures { IfOk result (λ copy. copy.keys ≡ pages.now.keys) }
+{
+    pages.clone()
+}
+
+// The same places.
+fn copied_places(places: &BTreeSet<Key>) -> Result<BTreeSet<Key>, AllocError>
+    ensures { IfOk result (λ copy. copy.keys ≡ places.now.keys) }
+{
+    places.clone()
+}

@@ -1,0 +1,98 @@
+//! The cells of pages, one page or a row of pages at a time.
+ghost use Rattle.std.specs.Prelude.{◌≡◌, ℕ, ◌*◌, ◌<◌, ◌≤◌, ◌^◌, length, slice_index_or, IfOk, IfSome, IfNone};
+ghost use Rattle.std.specs.BTreeMap.Range.{IsLeBy};
+ghost use Rattle.std.specs.List.Sorted.{IsStrictlySortedBy};
+ghost use Rattle.ide_wire.specs.Key.{node_of};
+ghost use Rattle.ide_wire.specs.KeyOrder.{key_cmp};
+ghost use Rattle.ide_pages.specs.Pages.{cell_on, key_at, number_on, page_at, page_of, partner_of, row_of};
+
+use crate::keys;
+use ide_wire::{Fact, Key};
+use indexmap::IndexSet;
+use std::alloc::{AllocError, Global};
+use std::collections::BTreeSet;
+
+// The cell at an offset of the page, if there is the page. One look-up.
+pub(crate) fn cell_on(
+    pages: &IndexSet<Key>,
+    cells: &[u32],
+    offset: usize,
+    page: Key,
+) -> Option<usize>
+    requires paged { length cells.now ≡ 64 * length pages.now.keys }
+    requires within { offset < 64 }
+    ensures cell { result ≡ cell_on pages.now.keys offset page }
+    ensures there { IfSome result (λ cell. cell < length cells.now) }
+{
+    let index = pages.get_index_of(&page)?;
+    Some(64 * index + offset)
+}
+
+// The key of the cell, or `None` behind the last cell. No look-up.
+pub(crate) fn key_at(pages: &IndexSet<Key>, cell: usize) -> Option<Key>
+    requires { (index : ℕ) → node_of (page_at pages.now.keys index) < 2 ^ 26 }
+    ensures key { IfSome result (λ key. key ≡ key_at pages.now.keys cell) }
+    ensures there { IfSome result (λ _. cell < 64 * length pages.now.keys) }
+    ensures end { IfNone result (64 * length pages.now.keys ≤ cell) }
+{
+    let page = pages.get_index(cell / 64)?;
+    Some(keys::key_on(*page, cell % 64))
+}
+
+// The number in the cell, or 0 behind the last cell. No look-up.
+pub(crate) fn number_in(cells: &[u32], cell: usize) -> u32
+    ensures { result ≡ slice_index_or cells.now cell 0 }
+{
+    match cells.get(cell) {
+        Some(number) => *number,
+        None => 0,
+    }
+}
+
+// The number in the cell at an offset of the page, or 0. One look-up.
+pub(crate) fn number_on(pages: &IndexSet<Key>, cells: &[u32], offset: usize, page: Key) -> u32
+    requires paged { length cells.now ≡ 64 * length pages.now.keys }
+    requires within { offset < 64 }
+    ensures { result ≡ number_on pages.now.keys cells.now offset page }
+{
+    match cell_on(pages, cells, offset, page) {
+        Some(cell) => cells[cell],
+        None => 0,
+    }
+}
+
+// The fact that the place lists, with the number at the offset of its page, where that is not 0.
+fn partner(pages: &IndexSet<Key>, cells: &[u32], offset: usize, place: Key) -> Option<(Fact, u32)>
+    requires paged { length cells.now ≡ 64 * length pages.now.keys }
+    requires within { offset < 64 }
+    ensures { result ≡ partner_of (number_on pages.now.keys cells.now offset) place }
+{
+    let number = number_on(pages, cells, offset, keys::place_of(place));
+    if number == 0 {
+        None
+    } else {
+        Some((keys::listed_fact(place), number))
+    }
+}
+
+// The row from `first` to `last`, which stand as places do, at one node: the facts that the places
+// of their pages and of those between list, with the node's numbers, where those are not 0.
+pub(crate) fn row(
+    alloc: Global,
+    pages: &IndexSet<Key>,
+    cells: &[u32],
+    places: &BTreeSet<Key>,
+    first: Key,
+    last: Key,
+) -> Result<Vec<(Fact, u32)>, AllocError>
+    requires paged { length cells.now ≡ 64 * length pages.now.keys }
+    requires ends { IsLeBy key_cmp (page_of first) (page_of last) }
+    ensures row { IfOk result (λ row. row.items ≡ row_of pages.now.keys cells.now places.now.keys first last) }
+    ensures ordered { IsStrictlySortedBy key_cmp places.now.keys }
+{
+    let offset = keys::offset_of(first);
+    places
+        .range(keys::page_of(first)..=keys::page_of(last))
+        .filter_map(|place| partner(pages, cells, offset, *place))
+        .collect(alloc)
+}
