@@ -25,7 +25,7 @@ pub enum Change {
 }
 
 /// A finite map from keys to functions, where an absent key stands for the function that always
-/// gives top.
+/// gives top. It has at most 4,294,967,295 entries: one more is refused as `NoMemory`.
 #[derive(Drop)]
 pub struct Tables<F: EdgeFn> {
     entries: Vec<(Key, F)>,
