@@ -1,0 +1,4 @@
+pub mod Records
+pub mod Roles
+pub mod Rule
+pub mod Steps
