@@ -10,7 +10,7 @@ use Rattle.ide_wire.specs.Form.{IsPrefixFree}
 use Rattle.ide_wire.specs.Numbers.{fits, four_prefix_free}
 use Rattle.ide_batch.specs.Bodies.{AreSpelled}
 use Rattle.ide_batch.specs.Forms.{all_proper, is_countable, counted}
-use Rattle.ide_batch.specs.FormLaws.{left, right, both, parted, pair_free, item_free, member_free}
+use Rattle.ide_batch.specs.FormLaws.{left_law, right_law, both, parted, pair_free, item_free, member_free}
 use Rattle.ide_batch.specs.Groups.{Group, IsGroupedBody, group_form, is_proper_group, member_form, is_proper_member, items_of}
 use Rattle.ide_batch.specs.Items.{Functions, Item, IsListBody, item_form, is_proper_item}
 use Rattle.ide_batch.specs.Laws.{BodiesAreApart}
@@ -24,9 +24,9 @@ module _ {T : Type 0} (proper : T → Bool) (form : T → List ℕ) (free : IsPr
   pub counted_free : IsPrefixFree (is_countable proper) (counted form)
   counted_free xs ys r s p q same =
       let cut = parted (fits 32) (to_le_bytes w32) (fits 32) (to_le_bytes w32) four_prefix_free (length xs) (length ys) (flat_map form xs ++ r) (flat_map form ys ++ s)
-      (left (fits 32 (length xs)) (all_proper proper xs) p) (left (fits 32 (length ys)) (all_proper proper ys) q)
+      (left_law (fits 32 (length xs)) (all_proper proper xs) p) (left_law (fits 32 (length ys)) (all_proper proper ys) q)
       (sym (append_assoc (to_le_bytes w32 (length xs)) (flat_map form xs) r) ∙ same ∙ append_assoc (to_le_bytes w32 (length ys)) (flat_map form ys) s) in
-      ends (goes_on proper form free xs ys r s (right (fits 32 (length xs)) (all_proper proper xs) p) (right (fits 32 (length ys)) (all_proper proper ys) q)
+      ends (goes_on proper form free xs ys r s (right_law (fits 32 (length xs)) (all_proper proper xs) p) (right_law (fits 32 (length ys)) (all_proper proper ys) q)
       (omega (arith, cut.0)) cut.1) cut.0
     where
       longer : (z : T) (zs : List T) → length ys ≡ length (xs ++ z ∷ zs) → length xs ≡ length ys → ⊥

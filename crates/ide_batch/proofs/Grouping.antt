@@ -16,20 +16,20 @@ use Rattle.ide_wire.specs.Numbers.{fits}
 use Rattle.ide_wire.specs.declared.key.Key.{Key}
 use Rattle.ide_wire.specs.declared.key.Key.TheVariants.{Jump, Summary}
 use Rattle.ide_batch.specs.Forms.{all_proper, counted, is_countable}
-use Rattle.ide_batch.specs.FormLaws.{left, right, both}
-use Rattle.ide_batch.specs.Grouping.{GroupsSpellLists, alone, facts_of, groups_of, is_at, joined, kind_at, member_of, with_member}
-use Rattle.ide_batch.specs.Groups.{AreGroups, Group, IsGroup, IsGroupedBody, Member, group_cmp, group_form, is_proper_group, is_proper_member, items_of, key_at, member_cmp}
+use Rattle.ide_batch.specs.FormLaws.{left_law, right_law, both}
+use Rattle.ide_batch.specs.Grouping.{GroupsSpellLists, alone, facts_in, groups_of, is_at, joined_to_groups, kind_at, member_of, with_member}
+use Rattle.ide_batch.specs.Groups.{AreGroups, Group, IsGroup, IsGroupedBody, Member, group_cmp, group_form, is_proper_group, is_proper_member, items_of, key_of_kind, member_cmp}
 use Rattle.ide_batch.specs.Items.{AreWritten, Functions, Item, is_proper_entry, is_proper_item}
 use Rattle.ide_batch.proofs.Ascending.{keys_in}
 use Rattle.ide_batch.proofs.ListBody.{small_count}
 
-at_key : (key : Key) → key_at (kind_at key) (node_of key) (facts_of key).0 (facts_of key).1 ≡ key
+at_key : (key : Key) → key_of_kind (kind_at key) (node_of key) (facts_in key).0 (facts_in key).1 ≡ key
 at_key (Jump n a b) = refl
 at_key (Summary n a b) = refl
 
 module _ {F : Type 0} where
   at_item : (item : Item F) (kind node : ℕ) → kind ≡ kind_at item.0 → node ≡ node_of item.0
-      → (key_at kind node (facts_of item.0).0 (facts_of item.0).1, item.1, item.2) ≡ item
+      → (key_of_kind kind node (facts_in item.0).0 (facts_in item.0).1, item.1, item.2) ≡ item
   at_item item kind node is_kind is_node =
       ap (λ key. (key, item.1, item.2)) (rw (is_kind, is_node) (at_key item.0))
 
@@ -37,7 +37,7 @@ module _ {F : Type 0} where
   same_place g key here = (grind (arith, nat_tests, here), grind (arith, nat_tests, here))
 
   -- the items of the groups are the items
-  joined_items : (item : Item F) (groups : List (Group F)) → flat_map items_of (joined item groups) ≡ item ∷ flat_map items_of groups
+  joined_items : (item : Item F) (groups : List (Group F)) → flat_map items_of (joined_to_groups item groups) ≡ item ∷ flat_map items_of groups
   joined_items item [] = ap (λ x. x ∷ []) (at_item item (kind_at item.0) (node_of item.0) refl refl)
   joined_items item (g ∷ groups) =
       cond_both (is_at g item.0) (with_member (member_of item) g ∷ groups) (alone item ∷ g ∷ groups)
@@ -55,7 +55,7 @@ module _ {F : Type 0} where
   StartsAt key [] = ⊥
   StartsAt key (g ∷ groups) = (g.kind ≡ kind_at key) × (g.node ≡ node_of key)
 
-  pub starts : (item : Item F) (groups : List (Group F)) → StartsAt item.0 (joined item groups)
+  pub starts : (item : Item F) (groups : List (Group F)) → StartsAt item.0 (joined_to_groups item groups)
   starts item [] = (refl, refl)
   starts item (g ∷ groups) =
       cond_both (is_at g item.0) (with_member (member_of item) g ∷ groups) (alone item ∷ g ∷ groups) (StartsAt item.0)
@@ -70,7 +70,7 @@ module _ {F : Type 0} where
   place_below g (Summary n a b) (Summary m c d) kind node less other = grind (arith, nat_tests, kind, node, less, other)
 
   facts_below : (g : Group F) (m : Member F) (item : Item F) → g.kind ≡ kind_at item.0 → g.node ≡ node_of item.0
-      → key_cmp item.0 (key_at g.kind g.node m.0 m.1) ≡ Less → member_cmp (member_of item) m ≡ Less
+      → key_cmp item.0 (key_of_kind g.kind g.node m.0 m.1) ≡ Less → member_cmp (member_of item) m ≡ Less
   facts_below g m (Jump n a b, f, p) kind node less = grind (arith, nat_tests, rw (kind, node) at less)
   facts_below g m (Summary n a b, f, p) kind node less = grind (arith, nat_tests, rw (kind, node) at less)
 
@@ -84,7 +84,7 @@ module _ {F : Type 0} where
 
   -- groups ascend
   joined_ascend : (item : Item F) (groups : List (Group F)) (key : Key) → StartsAt key groups → key_cmp item.0 key ≡ Less
-      → IsStrictlySortedBy group_cmp groups → IsStrictlySortedBy group_cmp (joined item groups)
+      → IsStrictlySortedBy group_cmp groups → IsStrictlySortedBy group_cmp (joined_to_groups item groups)
   unfolding IsStrictlySortedBy
   joined_ascend item [] key first less sorted = absurd first
   joined_ascend item (g ∷ groups) key first less sorted =
@@ -114,7 +114,7 @@ module _ {F : Type 0} where
   alone_is item = record { some = lit≤ tt; ascending = (tt, tt) }
 
   joined_each : (item : Item F) (groups : List (Group F)) → AllByRecursion (λ key. key_cmp item.0 key ≡ Less) (keys_in (flat_map items_of groups))
-      → AllByRecursion IsGroup groups → AllByRecursion IsGroup (joined item groups)
+      → AllByRecursion IsGroup groups → AllByRecursion IsGroup (joined_to_groups item groups)
   unfolding IsStrictlySortedBy
   joined_each item [] below each = (alone_is item, tt)
   joined_each item (g ∷ groups) below each =
@@ -142,13 +142,13 @@ module _ {F : Type 0} where
   pub groups_few : (groups : List (Group F)) → AllByRecursion IsGroup groups → length groups ≤ length (flat_map items_of groups)
   groups_few [] each = lit≤ tt
   groups_few (g ∷ groups) each =
-      let first : length (items_of g) ≡ length g.members = length-map g.members (λ m. (key_at g.kind g.node m.0 m.1, m.2, m.3)) in
+      let first : length (items_of g) ≡ length g.members = length-map g.members (λ m. (key_of_kind g.kind g.node m.0 m.1, m.2, m.3)) in
       let all : length (flat_map items_of (g ∷ groups)) ≡ length (items_of g) + length (flat_map items_of groups) = length-append (items_of g) (flat_map items_of groups) in
       omega (arith, first, all, each.0.some, groups_few groups each.1)
 
   members_few : (g : Group F) (groups : List (Group F)) → length g.members ≤ length (flat_map items_of (g ∷ groups))
   members_few g groups =
-      let first : length (items_of g) ≡ length g.members = length-map g.members (λ m. (key_at g.kind g.node m.0 m.1, m.2, m.3)) in
+      let first : length (items_of g) ≡ length g.members = length-map g.members (λ m. (key_of_kind g.kind g.node m.0 m.1, m.2, m.3)) in
       let all : length (flat_map items_of (g ∷ groups)) ≡ length (items_of g) + length (flat_map items_of groups) = length-append (items_of g) (flat_map items_of groups) in
       omega (arith, first, all)
 
@@ -157,40 +157,40 @@ module _ {F : Type 0} (functions : Functions F) where
   place_proper (Jump n a b) proper = grind (arith, nat_tests)
   place_proper (Summary n a b) proper = grind (arith, nat_tests)
 
-  facts_proper : (key : Key) → IsTrue (is_proper_key key) → IsTrue (fits 16 (facts_of key).0 && fits 16 (facts_of key).1)
+  facts_proper : (key : Key) → IsTrue (is_proper_key key) → IsTrue (fits 16 (facts_in key).0 && fits 16 (facts_in key).1)
   facts_proper (Jump n a b) proper = grind (arith, nat_tests)
   facts_proper (Summary n a b) proper = grind (arith, nat_tests)
 
   member_proper : (item : Item F) → IsTrue (is_proper_item functions item) → IsTrue (is_proper_member functions (member_of item))
   member_proper item proper =
-      both _ _ (facts_proper item.0 (left _ _ proper)) (right (is_proper_key item.0) (is_proper_entry functions (item.1, item.2)) proper)
+      both _ _ (facts_proper item.0 (left_law _ _ proper)) (right_law (is_proper_key item.0) (is_proper_entry functions (item.1, item.2)) proper)
 
   alone_proper : (item : Item F) → IsTrue (is_proper_item functions item) → IsTrue (is_proper_group functions (alone item))
   alone_proper item proper =
-      both _ _ (place_proper item.0 (left (is_proper_key item.0) (is_proper_entry functions (item.1, item.2)) proper))
+      both _ _ (place_proper item.0 (left_law (is_proper_key item.0) (is_proper_entry functions (item.1, item.2)) proper))
       (both (is_proper_member functions (member_of item)) true (member_proper item proper) refl)
 
   with_proper : (item : Item F) (g : Group F) → IsTrue (is_proper_item functions item) → length g.members ≤ 65535
       → IsTrue (is_proper_group functions g) → IsTrue (is_proper_group functions (with_member (member_of item) g))
   with_proper item g proper few all =
-      let counted : IsTrue (is_countable (is_proper_member functions) g.members) = right (nat_lt g.kind 2 && fits 32 g.node) (is_countable (is_proper_member functions) g.members) all in
+      let counted : IsTrue (is_countable (is_proper_member functions) g.members) = right_law (nat_lt g.kind 2 && fits 32 g.node) (is_countable (is_proper_member functions) g.members) all in
       let more : length (member_of item ∷ g.members) ≤ 65536 = omega (arith, few) in
       both (nat_lt g.kind 2 && fits 32 g.node) (is_countable (is_proper_member functions) (member_of item ∷ g.members))
-      (left (nat_lt g.kind 2 && fits 32 g.node) (is_countable (is_proper_member functions) g.members) all)
+      (left_law (nat_lt g.kind 2 && fits 32 g.node) (is_countable (is_proper_member functions) g.members) all)
       (both (fits 32 (length (member_of item ∷ g.members))) (all_proper (is_proper_member functions) (member_of item ∷ g.members))
       (small_count (length (member_of item ∷ g.members)) more)
       (both (is_proper_member functions (member_of item)) (all_proper (is_proper_member functions) g.members) (member_proper item proper)
-      (right (fits 32 (length g.members)) (all_proper (is_proper_member functions) g.members) counted)))
+      (right_law (fits 32 (length g.members)) (all_proper (is_proper_member functions) g.members) counted)))
 
   joined_proper : (item : Item F) (groups : List (Group F)) → IsTrue (is_proper_item functions item) → length (flat_map items_of groups) ≤ 65535
-      → IsTrue (all_proper (is_proper_group functions) groups) → IsTrue (all_proper (is_proper_group functions) (joined item groups))
+      → IsTrue (all_proper (is_proper_group functions) groups) → IsTrue (all_proper (is_proper_group functions) (joined_to_groups item groups))
   joined_proper item [] proper few all = both (is_proper_group functions (alone item)) true (alone_proper item proper) refl
   joined_proper item (g ∷ groups) proper few all =
       cond_both (is_at g item.0) (with_member (member_of item) g ∷ groups) (alone item ∷ g ∷ groups) (λ gs. IsTrue (all_proper (is_proper_group functions) gs))
       (λ here.
       both (is_proper_group functions (with_member (member_of item) g)) (all_proper (is_proper_group functions) groups)
-      (with_proper item g proper (omega (arith, few, members_few g groups)) (left (is_proper_group functions g) (all_proper (is_proper_group functions) groups) all))
-      (right (is_proper_group functions g) (all_proper (is_proper_group functions) groups) all))
+      (with_proper item g proper (omega (arith, few, members_few g groups)) (left_law (is_proper_group functions g) (all_proper (is_proper_group functions) groups) all))
+      (right_law (is_proper_group functions g) (all_proper (is_proper_group functions) groups) all))
       (λ elsewhere. both (is_proper_group functions (alone item)) (all_proper (is_proper_group functions) (g ∷ groups)) (alone_proper item proper) all)
 
   all_are_proper : (items : List (Item F)) → length items ≤ 65536 → IsTrue (all_proper (is_proper_item functions) items)
@@ -198,9 +198,9 @@ module _ {F : Type 0} (functions : Functions F) where
   all_are_proper [] few proper = refl
   all_are_proper (item ∷ items) few proper =
       let same : length (flat_map items_of (groups_of items)) ≡ length items = ap length (items_are items) in
-      joined_proper item (groups_of items) (left (is_proper_item functions item) (all_proper (is_proper_item functions) items) proper)
+      joined_proper item (groups_of items) (left_law (is_proper_item functions item) (all_proper (is_proper_item functions) items) proper)
       (omega (arith, few, same))
-      (all_are_proper items (omega (arith, few)) (right (is_proper_item functions item) (all_proper (is_proper_item functions) items) proper))
+      (all_are_proper items (omega (arith, few)) (right_law (is_proper_item functions item) (all_proper (is_proper_item functions) items) proper))
 
   some_groups : (items : List (Item F)) → 1 ≤ length items → 1 ≤ length (groups_of items)
   some_groups items some = elim (groups_of items) as (λ groups. flat_map items_of groups ≡ items → 1 ≤ length groups) [

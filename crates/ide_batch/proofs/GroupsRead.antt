@@ -9,8 +9,8 @@ use Rattle.std.proofs.lemmas.List.Concat.{flat_map-append}
 use Rattle.ide_wire.specs.Form.{IsPrefixFree, NoFormInFront}
 use Rattle.ide_wire.specs.Numbers.{fits, four_prefix_free}
 use Rattle.ide_batch.specs.Forms.{all_proper, is_countable}
-use Rattle.ide_batch.specs.FormLaws.{left, right, both, parted}
-use Rattle.ide_batch.specs.Groups.{Group, IsGroup, IsGroupedBody, group_cmp, group_form, is_proper_group, is_proper_member, items_of, key_at, member_form}
+use Rattle.ide_batch.specs.FormLaws.{left_law, right_law, both, parted}
+use Rattle.ide_batch.specs.Groups.{Group, IsGroup, IsGroupedBody, group_cmp, group_form, is_proper_group, is_proper_member, items_of, key_of_kind, member_form}
 use Rattle.ide_batch.specs.GroupsRead.{AreInOrder, IsAbove, NoGroup, NoGroups, NoMembers, Place, ReadsGroup, ReadsGroups, ReadsMembers, group_place, header_form, is_proper_header, last_place}
 use Rattle.ide_batch.specs.Items.{Functions, Item}
 use Rattle.ide_batch.proofs.Apart.{group_free}
@@ -25,7 +25,7 @@ module _ {F : Type 0} (functions : Functions F) where
   -- ---- one group
   header_proper : (group : Group F) → IsTrue (is_proper_group functions group) → IsTrue (is_proper_header (group_place group, length group.members))
   header_proper group proper =
-      both (is_proper_place (group_place group)) (fits 32 (length group.members)) (left _ _ proper) (left _ _ (right _ _ proper))
+      both (is_proper_place (group_place group)) (fits 32 (length group.members)) (left_law _ _ proper) (left_law _ _ (right_law _ _ proper))
 
   pub no_header : (before : Option Place) (so_far : ℕ) (bytes : List ℕ) → NoFormInFront is_proper_header header_form bytes → NoGroup functions before so_far bytes
   no_header before so_far bytes none group rest follows is =
@@ -62,7 +62,7 @@ module _ {F : Type 0} (functions : Functions F) where
     no_members so_far none group behind follows is =
         let here = header_is bytes rest behind place count group proper found follows.proper is in
         none group.members behind
-        (record { counted = sym here.1; proper = right (fits 32 (length group.members)) _ (right _ _ follows.proper); ascending = follows.is.ascending })
+        (record { counted = sym here.1; proper = right_law (fits 32 (length group.members)) _ (right_law _ _ follows.proper); ascending = follows.is.ascending })
         here.2
 
     pub group_read : (old new : List (Item F)) (behind : List ℕ) → IsAbove before place → count ≢ 0 → length old + count ≤ 65536
@@ -73,9 +73,9 @@ module _ {F : Type 0} (functions : Functions F) where
           group = record { kind = place.0; node = place.1; members = reads.members };
           follows = record {
             is = record { some = omega (arith, counts, some); ascending = reads.are.ascending };
-            proper = both (is_proper_place place) (is_countable (is_proper_member functions) reads.members) (left _ _ proper)
+            proper = both (is_proper_place place) (is_countable (is_proper_member functions) reads.members) (left_law _ _ proper)
                 (both (fits 32 (length reads.members)) (all_proper (is_proper_member functions) reads.members)
-                (subst (λ n. IsTrue (fits 32 n)) (sym counts) (right (is_proper_place place) (fits 32 count) proper)) reads.are.proper);
+                (subst (λ n. IsTrue (fits 32 n)) (sym counts) (right_law (is_proper_place place) (fits 32 count) proper)) reads.are.proper);
             above = above;
             few = omega (arith, counts, few);
           };
@@ -99,7 +99,7 @@ module _ {F : Type 0} (functions : Functions F) where
   few_so_far taken before items bytes rest (reads, last) = let few = reads.are.few in let same = ap length reads.items_are in omega (arith, few, same)
 
   items_count : (group : Group F) → length (items_of group) ≡ length group.members
-  items_count group = length-map group.members (λ member. (key_at group.kind group.node member.0 member.1, member.2, member.3))
+  items_count group = length-map group.members (λ member. (key_of_kind group.kind group.node member.0 member.1, member.2, member.3))
 
   pub groups-push : (taken : ℕ) (before : Option Place) (place : Place) (items new : List (Item F)) (bytes rest behind : List ℕ)
       → ReadSoFar taken before items bytes rest → ReadsGroup functions before place items new rest behind → ReadSoFar (taken + 1) (Some place) new bytes behind
@@ -149,7 +149,7 @@ module _ {F : Type 0} (functions : Functions F) where
             none z (flat_map (group_form functions) zs ++ behind)
             (record {
               is = all_at IsGroup reads.groups z zs (subst (AllByRecursion IsGroup) is are.each);
-              proper = left _ _ proper;
+              proper = left_law _ _ proper;
               above = subst (λ (b : Option Place). IsAbove b (group_place z)) (sym last)
                   (above_last group_place reads.groups z zs (subst (IsStrictlySortedBy group_cmp) is are.ascending));
               few =
@@ -166,13 +166,13 @@ module _ {F : Type 0} (functions : Functions F) where
 
   -- ---- the body
   pub no_group_count : (body : List ℕ) → NoFormInFront (fits 32) (to_le_bytes w32) body → (items : List (Item F)) → ¬ (IsGroupedBody functions items body)
-  no_group_count body none items is = none (length is.groups) (flat_map (group_form functions) is.groups) (left _ _ is.are.proper) is.is
+  no_group_count body none items is = none (length is.groups) (flat_map (group_form functions) is.groups) (left_law _ _ is.are.proper) is.is
 
   module _ (body rest : List ℕ) (count : ℕ) (small : IsTrue (fits 32 count)) (found : body ≡ to_le_bytes w32 count ++ rest) where
     count_is : (items : List (Item F)) (is : IsGroupedBody functions items body) → (count ≡ length is.groups) × (rest ≡ flat_map (group_form functions) is.groups)
     count_is items is =
         parted (fits 32) (to_le_bytes w32) (fits 32) (to_le_bytes w32) four_prefix_free count (length is.groups) rest (flat_map (group_form functions) is.groups)
-        small (left _ _ is.are.proper) (sym found ∙ is.is)
+        small (left_law _ _ is.are.proper) (sym found ∙ is.is)
 
     in_order : (items : List (Item F)) (is : IsGroupedBody functions items body) → AreInOrder functions count is.groups
     in_order items is = record {
@@ -180,7 +180,7 @@ module _ {F : Type 0} (functions : Functions F) where
       few = is.are.few;
       ascending = is.are.ascending;
       each = is.are.each;
-      proper = right (fits 32 (length is.groups)) _ is.are.proper;
+      proper = right_law (fits 32 (length is.groups)) _ is.are.proper;
     }
 
     pub nothing : count ≡ 0 → (items : List (Item F)) → ¬ (IsGroupedBody functions items body)

@@ -3,7 +3,7 @@ use Rattle.std.specs.Prelude.{◌≡◌, ℕ, Bool, ◌&&◌, List, ◌∷◌, �
 use Rattle.std.specs.Int.{w32, to_le_bytes}
 use Rattle.ide_wire.specs.Form.{IsPrefixFree}
 use Rattle.ide_wire.specs.Numbers.{fits, four_prefix_free}
-use Rattle.ide_batch.specs.FormLaws.{right, pair_free}
+use Rattle.ide_batch.specs.FormLaws.{right_law, pair_free}
 use Rattle.ide_batch.specs.GroupsRead.{Place, header_form, is_proper_header}
 
 abbrev pub place_form : Place → List ℕ
@@ -19,7 +19,7 @@ pub place_free : IsPrefixFree is_proper_place place_form
 place_free x y r s p q same =
     let heads : x.0 ≡ y.0 = cc (same) in
     let tails : to_le_bytes w32 x.1 ++ r ≡ to_le_bytes w32 y.1 ++ s = cc (same) in
-    pair_is x y heads (four_prefix_free x.1 y.1 r s (right (nat_lt x.0 2) (fits 32 x.1) p) (right (nat_lt y.0 2) (fits 32 y.1) q) tails)
+    pair_is x y heads (four_prefix_free x.1 y.1 r s (right_law (nat_lt x.0 2) (fits 32 x.1) p) (right_law (nat_lt y.0 2) (fits 32 y.1) q) tails)
 
 pub header_free : IsPrefixFree is_proper_header header_form
 header_free x y r s p q same =

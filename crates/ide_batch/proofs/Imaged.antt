@@ -20,13 +20,13 @@ use Rattle.ide_text.specs.declared.program.Procedure.{Procedure}
 use Rattle.ide_text.specs.declared.program.Program.{Program}
 use Rattle.ide_text.specs.declared.program.Statement.{Statement}
 use Rattle.ide_text.specs.declared.program.Statement.TheVariants.{Assign, Skip, At, Goto, Branch, Call, Return}
-use Rattle.ide_theory.specs.Images.{Root, begun, entered, loaded, seeded_below, state_of, step}
+use Rattle.ide_theory.specs.Images.{Root, root_begun, entered, loaded, seeded_below, image_state, step}
 use Rattle.ide_theory.specs.State.{State}
 use Rattle.ide_wire.specs.Key.{same_key}
 use Rattle.ide_wire.specs.declared.key.Key.{Key}
 use Rattle.ide_worklist.specs.Worklist.{IsFree}
 use Rattle.ide_batch.specs.Applied.{HasImage, IsGraphed, IsLoadedWith, NewCoresAreEmpty, SetsItems, entry_in, named_in}
-use Rattle.ide_batch.specs.Fold.{ProgramImage, entry_at, named, nodes_in_all, nodes_of, procedures, with_items}
+use Rattle.ide_batch.specs.Fold.{ProgramImage, image_entry, named, nodes_in_all, node_count_of, procedures, with_items}
 use Rattle.ide_batch.specs.Items.{Item}
 
 -- ---- where procedures begin, by what a program says
@@ -50,7 +50,7 @@ of_count q =
     let ends = length-append (flat_map spots_on q.statements.items) (exit ∷ []) in
     omega (arith, body, ends)
 
-all_count : (i : ℕ) (qs : List Procedure) → nodes_of (map value_of_procedure qs) ≡ length (nodes_from i qs)
+all_count : (i : ℕ) (qs : List Procedure) → node_count_of (map value_of_procedure qs) ≡ length (nodes_from i qs)
 all_count i [] = refl
 all_count i (q ∷ qs) =
     let here = of_count q in
@@ -72,12 +72,12 @@ position_map f test xs = ap (λ n. place_by n (length (map f xs))) (prefix_map f
 -- the start of a procedure by what a program says is that of its nodes
 pub starts_as : (p : Program) (name : List ℕ) → procedures.start (value_of p) name ≡ option_map (start_of (procedures_of p)) (procedure_of (procedures_of p) name)
 starts_as p name =
-    ap (option_map (λ j. nodes_of (take j (map value_of_procedure (procedures_of p))))) (position_map value_of_procedure (λ q. bytes_eq name q.name) (procedures_of p))
+    ap (option_map (λ j. node_count_of (take j (map value_of_procedure (procedures_of p))))) (position_map value_of_procedure (λ q. bytes_eq name q.name) (procedures_of p))
     ∙ at (procedure_of (procedures_of p) name)
   where
-    at : (o : Option ℕ) → option_map (λ j. nodes_of (take j (map value_of_procedure (procedures_of p)))) o ≡ option_map (start_of (procedures_of p)) o
+    at : (o : Option ℕ) → option_map (λ j. node_count_of (take j (map value_of_procedure (procedures_of p)))) o ≡ option_map (start_of (procedures_of p)) o
     at None = refl
-    at (Some i) = ap (λ n. Some n) (ap nodes_of (take-map value_of_procedure i (procedures_of p)) ∙ all_count 0 (take i (procedures_of p)))
+    at (Some i) = ap (λ n. Some n) (ap node_count_of (take-map value_of_procedure i (procedures_of p)) ∙ all_count 0 (take i (procedures_of p)))
 
 start_is : (p : Program) (name : List ℕ) (i : ℕ) → procedure_of (procedures_of p) name ≡ Some i → procedures.start (value_of p) name ≡ Some (start_of (procedures_of p) i)
 start_is p name i is = starts_as p name ∙ ap (option_map (start_of (procedures_of p))) is
@@ -125,10 +125,10 @@ module _ {F : Type 0} where
     pending = λ key. ap (λ (e : Option F × Bool). e.1) (entry key);
   }
     where
-      before : (key : Key) → entry_at image key ≡ entry_in old key
+      before : (key : Key) → image_entry image key ≡ entry_in old key
       before key = λ i. (has.get key i, has.pending key i)
 
-      entry : (key : Key) → unwrap_or (named items key) (entry_at image key) ≡ entry_in new key
+      entry : (key : Key) → unwrap_or (named items key) (image_entry image key) ≡ entry_in new key
       entry key = ap (unwrap_or (named items key)) (before key) ∙ sym (sets.entries key)
 
 -- ---- a procedure becomes a root
@@ -157,13 +157,13 @@ module _ {F L : Type 0} (A : LatticeAlgebra L) (B : EdgeAlgebra F L) (targets : 
           start_is known.0 name is.root (sym (known.2.named name) ∙ is.named.named)
           ∙ ap (λ n. Some n) (sym (known.2.starts is.root (subst (λ n. is.root < n) known.2.procedures is.within)))
 
-      states : state_of image ≡ core_state targets B old
+      states : image_state image ≡ core_state targets B old
       states = λ i. record { get = λ key. has.get key i; pending = λ key. has.pending key i; claims = λ h. option_map (claim_of targets B) (sym (free h) i) }
 
-      whole : entered procedures B same image.program name (state_of image) ≡ core_state targets B new
+      whole : entered procedures B same image.program name (image_state image) ≡ core_state targets B new
       whole =
-          ap (λ o. entered procedures B same o name (state_of image)) (has.program ∙ known.1)
-          ∙ ap (λ o. begun procedures B same (value_of known.0) o (state_of image)) begins
-          ∙ ap (seeded_below B (state_of image) (slice_index is.graph.starts is.root)) (sym known.2.counts.1)
+          ap (λ o. entered procedures B same o name (image_state image)) (has.program ∙ known.1)
+          ∙ ap (λ o. root_begun procedures B same (value_of known.0) o (image_state image)) begins
+          ∙ ap (seeded_below B (image_state image) (slice_index is.graph.starts is.root)) (sym known.2.counts.1)
           ∙ ap (λ s. seeded_below B s (slice_index is.graph.starts is.root) is.graph.entries) states
           ∙ sym is.state

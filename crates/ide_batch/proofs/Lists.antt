@@ -6,14 +6,14 @@ use Rattle.std.proofs.lemmas.List.{append_cancel_left}
 use Rattle.std.proofs.lemmas.List.Concat.{flat_map-append}
 use Rattle.ide_wire.specs.Form.{IsPrefixFree, NoFormInFront}
 use Rattle.ide_batch.specs.Forms.{all_proper, NoListInFront}
-use Rattle.ide_batch.specs.FormLaws.{left, right, both}
+use Rattle.ide_batch.specs.FormLaws.{left_law, right_law, both}
 
 module _ {T : Type 0} (proper : T → Bool) (form : T → List ℕ) where
   pub proper-push : (xs : List T) (x : T) → IsTrue (all_proper proper xs) → IsTrue (proper x) → IsTrue (all_proper proper (xs ++ x ∷ []))
   proper-push [] x all one = both (proper x) true one refl
   proper-push (y ∷ ys) x all one =
-      both (proper y) (all_proper proper (ys ++ x ∷ [])) (left (proper y) (all_proper proper ys) all)
-      (proper-push ys x (right (proper y) (all_proper proper ys) all) one)
+      both (proper y) (all_proper proper (ys ++ x ∷ [])) (left_law (proper y) (all_proper proper ys) all)
+      (proper-push ys x (right_law (proper y) (all_proper proper ys) all) one)
 
   pub forms-push : (xs : List T) (x : T) (front rest behind : List ℕ) → front ≡ flat_map form xs ++ rest → rest ≡ form x ++ behind
       → front ≡ flat_map form (xs ++ x ∷ []) ++ behind
@@ -33,8 +33,8 @@ module _ {T : Type 0} (proper : T → Bool) (form : T → List ℕ) where
     goes_on (x ∷ xs) (y ∷ ys) rest behind p q short same =
         let split = sym (append_assoc (form x) (flat_map form xs) rest) ∙ same ∙ append_assoc (form y) (flat_map form ys) behind in
         let one : x ≡ y = free x y (flat_map form xs ++ rest) (flat_map form ys ++ behind)
-        (left (proper x) (all_proper proper xs) p) (left (proper y) (all_proper proper ys) q) split in
-        let more = goes_on xs ys rest behind (right (proper x) (all_proper proper xs) p) (right (proper y) (all_proper proper ys) q) (omega (arith, short))
+        (left_law (proper x) (all_proper proper xs) p) (left_law (proper y) (all_proper proper ys) q) split in
+        let more = goes_on xs ys rest behind (right_law (proper x) (all_proper proper xs) p) (right_law (proper y) (all_proper proper ys) q) (omega (arith, short))
         (append_cancel_left (form x) (flat_map form xs ++ rest) (flat_map form ys ++ behind)
         (split ∙ ap (λ z. form z ++ (flat_map form ys ++ behind)) (sym one))) in
         (more.0, ap (λ z. z ∷ ys) (sym one) ∙ ap (λ zs. x ∷ zs) more.1, more.2, more.3)
@@ -49,5 +49,5 @@ module _ {T : Type 0} (proper : T → Bool) (form : T → List ℕ) where
         further ([], is, proper_too, splits) =
             let ends : length ys ≡ length xs = ap length (is ∙ append-nil xs) in absurd (omega (arith, ends, short, long))
         further (z ∷ zs, is, proper_too, splits) =
-            none z (flat_map form zs ++ behind) (left (proper z) (all_proper proper zs) proper_too)
+            none z (flat_map form zs ++ behind) (left_law (proper z) (all_proper proper zs) proper_too)
             (splits ∙ append_assoc (form z) (flat_map form zs) behind)

@@ -6,7 +6,7 @@ use Rattle.std.proofs.lemmas.List.{length-append, map-append}
 use Rattle.ide_wire.specs.Form.{IsPrefixFree, NoFormInFront}
 use Rattle.ide_wire.specs.declared.key.Key.{Key}
 use Rattle.ide_batch.specs.FormLaws.{member_free}
-use Rattle.ide_batch.specs.Groups.{Member, is_proper_member, key_at, member_cmp, member_form}
+use Rattle.ide_batch.specs.Groups.{Member, is_proper_member, key_of_kind, member_cmp, member_form}
 use Rattle.ide_batch.specs.GroupsRead.{IsAbove, NoMembers, Place, ReadsMembers, last_place, member_place}
 use Rattle.ide_batch.specs.Items.{Functions, Item}
 use Rattle.ide_batch.proofs.Lists.{forms-push, goes_on, none_longer, proper-push}
@@ -14,7 +14,7 @@ use Rattle.ide_batch.proofs.Places.{above_last, last-push, sorted-push}
 
 -- the item of a member of that place
 abbrev pub item_at : {F : Type 0} → Place → Member F → Item F
-item_at place member = (key_at place.0 place.1 member.0 member.1, member.2, member.3)
+item_at place member = (key_of_kind place.0 place.1 member.0 member.1, member.2, member.3)
 
 module _ {F : Type 0} (functions : Functions F) (place : Place) where
   -- so many members are read, of which the last is at that place
@@ -30,7 +30,7 @@ module _ {F : Type 0} (functions : Functions F) (place : Place) where
   pub members-push : (taken first second : ℕ) (before : Option Place) (old new pushed : List (Item F)) (bytes rest behind : List ℕ) (member : Member F) (key : Key)
       → ReadSoFar taken before old new bytes rest → IsTrue (is_proper_member functions member) → rest ≡ member_form functions member ++ behind
       → first ≡ member.0 → second ≡ member.1 → IsAbove before (first, second)
-      → key ≡ key_at place.0 place.1 member.0 member.1 → pushed ≡ new ++ (key, member.2, member.3) ∷ []
+      → key ≡ key_of_kind place.0 place.1 member.0 member.1 → pushed ≡ new ++ (key, member.2, member.3) ∷ []
       → ReadSoFar (taken + 1) (Some (first, second)) old pushed bytes behind
   members-push taken first second before old new pushed bytes rest behind member key (reads, last) proper found one two above is_key is_pushed = (
     record {

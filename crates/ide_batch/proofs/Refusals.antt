@@ -20,7 +20,7 @@ use Rattle.std.specs.List.{slice_index_or}
 use Rattle.ide_batch.specs.Applied.{LoadsText, MayBeRoot, RefusesRecord, refusal_of}
 use Rattle.ide_batch.specs.Bodies.{AreSpelled}
 use Rattle.ide_batch.specs.Forms.{all_proper}
-use Rattle.ide_batch.specs.FormLaws.{left, right}
+use Rattle.ide_batch.specs.FormLaws.{left_law, right_law}
 use Rattle.ide_batch.specs.Groups.{Group, Member, is_proper_group, is_proper_member, items_of}
 use Rattle.ide_batch.specs.Items.{Functions, Item, is_proper_entry, is_proper_item}
 use Rattle.ide_wire.specs.Key.{is_proper_key}
@@ -35,36 +35,36 @@ module _ {F : Type 0} (functions : Functions F) where
   IsPresent item = functions.is_top item.1 ≡ false
 
   in_entry : (f : F) (pending : Bool) → IsTrue (is_proper_entry functions (f, pending)) → functions.is_top f ≡ false
-  in_entry f pending proper = not_true (functions.is_top f) (right (functions.proper f) (not (functions.is_top f)) proper)
+  in_entry f pending proper = not_true (functions.is_top f) (right_law (functions.proper f) (not (functions.is_top f)) proper)
 
   in_items : (items : List (Item F)) → IsTrue (all_proper (is_proper_item functions) items) → AllByRecursion IsPresent items
   in_items [] proper = tt
   in_items (x ∷ items) proper = (
-    in_entry x.1 x.2 (right (is_proper_key x.0) (is_proper_entry functions (x.1, x.2)) (left (is_proper_item functions x) _ proper)),
-    in_items items (right (is_proper_item functions x) _ proper),
+    in_entry x.1 x.2 (right_law (is_proper_key x.0) (is_proper_entry functions (x.1, x.2)) (left_law (is_proper_item functions x) _ proper)),
+    in_items items (right_law (is_proper_item functions x) _ proper),
   )
 
   in_members : (kind node : ℕ) (members : List (Member F)) (more : List (Item F)) → IsTrue (all_proper (is_proper_member functions) members)
       → AllByRecursion IsPresent more → AllByRecursion IsPresent (items_of (record { kind = kind; node = node; members = members }) ++ more)
   in_members kind node [] more proper behind = behind
   in_members kind node (m ∷ members) more proper behind = (
-    in_entry m.2 m.3 (right (fits 16 m.0 && fits 16 m.1) (is_proper_entry functions (m.2, m.3)) (left (is_proper_member functions m) _ proper)),
-    in_members kind node members more (right (is_proper_member functions m) _ proper) behind,
+    in_entry m.2 m.3 (right_law (fits 16 m.0 && fits 16 m.1) (is_proper_entry functions (m.2, m.3)) (left_law (is_proper_member functions m) _ proper)),
+    in_members kind node members more (right_law (is_proper_member functions m) _ proper) behind,
   )
 
   in_groups : (groups : List (Group F)) → IsTrue (all_proper (is_proper_group functions) groups) → AllByRecursion IsPresent (flat_map items_of groups)
   in_groups [] proper = tt
   in_groups (group ∷ groups) proper =
       in_members group.kind group.node group.members (flat_map items_of groups)
-      (right (fits 32 (length group.members)) _ (right (nat_lt group.kind 2 && fits 32 group.node) _ (left (is_proper_group functions group) _ proper)))
-      (in_groups groups (right (is_proper_group functions group) _ proper))
+      (right_law (fits 32 (length group.members)) _ (right_law (nat_lt group.kind 2 && fits 32 group.node) _ (left_law (is_proper_group functions group) _ proper)))
+      (in_groups groups (right_law (is_proper_group functions group) _ proper))
 
   -- the functions of items that a body spells are not always top
   pub present : (version : Version) (items : List (Item F)) (body : List ℕ) → AreSpelled functions version items body → All IsPresent items
   present One items body is = All-from_recursion IsPresent items (in_items items is.written.proper)
   present Two items body is =
       subst (All IsPresent) (sym is.items_are)
-      (All-from_recursion IsPresent (flat_map items_of is.groups) (in_groups is.groups (right (fits 32 (length is.groups)) _ is.are.proper)))
+      (All-from_recursion IsPresent (flat_map items_of is.groups) (in_groups is.groups (right_law (fits 32 (length is.groups)) _ is.are.proper)))
 
 some_is : {X : Type 0} (x y : X) → Some x ≡ Some y → x ≡ y
 some_is x y same = cc (same)

@@ -10,7 +10,7 @@ use Rattle.ide_journal.specs.declared.version.Version.TheVariants.{One, Two}
 use Rattle.ide_wire.specs.Key.{key_at_most, key_form}
 use Rattle.ide_batch.specs.Bodies.{IsBody, IsEntryOf, MayBeSpelled}
 use Rattle.ide_batch.specs.Forms.{counted}
-use Rattle.ide_batch.specs.Groups.{Group, IsGroup, IsGroupedBody, Member, group_form, items_of, key_at, member_form}
+use Rattle.ide_batch.specs.Groups.{Group, IsGroup, IsGroupedBody, Member, group_form, items_of, key_of_kind, member_form}
 use Rattle.ide_batch.specs.Items.{Functions, IsListBody, Item, entry_form, item_form, mark}
 use Rattle.ide_batch.specs.Records.{RecordValue, Load, Root, Batch, kind_of}
 
@@ -47,7 +47,7 @@ module _ {F : Type 0} (functions : Functions F) (small : (f : F) → length (fun
 
   group_short : (group : Group F) → IsGroup group → length (group_form functions group) ≤ 46 * length (items_of group)
   group_short group is =
-      let long : length (items_of group) ≡ length group.members = length-map group.members (λ m. (key_at group.kind group.node m.0 m.1, m.2, m.3)) in
+      let long : length (items_of group) ≡ length group.members = length-map group.members (λ m. (key_of_kind group.kind group.node m.0 m.1, m.2, m.3)) in
       let place : length (group.kind ∷ to_le_bytes w32 group.node) ≡ 5 = refl in
       omega (
         arith,

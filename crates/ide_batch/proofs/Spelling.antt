@@ -9,7 +9,7 @@ use Rattle.ide_wire.specs.Key.{node_of}
 use Rattle.ide_wire.specs.declared.key.Key.{Key}
 use Rattle.ide_wire.specs.declared.key.Key.TheVariants.{Jump}
 use Rattle.ide_batch.specs.Forms.{counted}
-use Rattle.ide_batch.specs.Grouping.{AppendsGroups, IsRun, alone, groups_of, is_at, joined, key_in, kind_at, member_of, run_of, share_place}
+use Rattle.ide_batch.specs.Grouping.{AppendsGroups, IsRun, alone, groups_of, is_at, joined_to_groups, key_in, kind_at, member_of, run_of, share_place}
 use Rattle.ide_batch.specs.Groups.{Group, group_form}
 use Rattle.ide_batch.specs.Items.{AreWritten, Functions, Item}
 use Rattle.ide_batch.proofs.Ascending.{at_key}
@@ -51,7 +51,7 @@ module _ {F : Type 0} where
       λ i. record { kind = kind i; node = node i; members = member_of item ∷ [] }
 
   not_joined : (key : Key) (item : Item F) (groups : List (Group F)) (next : Key) → StartsAt next groups → share_place key item.0 ≡ true
-      → share_place key next ≡ false → joined item groups ≡ alone item ∷ groups
+      → share_place key next ≡ false → joined_to_groups item groups ≡ alone item ∷ groups
   not_joined key item [] next first shares other = absurd first
   not_joined key item (g ∷ groups) next first shares other =
       let elsewhere : is_at g item.0 ≡ false = grind (arith, nat_tests, first.0, first.1, shares, other) in
@@ -67,7 +67,7 @@ module _ {F : Type 0} where
       not_joined key x (groups_of (y ∷ items)) y.0 (starts y (groups_of items)) (shares 0 (lit≤ tt)) other
       ∙ ap (λ g. g ∷ groups_of (y ∷ items)) (alone_run key x (shares 0 (lit≤ tt)))
   run_is key (x ∷ items) (suc (suc n)) some within shares ends =
-      ap (joined x) (run_is key items (suc n) (omega arith) (omega (arith, within)) (λ k below. shares (suc k) (omega (arith, below))) (ends_behind ends))
+      ap (joined_to_groups x) (run_is key items (suc n) (omega arith) (omega (arith, within)) (λ k below. shares (suc k) (omega (arith, below))) (ends_behind ends))
       ∙ cond-true (share_place key x.0) _ _ (shares 0 (omega arith))
     where
       ends_behind : EndsThere key (x ∷ items) (suc (suc n)) → EndsThere key items (suc n)

@@ -21,7 +21,7 @@ use Rattle.ide_wire.specs.declared.refused.Refused.{Refused}
 use Rattle.ide_wire.specs.declared.refused.Refused.TheVariants.{NoMemory, Damaged}
 use Rattle.ide_worklist.specs.Worklist.{is_pending}
 use Rattle.ide_batch.specs.Bodies.{AreSpelled, IsEntryOf}
-use Rattle.ide_batch.specs.Fold.{LeadsTo, ProgramImage, named, with_items}
+use Rattle.ide_batch.specs.Fold.{RecordLeads, ProgramImage, named, with_items}
 use Rattle.ide_batch.specs.Items.{Functions, Item}
 use Rattle.ide_batch.specs.Records.{RecordValue, Load, Root, Batch}
 
@@ -62,33 +62,33 @@ abbrev pub MayBeRoot : {F : Type 0} → CoreData F → List ℕ → Type 0
 MayBeRoot core name = IsSomeAnd core.graph (λ graph. (root : ℕ) × IsRootName graph core.roots name root)
 
 -- the record fits the core: its text has no fault, its name may be a root, or its keys are such as the core may have
-abbrev pub Fits : {F : Type 0} → CoreData F → RecordValue F → Type 0
-Fits core (Load text) = (p : Program) × IsParsed text p
-Fits core (Root name) = MayBeRoot core name
-Fits core (Batch items) = MayHaveAll core items
+abbrev pub RecordFits : {F : Type 0} → CoreData F → RecordValue F → Type 0
+RecordFits core (Load text) = (p : Program) × IsParsed text p
+RecordFits core (Root name) = MayBeRoot core name
+RecordFits core (Batch items) = MayHaveAll core items
 
 module _ {F : Type 0} (functions : Functions F) (version : Version) where
   -- the journal's record is one that fits the core
   abbrev pub CanApply : CoreData F → Entry → Type 0
-  CanApply core entry = (r : RecordValue F) × IsEntryOf functions version r entry × Fits core r
+  CanApply core entry = (r : RecordValue F) × IsEntryOf functions version r entry × RecordFits core r
 
   -- none, or the first items of a batch that the journal's record is
-  abbrev pub IsKept : List (Item F) → Entry → Type 0
-  IsKept kept entry = (kept ≡ []) ⊎ ((rest : List (Item F)) × IsEntryOf functions version (Batch (kept ++ rest)) entry)
+  abbrev pub IsKeptBatch : List (Item F) → Entry → Type 0
+  IsKeptBatch kept entry = (kept ≡ []) ⊎ ((rest : List (Item F)) × IsEntryOf functions version (Batch (kept ++ rest)) entry)
 
   -- it is spelled so, and leads from each image that the core had to one that it has
   pub record IsApplied {L : Type 0} (edge : EdgeAlgebra F L) (same : F → F → Bool) (old new : CoreData F) (entry : Entry) : Type 0 where
     pub value : RecordValue F
     pub spelled : IsEntryOf functions version value entry
-    pub fits : Fits old value
+    pub fits : RecordFits old value
     pub leads : (image : ProgramImage F) → HasImage image old
-        → (now : ProgramImage F) × LeadsTo edge same value image now × HasImage now new
+        → (now : ProgramImage F) × RecordLeads edge same value image now × HasImage now new
 
   -- why it is not applied: it does not fit, and nothing changed; or memory is wanting, and the image has the first of its
   -- items, if any
   pub data ApplyRefusal (n : ℕ) (old new : CoreData F) (entry : Entry) : Refused → Type 0 where
     damaged : ¬ (CanApply old entry) → new ≡ old → ApplyRefusal n old new entry (Damaged n)
-    memory : (kept : List (Item F)) → IsKept kept entry → ((image : ProgramImage F) → HasImage image old → HasImage (with_items image kept) new)
+    memory : (kept : List (Item F)) → IsKeptBatch kept entry → ((image : ProgramImage F) → HasImage image old → HasImage (with_items image kept) new)
         → ApplyRefusal n old new entry NoMemory
 
 -- the first items are set

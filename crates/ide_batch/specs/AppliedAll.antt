@@ -7,7 +7,7 @@ use Rattle.ide_steps.specs.Core.{CoreData}
 use Rattle.ide_wire.specs.declared.refused.Refused.{Refused}
 use Rattle.ide_batch.specs.Applied.{ApplyRefusal, HasImage, IsApplied}
 use Rattle.ide_batch.specs.Bodies.{IsEntryOf}
-use Rattle.ide_batch.specs.Fold.{LeadTo, ProgramImage}
+use Rattle.ide_batch.specs.Fold.{RecordsLead, ProgramImage}
 use Rattle.ide_batch.specs.Items.{Functions}
 use Rattle.ide_batch.specs.Records.{RecordValue}
 
@@ -29,7 +29,7 @@ module _ {F L : Type 0} (functions : Functions F) (version : Version) (edge : Ed
     pub values : List (RecordValue F)
     pub spelled : AreEntriesOf functions version values entries
     pub leads : (image : ProgramImage F) → HasImage image old
-        → (now : ProgramImage F) × LeadTo edge same values image now × HasImage now new
+        → (now : ProgramImage F) × RecordsLead edge same values image now × HasImage now new
 
   -- those before one are applied, and that one is refused, with its number
   pub record StopsAt (entries : List Entry) (old new : CoreData F) (refused : Refused) : Type 0 where

@@ -15,22 +15,22 @@ use Rattle.ide_batch.specs.Records.{RecordValue}
 use Rattle.ide_batch.specs.Records as records
 
 -- how many nodes statements and procedures have
-abbrev pub nodes_on : StatementValue → ℕ
-nodes_on (calling target callees arguments) = 2
-nodes_on (other s) = 1
+abbrev pub node_count_on : StatementValue → ℕ
+node_count_on (calling target callees arguments) = 2
+node_count_on (other s) = 1
 
 abbrev pub nodes_in_all : List StatementValue → ℕ
 nodes_in_all [] = 0
-nodes_in_all (s ∷ statements) = nodes_on s + nodes_in_all statements
+nodes_in_all (s ∷ statements) = node_count_on s + nodes_in_all statements
 
-abbrev pub nodes_of : List ProcedureValue → ℕ
-nodes_of [] = 0
-nodes_of (q ∷ procedures) = (2 + nodes_in_all q.statements) + nodes_of procedures
+abbrev pub node_count_of : List ProcedureValue → ℕ
+node_count_of [] = 0
+node_count_of (q ∷ procedures) = (2 + nodes_in_all q.statements) + node_count_of procedures
 
 -- where the procedure of a name begins, and how many facts may hold there
 abbrev pub procedures : Procedures ProgramValue (List ℕ)
 procedures = record {
-  start = λ v name. option_map (λ i. nodes_of (take i v.procedures)) (position (λ q. bytes_eq name q.name) v.procedures);
+  start = λ v name. option_map (λ i. node_count_of (take i v.procedures)) (position (λ q. bytes_eq name q.name) v.procedures);
   entries = λ v. length v.globals + 1;
 }
 
@@ -52,31 +52,31 @@ named [] key = None
 named (item ∷ items) key = or_else (named items key) (said_by item key)
 
 -- what an image says of it
-abbrev pub entry_at : {F : Type 0} → ProgramImage F → Key → Option F × Bool
-entry_at image key = (image.get key, image.pending key)
+abbrev pub image_entry : {F : Type 0} → ProgramImage F → Key → Option F × Bool
+image_entry image key = (image.get key, image.pending key)
 
 -- the image with the entries that the items say, and every other one as it was
 abbrev pub with_items : {F : Type 0} → ProgramImage F → List (Item F) → ProgramImage F
 with_items image items = record image {
-  get = λ key. (unwrap_or (named items key) (entry_at image key)).0;
-  pending = λ key. (unwrap_or (named items key) (entry_at image key)).1;
+  get = λ key. (unwrap_or (named items key) (image_entry image key)).0;
+  pending = λ key. (unwrap_or (named items key) (image_entry image key)).1;
 }
 
 module _ {F L : Type 0} (functions : EdgeAlgebra F L) (same : F → F → Bool) where
   -- the record leads from the one image to the other
-  abbrev pub LeadsTo : RecordValue F → ProgramImage F → ProgramImage F → Type 0
-  LeadsTo (records.Load text) before now = (p : Program) × IsParsed text p × (now ≡ step procedures functions same before (Load (value_of p)))
-  LeadsTo (records.Root name) before now = now ≡ step procedures functions same before (Root name)
-  LeadsTo (records.Batch items) before now = now ≡ with_items before items
+  abbrev pub RecordLeads : RecordValue F → ProgramImage F → ProgramImage F → Type 0
+  RecordLeads (records.Load text) before now = (p : Program) × IsParsed text p × (now ≡ step procedures functions same before (Load (value_of p)))
+  RecordLeads (records.Root name) before now = now ≡ step procedures functions same before (Root name)
+  RecordLeads (records.Batch items) before now = now ≡ with_items before items
 
   -- the records lead, one after the other, from the one image to the other
-  abbrev pub LeadTo : List (RecordValue F) → ProgramImage F → ProgramImage F → Type 0
-  LeadTo [] before now = before ≡ now
-  LeadTo (r ∷ rs) before now = (between : ProgramImage F) × LeadsTo r before between × LeadTo rs between now
+  abbrev pub RecordsLead : List (RecordValue F) → ProgramImage F → ProgramImage F → Type 0
+  RecordsLead [] before now = before ≡ now
+  RecordsLead (r ∷ rs) before now = (between : ProgramImage F) × RecordLeads r before between × RecordsLead rs between now
 
   -- the image that the records give back
-  abbrev pub IsFolded : List (RecordValue F) → ProgramImage F → Type 0
-  IsFolded rs image = LeadTo rs (loaded None) image
+  abbrev pub IsFoldOfRecords : List (RecordValue F) → ProgramImage F → Type 0
+  IsFoldOfRecords rs image = RecordsLead rs (loaded None) image
 
 -- of a key the items say what is so now, where that is new, and else nothing
 abbrev pub SaysChange : {E : Type 0} → Option E → E → E → Type 0
@@ -85,7 +85,7 @@ SaysChange (Some entry) before now = (entry ≡ now) × (before ≢ now)
 
 -- the items name exactly the keys whose entry changed, each with its entry now
 abbrev pub IsBatch : {F : Type 0} → List (Item F) → ProgramImage F → ProgramImage F → Type 0
-IsBatch items before now = (key : Key) → SaysChange (named items key) (entry_at before key) (entry_at now key)
+IsBatch items before now = (key : Key) → SaysChange (named items key) (image_entry before key) (image_entry now key)
 
 -- such items lead from the one image to the other, where both are of one program with the same roots
 abbrev pub BatchesLead : Type 0 → Type 0

@@ -11,11 +11,11 @@ use Rattle.ide_wire.specs.declared.key.Key.{Key}
 use Rattle.ide_batch.specs.Groups.{is_proper_member, member_form}
 use Rattle.ide_batch.specs.Items.{Functions, mark, entry_form, is_proper_entry, item_form, is_proper_item}
 
-pub left : (a b : Bool) → IsTrue (a && b) → IsTrue a
-left a b h = grind (arith, nat_tests)
+pub left_law : (a b : Bool) → IsTrue (a && b) → IsTrue a
+left_law a b h = grind (arith, nat_tests)
 
-pub right : (a b : Bool) → IsTrue (a && b) → IsTrue b
-right a b h = grind (arith, nat_tests)
+pub right_law : (a b : Bool) → IsTrue (a && b) → IsTrue b
+right_law a b h = grind (arith, nat_tests)
 
 pub both : (a b : Bool) → IsTrue a → IsTrue b → IsTrue (a && b)
 both a b h k = grind (arith, nat_tests)
@@ -30,21 +30,21 @@ module _ {A B : Type 0} (p : A → Bool) (f : A → List ℕ) (q : B → Bool) (
   -- where the first is none, or what is behind it, both are none
   pub first_none : (bytes : List ℕ) → NoFormInFront p f bytes
       → (a : A) (b : B) (rest : List ℕ) → IsTrue (p a && q b) → bytes ≡ (f a ++ g b) ++ rest → ⊥
-  first_none bytes none a b rest proper is = none a (g b ++ rest) (left (p a) (q b) proper) (is ∙ append_assoc (f a) (g b) rest)
+  first_none bytes none a b rest proper is = none a (g b ++ rest) (left_law (p a) (q b) proper) (is ∙ append_assoc (f a) (g b) rest)
 
   pub second_none : (bytes : List ℕ) (x : A) (behind : List ℕ) → IsTrue (p x) → bytes ≡ f x ++ behind → NoFormInFront q g behind
       → (a : A) (b : B) (rest : List ℕ) → IsTrue (p a && q b) → bytes ≡ (f a ++ g b) ++ rest → ⊥
   second_none bytes x behind px found none a b rest proper is =
-      none b rest (right (p a) (q b) proper)
-      (parted x a behind (g b ++ rest) px (left (p a) (q b) proper) (sym found ∙ is ∙ append_assoc (f a) (g b) rest)).1
+      none b rest (right_law (p a) (q b) proper)
+      (parted x a behind (g b ++ rest) px (left_law (p a) (q b) proper) (sym found ∙ is ∙ append_assoc (f a) (g b) rest)).1
 
   -- and pairs are told apart where the second ones are
   pub pair_free : IsPrefixFree q g → (a c : A) (b d : B) (r s : List ℕ) → IsTrue (p a && q b) → IsTrue (p c && q d)
       → (f a ++ g b) ++ r ≡ (f c ++ g d) ++ s → (a ≡ c) × (b ≡ d)
   pair_free free_too a c b d r s x y same =
-      let cut = parted a c (g b ++ r) (g d ++ s) (left (p a) (q b) x) (left (p c) (q d) y)
+      let cut = parted a c (g b ++ r) (g d ++ s) (left_law (p a) (q b) x) (left_law (p c) (q d) y)
       (sym (append_assoc (f a) (g b) r) ∙ same ∙ append_assoc (f c) (g d) s) in
-      (cut.0, free_too b d r s (right (p a) (q b) x) (right (p c) (q d) y) cut.1)
+      (cut.0, free_too b d r s (right_law (p a) (q b) x) (right_law (p c) (q d) y) cut.1)
 
 same_pair : {A B : Type 0} (x y : A × B) → x.0 ≡ y.0 → x.1 ≡ y.1 → x ≡ y
 same_pair (a, b) (c, d) first second = cc (first, second)
@@ -76,15 +76,15 @@ module _ {F : Type 0} (functions : Functions F) (free : IsPrefixFree functions.p
       → NoFormInFront (λ b. true) mark behind → NoFormInFront (is_proper_entry functions) (entry_form functions) bytes
   no_marked bytes f behind proper found none x rest p same =
       second_none functions.proper functions.form (λ b. true) mark free bytes f behind proper found none x.0 x.1 rest
-      (both (functions.proper x.0) true (left (functions.proper x.0) (not (functions.is_top x.0)) p) refl) same
+      (both (functions.proper x.0) true (left_law (functions.proper x.0) (not (functions.is_top x.0)) p) refl) same
 
   pub no_top : (bytes : List ℕ) (f : F) (behind : List ℕ) → IsTrue (functions.proper f) → bytes ≡ functions.form f ++ behind
       → functions.is_top f ≡ true → NoFormInFront (is_proper_entry functions) (entry_form functions) bytes
   no_top bytes f behind proper found top x rest p same =
       let one : f ≡ x.0 = (parted functions.proper functions.form (λ b. true) mark free f x.0 behind (mark x.1 ++ rest) proper
-      (left (functions.proper x.0) (not (functions.is_top x.0)) p) (sym found ∙ same ∙ append_assoc (functions.form x.0) (mark x.1) rest)).0 in
+      (left_law (functions.proper x.0) (not (functions.is_top x.0)) p) (sym found ∙ same ∙ append_assoc (functions.form x.0) (mark x.1) rest)).0 in
       let high : functions.is_top x.0 ≡ true = ap functions.is_top (sym one) ∙ top in
-      let low : IsTrue (not (functions.is_top x.0)) = right (functions.proper x.0) (not (functions.is_top x.0)) p in
+      let low : IsTrue (not (functions.is_top x.0)) = right_law (functions.proper x.0) (not (functions.is_top x.0)) p in
       grind (arith, nat_tests, high, low)
 
   -- where a key stands in front, and behind it not what a key has, there is no item
@@ -97,7 +97,7 @@ module _ {F : Type 0} (functions : Functions F) (free : IsPrefixFree functions.p
   pub entry_free : IsPrefixFree (is_proper_entry functions) (entry_form functions)
   entry_free x y r s p q same =
       let cut = pair_free functions.proper functions.form (λ b. true) mark free mark_free x.0 y.0 x.1 y.1 r s
-      (both (functions.proper x.0) true (left _ _ p) refl) (both (functions.proper y.0) true (left _ _ q) refl) same in
+      (both (functions.proper x.0) true (left_law _ _ p) refl) (both (functions.proper y.0) true (left_law _ _ q) refl) same in
       same_pair x y cut.0 cut.1
 
   pub item_free : IsPrefixFree (is_proper_item functions) (item_form functions)

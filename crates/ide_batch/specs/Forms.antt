@@ -1,5 +1,5 @@
 -- Lists of coded forms, for bodies: how many there are, then each form.
-use Rattle.std.specs.Prelude.{◌≡◌, ℕ, Bool, true, ◌&&◌, List, [], ◌∷◌, ◌++◌, length, IsTrue}
+use Rattle.std.specs.Prelude.{◌≡◌, ℕ, Bool, true, ◌&&◌, List, [], ◌∷◌, ◌++◌, length, IfNone, IfOk, IfSome, IsTrue, Option, Result}
 use Rattle.std.specs.Int.{w32, to_le_bytes}
 use Rattle.std.specs.List.{flat_map}
 use Rattle.ide_wire.specs.Numbers.{fits}
@@ -21,3 +21,11 @@ counted form xs = to_le_bytes w32 (length xs) ++ flat_map form xs
 abbrev pub NoListInFront : {T : Type 0} → (T → Bool) → (T → List ℕ) → ℕ → List ℕ → Type 0
 NoListInFront {T = T} proper form count bytes =
     (xs : List T) (rest : List ℕ) → length xs ≡ count → IsTrue (all_proper proper xs) → bytes ≡ flat_map form xs ++ rest → ⊥
+
+-- of what a reader answers, if it found something
+abbrev pub IfRead : {X E : Type 0} → Result (Option X) E → (X → Type 0) → Type 0
+IfRead result Fact = IfOk result (λ read. IfSome read Fact)
+
+-- and if it found nothing
+abbrev pub IfNotRead : {X E : Type 0} → Result (Option X) E → Type 0 → Type 0
+IfNotRead result Fact = IfOk result (λ read. IfNone read Fact)

@@ -11,12 +11,12 @@ abbrev pub kind_at : Key → ℕ
 kind_at (Jump n a b) = 0
 kind_at (Summary n a b) = 1
 
-abbrev pub facts_of : Key → ℕ × ℕ
-facts_of (Jump n a b) = (a, b)
-facts_of (Summary n a b) = (a, b)
+abbrev pub facts_in : Key → ℕ × ℕ
+facts_in (Jump n a b) = (a, b)
+facts_in (Summary n a b) = (a, b)
 
 abbrev pub member_of : {F : Type 0} → Item F → Member F
-member_of item = ((facts_of item.0).0, (facts_of item.0).1, item.1, item.2)
+member_of item = ((facts_in item.0).0, (facts_in item.0).1, item.1, item.2)
 
 -- the key has the group's kind and node
 abbrev pub is_at : {F : Type 0} → Group F → Key → Bool
@@ -31,14 +31,14 @@ abbrev pub with_member : {F : Type 0} → Member F → Group F → Group F
 with_member member group = record group { members = member ∷ group.members }
 
 -- an item before groups: it is in the first of them if it has its kind and node, and else in one of its own
-abbrev pub joined : {F : Type 0} → Item F → List (Group F) → List (Group F)
-joined item [] = alone item ∷ []
-joined item (g ∷ groups) = cond (is_at g item.0) (with_member (member_of item) g ∷ groups) (alone item ∷ g ∷ groups)
+abbrev pub joined_to_groups : {F : Type 0} → Item F → List (Group F) → List (Group F)
+joined_to_groups item [] = alone item ∷ []
+joined_to_groups item (g ∷ groups) = cond (is_at g item.0) (with_member (member_of item) g ∷ groups) (alone item ∷ g ∷ groups)
 
 -- the items in runs of one kind and node
 abbrev pub groups_of : {F : Type 0} → List (Item F) → List (Group F)
 groups_of [] = []
-groups_of (item ∷ items) = joined item (groups_of items)
+groups_of (item ∷ items) = joined_to_groups item (groups_of items)
 
 -- the keys have one kind and node
 abbrev pub share_place : Key → Key → Bool

@@ -22,12 +22,12 @@ pub record Group (F : Type 0) : Type 0 where
   pub members : List (Member F)
 
 -- the key of that kind, at that node
-abbrev pub key_at : (kind node first second : ℕ) → Key
-key_at zero n a b = Jump n a b
-key_at (suc _) n a b = Summary n a b
+abbrev pub key_of_kind : (kind node first second : ℕ) → Key
+key_of_kind zero n a b = Jump n a b
+key_of_kind (suc _) n a b = Summary n a b
 
 abbrev pub items_of : {F : Type 0} → Group F → List (Item F)
-items_of group = map (λ member. (key_at group.kind group.node member.0 member.1, member.2, member.3)) group.members
+items_of group = map (λ member. (key_of_kind group.kind group.node member.0 member.1, member.2, member.3)) group.members
 
 -- how two groups compare, by kind and then by node, and two members, by their facts
 abbrev pub group_cmp : {F : Type 0} → Group F → Group F → Ordering

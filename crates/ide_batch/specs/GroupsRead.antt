@@ -62,7 +62,7 @@ module _ {F : Type 0} (functions : Functions F) where
   NoMembers count bytes = (members : List (Member F)) (rest : List ℕ) → AreMembers count members → bytes ≡ flat_map (member_form functions) members ++ rest → ⊥
 
   -- a group above the place before, whose items are few, with those so far
-  pub record MayFollow (before : Option Place) (so_far : ℕ) (group : Group F) : Type 0 where
+  pub record GroupMayFollow (before : Option Place) (so_far : ℕ) (group : Group F) : Type 0 where
     pub is : IsGroup group
     pub proper : IsTrue (is_proper_group functions group)
     pub above : IsAbove before (group_place group)
@@ -71,13 +71,13 @@ module _ {F : Type 0} (functions : Functions F) where
   -- it stands in front of the bytes, at that place, and its items behind the old ones
   pub record ReadsGroup (before : Option Place) (place : Place) (old new : List (Item F)) (bytes rest : List ℕ) : Type 0 where
     pub group : Group F
-    pub follows : MayFollow before (length old) group
+    pub follows : GroupMayFollow before (length old) group
     pub place_is : place ≡ group_place group
     pub found : bytes ≡ group_form functions group ++ rest
     pub items_are : new ≡ old ++ items_of group
 
   abbrev pub NoGroup : Option Place → ℕ → List ℕ → Type 0
-  NoGroup before so_far bytes = (group : Group F) (rest : List ℕ) → MayFollow before so_far group → bytes ≡ group_form functions group ++ rest → ⊥
+  NoGroup before so_far bytes = (group : Group F) (rest : List ℕ) → GroupMayFollow before so_far group → bytes ≡ group_form functions group ++ rest → ⊥
 
   -- so many groups, which ascend, with few items
   pub record AreInOrder (count : ℕ) (groups : List (Group F)) : Type 0 where

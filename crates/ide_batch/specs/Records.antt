@@ -10,10 +10,10 @@ pub data RecordValue (F : Type 0) : Type 0 where
   Root : List ℕ → RecordValue F
   Batch : List (Item F) → RecordValue F
 
-abbrev pub value_of : {F : Type 0} → Record F → RecordValue F
-value_of (declared.Load text) = Load text.items
-value_of (declared.Root name) = Root name.items
-value_of (declared.Batch items) = Batch items.items
+abbrev pub value_of_record : {F : Type 0} → Record F → RecordValue F
+value_of_record (declared.Load text) = Load text.items
+value_of_record (declared.Root name) = Root name.items
+value_of_record (declared.Batch items) = Batch items.items
 
 -- the kind that the journal notes
 abbrev pub kind_of : {F : Type 0} → RecordValue F → ℕ

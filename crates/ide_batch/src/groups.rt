@@ -1,13 +1,15 @@
 //! The body of a batch in the second version of a store: how many groups, then each, with the items
 //! of one node and kind.
-ghost use Rattle.std.specs.Prelude.{◌≡◌, ℕ, ◌++◌, ◌≤◌, ◌↔◌, length, List, IfOk, IfSome, IfNone, IsTrue};
-ghost use Rattle.ide_batch.specs.Groups.{IsGroupedBody, key_at};
+ghost use Rattle.std.specs.Prelude.{◌≡◌, ℕ, ◌++◌, ◌≤◌, ◌↔◌, length, List, IfSome, IfNone, IsTrue};
+ghost use Rattle.ide_batch.specs.Forms.{IfNotRead, IfRead};
+ghost use Rattle.ide_batch.specs.Groups.{IsGroupedBody, key_of_kind};
 ghost use Rattle.ide_batch.specs.GroupsRead.{IsAbove, NoGroup, NoGroups, NoMembers, ReadsGroup, ReadsGroups, ReadsMembers, header_form, is_proper_header};
 ghost use Rattle.ide_batch.specs.Items.{functions_by, Item};
 ghost use Rattle.ide_wire.specs.Form.{NoFormInFront};
 
 use crate::coded::{Coded, front_of};
 use crate::items::MOST;
+use crate::spelled::Spelled;
 use ide_lattice::EdgeFn;
 use ide_wire::{Fact, Key, Node};
 use std::alloc::{AllocError, Global};
@@ -19,8 +21,8 @@ pub(crate) fn read_groups<F: EdgeFn>(
     alloc: Global,
     body: &[u8],
 ) -> Result<Option<Vec<(Key, F, bool)>>, AllocError>
-    ensures items { IfOk result (λ read. IfSome read (λ items. IsGroupedBody (functions_by F.proper F.form F.eq F.edge.all_top) items.items body.now)) }
-    ensures none { IfOk result (λ read. IfNone read ((items : List (Item F)) → ¬ (IsGroupedBody (functions_by F.proper F.form F.eq F.edge.all_top) items body.now))) }
+    ensures items { IfRead result (λ items. IsGroupedBody (functions_by F.proper F.form F.eq F.edge.all_top) items.items body.now) }
+    ensures none { IfNotRead result ((items : List (Item F)) → ¬ (IsGroupedBody (functions_by F.proper F.form F.eq F.edge.all_top) items body.now)) }
 {
     let Some((count, rest)) = front_of::<u32>(body) else {
         return Ok(None);
@@ -43,8 +45,8 @@ fn groups_in_front<F: EdgeFn>(
     count: u32,
     bytes: &[u8],
 ) -> Result<Option<(Vec<(Key, F, bool)>, &[u8])>, AllocError>
-    ensures read { IfOk result (λ read. IfSome read (λ front. ReadsGroups (functions_by F.proper F.form F.eq F.edge.all_top) count front.0.items bytes.now front.1.now)) }
-    ensures none { IfOk result (λ read. IfNone read (NoGroups (functions_by F.proper F.form F.eq F.edge.all_top) count bytes.now)) }
+    ensures read { IfRead result (λ front. ReadsGroups ⟦<F as Spelled>⟧.forms count front.0.items bytes.now front.1.now) }
+    ensures none { IfNotRead result (NoGroups ⟦<F as Spelled>⟧.forms count bytes.now) }
 {
     let mut items = Vec::new(alloc);
     let mut before = None;
@@ -67,8 +69,8 @@ fn group_in_front<'a, F: EdgeFn>(
     bytes: &'a [u8],
 ) -> Result<Option<((u32, Node), &'a [u8])>, AllocError>
     requires { length items.old.items ≤ 65536 }
-    ensures read { IfOk result (λ read. IfSome read (λ front. ReadsGroup (functions_by F.proper F.form F.eq F.edge.all_top) before front.0 items.old.items items.new.items bytes.now front.1.now)) }
-    ensures none { IfOk result (λ read. IfNone read (NoGroup (functions_by F.proper F.form F.eq F.edge.all_top) before (length items.old.items) bytes.now)) }
+    ensures read { IfRead result (λ front. ReadsGroup ⟦<F as Spelled>⟧.forms before front.0 items.old.items items.new.items bytes.now front.1.now) }
+    ensures none { IfNotRead result (NoGroup ⟦<F as Spelled>⟧.forms before (length items.old.items) bytes.now) }
 {
     let Some((place, members, rest)) = header_in_front(bytes) else {
         return Ok(None);
@@ -111,8 +113,8 @@ fn members_in_front<'a, F: EdgeFn>(
     items: &mut Vec<(Key, F, bool)>,
     bytes: &'a [u8],
 ) -> Result<Option<&'a [u8]>, AllocError>
-    ensures read { IfOk result (λ read. IfSome read (λ rest. ReadsMembers (functions_by F.proper F.form F.eq F.edge.all_top) place count items.old.items items.new.items bytes.now rest.now)) }
-    ensures none { IfOk result (λ read. IfNone read (NoMembers (functions_by F.proper F.form F.eq F.edge.all_top) count bytes.now)) }
+    ensures read { IfRead result (λ rest. ReadsMembers ⟦<F as Spelled>⟧.forms place count items.old.items items.new.items bytes.now rest.now) }
+    ensures none { IfNotRead result (NoMembers ⟦<F as Spelled>⟧.forms count bytes.now) }
 {
     let mut before = None;
     let mut rest = bytes;
@@ -134,7 +136,7 @@ fn members_in_front<'a, F: EdgeFn>(
 
 /// The key of that kind, at that node.
 fn key_at(place: (u32, Node), first: Fact, second: Fact) -> Key
-    ensures { result ≡ key_at place.0 place.1 first second }
+    ensures { result ≡ key_of_kind place.0 place.1 first second }
 {
     if place.0 == 0 {
         Key::Jump(place.1, first, second)

@@ -1,7 +1,7 @@
 //! The body of a batch in the first version of a store: how many items, then each.
-ghost use Rattle.std.specs.Prelude.{◌≡◌, ◌++◌, ◌≤◌, length, List, IfOk, IfSome, IfNone, OnOk, [], ◌↔◌, IsTrue};
+ghost use Rattle.std.specs.Prelude.{◌≡◌, ◌++◌, ◌≤◌, length, List, OnOk, [], ◌↔◌, IsTrue};
 ghost use Rattle.ide_batch.specs.Items.{functions_by, AreWritten, IsListBody, Item, item_form};
-ghost use Rattle.ide_batch.specs.Forms.{counted};
+ghost use Rattle.ide_batch.specs.Forms.{IfNotRead, IfRead, counted};
 
 use crate::coded::front_of;
 use crate::list::{are_ascending, list_in_front, put_list};
@@ -17,8 +17,8 @@ pub(crate) fn read_items<F: EdgeFn>(
     alloc: Global,
     body: &[u8],
 ) -> Result<Option<Vec<(Key, F, bool)>>, AllocError>
-    ensures items { IfOk result (λ read. IfSome read (λ items. IsListBody (functions_by F.proper F.form F.eq F.edge.all_top) items.items body.now)) }
-    ensures none { IfOk result (λ read. IfNone read ((items : List (Item F)) → ¬ (IsListBody (functions_by F.proper F.form F.eq F.edge.all_top) items body.now))) }
+    ensures items { IfRead result (λ items. IsListBody (functions_by F.proper F.form F.eq F.edge.all_top) items.items body.now) }
+    ensures none { IfNotRead result ((items : List (Item F)) → ¬ (IsListBody (functions_by F.proper F.form F.eq F.edge.all_top) items body.now)) }
 {
     let Some((count, rest)) = front_of::<u32>(body) else {
         return Ok(None);

@@ -14,6 +14,7 @@ mod raw;
 mod record;
 mod replay;
 mod spell;
+mod spelled;
 mod written;
 
 pub use items::MOST;
@@ -22,4 +23,5 @@ pub use raw::to_raw;
 pub use record::Record;
 pub use replay::{apply, apply_all};
 pub use spell::groups_spell_lists;
+pub use spelled::Spelled;
 pub use written::may_be_spelled;

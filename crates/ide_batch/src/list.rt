@@ -1,8 +1,8 @@
 //! Lists of things with forms, and whether items ascend.
-ghost use Rattle.std.specs.Prelude.{◌≡◌, ℕ, ◌++◌, List, length, map, IsTrue, IfOk, IfSome, IfNone, OnOk, ◌↔◌};
+ghost use Rattle.std.specs.Prelude.{◌≡◌, ℕ, ◌++◌, List, length, map, IsTrue, OnOk, ◌↔◌};
 ghost use Rattle.std.specs.List.{flat_map};
 ghost use Rattle.std.specs.List.Sorted.{IsStrictlySortedBy};
-ghost use Rattle.ide_batch.specs.Forms.{all_proper, NoListInFront};
+ghost use Rattle.ide_batch.specs.Forms.{IfNotRead, IfRead, NoListInFront, all_proper};
 ghost use Rattle.ide_wire.specs.KeyOrder.{key_cmp};
 
 use crate::coded::Coded;
@@ -16,10 +16,10 @@ pub(crate) fn list_in_front<T: Coded>(
     count: usize,
     bytes: &[u8],
 ) -> Result<Option<(Vec<T>, &[u8])>, AllocError>
-    ensures counted { IfOk result (λ read. IfSome read (λ front. length front.0.items ≡ count)) }
-    ensures proper { IfOk result (λ read. IfSome read (λ front. IsTrue (all_proper T.proper front.0.items))) }
-    ensures found { IfOk result (λ read. IfSome read (λ front. bytes.now ≡ flat_map T.form front.0.items ++ front.1.now)) }
-    ensures none { IfOk result (λ read. IfNone read (NoListInFront T.proper T.form count bytes.now)) }
+    ensures counted { IfRead result (λ front. length front.0.items ≡ count) }
+    ensures proper { IfRead result (λ front. IsTrue (all_proper T.proper front.0.items)) }
+    ensures found { IfRead result (λ front. bytes.now ≡ flat_map T.form front.0.items ++ front.1.now) }
+    ensures none { IfNotRead result (NoListInFront T.proper T.form count bytes.now) }
 {
     let mut list = Vec::new(alloc);
     let mut rest = bytes;

@@ -2,7 +2,7 @@
 ghost use Rattle.std.specs.Prelude.{◌≡◌, [], OnOk, IfOk, IfErr};
 ghost use Rattle.ide_batch.specs.Bodies.{AreSpelled, IsBody, IsEntryOf, MayBeSpelled};
 ghost use Rattle.ide_batch.specs.Items.{AreWritten, functions_by};
-ghost use Rattle.ide_batch.specs.Records.{kind_of, value_of};
+ghost use Rattle.ide_batch.specs.Records.{kind_of, value_of_record};
 ghost use Rattle.ide_journal.specs.Format.{IsEntry};
 ghost use Rattle.ide_journal.specs.Lists.{entry_of};
 
@@ -22,8 +22,8 @@ pub fn to_raw<F: EdgeFn>(
     change: &Record<F>,
     version: Version,
 ) -> Result<RawRecord, Refused>
-    requires { MayBeSpelled (functions_by F.proper F.form F.eq F.edge.all_top) (value_of change.now) }
-    ensures spelled { IfOk result (λ raw. IsEntryOf (functions_by F.proper F.form F.eq F.edge.all_top) version (value_of change.now) (entry_of raw)) }
+    requires { MayBeSpelled (functions_by F.proper F.form F.eq F.edge.all_top) (value_of_record change.now) }
+    ensures spelled { IfOk result (λ raw. IsEntryOf (functions_by F.proper F.form F.eq F.edge.all_top) version (value_of_record change.now) (entry_of raw)) }
     ensures taken { IfOk result (λ raw. IsEntry (entry_of raw)) }
     ensures refused { IfErr result (λ e. e ≡ Refused.NoMemory) }
 {
@@ -35,7 +35,7 @@ pub fn to_raw<F: EdgeFn>(
 
 /// The kind that the journal notes.
 fn kind_of<F>(change: &Record<F>) -> u8
-    ensures { result ≡ kind_of (value_of change.now) }
+    ensures { result ≡ kind_of (value_of_record change.now) }
 {
     match change {
         Record::Load(_) => 1,
@@ -51,8 +51,8 @@ fn put_body<F: EdgeFn>(
     body: &mut Vec<u8>,
 ) -> Result<(), AllocError>
     requires empty { body.old.items ≡ [] }
-    requires spelled { MayBeSpelled (functions_by F.proper F.form F.eq F.edge.all_top) (value_of change.now) }
-    ensures { OnOk result (IsBody (functions_by F.proper F.form F.eq F.edge.all_top) version (value_of change.now) body.new.items) }
+    requires spelled { MayBeSpelled (functions_by F.proper F.form F.eq F.edge.all_top) (value_of_record change.now) }
+    ensures { OnOk result (IsBody (functions_by F.proper F.form F.eq F.edge.all_top) version (value_of_record change.now) body.new.items) }
 {
     match change {
         Record::Load(text) => body.extend_from_slice(text.as_slice()),

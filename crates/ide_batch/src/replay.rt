@@ -12,6 +12,7 @@ ghost use Rattle.ide_text.specs.declared.program.Program.{Program};
 ghost use Rattle.ide_worklist.specs.Worklist.{IsFree};
 
 use crate::body::read_body;
+use crate::spelled::Spelled;
 use ide_journal::{RawRecord, Version};
 use ide_problem::Problem;
 use ide_steps::Core;
@@ -32,8 +33,8 @@ pub fn apply<P: Problem>(
     version: Version,
 ) -> Result<(), Refused>
     requires { IsFree core.old.pile }
-    ensures applied { OnOk result (IsApplied (functions_by P.F.proper P.F.form P.F.eq P.F.edge.all_top) version P.F.edge P.F.eq core.old core.new (entry_of raw.now)) }
-    ensures refused { IfErr result (ApplyRefusal (functions_by P.F.proper P.F.form P.F.eq P.F.edge.all_top) version n core.old core.new (entry_of raw.now)) }
+    ensures applied { OnOk result (IsApplied ⟦<P::F as Spelled>⟧.forms version P.F.edge P.F.eq core.old core.new (entry_of raw.now)) }
+    ensures refused { IfErr result (ApplyRefusal ⟦<P::F as Spelled>⟧.forms version n core.old core.new (entry_of raw.now)) }
     ensures free { IsFree core.new.pile }
 {
     let body = raw.body.as_slice();
@@ -57,9 +58,9 @@ pub fn apply_all<P: Problem>(
     version: Version,
 ) -> Result<(), Refused>
     requires { IsFree core.old.pile }
-    ensures applied { OnOk result (AreApplied (functions_by P.F.proper P.F.form P.F.eq P.F.edge.all_top) version P.F.edge P.F.eq (entries_of records.now) core.old core.new) }
-    ensures leads { OnOk result (LeadOver (functions_by P.F.proper P.F.form P.F.eq P.F.edge.all_top) version P.F.edge P.F.eq (entries_of records.now) core.old core.new) }
-    ensures refused { IfErr result (StopsAt (functions_by P.F.proper P.F.form P.F.eq P.F.edge.all_top) version P.F.edge P.F.eq (entries_of records.now) core.old core.new) }
+    ensures applied { OnOk result (AreApplied ⟦<P::F as Spelled>⟧.forms version P.F.edge P.F.eq (entries_of records.now) core.old core.new) }
+    ensures leads { OnOk result (LeadOver ⟦<P::F as Spelled>⟧.forms version P.F.edge P.F.eq (entries_of records.now) core.old core.new) }
+    ensures refused { IfErr result (StopsAt ⟦<P::F as Spelled>⟧.forms version P.F.edge P.F.eq (entries_of records.now) core.old core.new) }
     ensures free { IsFree core.new.pile }
 {
     for (n, raw) in records.iter().enumerate() {

@@ -3,7 +3,7 @@ ghost use Rattle.std.specs.Prelude.{◌≡◌, ◌↔◌, IsTrue};
 ghost use Rattle.ide_batch.specs.Bodies.{MayBeSpelled};
 ghost use Rattle.ide_batch.specs.Forms.{all_proper};
 ghost use Rattle.ide_batch.specs.Items.{AreWritten, functions_by, is_proper_item};
-ghost use Rattle.ide_batch.specs.Records.{value_of};
+ghost use Rattle.ide_batch.specs.Records.{value_of_record};
 ghost use Rattle.ide_wire.specs.Key.{is_proper_key};
 
 use crate::items::MOST;
@@ -17,7 +17,7 @@ const LONGEST: usize = 4_194_304;
 
 /// Whether the formats spell the record. One pass over the items of a batch.
 pub fn may_be_spelled<F: EdgeFn>(change: &Record<F>) -> bool
-    ensures { IsTrue result ↔ MayBeSpelled (functions_by F.proper F.form F.eq F.edge.all_top) (value_of change.now) }
+    ensures { IsTrue result ↔ MayBeSpelled (functions_by F.proper F.form F.eq F.edge.all_top) (value_of_record change.now) }
 {
     match change {
         Record::Load(text) => text.len() <= LONGEST,

@@ -2,10 +2,10 @@
 ghost use Rattle.std.specs.Prelude.{IfOk};
 ghost use Rattle.ide_batch.specs.Bodies.{MayBeSpelled};
 ghost use Rattle.ide_batch.specs.Items.{functions_by};
-ghost use Rattle.ide_batch.specs.Records.{value_of};
+ghost use Rattle.ide_batch.specs.Records.{value_of_record};
 
 use crate::cores::{begin, do_first_parts, drain, replay};
-use ide_batch::{Record, to_raw};
+use ide_batch::{Record, Spelled, to_raw};
 use ide_instances::{ConstFn, CopyConst, Uninit, UninitFn};
 use ide_journal::Version;
 use ide_lattice::EdgeFn;
@@ -34,7 +34,7 @@ pub(crate) const TWO_PARTS: [u8; 34] = [
 
 /// The batch of an empty main.
 pub(crate) fn empty_main(alloc: Global) -> Result<Record<UninitFn>, AllocError>
-    ensures { IfOk result (λ change. MayBeSpelled (functions_by ⟦<UninitFn as Wire>⟧.proper ⟦<UninitFn as Wire>⟧.form ⟦<UninitFn as PartialEq>⟧.eq ⟦<UninitFn as EdgeFn>⟧.edge.all_top) (value_of change)) }
+    ensures { IfOk result (λ change. MayBeSpelled ⟦<UninitFn as Spelled>⟧.forms (value_of_record change)) }
 {
     let items = Vec::from_array(
         alloc,
@@ -49,7 +49,7 @@ pub(crate) fn empty_main(alloc: Global) -> Result<Record<UninitFn>, AllocError>
 
 /// The batch of a main with one number.
 pub(crate) fn two_parts(alloc: Global) -> Result<Record<ConstFn>, AllocError>
-    ensures { IfOk result (λ change. MayBeSpelled (functions_by ⟦<ConstFn as Wire>⟧.proper ⟦<ConstFn as Wire>⟧.form ⟦<ConstFn as PartialEq>⟧.eq ⟦<ConstFn as EdgeFn>⟧.edge.all_top) (value_of change)) }
+    ensures { IfOk result (λ change. MayBeSpelled ⟦<ConstFn as Spelled>⟧.forms (value_of_record change)) }
 {
     let items = Vec::from_array(
         alloc,
@@ -68,7 +68,7 @@ pub(crate) fn expect_spelled<F: EdgeFn>(
     version: Version,
     body: &[u8],
 ) -> Result<(), Fail>
-    requires { MayBeSpelled (functions_by F.proper F.form F.eq F.edge.all_top) (value_of change.now) }
+    requires { MayBeSpelled (functions_by F.proper F.form F.eq F.edge.all_top) (value_of_record change.now) }
 {
     let raw = to_raw(rt.alloc(), change, version)?;
     assert!(rt; raw.kind == 3);

@@ -8,7 +8,7 @@ use Rattle.ide_text.specs.Parsed.{IsParsed}
 use Rattle.ide_text.specs.Program.{procedures_of}
 use Rattle.ide_text.specs.declared.program.Program.{Program}
 use Rattle.ide_values.specs.Dump.{dump_of}
-use Rattle.ide_values.specs.Values.{ValuesData, value_of}
+use Rattle.ide_values.specs.Values.{ValuesData, value_there}
 use Rattle.ide_bench.specs.declared.counts.Counts.{Counts}
 
 -- the text spells a program of so many procedures
@@ -36,4 +36,4 @@ pub record AreCountsOf (text : List ℕ) (counts : Counts) : Type 0 where
 pub record IsDumpLength (text : List ℕ) (bytes : ℕ) : Type 0 where
   pub values : ValuesData ConstValue
   pub rooted : IsRootedAtMain text values.graph values.roots
-  pub measured : bytes ≡ length (dump_of values.graph (λ n d. shown_value (value_of const_algebra values n d)))
+  pub measured : bytes ≡ length (dump_of values.graph (λ n d. shown_value (value_there const_algebra values n d)))

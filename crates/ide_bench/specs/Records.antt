@@ -10,5 +10,5 @@ abbrev pub alike : ℕ → ℕ → ℕ → List Entry
 alike kind size count = replicate count (kind, zeros size)
 
 -- the record is stored behind those that the journal has
-abbrev pub Appends : {D : Type 0} {G : Ghosts D} → Entry → Journal D G → Journal D G → Type 0
-Appends entry old new = (head : Head) → (entries : List Entry) → IsAtRest head entries old → IsAtRest head (entries ++ entry ∷ []) new
+abbrev pub AppendsRecord : {D : Type 0} {G : Ghosts D} → Entry → Journal D G → Journal D G → Type 0
+AppendsRecord entry old new = (head : Head) → (entries : List Entry) → IsAtRest head entries old → IsAtRest head (entries ++ entry ∷ []) new

@@ -1,26 +1,13 @@
--- What disk calls do to the world of a store.
-use Rattle.std.specs.Prelude.{◌≡◌, List, length}
+-- What a run that was kept in a store came to.
+use Rattle.std.specs.Prelude.{◌≡◌, ℕ, length}
 use Rattle.ide_disk.specs.declared.disk.Disk.{Ghosts}
-use Rattle.ide_journal.specs.Format.{Entry, Head}
-use Rattle.ide_store.specs.Engine.{AreAtWork}
-use Rattle.ide_store.specs.Table.{Analysis, IsReached, StoreWorld, TableData}
-use Rattle.ide_store.specs.World.{Sealed}
-use Rattle.ide_store.specs.declared.writer.WriterHalf.{WriterHalf}
+use Rattle.ide_journal.specs.Stands.{stored_count}
+use Rattle.ide_store.specs.declared.engine.Engine.{Engine}
+use Rattle.ide_bench.specs.declared.stores.Amounts.{Amounts}
 
-module _ {F L : Type 0} (a : Analysis F L) {D : Type 0} {G : Ghosts D} where
-  -- the halves are at work on a world that acts led to, in which these records are sealed
-  pub record AreWorking (head : Head) (sealed : List (Sealed Entry)) (table : TableData F) (writer : WriterHalf D G) : Type 0 where
-    pub world : StoreWorld a head
-    pub reached : IsReached a head world
-    pub at_work : AreAtWork a head world table writer
-    pub same : world.world.sealed ≡ sealed
-
-  -- over each world that acts led to, and on which the halves were at work: they still are, and nothing was sealed
-  abbrev pub WorkOn : (table new_table : TableData F) (old new : WriterHalf D G) → Type 0
-  WorkOn table new_table old new = (head : Head) (w : StoreWorld a head) → IsReached a head w → AreAtWork a head w table old
-      → AreWorking head w.world.sealed new_table new
-
-  -- and all that was sealed is stored
-  abbrev pub StoreAll : (table new_table : TableData F) (old new : WriterHalf D G) → Type 0
-  StoreAll table new_table old new = (head : Head) (w : StoreWorld a head) → IsReached a head w → AreAtWork a head w table old
-      → (then : AreWorking head w.world.sealed new_table new) × (then.world.world.stored ≡ length w.world.sealed)
+-- the amounts are those of the engine's halves and its disk, and of so many tasks
+pub record AreAmountsOf {P D L F : Type 0} {G : Ghosts D} (engine : Engine P D L F G) (tasks : ℕ) (amounts : Amounts) : Type 0 where
+  pub records : amounts.records ≡ stored_count engine.writer.journal
+  pub bytes : amounts.bytes ≡ G.size engine.writer.journal.disk
+  pub keys : amounts.keys ≡ length engine.table.core.table.entries
+  pub done : amounts.tasks ≡ tasks

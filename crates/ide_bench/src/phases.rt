@@ -63,7 +63,7 @@ pub(crate) fn solve(alloc: Global, text: &[u8]) -> Result<Counts>
     ensures { IfOk result (AreCountsOf text.now) }
 {
     let Tabulated { closed, tasks } = drain_core(alloc, text)?;
-    let values = closed.values(alloc, 1)?;
+    let values = closed.values_alone(alloc)?;
     Ok(Counts::of(&values.loaded().graph, &closed.tables, tasks))
 }
 
@@ -72,7 +72,7 @@ pub(crate) fn measure_dump(alloc: Global, text: &[u8]) -> Result<usize>
     ensures { IfOk result (IsDumpLength text.now) }
 {
     let Tabulated { closed, .. } = drain_core(alloc, text)?;
-    let values: Values<CopyConst> = closed.values(alloc, 1)?;
+    let values: Values<CopyConst> = closed.values_alone(alloc)?;
     let mut dump = Vec::new(alloc);
     values.dump(&mut dump)?;
     Ok(dump.len())

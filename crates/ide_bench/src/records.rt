@@ -1,6 +1,6 @@
 //! Records in a journal on a disk in memory, and what copying their bodies alone takes.
 ghost use Rattle.std.specs.Prelude.{◌≡◌, ◌*◌, IfOk, OnOk, length};
-ghost use Rattle.ide_bench.specs.Records.{Appends, alike};
+ghost use Rattle.ide_bench.specs.Records.{AppendsRecord, alike};
 ghost use Rattle.ide_journal.specs.Format.{head_of, zeros};
 ghost use Rattle.ide_journal.specs.Lists.{IsAtRest, entry_of};
 
@@ -78,7 +78,7 @@ impl Sizes {
 
 /// Stores a record, by four disk calls.
 fn store(journal: &mut Journal<MemDisk>, raw: &RawRecord) -> Result<()>
-    ensures { OnOk result (Appends (entry_of raw.now) journal.old journal.new) }
+    ensures { OnOk result (AppendsRecord (entry_of raw.now) journal.old journal.new) }
 {
     ensure!(
         journal.is_idle() && journal.count() < MOST,

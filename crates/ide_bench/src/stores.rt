@@ -1,16 +1,14 @@
 //! A text's run by copy constants in a store on a disk in memory, and what copying the bytes of that disk takes.
-ghost use Rattle.std.specs.Prelude.{◌≡◌, IfOk, OnOk, length};
+ghost use Rattle.std.specs.Prelude.{◌≡◌, IfOk};
 ghost use Rattle.ide_disk.specs.Memory.{memory_size};
-ghost use Rattle.ide_journal.specs.Stands.{stored_count};
-ghost use Rattle.ide_bench.specs.Stores.{StoreAll};
+ghost use Rattle.ide_bench.specs.Stores.{AreAmountsOf};
 
-use anyhow::{Result, bail};
+use anyhow::Result;
 use ide_disk::{Disk, MemDisk};
 use ide_instances::CopyConst;
 use ide_journal::Version;
-use ide_problem::Problem;
 use ide_service::{Crew, Open, Service, work_together};
-use ide_store::{Engine, Kept};
+use ide_store::Engine;
 use ide_text::parse;
 use std::alloc::Global;
 use std::sync::Wait;
@@ -60,25 +58,13 @@ fn store_run(alloc: Global, engine: &mut Engine<CopyConst, MemDisk>, text: &[u8]
     begin(alloc, engine, text)?;
     let tasks = engine.table.drain()?;
     engine.table.seal()?;
-    store_all(engine)?;
+    engine.store_all()?;
     Ok(tasks)
-}
-
-/// Makes disk calls until all that was sealed is stored.
-fn store_all<P: Problem>(engine: &mut Engine<P, MemDisk>) -> Result<()>
-    ensures { OnOk result (StoreAll ⟦<P as Kept>⟧.analysis engine.old.table engine.new.table engine.old.writer engine.new.writer) }
-{
-    for _ in 0..CALLS {
-        if !engine.disk_step()? {
-            return Ok(());
-        }
-    }
-    bail!("the disk takes no more calls")
 }
 
 /// What the store came to, by so many tasks.
 fn measure_store(engine: Engine<CopyConst, MemDisk>, tasks: u64) -> Result<Amounts>
-    ensures { IfOk result (λ amounts. amounts ≡ record { records = stored_count engine.writer.journal; bytes = memory_size engine.writer.journal.disk; keys = length engine.table.core.table.entries; tasks = tasks }) }
+    ensures { IfOk result (AreAmountsOf engine tasks) }
 {
     let records = engine.acked();
     let keys = engine.table.core().key_count();

@@ -1,10 +1,15 @@
 -- What is printed of the values of a store.
+use Rattle.std.specs.Global.{Vec}
 use Rattle.std.specs.Prelude.{◌≡◌, ◌++◌, ℕ, List, [], Some, codes}
 use Rattle.ide_graph.specs.Supergraph.{IsFoundAt}
 use Rattle.ide_store.specs.Table.{Analysis, TableData}
 use Rattle.ide_values.specs.Closed.{FollowFrom}
 use Rattle.ide_values.specs.Frozen.{AreBestOf}
-use Rattle.ide_values.specs.Values.{ValuesData, dump_of_values, value_of}
+use Rattle.ide_values.specs.Values.{ValuesData, dump_of_values, value_there}
+
+-- a text of which that holds is appended
+abbrev pub Prints : (List ℕ → Type 0) → (old new : Vec ℕ) → Type 0
+Prints Holds old new = (text : List ℕ) × (new.items ≡ old.items ++ text) × Holds text
 
 module _ {F L : Type 0} (a : Analysis F L) where
   -- nothing is pending, and the values follow from the tables, for the program and its roots; each is best where a run over
@@ -24,7 +29,7 @@ module _ {F L : Type 0} (a : Analysis F L) where
       pub node : ℕ
       pub fact : ℕ
       pub found : IsFoundAt values.graph procedure position name node fact
-      pub is : text ≡ shown (value_of a.lattice values node fact) ++ codes "\n"
+      pub is : text ≡ shown (value_there a.lattice values node fact) ++ codes "\n"
 
     -- the text is the dump of the values
     pub record Dumps (text : List ℕ) : Type 0 where

@@ -6,8 +6,8 @@ use Rattle.ide_instances.specs.Received.{copy_targets, shift_targets, uninit_tar
 use Rattle.ide_instances.specs.UninitFn.{uninit_edge}
 use Rattle.ide_instances.specs.UninitValue.{uninit_algebra, shown_value}
 use Rattle.ide_service.specs.Solve.{IsSolution}
-use Rattle.ide_cli.specs.declared.words.Instance.{Instance}
-use Rattle.ide_cli.specs.declared.words.Instance.TheVariants.{Uninit, Copy, Shift}
+use Rattle.ide_words.specs.declared.words.Instance.{Instance}
+use Rattle.ide_words.specs.declared.words.Instance.TheVariants.{Uninit, Copy, Shift}
 
 -- the dump of a text by an analysis, with one root
 abbrev pub IsDump : Instance → List ℕ → List ℕ → List ℕ → Type 0

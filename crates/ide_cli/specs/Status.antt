@@ -1,26 +1,17 @@
 -- How far a store has come, and how that is printed.
-use Rattle.std.specs.Prelude.{◌≡◌, ◌++◌, ℕ, Bool, List, codes, count_by, decimal, if◌then◌else◌, is_some, length}
+use Rattle.std.specs.Prelude.{◌≡◌, ◌++◌, ℕ, Bool, List, codes, decimal, if◌then◌else◌, is_some, length}
 use Rattle.ide_disk.specs.declared.disk.Disk.{Ghosts}
 use Rattle.ide_journal.specs.Stands.{stored_count}
-use Rattle.ide_steps.specs.Core.{CoreData}
-use Rattle.ide_steps.specs.Items.{AreItems}
 use Rattle.ide_store.specs.Table.{TableData}
 use Rattle.ide_store.specs.declared.writer.WriterHalf.{WriterHalf}
-use Rattle.ide_wire.specs.declared.key.Key.{Key}
 use Rattle.ide_cli.specs.declared.status.Status.{Status}
-
--- so many of the keys that have an entry are pending
-pub record ArePending {F : Type 0} (core : CoreData F) (count : ℕ) : Type 0 where
-  pub items : List (Key × F × Bool)
-  pub all : AreItems core items
-  pub counted : count ≡ count_by (λ item. item.2) items
 
 -- the counts are those of the store
 pub record IsStatusOf {F D : Type 0} {G : Ghosts D} (table : TableData F) (writer : WriterHalf D G) (status : Status) : Type 0 where
   pub program : status.has_program ≡ is_some table.core.program
   pub roots : status.roots ≡ length table.core.roots
   pub keys : status.keys ≡ length table.core.table.entries
-  pub pending : ArePending table.core status.pending
+  pub pending : status.pending ≡ length table.core.pile.pending
   pub records : status.records ≡ stored_count writer.journal
   pub bytes : status.bytes ≡ G.size writer.journal.disk
 

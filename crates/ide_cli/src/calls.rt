@@ -1,7 +1,7 @@
 //! What each command on a store does, over any disk, and what it prints.
 ghost use Rattle.std.specs.Prelude.{◌≡◌, ◌++◌, ℕ, List, OnOk, IfOk};
-ghost use Rattle.ide_cli.specs.Asked.{Answers, AreNow, Dumps};
-ghost use Rattle.ide_cli.specs.Stored.{LoadsText, MakesRoot, PrintsStored, StoreAll, WorksAll, quiet_line, stored_line};
+ghost use Rattle.ide_cli.specs.Asked.{Answers, AreNow, Dumps, Prints};
+ghost use Rattle.ide_cli.specs.Stored.{StoresText, MakesRoot, PrintsStored, WorksAll, quiet_line, stored_line};
 
 use ide_disk::Disk;
 use ide_lattice::Lattice;
@@ -13,9 +13,6 @@ use ide_wire::Refused;
 use itoa::Buffer;
 use std::alloc::{AllocError, Global};
 
-/// The most disk calls that are made for one command: more than a store has room for.
-const CALLS: u64 = u64::MAX;
-
 /// Loads the program that the text spells, and appends its record's number once it is stored.
 pub(crate) fn load<P: Problem, D: Disk>(
     alloc: Global,
@@ -23,11 +20,11 @@ pub(crate) fn load<P: Problem, D: Disk>(
     text: &[u8],
     out: &mut Vec<u8>,
 ) -> Result<(), Refused>
-    ensures { OnOk result (PrintsStored (LoadsText ⟦<P as Kept>⟧.analysis engine.old engine.new text.now) out.old out.new) }
+    ensures { OnOk result (PrintsStored (StoresText ⟦<P as Kept>⟧.analysis engine.old engine.new text.now) out.old out.new) }
 {
     let program = parse(alloc, text)?;
     let ticket = engine.table.load(program)?;
-    store_all(engine)?;
+    engine.store_all()?;
     append_stored(ticket, out)?;
     Ok(())
 }
@@ -41,7 +38,7 @@ pub(crate) fn root<P: Problem, D: Disk>(
     ensures { OnOk result (PrintsStored (MakesRoot ⟦<P as Kept>⟧.analysis engine.old engine.new name.now) out.old out.new) }
 {
     let ticket = engine.table.root(name)?;
-    store_all(engine)?;
+    engine.store_all()?;
     append_stored(ticket, out)?;
     Ok(())
 }
@@ -66,20 +63,8 @@ fn work_alone<P: Problem, D: Disk>(engine: &mut Engine<P, D>) -> Result<(), Refu
 {
     let _ = engine.table.drain()?;
     let _ = engine.table.seal()?;
-    store_all(engine)?;
+    engine.store_all()?;
     Ok(())
-}
-
-/// Makes disk calls until all that was sealed is stored.
-fn store_all<P: Problem, D: Disk>(engine: &mut Engine<P, D>) -> Result<(), Refused>
-    ensures { OnOk result (StoreAll ⟦<P as Kept>⟧.analysis engine.old.table engine.new.table engine.old.writer engine.new.writer) }
-{
-    for _ in 0..CALLS {
-        if !engine.disk_step()? {
-            return Ok(());
-        }
-    }
-    Err(Refused::Limit)
 }
 
 /// Appends the number of a stored record.
@@ -102,7 +87,7 @@ pub(crate) fn ask<P: Problem>(
     fact: &[u8],
     out: &mut Vec<u8>,
 ) -> Result<(), Refused>
-    ensures { OnOk result ((text : List ℕ) × (out.new.items ≡ out.old.items ++ text) × Answers ⟦<P as Kept>⟧.analysis P.L.shown table.now procedure.now position fact.now text) }
+    ensures { OnOk result (Prints (Answers ⟦<P as Kept>⟧.analysis P.L.shown table.now procedure.now position fact.now) out.old out.new) }
 {
     let values = values_of(alloc, table)?;
     let (node, fact) = values.loaded().graph.find(procedure, position, fact)?;
@@ -118,7 +103,7 @@ pub(crate) fn dump<P: Problem>(
     table: &TableHalf<P>,
     out: &mut Vec<u8>,
 ) -> Result<(), Refused>
-    ensures { OnOk result ((text : List ℕ) × (out.new.items ≡ out.old.items ++ text) × Dumps ⟦<P as Kept>⟧.analysis P.L.shown table.now text) }
+    ensures { OnOk result (Prints (Dumps ⟦<P as Kept>⟧.analysis P.L.shown table.now) out.old out.new) }
 {
     let values = values_of(alloc, table)?;
     values.dump(out)
@@ -129,6 +114,6 @@ fn values_of<P: Problem>(alloc: Global, table: &TableHalf<P>) -> Result<Values<P
     ensures { IfOk result (AreNow ⟦<P as Kept>⟧.analysis table.now) }
 {
     let closed = table.freeze()?;
-    let values = closed.values(alloc, 1)?;
+    let values = closed.values_alone(alloc)?;
     Ok(values)
 }

@@ -1,12 +1,6 @@
 //! What refusals and faults mean, in a few sentences.
 
-/// The names that can be asked for.
-pub(crate) static NAMES: [&str; 25] = [
-    "E1", "E2", "E3", "E4", "E5", "E6", "E7", "E8", "E9", "E10", "E11", "E12", "E13", "E14", "E15",
-    "E16", "F1", "F2", "F3", "F4", "F5", "F6", "F7", "F8", "F9",
-];
-
-/// What the refusal or the fault of that name, one of [`NAMES`], means.
+/// What the refusal or the fault of that name, one of [`ide_words::NAMES`], means.
 pub(crate) fn meaning_of(name: &str) -> &'static str {
     match name {
         "E1" =>

@@ -1,20 +1,20 @@
 //! The program `idesolve`.
 //!
-//! `main` hands the words of the command line to [`run::run`] with the two standard streams, and
-//! ends with the status that it answers.
+//! `main` hands the words of the command line to [`run::run`] with the two standard streams, and with the
+//! second of them once more where it is a terminal, and ends with the status that it answers.
 #![tactic(auto)]
 
 mod calls;
-mod commands;
 mod counts;
 mod explain;
 mod failure;
 mod run;
 mod status;
 mod stores;
-mod words;
+mod telling;
 mod working;
 
+use std::io::IsTerminal;
 use std::process::ExitCode;
 use std::{env, io};
 
@@ -23,6 +23,7 @@ fn main(rt: HostRuntime) -> io::Result<ExitCode> {
     let words: Vec<String> = env::args(&rt)?.collect(alloc)?;
     let mut out = io::writer(&rt);
     let mut err = rt.stderr();
-    let status = run::run(&rt, words.as_slice(), &mut out, &mut err);
+    let terminal = err.is_terminal().then_some(err);
+    let status = run::run(&rt, words.as_slice(), terminal, &mut out, &mut err);
     Ok(ExitCode::from(status))
 }

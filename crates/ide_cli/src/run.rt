@@ -8,18 +8,18 @@ use crate::counts::append_counts;
 use crate::explain::meaning_of;
 use crate::failure::{Failure, read_file};
 use crate::stores::{create, obey};
-use crate::words::{Instance, Words, read_words};
 use clap::error::ErrorKind;
 use ide_graph::Graph;
 use ide_instances::{CopyConst, ShiftConst, Uninit};
-use ide_service::solve;
+use ide_service::solve_shared;
 use ide_text::parse;
 use ide_wire::Refused;
+use ide_words::{Instance, Words, read_words};
 use std::alloc::Global;
 use std::convert::AsStr;
 use std::fs::{File, Files};
 use std::io;
-use std::io::Write;
+use std::io::{Stderr, Write};
 use std::sync::Wait;
 use std::thread::Threads;
 use std::time::Clock;
@@ -32,10 +32,12 @@ const REFUSED: u8 = 1;
 const WRONG_WORDS: u8 = 2;
 
 /// Runs the command of a line, whose first word is the program's name, and answers the status.
-/// Nothing is written to `out` before the command has its whole answer.
+/// Nothing is written to `out` before the command has its whole answer. A command that takes long tells on the
+/// terminal, if there is one, how far it has come.
 pub(crate) fn run<R, S: AsStr, O: Write, E: Write>(
     rt: &R,
     line: &[S],
+    terminal: Option<Stderr>,
     out: &mut O,
     err: &mut E,
 ) -> u8
@@ -50,7 +52,7 @@ where
         Err(error) => return refuse_words(&error, out, err),
     };
     let mut text = Vec::new(rt.alloc());
-    match answer(rt, words, &mut text) {
+    match answer(rt, words, terminal, &mut text) {
         Ok(()) => status_of(DONE, write_out(out, text.as_slice())),
         Err(Failure::CannotRead(file)) => status_of(REFUSED, writeln!(err, "cannot read {file}")),
         Err(Failure::Refused(refused)) => status_of(REFUSED, writeln!(err, "{refused}")),
@@ -93,6 +95,7 @@ fn write_out<O: Write>(out: &mut O, text: &[u8]) -> io::Result<()> {
 fn answer<'a, R: Files<File = File> + AllocGlobal + Threads + Wait + Clock + Sync>(
     rt: &R,
     words: Words<'a>,
+    terminal: Option<Stderr>,
     out: &mut Vec<u8>,
 ) -> Result<(), Failure<'a>> {
     match words {
@@ -100,15 +103,11 @@ fn answer<'a, R: Files<File = File> + AllocGlobal + Threads + Wait + Clock + Syn
             instance,
             file,
             procedure,
+            workers,
         } => {
             let text = read_file(rt, file)?;
-            solve_by(
-                rt.alloc(),
-                instance,
-                text.as_slice(),
-                procedure.as_bytes(),
-                out,
-            )?;
+            let root = procedure.as_bytes();
+            solve_by(rt, instance, text.as_slice(), root, workers, out)?;
         }
         Words::Check { file } => {
             let text = read_file(rt, file)?;
@@ -116,7 +115,7 @@ fn answer<'a, R: Files<File = File> + AllocGlobal + Threads + Wait + Clock + Syn
         }
         Words::Explain { name } => explain(name, out)?,
         Words::Create { store, instance } => create(rt, store, instance, out)?,
-        Words::On { store, command } => obey(rt, store, command, out)?,
+        Words::On { store, command } => obey(rt, store, command, terminal, out)?,
     }
     Ok(())
 }
@@ -128,21 +127,24 @@ fn explain(name: &str, out: &mut Vec<u8>) -> Result<(), Refused> {
     Ok(())
 }
 
-/// Appends the dump of the program that the text spells, by that analysis and with that root.
-fn solve_by(
-    alloc: Global,
+/// Appends the dump of the program that the text spells, by that analysis and with that root. So many
+/// workers fill the values.
+fn solve_by<R: AllocGlobal + Threads + Sync>(
+    rt: &R,
     instance: Instance,
     text: &[u8],
     root: &[u8],
+    workers: usize,
     out: &mut Vec<u8>,
 ) -> Result<(), Refused>
     ensures { OnOk result ((dump : List ℕ) × (out.new.items ≡ out.old.items ++ dump) × IsDump instance text.now root.now dump) }
 {
+    let alloc = rt.alloc();
     let roots = [root];
     match instance {
-        Instance::Uninit => solve::<Uninit>(alloc, text, &roots, out),
-        Instance::Copy => solve::<CopyConst>(alloc, text, &roots, out),
-        Instance::Shift => solve::<ShiftConst>(alloc, text, &roots, out),
+        Instance::Uninit => solve_shared::<R, Uninit>(rt, alloc, text, &roots, workers, out),
+        Instance::Copy => solve_shared::<R, CopyConst>(rt, alloc, text, &roots, workers, out),
+        Instance::Shift => solve_shared::<R, ShiftConst>(rt, alloc, text, &roots, workers, out),
     }
 }
 

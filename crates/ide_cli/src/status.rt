@@ -1,10 +1,9 @@
 //! How far a store has come.
 ghost use Rattle.std.specs.Prelude.{◌≡◌, ◌++◌, OnOk, IfOk};
-ghost use Rattle.ide_cli.specs.Status.{ArePending, IsStatusOf, count_line, program_line, status_lines};
+ghost use Rattle.ide_cli.specs.Status.{IsStatusOf, count_line, program_line, status_lines};
 
 use ide_disk::Disk;
 use ide_problem::Problem;
-use ide_steps::Core;
 use ide_store::Engine;
 use ide_wire::Refused;
 use itoa::Buffer;
@@ -16,7 +15,7 @@ pub(crate) struct Status {
     /// Whether a program was loaded.
     has_program: bool,
     roots: u64,
-    /// How many keys have an entry, and how many of them are pending.
+    /// How many keys have an entry, and how many are pending.
     keys: u64,
     pending: u64,
     /// How many records are stored, and how many bytes the store's disk has.
@@ -25,9 +24,9 @@ pub(crate) struct Status {
 }
 
 impl Status {
-    /// The counts of an open store. It lists the keys once.
+    /// The counts of an open store.
     ///
-    /// Refusals: `NoMemory`; `Disk`, where the disk does not tell its length.
+    /// Refusal: `Disk`, where the disk does not tell its length.
     pub(crate) fn of<P: Problem, D: Disk + Drop>(engine: Engine<P, D>) -> Result<Status, Refused>
         ensures { IfOk result (IsStatusOf engine.table engine.writer) }
     {
@@ -35,7 +34,7 @@ impl Status {
         let has_program = core.program().is_some();
         let roots = core.roots().len() as u64;
         let keys = core.key_count() as u64;
-        let pending = pending_count(core)?;
+        let pending = core.pending_count() as u64;
         let records = engine.acked();
         let Ok(bytes) = engine.into_disk().len() else {
             return Err(Refused::Disk);
@@ -82,13 +81,4 @@ fn append_line(counted: &[u8], count: u64, out: &mut Vec<u8>) -> Result<(), Allo
     out.extend_from_slice(counted)?;
     out.extend_from_slice(Buffer::new().format(count).as_bytes())?;
     out.extend_from_slice(b"\n")
-}
-
-/// How many keys are pending.
-fn pending_count<P: Problem>(core: &Core<P>) -> Result<u64, Refused>
-    ensures { IfOk result (ArePending core.now) }
-{
-    let items = core.items()?;
-    let count = items.iter().filter(|item| item.2).count();
-    Ok(count as u64)
 }

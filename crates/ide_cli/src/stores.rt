@@ -2,13 +2,12 @@
 ghost use Rattle.std.specs.Prelude.{IfOk, IfErr};
 ghost use Rattle.ide_journal.specs.Format.{head_of};
 ghost use Rattle.ide_journal.specs.Refusals.{IsCreateRefusal};
-ghost use Rattle.ide_store.specs.Engine.{AreNew};
+ghost use Rattle.ide_store.specs.Engine.{MakesEngine};
 ghost use Rattle.ide_journal.specs.declared.version.Version.TheVariants.{Two};
 
 use crate::calls;
 use crate::failure::{Failure, read_file};
 use crate::status::Status;
-use crate::words::{Instance, StoreCommand};
 use crate::working::work;
 use ide_disk::Disk;
 use ide_file::FileDisk;
@@ -17,8 +16,10 @@ use ide_journal::Version;
 use ide_problem::Problem;
 use ide_store::{Engine, Kept};
 use ide_wire::Refused;
+use ide_words::{Instance, StoreCommand};
 use std::alloc::Global;
 use std::fs::{File, Files};
+use std::io::Stderr;
 use std::path::Path;
 use std::sync::Wait;
 use std::thread::Threads;
@@ -53,7 +54,7 @@ pub(crate) fn create<'a, R: Files<File = File> + AllocGlobal>(
 
 /// A new store of an analysis, of the second version.
 fn made<P: Problem, D: Disk + Drop>(alloc: Global, disk: D) -> Result<Engine<P, D>, Refused>
-    ensures { D.honest disk → IfOk result (λ engine. AreNew ⟦<P as Kept>⟧.analysis (head_of Two P.TAG) engine.table engine.writer) }
+    ensures { MakesEngine ⟦<P as Kept>⟧.analysis (head_of Two P.TAG) disk result }
 {
     match Engine::create(alloc, disk, Version::Two) {
         Ok(engine) => Ok(engine),
@@ -63,11 +64,13 @@ fn made<P: Problem, D: Disk + Drop>(alloc: Global, disk: D) -> Result<Engine<P, 
 
 /// Does a command on the store in the file of that name, and appends what it prints.
 ///
-/// The store's file is opened first, and then a text is read, before any call can be refused.
+/// The store's file is opened first, and then a text is read, before any call can be refused. How far `work` has
+/// come is told on the terminal, if there is one, unless it is to be quiet.
 pub(crate) fn obey<'a, R: Files<File = File> + AllocGlobal + Threads + Wait + Clock + Sync>(
     rt: &R,
     store: &'a str,
     command: StoreCommand<'a>,
+    terminal: Option<Stderr>,
     out: &mut Vec<u8>,
 ) -> Result<(), Failure<'a>> {
     let Ok(disk) = FileDisk::open(rt, Path::new(store)) else {
@@ -78,8 +81,9 @@ pub(crate) fn obey<'a, R: Files<File = File> + AllocGlobal + Threads + Wait + Cl
         _ => Vec::new(rt.alloc()),
     };
     let opened = open(rt.alloc(), disk)?;
-    if let StoreCommand::Work { workers, .. } = command {
-        work(rt, opened, workers, out)?;
+    if let StoreCommand::Work { workers, quiet } = command {
+        let told = if quiet { None } else { terminal };
+        work(rt, opened, workers, told, out)?;
         return Ok(());
     }
     match opened {

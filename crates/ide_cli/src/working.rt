@@ -4,13 +4,15 @@
 //! bound on a type parameter's own type, as that a problem's functions may be sent.
 use crate::calls::end_work;
 use crate::stores::Store;
+use crate::telling::Telling;
 use ide_file::FileDisk;
-use ide_service::{Crew, Open, Service, work_together};
+use ide_service::{Crew, Service, work_together};
 use ide_wire::Refused;
 use std::fs::File;
+use std::io::Stderr;
 use std::sync::Wait;
 use std::thread::Threads;
-use std::time::Clock;
+use std::time::{Clock, Instant};
 
 /// How many tasks a hand does in one hold of the store's lock: so many take tens of microseconds, beside
 /// which a lock that is handed on costs little.
@@ -18,30 +20,40 @@ const AHEAD: usize = 64;
 
 /// Lets so many hands do all that is pending in the engine while one stores what they do, and appends `quiet`.
 macro_rules! work_on {
-    ($rt:expr, $engine:expr, $workers:expr, $out:expr) => {{
+    ($rt:expr, $engine:expr, $workers:expr, $terminal:expr, $out:expr) => {{
         let service = Service::new($rt.alloc(), $engine);
+        let gate = Telling {
+            rt: $rt,
+            service: &service,
+            terminal: $terminal,
+            since: Instant::now($rt).ok(),
+            ahead: AHEAD,
+        };
         let crew = Crew {
             rt: $rt,
             service: &service,
-            gate: &Open { ahead: AHEAD },
+            gate: &gate,
         };
-        work_together($rt, $rt.alloc(), &crew, $workers)?;
+        let worked = work_together($rt, $rt.alloc(), &crew, $workers);
+        gate.end();
+        worked?;
         let mut engine = service.into_engine();
         end_work(&mut engine, $out)
     }};
 }
 
 /// Lets so many hands do all that is pending in the store while one stores what they do, and appends `quiet` once
-/// the last batch is stored.
+/// the last batch is stored. How far that has come is told on the terminal, if there is one.
 pub(crate) fn work<R: Threads + Wait + Clock + Sync + AllocGlobal>(
     rt: &R,
     store: Store<FileDisk<File>>,
     workers: usize,
+    terminal: Option<Stderr>,
     out: &mut Vec<u8>,
 ) -> Result<(), Refused> {
     match store {
-        Store::Uninit(engine) => work_on!(rt, engine, workers, out),
-        Store::Copy(engine) => work_on!(rt, engine, workers, out),
-        Store::Shift(engine) => work_on!(rt, engine, workers, out),
+        Store::Uninit(engine) => work_on!(rt, engine, workers, terminal, out),
+        Store::Copy(engine) => work_on!(rt, engine, workers, terminal, out),
+        Store::Shift(engine) => work_on!(rt, engine, workers, terminal, out),
     }
 }

@@ -76,7 +76,7 @@ pub record IsSameDisk (old new : MemDisk) : Type 0 where
   pub failures : new.counter.failures ≡ old.counter.failures
 
 -- time goes on; the call is counted, as a failure where it failed, and recorded with no more than so many bytes; what is told to fail and the limits stay
-pub record IsCounted {T E : Type 0} (result : Result T E) (count : ℕ) (old new : MemDisk) : Type 0 where
+pub record CountsCall {T E : Type 0} (result : Result T E) (count : ℕ) (old new : MemDisk) : Type 0 where
   pub time : Elapses memory_moment memory_since memory_state old new
   pub calls : call_count new ≡ next_count (call_count old)
   pub failures : failure_count new ≡ failures_after result (failure_count old)

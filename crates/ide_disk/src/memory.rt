@@ -97,7 +97,7 @@ impl MemDisk {
 
 impl Disk for MemDisk {
     ghost use Rattle.std.proofs.Common.{sym, ap};
-    ghost use Rattle.ide_disk.specs.Memory.{memory_size, memory_state, memory_moment, memory_since, call_count, failure_count, CanCall, CanWrite, IsCounted};
+    ghost use Rattle.ide_disk.specs.Memory.{memory_size, memory_state, memory_moment, memory_since, call_count, failure_count, CanCall, CanWrite, CountsCall};
     ghost use Rattle.ide_disk.specs.Bounded.{bounded_length};
     ghost use Rattle.ide_disk.specs.Past.{counts_now, only_now};
     ghost use Rattle.ide_disk.specs.Left.{possible_replay};
@@ -121,7 +121,7 @@ impl Disk for MemDisk {
         ensures length { IfOk result (λ count. count ≡ memory_size self.old) }
         ensures size { memory_size self.new ≡ memory_size self.old }
         ensures state { memory_state self.new ≡ memory_state self.old }
-        ensures counted { IsCounted result 0 self.old self.new }
+        ensures counted { CountsCall result 0 self.old self.new }
     {
         let fails = self.counter.counts_call();
         if !self.contents.look() || fails {
@@ -136,7 +136,7 @@ impl Disk for MemDisk {
         ensures bytes { OnOk result (out.new ≡ read_at at (length out.old) (memory_state self.old)) }
         ensures size { memory_size self.new ≡ memory_size self.old }
         ensures state { memory_state self.new ≡ memory_state self.old }
-        ensures counted { IsCounted result 0 self.old self.new }
+        ensures counted { CountsCall result 0 self.old self.new }
     {
         let fails = self.counter.counts_call();
         if !self.contents.read(at as usize, out) || fails {
@@ -152,7 +152,7 @@ impl Disk for MemDisk {
         ensures size { OnOk result (memory_size self.new ≡ max (memory_size self.old) (at + length bytes.now)) }
         ensures bytes { OnOk result (memory_state self.new ≡ written at bytes.now (memory_state self.old)) }
         ensures crash { LeavesAfter (Wrote at (length bytes.now)) (memory_state self.old) (memory_state self.new) }
-        ensures counted { IsCounted result (length bytes.now) self.old self.new }
+        ensures counted { CountsCall result (length bytes.now) self.old self.new }
     {
         let fails = self.counter.counts_call();
         if !self.contents.write_over(at as usize, bytes) || fails {
@@ -169,7 +169,7 @@ impl Disk for MemDisk {
         ensures size { OnOk result (memory_size self.new ≡ len) }
         ensures bytes { OnOk result (memory_state self.new ≡ cut_to len (memory_state self.old)) }
         ensures crash { LeavesAfter (Cut len) (memory_state self.old) (memory_state self.new) }
-        ensures counted { IsCounted result 0 self.old self.new }
+        ensures counted { CountsCall result 0 self.old self.new }
     {
         let fails = self.counter.counts_call();
         if !self.contents.cut_off(len as usize) || fails {
@@ -183,7 +183,7 @@ impl Disk for MemDisk {
         ensures size { memory_size self.new ≡ memory_size self.old }
         ensures bytes { OnOk result (memory_state self.new ≡ synced_now (memory_state self.old)) }
         ensures crash { LeavesAfterSync (memory_state self.old) (memory_state self.new) }
-        ensures counted { IsCounted result 0 self.old self.new }
+        ensures counted { CountsCall result 0 self.old self.new }
     {
         if self.counter.counts_call() {
             let _ = self.contents.look();

@@ -4,7 +4,7 @@ use Rattle.ide_graph.specs.Supergraph.{Supergraph, IsFoundAt}
 use Rattle.ide_service.specs.Solve.{AreSolved}
 use Rattle.ide_theory.specs.Best.{IsBest}
 use Rattle.ide_theory.specs.Graphs.{frame_at, roots_at}
-use Rattle.ide_values.specs.Values.{ValuesData, value_of}
+use Rattle.ide_values.specs.Values.{ValuesData, value_there}
 use Rattle.ide_example.specs.Asked.{IsAnswer, origin_told}
 use Rattle.ide_example.specs.Carry.{carries}
 use Rattle.ide_example.specs.Inputs.{inputs_targets}
@@ -22,7 +22,7 @@ told Input = refl
 pub answered : (text root : List ℕ) (place : Place) (values : ValuesData Origin) (graph : Supergraph) (node fact : ℕ) (origin : Origin) (answer : Bool)
     → AreSolved origins carries inputs_targets text (root ∷ []) values → graph ≡ values.graph
     → IsFoundAt graph place.procedure.now place.position place.variable.now node fact → node < graph.nodes → fact < graph.facts
-    → origin ≡ value_of origins values node fact → answer ≡ origin_eq.eq origin Input
+    → origin ≡ value_there origins values node fact → answer ≡ origin_eq.eq origin Input
     → IsAnswer text root place answer
 answered text root place values graph node fact origin answer solved same found is_node is_fact value is = record {
   graph = values.graph;

@@ -5,13 +5,13 @@ use Rattle.ide_example.specs.declared.origin.Origin.{Origin}
 use Rattle.ide_example.specs.declared.origin.Origin.TheVariants.{Program, Input}
 
 -- perhaps from an input where either is
-abbrev pub meet_of : Origin → Origin → Origin
-meet_of Program y = y
-meet_of Input y = Input
+abbrev pub meet_origins : Origin → Origin → Origin
+meet_origins Program y = y
+meet_origins Input y = Input
 
-abbrev pub rank_of : Origin → ℕ
-rank_of Program = 1
-rank_of Input = 0
+abbrev pub origin_rank : Origin → ℕ
+origin_rank Program = 1
+origin_rank Input = 0
 
 -- the printed form of an origin
 abbrev pub shown_origin : Origin → List ℕ
@@ -23,7 +23,7 @@ origins = record {
   proper = λ x. true;
   top = Program;
   bottom = Input;
-  meet = meet_of;
-  rank = rank_of;
+  meet = meet_origins;
+  rank = origin_rank;
   height = 1;
 }

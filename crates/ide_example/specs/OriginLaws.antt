@@ -2,30 +2,30 @@
 use Rattle.std.specs.Prelude.{◌≡◌, ◌≢◌, ◌<◌, ◌≤◌, true}
 use Rattle.std.proofs.Common.{refl, ap, arith}
 use Rattle.ide_lattice.specs.Laws.{IsLattice}
-use Rattle.ide_example.specs.Origin.{origins, meet_of, rank_of}
+use Rattle.ide_example.specs.Origin.{origins, meet_origins, origin_rank}
 use Rattle.ide_example.specs.declared.origin.Origin.{Origin}
 use Rattle.ide_example.specs.declared.origin.Origin.TheVariants.{Program, Input}
 use Rattle.ide_example.specs.contracts.origin.OriginPartialEq.TheImpl.{ghosts as origin_eq}
 
-commutative : (x y : Origin) → meet_of x y ≡ meet_of y x
+commutative : (x y : Origin) → meet_origins x y ≡ meet_origins y x
 commutative Program Program = refl
 commutative Program Input = refl
 commutative Input Program = refl
 commutative Input Input = refl
 
-associative : (x y z : Origin) → meet_of (meet_of x y) z ≡ meet_of x (meet_of y z)
+associative : (x y z : Origin) → meet_origins (meet_origins x y) z ≡ meet_origins x (meet_origins y z)
 associative Program y z = refl
 associative Input y z = refl
 
-idempotent : (x : Origin) → meet_of x x ≡ x
+idempotent : (x : Origin) → meet_origins x x ≡ x
 idempotent Program = refl
 idempotent Input = refl
 
-rank-most : (x : Origin) → rank_of x ≤ 1
+rank-most : (x : Origin) → origin_rank x ≤ 1
 rank-most Program = omega (arith)
 rank-most Input = omega (arith)
 
-rank-falls : (x y : Origin) → meet_of x y ≢ x → rank_of (meet_of x y) < rank_of x
+rank-falls : (x y : Origin) → meet_origins x y ≢ x → origin_rank (meet_origins x y) < origin_rank x
 rank-falls Program Program h = absurd (h refl)
 rank-falls Program Input h = omega (arith)
 rank-falls Input y h = absurd (h refl)
@@ -51,4 +51,4 @@ equal_origins Input Program h = cc
 equal_origins Input Input h = refl
 
 pub program_is_not_input : Program ≡ Input → ⊥
-program_is_not_input same = let ranks : 1 ≡ 0 = ap rank_of same in omega (arith, ranks)
+program_is_not_input same = let ranks : 1 ≡ 0 = ap origin_rank same in omega (arith, ranks)

@@ -23,19 +23,19 @@ abbrev pub disk_left_since : {F : Type 0} {G : Ghosts F} → FileDisk F G → �
 disk_left_since {G = G} disk = G.left_since disk.file
 
 -- how many calls were made
-abbrev pub call_count : {F : Type 0} {G : Ghosts F} → FileDisk F G → ℕ
-call_count disk = disk.calls
+abbrev pub file_call_count : {F : Type 0} {G : Ghosts F} → FileDisk F G → ℕ
+file_call_count disk = disk.calls
 
 -- how many of them failed
-abbrev pub failure_count : {F : Type 0} {G : Ghosts F} → FileDisk F G → ℕ
-failure_count disk = disk.failures
+abbrev pub file_failure_count : {F : Type 0} {G : Ghosts F} → FileDisk F G → ℕ
+file_failure_count disk = disk.failures
 
 -- no change was refused
 abbrev pub IsWorking : {F : Type 0} {G : Ghosts F} → FileDisk F G → Type 0
 IsWorking disk = disk.stopped ≡ false
 
 -- the file is honest, as long as the disk knows, and as long as at the last sync where it was not resized
-pub record IsSound {F : Type 0} {G : Ghosts F} (disk : FileDisk F G) : Type 0 where
+pub record IsSoundFile {F : Type 0} {G : Ghosts F} (disk : FileDisk F G) : Type 0 where
   pub file : G.honest disk.file
   pub whole : length (G.state disk.file).now ≡ disk.size
   pub synced : IsWorking disk → disk.resized ≡ false → IsAsLong (G.state disk.file)

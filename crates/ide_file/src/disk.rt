@@ -31,7 +31,7 @@ pub struct FileDisk<F: BackingFile> {
 }
 
 impl<F: BackingFile> FileDisk<F> {
-    ghost use Rattle.ide_file.specs.FileDisk.{disk_size, disk_state, call_count, failure_count, IsWorking, IsSound, CountsFailure};
+    ghost use Rattle.ide_file.specs.FileDisk.{disk_size, disk_state, file_call_count, file_failure_count, IsWorking, IsSoundFile, CountsFailure};
 
     /// A disk over an open file, as long as the file answers: one call of the file. It is refused where that call
     /// is (`Unreadable`), and where the file is longer than a disk may be (`TooLong`).
@@ -39,10 +39,10 @@ impl<F: BackingFile> FileDisk<F> {
     where
         F: Drop,
         requires { IsTrue (F.usable file) }
-        ensures honest { F.honest file → IfOk result IsSound }
+        ensures honest { F.honest file → IfOk result IsSoundFile }
         ensures state { F.honest file → IfOk result (λ disk. disk_state disk ≡ F.state file) }
-        ensures calls { IfOk result (λ disk. call_count disk ≡ 0) }
-        ensures failures { IfOk result (λ disk. failure_count disk ≡ 0) }
+        ensures calls { IfOk result (λ disk. file_call_count disk ≡ 0) }
+        ensures failures { IfOk result (λ disk. file_failure_count disk ≡ 0) }
         ensures working { IfOk result IsWorking }
     {
         let size = file.len().map_err(FileFault::Unreadable)?;
@@ -75,14 +75,14 @@ impl<F: BackingFile> FileDisk<F> {
 
     /// How many calls of the disk were made, up to the largest number of 64 bits.
     pub fn calls(&self) -> u64
-        ensures { result ≡ call_count self.now }
+        ensures { result ≡ file_call_count self.now }
     {
         self.calls
     }
 
     /// How many of them failed, up to the same number.
     pub fn failures(&self) -> u64
-        ensures { result ≡ failure_count self.now }
+        ensures { result ≡ file_failure_count self.now }
     {
         self.failures
     }
@@ -97,9 +97,9 @@ impl<F: BackingFile> FileDisk<F> {
 }
 
 impl<F: BackingFile> Disk for FileDisk<F> {
-    ghost use Rattle.ide_file.specs.FileDisk.{disk_size, disk_state, disk_moment, disk_left_since, call_count, failure_count, IsSound};
+    ghost use Rattle.ide_file.specs.FileDisk.{disk_size, disk_state, disk_moment, disk_left_since, file_call_count, file_failure_count, IsSoundFile};
 
-    ghost honest = { IsSound };
+    ghost honest = { IsSoundFile };
 
     ghost size = { disk_size };
 
@@ -109,9 +109,9 @@ impl<F: BackingFile> Disk for FileDisk<F> {
 
     ghost left_since = { disk_left_since };
 
-    ghost calls = { call_count };
+    ghost calls = { file_call_count };
 
-    ghost failures = { failure_count };
+    ghost failures = { file_failure_count };
 
     fn len(&mut self) -> Result<u64, DeviceFault> {
         self.calls = self.calls.saturating_add(1);

@@ -7,7 +7,7 @@ use std::io;
 use std::path::Path;
 
 impl FileDisk<File> {
-    ghost use Rattle.ide_file.specs.FileDisk.{call_count, failure_count, IsWorking};
+    ghost use Rattle.ide_file.specs.FileDisk.{file_call_count, file_failure_count, IsWorking};
 
     /// Opens the file for reading and writing, and makes it where it is not there. What it holds stays.
     ///
@@ -16,8 +16,8 @@ impl FileDisk<File> {
     /// It is refused where another open of the file has the lock (`InUse`), where the file is longer than a disk
     /// may be (`TooLong`), and where the system refuses a call (`Unreadable`). A file that was made stays there.
     pub fn create<R: Files<File = File>>(rt: &R, path: Path<'_>) -> Result<Self, FileFault>
-        ensures calls { IfOk result (λ disk. call_count disk ≡ 0) }
-        ensures failures { IfOk result (λ disk. failure_count disk ≡ 0) }
+        ensures calls { IfOk result (λ disk. file_call_count disk ≡ 0) }
+        ensures failures { IfOk result (λ disk. file_failure_count disk ≡ 0) }
         ensures working { IfOk result IsWorking }
     {
         let file = File::options()
@@ -34,8 +34,8 @@ impl FileDisk<File> {
     /// Opens the file for reading and writing, where it is there. It takes the file's lock, and is refused, as
     /// `create` does and is; where the file is not there, that is `Unreadable` with the kind `NotFound`.
     pub fn open<R: Files<File = File>>(rt: &R, path: Path<'_>) -> Result<Self, FileFault>
-        ensures calls { IfOk result (λ disk. call_count disk ≡ 0) }
-        ensures failures { IfOk result (λ disk. failure_count disk ≡ 0) }
+        ensures calls { IfOk result (λ disk. file_call_count disk ≡ 0) }
+        ensures failures { IfOk result (λ disk. file_failure_count disk ≡ 0) }
         ensures working { IfOk result IsWorking }
     {
         let file = File::options()

@@ -1,6 +1,6 @@
 //! Disks over a file in memory, which refuses calls where its room ends.
 ghost use Rattle.std.specs.Prelude.{IfOk};
-ghost use Rattle.ide_file.specs.FileDisk.{IsSound};
+ghost use Rattle.ide_file.specs.FileDisk.{IsSoundFile};
 
 use crate::memory_file::MemoryFile;
 use ide_disk::Disk;
@@ -10,7 +10,7 @@ use std::test::Fail;
 
 // A disk whose honesty is proved: each clause of `Disk` on bytes holds of it.
 fn honest_disk(alloc: Global, room: usize, log: usize) -> Result<FileDisk<MemoryFile>, Fail>
-    ensures { IfOk result IsSound }
+    ensures { IfOk result IsSoundFile }
 {
     let file = MemoryFile::new(alloc, room, log)?;
     let disk = FileDisk::over(file)?;

@@ -3,15 +3,15 @@ use Rattle.std.specs.Prelude.{◌≡◌, IsTrue}
 use Rattle.std.proofs.Common.{refl, sym, ap, ◌∙◌, arith}
 use Rattle.std.proofs.lemmas.Bool.Decides.{nat_tests}
 use Rattle.ide_instances.specs.Modular.{sum_of, sum-fits, sum-assoc, sum-zero, sum-cancel-left, sum-cancel-right}
-use Rattle.ide_instances.specs.ConstValue.{meet_of, is_proper}
-use Rattle.ide_instances.specs.ConstFn.{apply_of, compose_of, meet_fns, is_proper_fn}
+use Rattle.ide_instances.specs.ConstValue.{meet_constants, is_proper}
+use Rattle.ide_instances.specs.ConstFn.{apply_constant, compose_constants, meet_constant_fns, is_proper_fn}
 use Rattle.ide_instances.specs.declared.const_value.ConstValue.{ConstValue}
 use Rattle.ide_instances.specs.declared.const_value.ConstValue.TheVariants.{Top, Const as Known, Bottom as Unknown}
 use Rattle.ide_instances.specs.declared.const_fn.ConstFn.{ConstFn}
 use Rattle.ide_instances.specs.declared.const_fn.ConstFn.TheVariants.{AllTop, Shift, Const, ShiftMeet, Bottom}
 
 pub proper-apply : (f : ConstFn) (x : ConstValue) → IsTrue (is_proper_fn f) → IsTrue (is_proper x)
-    → IsTrue (is_proper (apply_of f x))
+    → IsTrue (is_proper (apply_constant f x))
 proper-apply AllTop x p q = refl
 proper-apply (Shift c) Top p q = refl
 proper-apply (Shift c) (Known l) p q = grind (arith, nat_tests, sum-fits)
@@ -25,7 +25,7 @@ proper-apply Bottom Top p q = refl
 proper-apply Bottom x p q = refl
 
 pub proper-compose : (f g : ConstFn) → IsTrue (is_proper_fn f) → IsTrue (is_proper_fn g)
-    → IsTrue (is_proper_fn (compose_of f g))
+    → IsTrue (is_proper_fn (compose_constants f g))
 proper-compose AllTop g p q = refl
 proper-compose (Shift c) AllTop p q = refl
 proper-compose (Shift c) g p q = grind (arith, nat_tests, sum-fits)
@@ -38,7 +38,7 @@ proper-compose Bottom (Const m) p q = q
 proper-compose Bottom g p q = refl
 
 pub proper-meet : (f g : ConstFn) → IsTrue (is_proper_fn f) → IsTrue (is_proper_fn g)
-    → IsTrue (is_proper_fn (meet_fns f g))
+    → IsTrue (is_proper_fn (meet_constant_fns f g))
 proper-meet AllTop g p q = q
 proper-meet (Shift c) AllTop p q = p
 proper-meet (Shift c) g p q = grind (arith, nat_tests)
@@ -48,12 +48,12 @@ proper-meet (ShiftMeet c k) AllTop p q = p
 proper-meet (ShiftMeet c k) g p q = grind (arith, nat_tests)
 proper-meet Bottom g p q = refl
 
-pub apply-id : (x : ConstValue) → IsTrue (is_proper x) → apply_of (Shift 0) x ≡ x
+pub apply-id : (x : ConstValue) → IsTrue (is_proper x) → apply_constant (Shift 0) x ≡ x
 apply-id Top p = refl
 apply-id (Known l) p = grind (arith, nat_tests, sum-zero)
 apply-id Unknown p = refl
 
-pub apply-top : (f : ConstFn) → apply_of f Top ≡ Top
+pub apply-top : (f : ConstFn) → apply_constant f Top ≡ Top
 apply-top AllTop = refl
 apply-top (Shift c) = refl
 apply-top (Const k) = refl
@@ -61,8 +61,8 @@ apply-top (ShiftMeet c k) = refl
 apply-top Bottom = refl
 
 pub apply-compose : (f g : ConstFn) (x : ConstValue) → IsTrue (is_proper_fn f) → IsTrue (is_proper_fn g)
-    → IsTrue (is_proper x) → apply_of (compose_of f g) x ≡ apply_of g (apply_of f x)
-apply-compose f g Top p q r = apply-top (compose_of f g) ∙ sym (ap (apply_of g) (apply-top f) ∙ apply-top g)
+    → IsTrue (is_proper x) → apply_constant (compose_constants f g) x ≡ apply_constant g (apply_constant f x)
+apply-compose f g Top p q r = apply-top (compose_constants f g) ∙ sym (ap (apply_constant g) (apply-top f) ∙ apply-top g)
 apply-compose AllTop g x p q r = sym (apply-top g)
 apply-compose (Shift c) AllTop x p q r = refl
 apply-compose (Shift c) (Shift e) (Known l) p q r = ap Known (sym (sum-assoc l c e))
@@ -80,9 +80,9 @@ apply-compose Bottom AllTop x p q r = refl
 apply-compose Bottom g x p q r = refl
 
 pub apply-meet : (f g : ConstFn) (x : ConstValue) → IsTrue (is_proper_fn f) → IsTrue (is_proper_fn g)
-    → apply_of (meet_fns f g) x ≡ meet_of (apply_of f x) (apply_of g x)
+    → apply_constant (meet_constant_fns f g) x ≡ meet_constants (apply_constant f x) (apply_constant g x)
 apply-meet f g Top p q =
-    apply-top (meet_fns f g) ∙ sym (ap (λ w. meet_of w (apply_of g Top)) (apply-top f) ∙ apply-top g)
+    apply-top (meet_constant_fns f g) ∙ sym (ap (λ w. meet_constants w (apply_constant g Top)) (apply-top f) ∙ apply-top g)
 apply-meet AllTop g x p q = refl
 apply-meet (Shift c) AllTop x p q = grind (arith, nat_tests)
 apply-meet (Shift c) g x p q = grind (arith, nat_tests, sum-cancel-left)
@@ -93,8 +93,8 @@ apply-meet (ShiftMeet c k) g x p q = grind (arith, nat_tests, sum-cancel-left)
 apply-meet Bottom g x p q = refl
 
 pub distributive : (f : ConstFn) (x y : ConstValue) → IsTrue (is_proper x) → IsTrue (is_proper y)
-    → apply_of f (meet_of x y) ≡ meet_of (apply_of f x) (apply_of f y)
-distributive f Top y p q = ap (λ w. meet_of w (apply_of f y)) (sym (apply-top f))
+    → apply_constant f (meet_constants x y) ≡ meet_constants (apply_constant f x) (apply_constant f y)
+distributive f Top y p q = ap (λ w. meet_constants w (apply_constant f y)) (sym (apply-top f))
 distributive AllTop x y p q = refl
 distributive (Shift c) (Known l) (Known m) p q = grind (arith, nat_tests, sum-cancel-right)
 distributive (Shift c) x y p q = refl

@@ -5,7 +5,7 @@ use Rattle.std.proofs.lemmas.Bool.Decides.{nat_tests}
 use Rattle.ide_lattice.specs.Laws.{IsEdgeAlgebra}
 use Rattle.ide_instances.specs.Modular.{gap_of, sum-cancel-left, sum-moves, gap-fits, sum-gap}
 use Rattle.ide_instances.specs.ConstValue.{const_algebra, is_proper}
-use Rattle.ide_instances.specs.ConstFn.{const_edge, apply_of, meet_fns, fn_rank, is_proper_fn}
+use Rattle.ide_instances.specs.ConstFn.{const_edge, apply_constant, meet_constant_fns, constant_fn_rank, is_proper_fn}
 use Rattle.ide_instances.specs.ConstFnApply.{proper-apply, proper-compose, proper-meet, apply-id, apply-top, apply-compose, apply-meet, distributive}
 use Rattle.ide_instances.specs.declared.const_value.ConstValue.{ConstValue}
 use Rattle.ide_instances.specs.declared.const_value.ConstValue.TheVariants.{Const as Known, Bottom as Unknown}
@@ -13,14 +13,14 @@ use Rattle.ide_instances.specs.declared.const_fn.ConstFn.{ConstFn}
 use Rattle.ide_instances.specs.declared.const_fn.ConstFn.TheVariants.{AllTop, Shift, Const, ShiftMeet, Bottom}
 use Rattle.ide_instances.specs.contracts.const_fn.ConstFnPartialEq.TheImpl.{ghosts as fn_eq}
 
-rank-most : (f : ConstFn) → fn_rank f ≤ 3
+rank-most : (f : ConstFn) → constant_fn_rank f ≤ 3
 rank-most AllTop = omega (arith)
 rank-most (Shift c) = omega (arith)
 rank-most (Const k) = omega (arith)
 rank-most (ShiftMeet c k) = omega (arith)
 rank-most Bottom = omega (arith)
 
-rank-falls : (f g : ConstFn) → meet_fns f g ≢ f → fn_rank (meet_fns f g) < fn_rank f
+rank-falls : (f g : ConstFn) → meet_constant_fns f g ≢ f → constant_fn_rank (meet_constant_fns f g) < constant_fn_rank f
 rank-falls AllTop AllTop h = absurd (h refl)
 rank-falls AllTop g h = omega (arith)
 rank-falls (Shift c) AllTop h = absurd (h refl)
@@ -32,21 +32,21 @@ rank-falls (ShiftMeet c k) g h = grind (arith, nat_tests)
 rank-falls Bottom g h = absurd (h refl)
 
 -- what functions that agree give at the values that tell functions apart
-module _ (f g : ConstFn) (agree : (x : ConstValue) → IsTrue (is_proper x) → apply_of f x ≡ apply_of g x) where
-  at-zero : apply_of f (Known 0) ≡ apply_of g (Known 0)
+module _ (f g : ConstFn) (agree : (x : ConstValue) → IsTrue (is_proper x) → apply_constant f x ≡ apply_constant g x) where
+  at-zero : apply_constant f (Known 0) ≡ apply_constant g (Known 0)
   at-zero = agree (Known 0) refl
 
-  at-one : apply_of f (Known 1) ≡ apply_of g (Known 1)
+  at-one : apply_constant f (Known 1) ≡ apply_constant g (Known 1)
   at-one = agree (Known 1) refl
 
-  at-unknown : apply_of f Unknown ≡ apply_of g Unknown
+  at-unknown : apply_constant f Unknown ≡ apply_constant g Unknown
   at-unknown = agree Unknown refl
 
-  at-gap : (c k : ℕ) → apply_of f (Known (gap_of c k)) ≡ apply_of g (Known (gap_of c k))
+  at-gap : (c k : ℕ) → apply_constant f (Known (gap_of c k)) ≡ apply_constant g (Known (gap_of c k))
   at-gap c k = agree (Known (gap_of c k)) (grind (arith, nat_tests, gap-fits c k))
 
 exact : (f g : ConstFn) → IsTrue (is_proper_fn f) → IsTrue (is_proper_fn g)
-    → ((x : ConstValue) → IsTrue (is_proper x) → apply_of f x ≡ apply_of g x) → f ≡ g
+    → ((x : ConstValue) → IsTrue (is_proper x) → apply_constant f x ≡ apply_constant g x) → f ≡ g
 exact AllTop AllTop p q h = refl
 exact AllTop g p q h = let e = at-unknown AllTop g h in cc
 exact (Shift c) (Shift d) p q h =

@@ -6,17 +6,17 @@ use Rattle.ide_instances.specs.declared.const_value.ConstValue.{ConstValue}
 use Rattle.ide_instances.specs.declared.const_value.ConstValue.TheVariants.{Top, Const, Bottom}
 
 -- two different constants meet to bottom
-abbrev pub meet_of : ConstValue → ConstValue → ConstValue
-meet_of Top y = y
-meet_of Bottom y = Bottom
-meet_of (Const k) Top = Const k
-meet_of (Const k) (Const l) = cond (nat_eq k l) (Const k) Bottom
-meet_of (Const k) Bottom = Bottom
+abbrev pub meet_constants : ConstValue → ConstValue → ConstValue
+meet_constants Top y = y
+meet_constants Bottom y = Bottom
+meet_constants (Const k) Top = Const k
+meet_constants (Const k) (Const l) = cond (nat_eq k l) (Const k) Bottom
+meet_constants (Const k) Bottom = Bottom
 
-abbrev pub rank_of : ConstValue → ℕ
-rank_of Top = 2
-rank_of (Const k) = 1
-rank_of Bottom = 0
+abbrev pub constant_rank : ConstValue → ℕ
+constant_rank Top = 2
+constant_rank (Const k) = 1
+constant_rank Bottom = 0
 
 -- the number fits 64 bits
 abbrev pub is_proper : ConstValue → Bool
@@ -35,7 +35,7 @@ const_algebra = record {
   proper = is_proper;
   top = Top;
   bottom = Bottom;
-  meet = meet_of;
-  rank = rank_of;
+  meet = meet_constants;
+  rank = constant_rank;
   height = 2;
 }

@@ -3,19 +3,19 @@ use Rattle.std.specs.Prelude.{◌≡◌, ◌≢◌, ◌<◌, ◌≤◌, true, Is
 use Rattle.std.proofs.Common.{refl, ap, arith}
 use Rattle.std.proofs.lemmas.Bool.Decides.{nat_tests}
 use Rattle.ide_lattice.specs.Laws.{IsLattice}
-use Rattle.ide_instances.specs.ConstValue.{const_algebra, meet_of, rank_of, is_proper}
+use Rattle.ide_instances.specs.ConstValue.{const_algebra, meet_constants, constant_rank, is_proper}
 use Rattle.ide_instances.specs.declared.const_value.ConstValue.{ConstValue}
 use Rattle.ide_instances.specs.declared.const_value.ConstValue.TheVariants.{Top, Const, Bottom}
 use Rattle.ide_instances.specs.contracts.const_value.ConstValuePartialEq.TheImpl.{ghosts as value_eq}
 
-proper-meet : (x y : ConstValue) → IsTrue (is_proper x) → IsTrue (is_proper y) → IsTrue (is_proper (meet_of x y))
+proper-meet : (x y : ConstValue) → IsTrue (is_proper x) → IsTrue (is_proper y) → IsTrue (is_proper (meet_constants x y))
 proper-meet Top y p q = q
 proper-meet Bottom y p q = refl
 proper-meet (Const k) Top p q = p
 proper-meet (Const k) (Const l) p q = grind (arith, nat_tests)
 proper-meet (Const k) Bottom p q = refl
 
-commutative : (x y : ConstValue) → meet_of x y ≡ meet_of y x
+commutative : (x y : ConstValue) → meet_constants x y ≡ meet_constants y x
 commutative Top Top = refl
 commutative Top (Const l) = refl
 commutative Top Bottom = refl
@@ -26,7 +26,7 @@ commutative Bottom Top = refl
 commutative Bottom (Const l) = refl
 commutative Bottom Bottom = refl
 
-associative : (x y z : ConstValue) → meet_of (meet_of x y) z ≡ meet_of x (meet_of y z)
+associative : (x y z : ConstValue) → meet_constants (meet_constants x y) z ≡ meet_constants x (meet_constants y z)
 associative Top y z = refl
 associative Bottom y z = refl
 associative (Const k) Top z = refl
@@ -35,17 +35,17 @@ associative (Const k) (Const l) Top = grind (arith, nat_tests)
 associative (Const k) (Const l) (Const m) = grind (arith, nat_tests)
 associative (Const k) (Const l) Bottom = grind (arith, nat_tests)
 
-idempotent : (x : ConstValue) → meet_of x x ≡ x
+idempotent : (x : ConstValue) → meet_constants x x ≡ x
 idempotent Top = refl
 idempotent (Const k) = grind (arith, nat_tests)
 idempotent Bottom = refl
 
-rank-most : (x : ConstValue) → rank_of x ≤ 2
+rank-most : (x : ConstValue) → constant_rank x ≤ 2
 rank-most Top = omega (arith)
 rank-most (Const k) = omega (arith)
 rank-most Bottom = omega (arith)
 
-rank-falls : (x y : ConstValue) → meet_of x y ≢ x → rank_of (meet_of x y) < rank_of x
+rank-falls : (x y : ConstValue) → meet_constants x y ≢ x → constant_rank (meet_constants x y) < constant_rank x
 rank-falls Top Top h = absurd (h refl)
 rank-falls Top (Const l) h = omega (arith)
 rank-falls Top Bottom h = omega (arith)
@@ -80,4 +80,4 @@ const_value_exact Bottom (Const l) h = grind (arith, nat_tests)
 const_value_exact Bottom Bottom h = refl
 
 pub const_top_is_not_bottom : Top ≡ Bottom → ⊥
-const_top_is_not_bottom same = let ranks : 2 ≡ 0 = ap rank_of same in omega (arith, ranks)
+const_top_is_not_bottom same = let ranks : 2 ≡ 0 = ap constant_rank same in omega (arith, ranks)

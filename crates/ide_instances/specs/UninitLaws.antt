@@ -3,8 +3,8 @@
 use Rattle.std.specs.Prelude.{◌≡◌, ◌≢◌, ◌<◌, ◌≤◌, true, IsTrue}
 use Rattle.std.proofs.Common.{refl, sym, ap, arith}
 use Rattle.ide_lattice.specs.Laws.{IsLattice, IsEdgeAlgebra}
-use Rattle.ide_instances.specs.UninitValue.{uninit_algebra, meet_of, rank_of}
-use Rattle.ide_instances.specs.UninitFn.{uninit_edge, apply_of, compose_of, meet_fns, fn_rank}
+use Rattle.ide_instances.specs.UninitValue.{uninit_algebra, meet_uninit, uninit_rank}
+use Rattle.ide_instances.specs.UninitFn.{uninit_edge, apply_uninit, compose_uninit, meet_uninit_fns, uninit_fn_rank}
 use Rattle.ide_instances.specs.declared.uninit_value.UninitValue.{UninitValue}
 use Rattle.ide_instances.specs.declared.uninit_value.UninitValue.TheVariants.{Top, Bottom}
 use Rattle.ide_instances.specs.declared.uninit_fn.UninitFn.{UninitFn}
@@ -12,25 +12,25 @@ use Rattle.ide_instances.specs.declared.uninit_fn.UninitFn.TheVariants.{AllTop, 
 use Rattle.ide_instances.specs.contracts.uninit_value.UninitValuePartialEq.TheImpl.{ghosts as value_eq}
 use Rattle.ide_instances.specs.contracts.uninit_fn.UninitFnPartialEq.TheImpl.{ghosts as fn_eq}
 
-commutative : (x y : UninitValue) → meet_of x y ≡ meet_of y x
+commutative : (x y : UninitValue) → meet_uninit x y ≡ meet_uninit y x
 commutative Top Top = refl
 commutative Top Bottom = refl
 commutative Bottom Top = refl
 commutative Bottom Bottom = refl
 
-associative : (x y z : UninitValue) → meet_of (meet_of x y) z ≡ meet_of x (meet_of y z)
+associative : (x y z : UninitValue) → meet_uninit (meet_uninit x y) z ≡ meet_uninit x (meet_uninit y z)
 associative Top y z = refl
 associative Bottom y z = refl
 
-idempotent : (x : UninitValue) → meet_of x x ≡ x
+idempotent : (x : UninitValue) → meet_uninit x x ≡ x
 idempotent Top = refl
 idempotent Bottom = refl
 
-rank-most : (x : UninitValue) → rank_of x ≤ 1
+rank-most : (x : UninitValue) → uninit_rank x ≤ 1
 rank-most Top = omega (arith)
 rank-most Bottom = omega (arith)
 
-rank-falls : (x y : UninitValue) → meet_of x y ≢ x → rank_of (meet_of x y) < rank_of x
+rank-falls : (x y : UninitValue) → meet_uninit x y ≢ x → uninit_rank (meet_uninit x y) < uninit_rank x
 rank-falls Top Top h = absurd (h refl)
 rank-falls Top Bottom h = omega (arith)
 rank-falls Bottom y h = absurd (h refl)
@@ -55,36 +55,36 @@ uninit_value_exact Top Bottom h = cc
 uninit_value_exact Bottom Top h = cc
 uninit_value_exact Bottom Bottom h = refl
 
-apply-top : (f : UninitFn) → apply_of f Top ≡ Top
+apply-top : (f : UninitFn) → apply_uninit f Top ≡ Top
 apply-top AllTop = refl
 apply-top Id = refl
 
-apply-compose : (f g : UninitFn) (x : UninitValue) → apply_of (compose_of f g) x ≡ apply_of g (apply_of f x)
+apply-compose : (f g : UninitFn) (x : UninitValue) → apply_uninit (compose_uninit f g) x ≡ apply_uninit g (apply_uninit f x)
 apply-compose AllTop g x = sym (apply-top g)
 apply-compose Id g x = refl
 
-apply-meet : (f g : UninitFn) (x : UninitValue) → apply_of (meet_fns f g) x ≡ meet_of (apply_of f x) (apply_of g x)
+apply-meet : (f g : UninitFn) (x : UninitValue) → apply_uninit (meet_uninit_fns f g) x ≡ meet_uninit (apply_uninit f x) (apply_uninit g x)
 apply-meet AllTop g x = refl
 apply-meet Id AllTop Top = refl
 apply-meet Id Id Top = refl
 apply-meet Id g Bottom = refl
 
-distributive : (f : UninitFn) (x y : UninitValue) → apply_of f (meet_of x y) ≡ meet_of (apply_of f x) (apply_of f y)
+distributive : (f : UninitFn) (x y : UninitValue) → apply_uninit f (meet_uninit x y) ≡ meet_uninit (apply_uninit f x) (apply_uninit f y)
 distributive AllTop x y = refl
 distributive Id x y = refl
 
 -- the two functions differ at bottom
-exact : (f g : UninitFn) → ((x : UninitValue) → IsTrue true → apply_of f x ≡ apply_of g x) → f ≡ g
+exact : (f g : UninitFn) → ((x : UninitValue) → IsTrue true → apply_uninit f x ≡ apply_uninit g x) → f ≡ g
 exact AllTop AllTop h = refl
 exact AllTop Id h = let e = h Bottom refl in cc
 exact Id AllTop h = let e = h Bottom refl in cc
 exact Id Id h = refl
 
-fn-rank-most : (f : UninitFn) → fn_rank f ≤ 1
+fn-rank-most : (f : UninitFn) → uninit_fn_rank f ≤ 1
 fn-rank-most AllTop = omega (arith)
 fn-rank-most Id = omega (arith)
 
-fn-rank-falls : (f g : UninitFn) → meet_fns f g ≢ f → fn_rank (meet_fns f g) < fn_rank f
+fn-rank-falls : (f g : UninitFn) → meet_uninit_fns f g ≢ f → uninit_fn_rank (meet_uninit_fns f g) < uninit_fn_rank f
 fn-rank-falls AllTop AllTop h = absurd (h refl)
 fn-rank-falls AllTop Id h = omega (arith)
 fn-rank-falls Id g h = absurd (h refl)
@@ -115,4 +115,4 @@ uninit_fn_exact Id AllTop h = cc
 uninit_fn_exact Id Id h = refl
 
 pub uninit_top_is_not_bottom : Top ≡ Bottom → ⊥
-uninit_top_is_not_bottom same = let ranks : 1 ≡ 0 = ap rank_of same in omega (arith, ranks)
+uninit_top_is_not_bottom same = let ranks : 1 ≡ 0 = ap uninit_rank same in omega (arith, ranks)

@@ -5,13 +5,13 @@ use Rattle.ide_instances.specs.declared.uninit_value.UninitValue.{UninitValue}
 use Rattle.ide_instances.specs.declared.uninit_value.UninitValue.TheVariants.{Top, Bottom}
 
 -- bottom where either is bottom
-abbrev pub meet_of : UninitValue → UninitValue → UninitValue
-meet_of Top y = y
-meet_of Bottom y = Bottom
+abbrev pub meet_uninit : UninitValue → UninitValue → UninitValue
+meet_uninit Top y = y
+meet_uninit Bottom y = Bottom
 
-abbrev pub rank_of : UninitValue → ℕ
-rank_of Top = 1
-rank_of Bottom = 0
+abbrev pub uninit_rank : UninitValue → ℕ
+uninit_rank Top = 1
+uninit_rank Bottom = 0
 
 -- the printed form of a value
 abbrev pub shown_value : UninitValue → List ℕ
@@ -23,7 +23,7 @@ uninit_algebra = record {
   proper = λ x. true;
   top = Top;
   bottom = Bottom;
-  meet = meet_of;
-  rank = rank_of;
+  meet = meet_uninit;
+  rank = uninit_rank;
   height = 1;
 }

@@ -6,7 +6,7 @@ use Rattle.std.proofs.lemmas.List.{append_assoc, length-append, length-take, len
 use Rattle.std.proofs.lemmas.Nat.{from_le_bytes-to_le_bytes_4}
 use Rattle.std.proofs.lemmas.List.Folds.{drop_split}
 use Rattle.ide_journal.specs.Format.{Entry, Head, letters, header, Holds, zeros, padding, after_gate, IsEntry, IsPages}
-use Rattle.ide_journal.specs.Reading.{AreRead, IsRead, IsStore, IsWhole}
+use Rattle.ide_journal.specs.Reading.{AreRead, IsRead, IsStore, IsWholeRecord}
 use Rattle.ide_journal.proofs.Lists.{pages_push}
 use Rattle.ide_journal.proofs.OneList.{length-zeros, length-letters}
 
@@ -46,7 +46,7 @@ sizes_of : (a b c d e f : List ℕ) → length (a ++ b ++ c ++ d ++ e ++ f) ≡ 
 sizes_of a b c d e f = simp length-append
 
 -- a whole record is spelled so
-pub whole_is : (number count : ℕ) (bytes : List ℕ) → IsWhole number count bytes
+pub whole_is : (number count : ℕ) (bytes : List ℕ) → IsWholeRecord number count bytes
     → bytes ≡ after_gate number (slice_index bytes 0, slice_range bytes 13 (13 + count)) ++ drop (13 + count + padding count) bytes
 unfolding after_gate
 whole_is number count bytes whole =
@@ -66,7 +66,7 @@ whole_is number count bytes whole =
 
 -- what is spelled is a whole record
 pub is_whole : (number : ℕ) (entry : Entry) (rest bytes : List ℕ) → IsEntry entry → number ≤ 4294967294 → 0 < length rest
-    → bytes ≡ after_gate number entry ++ rest → IsWhole number (length entry.1) bytes
+    → bytes ≡ after_gate number entry ++ rest → IsWholeRecord number (length entry.1) bytes
 unfolding after_gate
 is_whole number entry rest bytes proper low some are =
     let count = length entry.1 in
@@ -104,7 +104,7 @@ count_is bytes count size fits short told spelled =
     sym (from_le_bytes-to_le_bytes_4 size (omega arith)) ∙ ap (from_le_bytes w32) (sym spelled ∙ told) ∙ from_le_bytes-to_le_bytes_4 count fits
 
 -- a whole record is read so
-pub is_read : (number count : ℕ) (bytes : List ℕ) → IsWhole number count bytes
+pub is_read : (number count : ℕ) (bytes : List ℕ) → IsWholeRecord number count bytes
     → IsRead number (slice_index bytes 0, slice_range bytes 13 (13 + count)) (13 + count + padding count) bytes
 is_read number count bytes whole = record {
   low = whole.low;

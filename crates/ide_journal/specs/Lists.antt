@@ -3,7 +3,7 @@ use Rattle.std.specs.Prelude.{◌≡◌, ◌≢◌, ◌⊎◌, ℕ, ◌+◌, map
 use Rattle.ide_disk.specs.Disk.{settled}
 use Rattle.ide_disk.specs.declared.disk.Disk.{Ghosts}
 use Rattle.ide_journal.specs.Format.{Entry, Head, header, after_gate, IsEntry, IsPages, Holds}
-use Rattle.ide_journal.specs.Stands.{Stands}
+use Rattle.ide_journal.specs.Stands.{StandsAtGate}
 use Rattle.ide_journal.specs.declared.journal.Journal.{Journal}
 use Rattle.ide_journal.specs.declared.record.RawRecord.{RawRecord}
 use Rattle.ide_journal.specs.declared.stage.Stage.{Stage}
@@ -49,4 +49,4 @@ pub record IsUnderWay {D : Type 0} {G : Ghosts D} (head : Head) (entries : List 
   pub next : journal.next ≡ length entries + 1
   pub version : journal.version ≡ head.version
   pub busy : journal.stage ≢ Idle
-  pub stands : Stands (header head ++ pages) (after_gate (length entries) entry ++ 0 ∷ []) journal
+  pub stands : StandsAtGate (header head ++ pages) (after_gate (length entries) entry ++ 0 ∷ []) journal

@@ -10,7 +10,7 @@ IsDamaged number bytes = (entry : Entry) (rest : List ℕ) → IsEntry entry →
     → bytes ≡ after_gate number entry ++ rest → ⊥
 
 -- such a record stands there, with a body of so many bytes
-pub record IsWhole (number count : ℕ) (bytes : List ℕ) : Type 0 where
+pub record IsWholeRecord (number count : ℕ) (bytes : List ℕ) : Type 0 where
   pub low : number ≤ 4294967294
   pub some_kind : 1 ≤ slice_index bytes 0
   pub known_kind : slice_index bytes 0 ≤ 3

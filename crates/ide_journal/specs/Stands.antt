@@ -8,7 +8,7 @@ use Rattle.ide_journal.specs.declared.version.Version.{Version}
 use Rattle.ide_journal.specs.declared.stage.Stage.TheVariants.{Idle, Failed}
 
 -- a record of these bytes behind its gate is under way, behind these others
-pub record Stands {D : Type 0} {G : Ghosts D} (base bytes : List ℕ) (journal : Journal D G) : Type 0 where
+pub record StandsAtGate {D : Type 0} {G : Ghosts D} (base bytes : List ℕ) (journal : Journal D G) : Type 0 where
   pub gate : journal.gate ≡ length base
   pub tail : journal.tail.items ≡ bytes
   pub some : 0 < length bytes
@@ -32,19 +32,19 @@ HasFailed journal = journal.stage ≡ Failed
 
 -- it is under way behind the same bytes still, or is stored
 abbrev pub Moves : {D : Type 0} {G : Ghosts D} → List ℕ → List ℕ → Journal D G → Type 0
-Moves base bytes journal = (Stands base bytes journal × (IsIdle journal → ⊥)) ⊎ IsStored base bytes journal
+Moves base bytes journal = (StandsAtGate base bytes journal × (IsIdle journal → ⊥)) ⊎ IsStored base bytes journal
 
 -- whatever record is under way stays so
 abbrev pub KeepsStanding : {D : Type 0} {G : Ghosts D} → Journal D G → Journal D G → Type 0
-KeepsStanding old new = (base bytes : List ℕ) → Stands base bytes old → Stands base bytes new
+KeepsStanding old new = (base bytes : List ℕ) → StandsAtGate base bytes old → StandsAtGate base bytes new
 
 -- whatever record is under way is stored
 abbrev pub StoresStanding : {D : Type 0} {G : Ghosts D} → Journal D G → Journal D G → Type 0
-StoresStanding old new = (base bytes : List ℕ) → Stands base bytes old → IsStored base bytes new
+StoresStanding old new = (base bytes : List ℕ) → StandsAtGate base bytes old → IsStored base bytes new
 
 -- whatever record is under way stays so, or is stored
 abbrev pub MovesStanding : {D : Type 0} {G : Ghosts D} → Journal D G → Journal D G → Type 0
-MovesStanding old new = (base bytes : List ℕ) → Stands base bytes old → Moves base bytes new
+MovesStanding old new = (base bytes : List ℕ) → StandsAtGate base bytes old → Moves base bytes new
 
 -- how many records are stored and are to be, and the version, are the same
 pub record KeepsCounts {D : Type 0} {G : Ghosts D} (old new : Journal D G) : Type 0 where

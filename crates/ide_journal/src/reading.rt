@@ -4,7 +4,7 @@ ghost use Rattle.std.specs.Int.{w32, w64, to_le_bytes};
 ghost use Rattle.ide_journal.specs.Format.{head_of, letters};
 ghost use Rattle.ide_journal.specs.Lists.{entry_of, entries_of};
 ghost use Rattle.ide_journal.specs.Opening.{IsLoaded};
-ghost use Rattle.ide_journal.specs.Reading.{AreRead, IsDamaged, IsNoStore, IsRead, IsStore, IsWhole};
+ghost use Rattle.ide_journal.specs.Reading.{AreRead, IsDamaged, IsNoStore, IsRead, IsStore, IsWholeRecord};
 ghost use Rattle.ide_journal.specs.Refusals.{IsFileRefusal, IsRecordRefusal};
 
 use crate::spelling::padding;
@@ -47,7 +47,7 @@ fn number_of(bytes: &[u8]) -> u32
 
 // How many bytes the body has of the whole record of that number that stands there.
 fn body_length(bytes: &[u8], number: u64) -> Option<usize>
-    ensures whole { IfSome result (λ count. IsWhole number count bytes.now) }
+    ensures whole { IfSome result (λ count. IsWholeRecord number count bytes.now) }
     ensures damaged { IfNone result (IsDamaged number bytes.now) }
 {
     if bytes.len() < 14 {

@@ -10,7 +10,7 @@ use Rattle.std.proofs.lemmas.List.Quantifiers.{position-Some}
 use Rattle.ide_wire.specs.declared.key.Key.{Key}
 use Rattle.ide_wire.specs.declared.key.Key.TheVariants.{Jump}
 use Rattle.ide_wire.specs.Key.{same_key, same_key_exact, node_of}
-use Rattle.ide_pages.specs.Pages.{ArePages, Puts, cell_of, cell_on, entries, key_at, key_on, number_at, number_in, number_of, numbers_of, own, page_at, page_of, shown, slot_at, slots_from, weight}
+use Rattle.ide_pages.specs.Pages.{ArePages, Puts, cell_of, cell_on, entries, key_at, key_on, number_at, number_in, cell_number, numbers_of, own, page_at, page_of, shown, slot_at, slots_from, weight}
 use Rattle.ide_pages.proofs.Places.{key_on-page_of, offset-key_on, page_of-key_on, position-at}
 use Rattle.ide_pages.proofs.Numbering.{IsNumbering, distinct-entries, number-after, number-is}
 use Rattle.ide_pages.proofs.Slots.{full, full-get, full-set, get-slots, length-full, length-shown, length-slots, shown-number, shown-some, slots-set}
@@ -60,11 +60,11 @@ module _ {pages places : List Key} {cells : List ℕ} {count : ℕ} (are : ArePa
   abbrev by : IsNumbering (key_at pages) (cell_in pages) (length cells)
   by = numbering pages are.distinct cells are.paged
 
-  pub number-found : (key : Key) → number_at (numbers_of pages cells) key ≡ number_of cells (cell_in pages key)
+  pub number-found : (key : Key) → number_at (numbers_of pages cells) key ≡ cell_number cells (cell_in pages key)
   number-found key = number-is (key_at pages) (cell_in pages) cells by key
 
   pub number-of-cell : (key : Key) (cell : ℕ) → cell_in pages key ≡ Some cell → get_or cells cell 0 ≡ number_at (numbers_of pages cells) key
-  number-of-cell key cell is = sym (number-found key ∙ ap (number_of cells) is)
+  number-of-cell key cell is = sym (number-found key ∙ ap (cell_number cells) is)
 
   pub distinct-keys : IsDistinct same_key (keys_of (entries (numbers_of pages cells)))
   distinct-keys = distinct-entries (key_at pages) (cell_in pages) cells by

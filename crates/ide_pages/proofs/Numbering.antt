@@ -8,7 +8,7 @@ use Rattle.std.proofs.lemmas.Bool.{cases_eq, eq-eqb, ne_eqb, false_from_ne_true}
 use Rattle.std.proofs.lemmas.List.{get_or-set_other, get_or-set_same}
 use Rattle.ide_wire.specs.declared.key.Key.{Key}
 use Rattle.ide_wire.specs.Key.{same_key, same_key_exact, same_key_refl}
-use Rattle.ide_pages.specs.Pages.{nonzero, number_of, slots_from}
+use Rattle.ide_pages.specs.Pages.{nonzero, cell_number, slots_from}
 use Rattle.ide_pages.proofs.Slots.{full, nonzero-or_zero}
 
 -- the look-up of a key, one slot more
@@ -71,17 +71,17 @@ module _ (at : ℕ → Key) (cell : Key → Option ℕ) (cells : List ℕ) (by :
       absurd (cc))
 
   -- the key's entry has the number of its cell
-  pub lookup-number : (key : Key) (own : Option ℕ) → cell key ≡ own → lookup (same_key key) (full (slots_from at 0 cells)) ≡ nonzero (number_of cells own)
+  pub lookup-number : (key : Key) (own : Option ℕ) → cell key ≡ own → lookup (same_key key) (full (slots_from at 0 cells)) ≡ nonzero (cell_number cells own)
   lookup-number key None is = lookup-none at key 0 cells (λ j l m. apart-at key j is (omega arith))
   lookup-number key (Some c) is =
       lookup-one at key 0 cells c (λ j l m. let same : c ≡ 0 + c = omega arith in same-at key c j is (omega arith) ∙ ap (λ d. nat_eq d j) same)
 
-  pub number-is : (key : Key) → unwrap_or (lookup (same_key key) (full (slots_from at 0 cells))) 0 ≡ number_of cells (cell key)
-  number-is key = ap (λ o. unwrap_or o 0) (lookup-number key (cell key) refl) ∙ nonzero-or_zero (number_of cells (cell key))
+  pub number-is : (key : Key) → unwrap_or (lookup (same_key key) (full (slots_from at 0 cells))) 0 ≡ cell_number cells (cell key)
+  number-is key = ap (λ o. unwrap_or o 0) (lookup-number key (cell key) refl) ∙ nonzero-or_zero (cell_number cells (cell key))
 
   -- one cell is written
   number-written : (key q : Key) (c n : ℕ) (own : Option ℕ) → cell key ≡ Some c → cell q ≡ own
-      → number_of (slice_set cells c n) own ≡ (if same_key key q then n else number_of cells own)
+      → cell_number (slice_set cells c n) own ≡ (if same_key key q then n else cell_number cells own)
   number-written key q c n None is at_q =
       let other : same_key key q ≡ false = false_from_ne_true (same_key key q) (λ t.
       let both : Some c ≡ None = sym is ∙ ap cell (same_key_exact key q t) ∙ at_q in absurd (cc)) in
@@ -95,7 +95,7 @@ module _ (at : ℕ → Key) (cell : Key → Option ℕ) (cells : List ℕ) (by :
       (cases_eq c d)
 
   pub number-after : (key q : Key) (c n : ℕ) → cell key ≡ Some c
-      → number_of (slice_set cells c n) (cell q) ≡ (if same_key key q then n else number_of cells (cell q))
+      → cell_number (slice_set cells c n) (cell q) ≡ (if same_key key q then n else cell_number cells (cell q))
   number-after key q c n is = number-written key q c n (cell q) is refl
 
   -- the entries' keys differ

@@ -17,14 +17,14 @@ use Rattle.ide_wire.specs.declared.key.Key.{Key}
 use Rattle.ide_wire.specs.declared.key.Key.TheVariants.{Jump, Summary}
 use Rattle.ide_wire.specs.Key.{same_key, node_of}
 use Rattle.ide_wire.specs.KeyOrder.{key_cmp}
-use Rattle.ide_pages.specs.Pages.{ArePages, AreRow, cell_on, has_place, listed_fact, nonzero, number_of, number_on, numbers_of, page_of, place_of, row_of}
+use Rattle.ide_pages.specs.Pages.{ArePages, AreRow, cell_on, has_place, listed_fact, nonzero, cell_number, number_on, numbers_of, page_of, page_place, row_of}
 use Rattle.ide_pages.proofs.Cells.{number-found}
 use Rattle.ide_pages.proofs.Places.{position-absent}
 
 pub fact_exact : (a b : ℕ) → is_at (nat_cmp a) b ≡ true → a ≡ b
 fact_exact a b e = grind (arith, nat_tests)
 
-pub place_of-place_of : (key : Key) → place_of (place_of key) ≡ key
+pub place_of-place_of : (key : Key) → page_place (page_place key) ≡ key
 place_of-place_of (Jump n a b) = refl
 place_of-place_of (Summary n a b) = refl
 
@@ -36,14 +36,14 @@ key_cmp_exact (Summary n a b) (Summary m c d) e = grind (arith, nat_tests)
 
 -- what is asked of `at` and `test`
 pub record Picks (at : ℕ → Key) (test : Key → Bool) : Type 0 where
-  pub picked : (place : Key) → test place ≡ true → place ≡ place_of (at (listed_fact place))
-  pub orders : (a b : ℕ) → key_cmp (place_of (at a)) (place_of (at b)) ≡ nat_cmp a b
+  pub picked : (place : Key) → test place ≡ true → place ≡ page_place (at (listed_fact place))
+  pub orders : (a b : ℕ) → key_cmp (page_place (at a)) (page_place (at b)) ≡ nat_cmp a b
   pub few : (place : Key) → test place ≡ true → listed_fact place < 2 ^ 16
-  pub reached : (d : ℕ) → d < 2 ^ 16 → test (place_of (at d)) ≡ true
+  pub reached : (d : ℕ) → d < 2 ^ 16 → test (page_place (at d)) ≡ true
 
 -- the fact that a place lists, with what its page has
 abbrev pub listed : {V : Type 0} → (Key → Option V) → Key → Option (ℕ × V)
-listed get place = option_map (λ v. (listed_fact place, v)) (get (place_of place))
+listed get place = option_map (λ v. (listed_fact place, v)) (get (page_place place))
 
 -- one place more: the look-up at d finds what its page has, if it lists d
 lookup-cons_option : {V : Type 0} (x d : ℕ) (own : Option V) (tail : List (ℕ × V)) (any : Bool) (there : Option V)
@@ -70,7 +70,7 @@ cond-placed false (Some v) placed = absurd (cc (placed refl))
 module _ {V : Type 0} (at : ℕ → Key) (test : Key → Bool) (picks : Picks at test) (get : Key → Option V) where
   order : (x y : Key) → test x ≡ true → test y ≡ true → key_cmp x y ≡ nat_cmp (listed_fact x) (listed_fact y)
   order x y t s =
-      ap (λ z. key_cmp z y) (picks.picked x t) ∙ ap (key_cmp (place_of (at (listed_fact x)))) (picks.picked y s)
+      ap (λ z. key_cmp z y) (picks.picked x t) ∙ ap (key_cmp (page_place (at (listed_fact x)))) (picks.picked y s)
       ∙ picks.orders (listed_fact x) (listed_fact y)
 
   -- the facts of the row are above the fact of a place that is below each place
@@ -82,7 +82,7 @@ module _ {V : Type 0} (at : ℕ → Key) (test : Key → Bool) (picks : Picks at
       let rest : AllByRecursion (λ d. nat_cmp (listed_fact place) d ≡ Less) (keys_of (filter_map (listed get) (filter test ks))) = above place ks t h.1 in
       elim (test k) as (λ b. test k ≡ b → AllByRecursion (λ d. nat_cmp (listed_fact place) d ≡ Less) (keys_of (filter_map (listed get) (cond b (k ∷ filter test ks) (filter test ks))))) [
         | true ↦ λ s.
-            elim (get (place_of k)) as (λ o. AllByRecursion (λ d. nat_cmp (listed_fact place) d ≡ Less) (keys_of (cons_option (option_map (λ v. (listed_fact k, v)) o) (filter_map (listed get) (filter test ks))))) [
+            elim (get (page_place k)) as (λ o. AllByRecursion (λ d. nat_cmp (listed_fact place) d ≡ Less) (keys_of (cons_option (option_map (λ v. (listed_fact k, v)) o) (filter_map (listed get) (filter test ks))))) [
               | None ↦ rest
               | Some v ↦ (sym (order place k t s) ∙ h.0, rest)
             ]
@@ -95,7 +95,7 @@ module _ {V : Type 0} (at : ℕ → Key) (test : Key → Bool) (picks : Picks at
   ascending (k ∷ ks) s =
       elim (test k) as (λ b. test k ≡ b → IsStrictlySortedBy nat_cmp (keys_of (filter_map (listed get) (cond b (k ∷ filter test ks) (filter test ks))))) [
         | true ↦ λ t.
-            elim (get (place_of k)) as (λ o. IsStrictlySortedBy nat_cmp (keys_of (cons_option (option_map (λ v. (listed_fact k, v)) o) (filter_map (listed get) (filter test ks))))) [
+            elim (get (page_place k)) as (λ o. IsStrictlySortedBy nat_cmp (keys_of (cons_option (option_map (λ v. (listed_fact k, v)) o) (filter_map (listed get) (filter test ks))))) [
               | None ↦ ascending ks s.1
               | Some v ↦ (above k ks t s.0, ascending ks s.1)
             ]
@@ -108,34 +108,34 @@ module _ {V : Type 0} (at : ℕ → Key) (test : Key → Bool) (picks : Picks at
       let rest : AllByRecursion (λ d. d < 2 ^ 16) (keys_of (filter_map (listed get) (filter test ks))) = within ks in
       elim (test k) as (λ b. test k ≡ b → AllByRecursion (λ d. d < 2 ^ 16) (keys_of (filter_map (listed get) (cond b (k ∷ filter test ks) (filter test ks))))) [
         | true ↦ λ t.
-            elim (get (place_of k)) as (λ o. AllByRecursion (λ d. d < 2 ^ 16) (keys_of (cons_option (option_map (λ v. (listed_fact k, v)) o) (filter_map (listed get) (filter test ks))))) [
+            elim (get (page_place k)) as (λ o. AllByRecursion (λ d. d < 2 ^ 16) (keys_of (cons_option (option_map (λ v. (listed_fact k, v)) o) (filter_map (listed get) (filter test ks))))) [
               | None ↦ rest
               | Some v ↦ (picks.few k t, rest)
             ]
         | false ↦ λ t. rest
       ] refl
 
-  found : (places : List Key) (d : ℕ) → test (place_of (at d)) ≡ true
-      → lookup (is_at (nat_cmp d)) (filter_map (listed get) (filter test places)) ≡ cond (list_any (is_at (key_cmp (place_of (at d)))) places) (get (at d)) None
+  found : (places : List Key) (d : ℕ) → test (page_place (at d)) ≡ true
+      → lookup (is_at (nat_cmp d)) (filter_map (listed get) (filter test places)) ≡ cond (list_any (is_at (key_cmp (page_place (at d)))) places) (get (at d)) None
   found [] d t = refl
   found (k ∷ ks) d t =
-      let rest : lookup (is_at (nat_cmp d)) (filter_map (listed get) (filter test ks)) ≡ cond (list_any (is_at (key_cmp (place_of (at d)))) ks) (get (at d)) None = found ks d t in
+      let rest : lookup (is_at (nat_cmp d)) (filter_map (listed get) (filter test ks)) ≡ cond (list_any (is_at (key_cmp (page_place (at d)))) ks) (get (at d)) None = found ks d t in
       elim (test k) as (λ b. test k ≡ b → lookup (is_at (nat_cmp d)) (filter_map (listed get) (cond b (k ∷ filter test ks) (filter test ks)))
-      ≡ cond (is_at (key_cmp (place_of (at d))) k || list_any (is_at (key_cmp (place_of (at d)))) ks) (get (at d)) None) [
+      ≡ cond (is_at (key_cmp (page_place (at d))) k || list_any (is_at (key_cmp (page_place (at d)))) ks) (get (at d)) None) [
         | true ↦ λ s.
-            let own : place_of k ≡ at (listed_fact k) = ap place_of (picks.picked k s) ∙ place_of-place_of (at (listed_fact k)) in
-            let test_same : is_at (key_cmp (place_of (at d))) k ≡ is_at (nat_cmp d) (listed_fact k) =
-            ap (is_at (key_cmp (place_of (at d)))) (picks.picked k s) ∙ ap is_eq (picks.orders d (listed_fact k)) in
-            (lookup-cons_option (listed_fact k) d (get (place_of k)) (filter_map (listed get) (filter test ks))
-            (list_any (is_at (key_cmp (place_of (at d)))) ks) (get (at d))
+            let own : page_place k ≡ at (listed_fact k) = ap page_place (picks.picked k s) ∙ place_of-place_of (at (listed_fact k)) in
+            let test_same : is_at (key_cmp (page_place (at d))) k ≡ is_at (nat_cmp d) (listed_fact k) =
+            ap (is_at (key_cmp (page_place (at d)))) (picks.picked k s) ∙ ap is_eq (picks.orders d (listed_fact k)) in
+            (lookup-cons_option (listed_fact k) d (get (page_place k)) (filter_map (listed get) (filter test ks))
+            (list_any (is_at (key_cmp (page_place (at d)))) ks) (get (at d))
             (λ e. ap get (own ∙ ap at (sym (fact_exact d (listed_fact k) e))))
             rest)
-            ∙ sym (ap (λ b. cond (b || list_any (is_at (key_cmp (place_of (at d)))) ks) (get (at d)) None) test_same)
+            ∙ sym (ap (λ b. cond (b || list_any (is_at (key_cmp (page_place (at d)))) ks) (get (at d)) None) test_same)
         | false ↦ λ s.
-            let other : is_at (key_cmp (place_of (at d))) k ≡ false =
-            false_from_ne_true (is_at (key_cmp (place_of (at d))) k)
-            (λ e. both_ways (test k) s (ap test (sym (key_cmp_exact (place_of (at d)) k e)) ∙ t)) in
-            rest ∙ sym (ap (λ b. cond (b || list_any (is_at (key_cmp (place_of (at d)))) ks) (get (at d)) None) other)
+            let other : is_at (key_cmp (page_place (at d))) k ≡ false =
+            false_from_ne_true (is_at (key_cmp (page_place (at d))) k)
+            (λ e. both_ways (test k) s (ap test (sym (key_cmp_exact (page_place (at d)) k e)) ∙ t)) in
+            rest ∙ sym (ap (λ b. cond (b || list_any (is_at (key_cmp (page_place (at d)))) ks) (get (at d)) None) other)
       ] refl
 
   pub exact : (places : List Key) (d : ℕ) → d < 2 ^ 16 → (is_some (get (at d)) ≡ true → has_place places (at d) ≡ true)
@@ -148,7 +148,7 @@ module _ {V : Type 0} (at : ℕ → Key) (test : Key → Bool) (picks : Picks at
 has-page : (pages : List Key) (cells : List ℕ) (offset : ℕ) (page : Key) → is_some (nonzero (number_on pages cells offset page)) ≡ true → list_any (same_key page) pages ≡ true
 has-page pages cells offset page some =
     true_from_ne_false (list_any (same_key page) pages)
-    (λ none. absurd (cc (some, ap (λ cell. is_some (nonzero (number_of cells cell))) (ap (option_map (λ index. 64 * index + offset)) (position-absent (same_key page) pages none)))))
+    (λ none. absurd (cc (some, ap (λ cell. is_some (nonzero (cell_number cells cell))) (ap (option_map (λ index. 64 * index + offset)) (position-absent (same_key page) pages none)))))
 
 -- the row is that of the keys `to` a fact, whose pages are those `at` it
 are-row : (at to : ℕ → Key) (test : Key → Bool) (offset : ℕ) {pages places : List Key} {cells : List ℕ} {count : ℕ}
@@ -161,7 +161,7 @@ are-row at to test offset {pages = pages} {places = places} {cells = cells} are 
   exact = λ d l.
       exact at test picks (λ page. nonzero (number_on pages cells offset page)) places d l
       (λ some. are.placed (at d) (has-page pages cells offset (at d) some))
-      ∙ ap (λ cell. nonzero (number_of cells cell)) (sym (same d))
+      ∙ ap (λ cell. nonzero (cell_number cells cell)) (sym (same d))
       ∙ ap nonzero (sym (number-found are (to d)));
 }
 

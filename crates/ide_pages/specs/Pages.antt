@@ -113,26 +113,26 @@ abbrev pub numbers_of : List Key → List ℕ → Numbers
 numbers_of pages cells = record { slots = slots_from (key_at pages) 0 cells; pages = pages }
 
 -- the number in a cell, if there is one, or 0
-abbrev pub number_of : List ℕ → Option ℕ → ℕ
-number_of cells None = 0
-number_of cells (Some cell) = slice_index_or cells cell 0
+abbrev pub cell_number : List ℕ → Option ℕ → ℕ
+cell_number cells None = 0
+cell_number cells (Some cell) = slice_index_or cells cell 0
 
 -- the number at an offset of the page, or 0
 abbrev pub number_on : List Key → List ℕ → ℕ → Key → ℕ
-number_on pages cells offset page = number_of cells (cell_on pages offset page)
+number_on pages cells offset page = cell_number cells (cell_on pages offset page)
 
 -- how many entries a cell with the number makes
 abbrev pub weight : ℕ → ℕ
 weight n = if nat_eq n 0 then 0 else 1
 
 -- the place of a page among the places: a jump's facts change places, so that the pages of the jumps to one fact stand side by side
-abbrev pub place_of : Key → Key
-place_of (Jump n a b) = Jump n b a
-place_of (Summary n a b) = Summary n a b
+abbrev pub page_place : Key → Key
+page_place (Jump n a b) = Jump n b a
+page_place (Summary n a b) = Summary n a b
 
 -- whether the places have the page's
 abbrev pub has_place : List Key → Key → Bool
-has_place places page = list_any (is_at (key_cmp (place_of page))) places
+has_place places page = list_any (is_at (key_cmp (page_place page))) places
 
 -- the places that there were are there
 abbrev pub KeepsPlaces : (old new : List Key) → Type 0
@@ -149,7 +149,7 @@ listed_fact (Summary n a b) = b
 
 -- the fact that a place lists, with the number on its page, where that is not 0
 abbrev pub partner_of : (Key → ℕ) → Key → Option (ℕ × ℕ)
-partner_of number place = option_map (λ n. (listed_fact place, n)) (nonzero (number (place_of place)))
+partner_of number place = option_map (λ n. (listed_fact place, n)) (nonzero (number (page_place place)))
 
 -- the row from the first to the last, which stand as places do, at one node: the facts that the places of their pages and of those
 -- between list, with the node's numbers, where those are not 0

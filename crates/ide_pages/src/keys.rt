@@ -1,7 +1,7 @@
 //! Pages of keys: which page a key is on, and at which of its 64 offsets.
 ghost use Rattle.std.specs.Prelude.{◌≡◌, ◌%◌, ◌<◌, ◌^◌};
 ghost use Rattle.ide_wire.specs.Key.{node_of};
-ghost use Rattle.ide_pages.specs.Pages.{key_on, listed_fact, page_of, place_of};
+ghost use Rattle.ide_pages.specs.Pages.{key_on, listed_fact, page_of, page_place};
 
 use ide_wire::{Fact, Key};
 
@@ -39,7 +39,7 @@ pub(crate) fn key_on(page: Key, offset: usize) -> Key
 // The page's place among the places, or the page at a place: a jump's facts change places, so that
 // the pages of the jumps to one fact stand side by side.
 pub(crate) fn place_of(page: Key) -> Key
-    ensures { result ≡ place_of page }
+    ensures { result ≡ page_place page }
 {
     match page {
         Key::Jump(block, from, to) => Key::Jump(block, to, from),

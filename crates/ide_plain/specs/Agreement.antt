@@ -1,12 +1,12 @@
 -- When values are those of a list, by rows of nodes.
 use Rattle.std.specs.Prelude.{◌≡◌, ℕ, ◌+◌, ◌*◌, ◌<◌, List, slice_index_or}
 use Rattle.ide_lattice.specs.Algebra.{LatticeAlgebra}
-use Rattle.ide_values.specs.Values.{ValuesData, value_of}
+use Rattle.ide_values.specs.Values.{ValuesData, value_there}
 
 module _ {L : Type 0} (A : LatticeAlgebra L) where
   -- the list has the value of the fact at the node in its place
   abbrev pub IsSameAt : ValuesData L → List L → ℕ → ℕ → Type 0
-  IsSameAt values listed node fact = slice_index_or listed (node * values.graph.facts + fact) A.top ≡ value_of A values node fact
+  IsSameAt values listed node fact = slice_index_or listed (node * values.graph.facts + fact) A.top ≡ value_there A values node fact
 
   -- and so for each fact at each node
   abbrev pub AreSame : ValuesData L → List L → Type 0

@@ -1,5 +1,5 @@
 -- Why a solve is refused: what its parts refuse, as a refusal of the text and the names.
-use Rattle.std.proofs.Common.{◌≡◌, ◌≢◌, ℕ, ◌<◌, ◌≤◌, false, suc, true≢false, List, [], ◌∷◌, ◌++◌, length, take, drop, get_or, map, Option, Result, Ok, Err, is_some, refl, ap, sym, subst, ◌∙◌, arith}
+use Rattle.std.proofs.Common.{◌≡◌, ◌≢◌, ℕ, ◌<◌, ◌⊎◌, inl, inr, false, suc, true≢false, List, [], ◌∷◌, ◌++◌, length, take, drop, get_or, map, Option, Result, Ok, Err, is_some, refl, ap, sym, subst, ◌∙◌}
 use Rattle.std.specs.Prelude.{IfErr}
 use Rattle.std.specs.Option.{IsSomeAnd}
 use Rattle.std.proofs.Math.Seq.{split_at}
@@ -18,8 +18,8 @@ use Rattle.ide_steps.specs.Refusal.{IsRootRefusal, fault as root_fault, memory a
 use Rattle.ide_text.specs.Parsed.{IsParsed, IsRefusalOf}
 use Rattle.ide_text.specs.declared.program.Program.{Program}
 use Rattle.ide_wire.specs.declared.refused.Refused.{Refused}
-use Rattle.ide_wire.specs.declared.refused.Refused.TheVariants.{NoMemory, Text}
-use Rattle.ide_values.specs.Refusal.{IsValuesRefusal, memory as values_memory, no_worker, too_many}
+use Rattle.ide_wire.specs.declared.refused.Refused.TheVariants.{Limit, NoMemory, Text}
+use Rattle.ide_values.specs.Refusal.{IsValuesRefusal, no_worker, too_many}
 use Rattle.ide_service.specs.Begun.{AreBegun}
 use Rattle.ide_service.specs.Refusal.{FirstRootFault, IsRootsRefusal, IsSolveRefusal, fault, here, later, memory, no_memory, no_program, no_root, root}
 use Rattle.ide_service.specs.Solve.{AreRootNames, none, then}
@@ -48,12 +48,10 @@ pub wants-memory : {T : Type 0} (text : List ℕ) (names : List (List ℕ)) (res
 wants-memory text names (Ok x) is = is
 wants-memory text names (Err e) is = subst (IsSolveRefusal text names) (sym is) memory
 
--- values by as many workers as may be
-pub values-refused : (text : List ℕ) (names : List (List ℕ)) (workers : ℕ) {refused : Refused} → 0 < workers → workers ≤ 64
-    → IsValuesRefusal workers refused → IsSolveRefusal text names refused
-values-refused text names workers some few (no_worker nobody) = absurd (omega (arith, nobody, some))
-values-refused text names workers some few (too_many past) = absurd (omega (arith, past, few))
-values-refused text names workers some few (values_memory are) = memory
+-- so many workers are not taken
+pub not_workers : (workers : ℕ) → (workers ≡ 0) ⊎ (64 < workers) → IsValuesRefusal workers Limit
+not_workers workers (inl not_any) = no_worker not_any
+not_workers workers (inr past) = too_many past
 
 -- what `root` refuses is the fault of its name, which is the first
 pub root-refused : (graph : Option Supergraph) (roots name : List ℕ) (names : List (List ℕ)) {refused : Refused}

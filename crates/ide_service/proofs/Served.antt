@@ -14,7 +14,7 @@ use Rattle.ide_journal.specs.Format.{Entry, Head}
 use Rattle.ide_lattice.specs.Algebra.{LatticeAlgebra, EdgeAlgebra}
 use Rattle.ide_problem.specs.Flow.{Targets}
 use Rattle.ide_steps.specs.Frozen.{graph_in, program_in}
-use Rattle.ide_steps.specs.Room.{IsGraphSaid, IsWhole}
+use Rattle.ide_steps.specs.Room.{IsGraphSaid, IsWholeCore}
 use Rattle.ide_steps.specs.declared.closed.Closed.{Closed}
 use Rattle.ide_store.proofs.Good.{IsGood, has_roots}
 use Rattle.ide_store.proofs.Hands.{good_now}
@@ -32,12 +32,12 @@ use Rattle.ide_text.specs.Value.{ProgramValue}
 use Rattle.ide_theory.proofs.Laws.Changes.{some-inj}
 use Rattle.ide_theory.specs.Graphs.{frame_at, roots_at}
 use Rattle.ide_theory.specs.Image.{HasRoots}
-use Rattle.ide_theory.specs.Images.{state_of}
+use Rattle.ide_theory.specs.Images.{image_state}
 use Rattle.ide_theory.specs.Member.{IsIn}
 use Rattle.ide_theory.specs.Members.{in-map, of-map}
 use Rattle.ide_theory.specs.Sites.{HaveEdgesOf}
 use Rattle.ide_theory.specs.Theorem.{GraphsAreSupergraphs}
-use Rattle.ide_values.specs.Best.{AreOf, IsAtRest}
+use Rattle.ide_values.specs.Best.{AreOf, TablesRest}
 use Rattle.ide_values.specs.Frozen.{AreBestOf}
 use Rattle.ide_values.specs.Values.{ValuesData}
 use Rattle.ide_wire.specs.declared.key.Key.{Key}
@@ -139,9 +139,9 @@ module _ (P : Type 0) {F L : Type 0} (a : Analysis F L) (knows : Knows a) (graph
           good_now a.lattice a.functions a.targets a.same (forms_of a) head.version (one_disk head) knows.is_same exact laws knows.known w whole.held
           values.program (image.program ∙ ap (λ u. Some u) (sym program)) by
 
-      at_rest : IsAtRest a.lattice a.functions a.targets values.graph all values.roots closed.tables
+      at_rest : TablesRest a.lattice a.functions a.targets values.graph all values.roots closed.tables
       at_rest = record {
-        state = state_of w.world.image;
+        state = image_state w.world.image;
         run = good.run;
         image = λ i key. image.functions key i;
         quiet = image.quiet;
@@ -149,7 +149,7 @@ module _ (P : Type 0) {F L : Type 0} (a : Analysis F L) (knows : Knows a) (graph
             (has_roots procedures (frame_by a.lattice a.functions a.targets by) values.program (knows.known.lawful by) w.world.image good);
       }
 
-module _ {P F L : Type 0} (a : Analysis F L) (table : TableData F) (closed : Closed P L F) (whole : IsWhole table.core)
+module _ {P F L : Type 0} (a : Analysis F L) (table : TableData F) (closed : Closed P L F) (whole : IsWholeCore table.core)
     (at : table.core.graph ≡ Some (graph_in closed)) where
   -- the graph of a frozen half is that of its program
   pub said_in : (head : Head) (w : StoreWorld a head) (handed : List Entry) → WorksOn a head w table handed → IsImageOf a head w closed

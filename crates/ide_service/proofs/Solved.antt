@@ -21,8 +21,8 @@ use Rattle.ide_wire.specs.declared.key.Key.TheVariants.{Jump}
 use Rattle.ide_steps.specs.Core.{CoreData}
 use Rattle.ide_steps.specs.Going.{GoesOn}
 use Rattle.ide_steps.specs.State.{state_of}
-use Rattle.ide_values.specs.Best.{AreBest, AreOf, IsAtRest}
-use Rattle.ide_values.specs.Values.{ValuesData, value_of}
+use Rattle.ide_values.specs.Best.{AreBest, AreOf, TablesRest}
+use Rattle.ide_values.specs.Values.{ValuesData, value_there}
 use Rattle.ide_service.specs.Solve.{AreRootNames, AreSolved}
 use Rattle.ide_service.specs.Started.{IsPrepared}
 
@@ -32,7 +32,7 @@ module _ {F L : Type 0} (A : LatticeAlgebra L) (B : EdgeAlgebra F L) (targets : 
   pub solved : (text : List ℕ) (names : List (List ℕ)) (rooted drained : CoreData F) (graph : Supergraph) (values : ValuesData L) (table : Table F)
       → IsPrepared A B targets text names rooted graph → GoesOn A B targets 0 rooted drained → drained.pile.pending ≡ []
       → drained.program ≡ Some values.program → drained.graph ≡ Some values.graph → values.roots ≡ drained.roots → table ≡ drained.table
-      → AreBest A B targets values.graph values.roots table (value_of A values)
+      → AreBest A B targets values.graph values.roots table (value_there A values)
       → AreSolved A B targets text names values
   solved text names rooted drained before values table started goes quiet program_end at_end roots_end table_is best =
       record {
@@ -69,7 +69,7 @@ module _ {F L : Type 0} (A : LatticeAlgebra L) (B : EdgeAlgebra F L) (targets : 
       kept r d (inl top) = inl top
       kept r d (inr has) = inr (on.keeps (state_of targets B rooted) (state_of targets B drained) is.run steps (Jump r d d) B.id proper_id has)
 
-      is_solved : IsAtRest A B targets graph is.all values.roots table
+      is_solved : TablesRest A B targets graph is.all values.roots table
       is_solved = record {
         state = state_of targets B drained;
         run = on.run (state_of targets B rooted) (state_of targets B drained) is.run steps;

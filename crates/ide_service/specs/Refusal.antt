@@ -7,6 +7,7 @@ use Rattle.ide_wire.specs.declared.refused.Fault.{Fault}
 use Rattle.ide_wire.specs.declared.refused.Refused.{Refused}
 use Rattle.ide_wire.specs.declared.refused.Refused.TheVariants.{NoMemory, Text, NoProgram}
 use Rattle.ide_steps.specs.Refusal.{IsRootName, RootFault}
+use Rattle.ide_values.specs.Refusal.{AreWorkers, IsValuesRefusal}
 
 -- of names that are made roots one after the other, beside these, the first that cannot be one has that fault
 pub data FirstRootFault (graph : Supergraph) : List ℕ → List (List ℕ) → Refused → Type 0 where
@@ -30,3 +31,8 @@ pub data IsSolveRefusal (text : List ℕ) (names : List (List ℕ)) : Refused �
   fault : (line : ℕ) (fault : Fault) → TextFault text line fault → IsSolveRefusal text names (Text line fault)
   root : (graph : Supergraph) (refused : Refused) → IsGraphOfText text graph → FirstRootFault graph [] names refused
       → IsSolveRefusal text names refused
+
+-- why so many workers do not solve them: values by so many are refused; or they can be, and the text or the names are refused
+pub data IsSharedRefusal (workers : ℕ) (text : List ℕ) (names : List (List ℕ)) : Refused → Type 0 where
+  not_shared : {refused : Refused} → IsValuesRefusal workers refused → IsSharedRefusal workers text names refused
+  not_solved : {refused : Refused} → AreWorkers workers → IsSolveRefusal text names refused → IsSharedRefusal workers text names refused

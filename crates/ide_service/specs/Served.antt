@@ -16,7 +16,7 @@ use Rattle.ide_theory.specs.Graphs.{frame_at, roots_at}
 use Rattle.ide_theory.specs.Sites.{HaveEdgesOf}
 use Rattle.ide_values.specs.Frozen.{AreBestOf}
 use Rattle.ide_values.specs.Refusal.{IsValuesRefusal}
-use Rattle.ide_values.specs.Values.{ValuesData, value_of}
+use Rattle.ide_values.specs.Values.{ValuesData, value_there}
 use Rattle.ide_wire.specs.declared.key.Key.{Key}
 use Rattle.ide_wire.specs.declared.refused.Refused.{Refused}
 
@@ -31,7 +31,7 @@ module _ {F L : Type 0} (a : Analysis F L) where
     pub all : HaveEdgesOf values.graph.facts values.graph.sites
     pub best : (n d : ℕ) → n < values.graph.nodes → d < values.graph.facts
         → IsBest (frame_at a.lattice a.functions a.targets values.graph all) (roots_at a.lattice a.functions a.targets values.graph all values.roots) n d
-        (value_of a.lattice values n d)
+        (value_there a.lattice values n d)
 
   -- of some world that acts led to
   pub record AreAnswersOfRun (values : ValuesData L) : Type 0 where

@@ -5,13 +5,16 @@ use Rattle.ide_graph.specs.GraphOfText.{IsGraphOfText}
 use Rattle.ide_graph.specs.Supergraph.{Supergraph}
 use Rattle.ide_lattice.specs.Algebra.{LatticeAlgebra, EdgeAlgebra}
 use Rattle.ide_problem.specs.Flow.{Targets}
+use Rattle.ide_steps.specs.Frozen.{graph_in, program_in}
 use Rattle.ide_steps.specs.Refusal.{IsRootName}
+use Rattle.ide_steps.specs.declared.closed.Closed.{Closed}
 use Rattle.ide_text.specs.Program.{value_of as program_value}
 use Rattle.ide_theory.specs.Best.{IsBest}
 use Rattle.ide_theory.specs.Graphs.{frame_at, roots_at}
 use Rattle.ide_theory.specs.Sites.{HaveEdgesOf}
 use Rattle.ide_values.specs.BestDump.{IsBestDump}
-use Rattle.ide_values.specs.Values.{ValuesData, value_of}
+use Rattle.ide_values.specs.Frozen.{AreBestOf}
+use Rattle.ide_values.specs.Values.{ValuesData, value_there}
 
 -- the names are those of the roots, in their order, after these
 pub data AreRootNames (graph : Supergraph) : List ℕ → List (List ℕ) → List ℕ → Type 0 where
@@ -28,7 +31,13 @@ module _ {F L : Type 0} (A : LatticeAlgebra L) (B : EdgeAlgebra F L) (targets : 
     pub named : AreRootNames values.graph [] names values.roots
     pub all : HaveEdgesOf values.graph.facts values.graph.sites
     pub best : (n d : ℕ) → n < values.graph.nodes → d < values.graph.facts
-        → IsBest (frame_at A B targets values.graph all) (roots_at A B targets values.graph all values.roots) n d (value_of A values n d)
+        → IsBest (frame_at A B targets values.graph all) (roots_at A B targets values.graph all values.roots) n d (value_there A values n d)
+
+  -- the image's best values, of its program, over its graph and for its roots, are those of the text and the names
+  abbrev pub LeadsToSolved : {P : Type 0} → List ℕ → List (List ℕ) → Closed P L F → Type 0
+  LeadsToSolved text names closed =
+      (values : ValuesData L) → values.program ≡ program_in closed → values.graph ≡ graph_in closed → values.roots ≡ closed.roots.items
+      → AreBestOf A B targets closed.tables values → AreSolved text names values
 
   -- the dump has the best value of each fact at each node of the program that the text spells, for the
   -- roots of these names

@@ -9,17 +9,22 @@ use ide_store::{Kept, TableHalf};
 use ide_values::{ValuePhase, Values};
 use ide_wire::Refused;
 use std::alloc::Global;
+use std::thread::Threads;
 
 /// The values of the image as it stands, by so many workers: at each node and fact the best value for the
 /// program and the roots of the run that led to the image, however often that was stopped and opened
 /// again. The half goes on.
 ///
 /// Refusals, in this order: those of [`TableHalf::freeze`]; those of [`ValuePhase::values`].
-pub fn values_of_table<P: Problem>(
+pub fn values_of_table<R: Threads + Sync, P: Problem>(
+    rt: &R,
     alloc: Global,
     table: &TableHalf<P>,
     workers: usize,
 ) -> Result<Values<P>, Refused>
+where
+    P::F: Sync,
+    P::L: Send + Sync,
     ensures best { IfOk result (AreAnswersOver ⟦<P as Kept>⟧.analysis table.now) }
     ensures graph { IfOk result (λ values. table.now.core.graph ≡ Some values.graph) }
     ensures roots { IfOk result (λ values. values.roots ≡ table.now.core.roots) }
@@ -29,5 +34,5 @@ pub fn values_of_table<P: Problem>(
     cores_are_whole(table.core());
     values_of_runs_are_best::<P>();
     let closed = table.freeze()?;
-    closed.values(alloc, workers)
+    closed.values(rt, alloc, workers)
 }

@@ -10,6 +10,7 @@
 mod answers;
 mod half;
 mod hands;
+mod progress;
 mod runs;
 mod service;
 mod shared;
@@ -19,7 +20,8 @@ mod together;
 
 pub use answers::values_of_table;
 pub use hands::{Ended, Gate, Hands, Open, Point, hand_loop};
+pub use progress::Progress;
 pub use runs::{every_run, values_of_runs_are_best};
 pub use service::Service;
-pub use solver::{solve, values_of};
+pub use solver::{solve, solve_shared, values_of, values_shared};
 pub use together::{Crew, Team, work_together};

@@ -3,6 +3,7 @@ ghost use Rattle.std.specs.Prelude.{◌≡◌, ℕ, false, Ok};
 ghost use Rattle.ide_service.specs.declared.hands.Point.{Point};
 
 use crate::hands::{Ended, Gate, Point, hand_loop};
+use crate::progress::Progress;
 use crate::shared::{Shared, Stepped};
 use crate::sharing::SharingHand;
 use ide_disk::Disk;
@@ -166,6 +167,11 @@ impl<P: Problem, D: Disk> Service<P, D> {
     /// How many records are stored: those numbered below are acknowledged.
     pub fn acked<R: Wait>(&self, rt: &R) -> u64 {
         self.store.lock(rt).acked()
+    }
+
+    /// How far the run has come, by one hold of the lock.
+    pub fn progress<R: Wait>(&self, rt: &R) -> Progress {
+        Progress::of(&self.store.lock(rt).engine)
     }
 
     /// Takes the lock, for a hand's call.

@@ -1,21 +1,23 @@
-//! Solving a text in memory, with one hand.
+//! Solving a text in memory, with one hand. The values may be filled by several workers.
 ghost use Rattle.std.specs.Prelude.{◌≡◌, IfErr, IfOk, OnErr, OnOk, map};
 ghost use Rattle.ide_service.specs.Begun.{AreBegun};
-ghost use Rattle.ide_service.specs.Refusal.{IsRootsRefusal, IsSolveRefusal};
-ghost use Rattle.ide_service.specs.Solve.{AppendsSolution, AreSolved};
+ghost use Rattle.ide_service.specs.Refusal.{IsRootsRefusal, IsSharedRefusal, IsSolveRefusal};
+ghost use Rattle.ide_service.specs.Solve.{AppendsSolution, AreSolved, LeadsToSolved};
 ghost use Rattle.ide_service.specs.Started.{IsPreparedFor};
+ghost use Rattle.ide_values.specs.Refusal.{AreWorkers};
 
 use ide_graph::{
     ends_of_programs_are_nodes, exits_of_programs_are_owned, graphs_of_programs_are_closed,
     sites_of_programs_are_joined,
 };
 use ide_problem::Problem;
-use ide_steps::Core;
+use ide_steps::{Closed, Core, HANDS};
 use ide_text::parse;
 use ide_theory::{graphs_are_supergraphs, runs_go_on, sites_make_a_graph};
 use ide_values::{ValuePhase, Values};
 use ide_wire::Refused;
 use std::alloc::Global;
+use std::thread::Threads;
 
 /// Appends the dump of the program that the text spells, with the procedures of these names as
 /// roots: at each node and fact the best value, the greatest one below the effect of every valid
@@ -38,6 +40,30 @@ pub fn solve<P: Problem>(
     values.dump(out)
 }
 
+/// The same as [`solve`] by so many workers, from 1 to 64, which share the fill of the values. The
+/// dump is the same for any number of them.
+///
+/// Refusals, in this order: `Limit` where there are no workers or more than 64; those of [`solve`].
+/// After each the vector has what it had.
+pub fn solve_shared<R: Threads + Sync, P: Problem>(
+    rt: &R,
+    alloc: Global,
+    text: &[u8],
+    roots: &[&[u8]],
+    workers: usize,
+    out: &mut Vec<u8>,
+) -> Result<(), Refused>
+where
+    P::F: Sync,
+    P::L: Send + Sync,
+    ensures solution { OnOk result (AppendsSolution P.L.algebra P.F.edge P.targets P.L.shown text.now (map (λ name. name.now) roots.now) out.old out.new) }
+    ensures refused { IfErr result (IsSharedRefusal workers text.now (map (λ name. name.now) roots.now)) }
+    ensures unchanged { OnErr result (out.new.items ≡ out.old.items) }
+{
+    let values = values_shared::<R, P>(rt, alloc, text, roots, workers)?;
+    values.dump(out)
+}
+
 /// The values of the program that the text spells, with the procedures of these names as roots.
 /// It is refused as [`solve`] is.
 pub fn values_of<P: Problem>(
@@ -48,12 +74,44 @@ pub fn values_of<P: Problem>(
     ensures solved { IfOk result (AreSolved P.L.algebra P.F.edge P.targets text.now (map (λ name. name.now) roots.now)) }
     ensures refused { IfErr result (IsSolveRefusal text.now (map (λ name. name.now) roots.now)) }
 {
+    let closed = closed_of::<P>(alloc, text, roots)?;
+    closed.values_alone(alloc)
+}
+
+/// The same by so many workers, from 1 to 64, which share the fill. It is refused as
+/// [`solve_shared`] is.
+pub fn values_shared<R: Threads + Sync, P: Problem>(
+    rt: &R,
+    alloc: Global,
+    text: &[u8],
+    roots: &[&[u8]],
+    workers: usize,
+) -> Result<Values<P>, Refused>
+where
+    P::F: Sync,
+    P::L: Send + Sync,
+    ensures workers { OnOk result (AreWorkers workers) }
+    ensures solved { IfOk result (AreSolved P.L.algebra P.F.edge P.targets text.now (map (λ name. name.now) roots.now)) }
+    ensures refused { IfErr result (IsSharedRefusal workers text.now (map (λ name. name.now) roots.now)) }
+{
+    if workers == 0 || workers > HANDS {
+        return Err(Refused::Limit);
+    }
+    let closed = closed_of::<P>(alloc, text, roots)?;
+    closed.values(rt, alloc, workers)
+}
+
+/// The quiet image of the program that the text spells, with the procedures of these names as roots.
+fn closed_of<P: Problem>(alloc: Global, text: &[u8], roots: &[&[u8]]) -> Result<Closed<P>, Refused>
+    ensures leads { IfOk result (LeadsToSolved P.L.algebra P.F.edge P.targets text.now (map (λ name. name.now) roots.now)) }
+    ensures refused { IfErr result (IsSolveRefusal text.now (map (λ name. name.now) roots.now)) }
+{
     sites_make_a_graph::<P>();
     runs_go_on::<P>();
     let mut core = started::<P>(alloc, text, roots)?;
     core.drain()?;
     match core.close() {
-        Ok(closed) => closed.values(alloc, 1),
+        Ok(closed) => Ok(closed),
         Err((refused, _)) => Err(refused),
     }
 }

@@ -59,7 +59,7 @@ pub(crate) fn value_at(
     fact: Fact,
 ) -> Result<ide_instances::ConstValue, Refused> {
     let closed = service.freeze(rt)?;
-    let values = closed.values(alloc, 1)?;
+    let values = closed.values_alone(alloc)?;
     let value = values.at(node, fact)?;
     Ok(value)
 }

@@ -12,3 +12,5 @@ mod generated;
 mod plain;
 #[cfg(test)]
 mod service;
+#[cfg(test)]
+mod workers;

@@ -6,11 +6,11 @@ use Rattle.ide_problem.specs.Flow.{Targets}
 use Rattle.ide_theory.specs.Graphs.{frame_at}
 use Rattle.ide_steps.specs.Core.{CoreData}
 use Rattle.ide_steps.specs.Drain.{GoesOnPaid}
-use Rattle.ide_steps.specs.Room.{AreTasksFew, ImagesHaveRoom, IsWhole}
+use Rattle.ide_steps.specs.Room.{AreTasksFew, ImagesHaveRoom, IsWholeCore}
 use Rattle.ide_steps.proofs.Going.{run-goes}
 
 module _ {F L : Type 0} (A : LatticeAlgebra L) (B : EdgeAlgebra F L) (targets : Targets F) where
-  pub few-of : {E : Type 0} → ImagesHaveRoom A B targets → (r : Result ℕ E) (old new : CoreData F) → IsWhole new
+  pub few-of : {E : Type 0} → ImagesHaveRoom A B targets → (r : Result ℕ E) (old new : CoreData F) → IsWholeCore new
       → IfOk r (λ tasks. (claims : ℕ) × (tasks ≡ min claims (2 ^ 64 - 1)) × GoesOnPaid A B targets claims old new) → IfOk r (λ tasks. AreTasksFew A B targets old tasks)
   few-of room (Ok tasks) old new whole run_by = λ graph is all fit run.
       let goes = run_by.2.goes in

@@ -11,7 +11,7 @@ use Rattle.ide_lattice.specs.Algebra.{EdgeAlgebra}
 use Rattle.ide_problem.specs.Flow.{Targets}
 use Rattle.ide_tables.specs.Tables.{Table, SetsAll, found, last_of}
 use Rattle.ide_tasks.specs.Task.{TaskData}
-use Rattle.ide_theory.specs.State.{Claim, State, marked, seeded, with_function}
+use Rattle.ide_theory.specs.State.{Claim, State, claim_marked, seeded, with_function}
 use Rattle.ide_wire.specs.Key.{node_of, same_key, same_key_symm}
 use Rattle.ide_wire.specs.declared.key.Key.{Key}
 use Rattle.ide_wire.specs.declared.key.Key.TheVariants.{Jump}
@@ -108,7 +108,7 @@ module _ {F L : Type 0} (targets : Targets F) (B : EdgeAlgebra F L) where
       λ i. record { get = λ q. gets q i; pending = λ q. waits q i; claims = λ h. marks (s.claims h) i }
     where
       marks : (o : Option (Claim F)) → option_map (marked_by (keys_of (es ++ (key, f) ∷ []))) o
-          ≡ option_map (marked key) (option_map (marked_by (keys_of es)) o)
+          ≡ option_map (claim_marked key) (option_map (marked_by (keys_of es)) o)
       marks None = refl
       marks (Some claim) = ap (λ b. Some (record claim { lowered = b })) (ap (λ b. b || claim.lowered) (any-more (same_key claim.key) es (key, f)) ∙ grind (arith))
 

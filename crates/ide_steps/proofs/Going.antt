@@ -14,7 +14,7 @@ use Rattle.ide_tasks.specs.Work.{WorkData}
 use Rattle.ide_theory.specs.Frame.{Frame}
 use Rattle.ide_theory.specs.Graphs.{frame_at}
 use Rattle.ide_theory.proofs.Laws.Ways.{joined-claims, joined-lowerings, joined-releases, joined-by}
-use Rattle.ide_theory.specs.Run.{ArePartsOf, AreBy, IsBy, Run, goes_on, Step, Steps, claim, skip, lower, finish, release, none, more, joined, claims_of, claims_in, lowerings_of, lowerings_in, releases_of, releases_in}
+use Rattle.ide_theory.specs.Run.{ArePartsOf, AreBy, IsBy, Run, goes_on, Step, Steps, claim, skip, lower, finish, release, none, more, steps_joined, claims_of, claims_in, lowerings_of, lowerings_in, releases_of, releases_in}
 use Rattle.ide_theory.specs.Sites.{HaveEdgesOf}
 use Rattle.ide_theory.specs.State.{Claim, State, finished, with_claim}
 use Rattle.ide_tables.specs.Spent.{spent}
@@ -26,7 +26,7 @@ use Rattle.ide_steps.specs.declared.part.Parted.{Parted}
 use Rattle.ide_steps.specs.declared.part.Parted.TheVariants.{Lowered, Same, NoPart}
 use Rattle.ide_steps.specs.Core.{CoreData, IsSameProblem, IsUnchanged}
 use Rattle.ide_steps.specs.Drain.{ArePaid, GoesOnPaid}
-use Rattle.ide_steps.specs.Going.{GoesOn, GoesOnBy, IsFit}
+use Rattle.ide_steps.specs.Going.{GoesOn, GoesOnByHand, IsFit}
 use Rattle.ide_steps.specs.State.{state_of, claim_of}
 use Rattle.ide_steps.specs.Steps.{IsCurrent, IsLowered, IsOneMore, IsSkipped, IsTaken, progress_at}
 
@@ -133,7 +133,7 @@ module _ {F L : Type 0} (A : LatticeAlgebra L) (B : EdgeAlgebra F L) (targets : 
 
   -- nothing happens to the state
   pub goes-nowhere : (hand : ℕ) (old new : CoreData F) → IsSameProblem old new
-      → state_of targets B new ≡ state_of targets B old → GoesOnBy A B targets hand 0 0 0 old new
+      → state_of targets B new ≡ state_of targets B old → GoesOnByHand A B targets hand 0 0 0 old new
   goes-nowhere hand old new same state = record {
     same = same;
     steps = λ g is all fit run.
@@ -145,7 +145,7 @@ module _ {F L : Type 0} (A : LatticeAlgebra L) (B : EdgeAlgebra F L) (targets : 
       → ((graph : Supergraph) → old.graph ≡ Some graph → (all : HaveEdgesOf graph.facts graph.sites) → IsFit graph
       → Run (frame_at A B targets graph all) (state_of targets B old)
       → StepBy (frame_at A B targets graph all) hand m k l (state_of targets B old) (state_of targets B new))
-      → GoesOnBy A B targets hand m k l old new
+      → GoesOnByHand A B targets hand m k l old new
   goes-step hand m k l old new same step = record {
     same = same;
     steps = λ g is all fit run. let one = step g is all fit run in
@@ -155,15 +155,15 @@ module _ {F L : Type 0} (A : LatticeAlgebra L) (B : EdgeAlgebra F L) (targets : 
         (more none one.0, (tt, one.1), claimed, lowered, released);
   }
 
-  pub goes-then : {hand m n k l r q : ℕ} (old mid new : CoreData F) → GoesOnBy A B targets hand m k r old mid → GoesOnBy A B targets hand n l q mid new
-      → GoesOnBy A B targets hand (m + n) (k + l) (r + q) old new
+  pub goes-then : {hand m n k l r q : ℕ} (old mid new : CoreData F) → GoesOnByHand A B targets hand m k r old mid → GoesOnByHand A B targets hand n l q mid new
+      → GoesOnByHand A B targets hand (m + n) (k + l) (r + q) old new
   goes-then {hand = hand} old mid new first next = record {
     same = same-problem first.same next.same;
     steps = λ g is all fit run.
         let K = frame_at A B targets g all in
         let way = first.steps g is all fit run in
         let rest = next.steps g (first.same.graph ∙ is) all fit (run-goes K run way.0) in (
-          joined way.0 rest.0,
+          steps_joined way.0 rest.0,
           joined-by hand way.0 rest.0 way.1 rest.1,
           joined-claims way.0 rest.0 ∙ (λ i. way.2 i + rest.2 i),
           joined-lowerings way.0 rest.0 ∙ (λ i. way.3 i + rest.3 i),
@@ -172,7 +172,7 @@ module _ {F L : Type 0} (A : LatticeAlgebra L) (B : EdgeAlgebra F L) (targets : 
   }
 
   -- claims, lowerings and releases need not be counted
-  pub goes-on : {hand m k r : ℕ} (old new : CoreData F) → GoesOnBy A B targets hand m k r old new → GoesOn A B targets hand old new
+  pub goes-on : {hand m k r : ℕ} (old new : CoreData F) → GoesOnByHand A B targets hand m k r old new → GoesOn A B targets hand old new
   goes-on {m = m} {k = k} {r = r} old new goes = record { claims = m; lowerings = k; releases = r; by = goes }
 
   pub goes-on-then : {hand : ℕ} (old mid new : CoreData F) → GoesOn A B targets hand old mid → GoesOn A B targets hand mid new → GoesOn A B targets hand old new
@@ -199,7 +199,7 @@ module _ {F L : Type 0} (A : LatticeAlgebra L) (B : EdgeAlgebra F L) (targets : 
 
   -- a claim changes neither tables nor pending keys: the parts after it pay for it
   pub paid-task : {E : Type 0} {k : ℕ} (r : Result Bool E) (old mid new : CoreData F) → mid.table ≡ old.table → mid.pile.pending ≡ old.pile.pending
-      → GoesOnBy A B targets 0 1 0 0 old mid → GoesOnBy A B targets 0 0 k 0 mid new → OnOk r (ArePaid B 1 k mid new) → OnOk r (GoesOnPaid A B targets 1 old new)
+      → GoesOnByHand A B targets 0 1 0 0 old mid → GoesOnByHand A B targets 0 0 k 0 mid new → OnOk r (ArePaid B 1 k mid new) → OnOk r (GoesOnPaid A B targets 1 old new)
   paid-task {k} (Ok flag) old mid new table pending first next paid = record {
     lowerings = 0 + k;
     goes = goes-then old mid new first next;
@@ -224,7 +224,7 @@ module _ {F L : Type 0} (A : LatticeAlgebra L) (B : EdgeAlgebra F L) (targets : 
     claims = λ h. option_map (claim_of targets B) (is.claims h i);
   }
 
-  pub goes-unchanged : (hand : ℕ) (old new : CoreData F) → IsUnchanged old new → GoesOnBy A B targets hand 0 0 0 old new
+  pub goes-unchanged : (hand : ℕ) (old new : CoreData F) → IsUnchanged old new → GoesOnByHand A B targets hand 0 0 0 old new
   goes-unchanged hand old new is =
       goes-nowhere hand old new (record { program = is.program; graph = is.graph; roots = is.roots }) (state-unchanged old new is)
 
@@ -233,27 +233,27 @@ module _ {F L : Type 0} (A : LatticeAlgebra L) (B : EdgeAlgebra F L) (targets : 
       → ((graph : Supergraph) → old.graph ≡ Some graph → (all : HaveEdgesOf graph.facts graph.sites) → IsFit graph
       → Run (frame_at A B targets graph all) (state_of targets B old)
       → ArePartsOf (frame_at A B targets graph all) (state_of targets B old).get task.key (owed targets B task))
-      → GoesOnBy A B targets hand 1 0 0 old new
+      → GoesOnByHand A B targets hand 1 0 0 old new
   goes-claim old new hand task same taken owes =
       goes-step hand 1 0 0 old new same (λ g is all fit run. claims A B targets g all old new hand task taken (owes g is all fit run))
 
   -- a part is a step, which lowers a key or finds it met
   pub goes-lowered : (old new : CoreData F) (hand : ℕ) (work after : WorkData F) (task : TaskData F) → IsSameProblem old new
       → progress_at old.pile hand ≡ Some (task, work.done) → work.parts ≡ owed targets B task → IsLowered B (state_of targets B old) (state_of targets B new) hand work after
-      → GoesOnBy A B targets hand 0 1 0 old new
+      → GoesOnByHand A B targets hand 0 1 0 old new
   goes-lowered old new hand work after task same progress parts is =
       goes-step hand 0 1 0 old new same (λ g at all fit run. lowers A B targets g all old new hand work after task progress parts is)
 
   pub goes-skipped : (old new : CoreData F) (hand : ℕ) (work after : WorkData F) (task : TaskData F) → IsSameProblem old new
       → progress_at old.pile hand ≡ Some (task, work.done) → work.parts ≡ owed targets B task → IsSkipped B (state_of targets B old) (state_of targets B new) hand work after
-      → GoesOnBy A B targets hand 0 0 0 old new
+      → GoesOnByHand A B targets hand 0 0 0 old new
   goes-skipped old new hand work after task same progress parts is =
       goes-step hand 0 0 0 old new same (λ g at all fit run. skips A B targets g all old new hand work after task progress parts is)
 
   -- a claim that ends with no part left is a step
   pub goes-ended : (old new : CoreData F) (hand : ℕ) (held : Held (TaskData F)) → IsSameProblem old new → claim_at old.pile hand ≡ Some held
       → (claim_of targets B held).parts ≡ [] → state_of targets B new ≡ finished (state_of targets B old) hand (claim_of targets B held)
-      → GoesOnBy A B targets hand 0 0 0 old new
+      → GoesOnByHand A B targets hand 0 0 0 old new
   goes-ended old new hand held same has over state =
       goes-step hand 0 0 0 old new same (λ g at all fit run. subst (StepBy (frame_at A B targets g all) hand 0 0 0 (state_of targets B old)) (sym state)
       (finish hand (claim_of targets B held) (ap (option_map (claim_of targets B)) has) over, refl, refl, refl, refl))
@@ -268,7 +268,7 @@ module _ {F L : Type 0} (A : LatticeAlgebra L) (B : EdgeAlgebra F L) (targets : 
 
   -- a claim that is given back is a step
   pub goes-back : (old new : CoreData F) (hand : ℕ) (held : Held (TaskData F)) → IsSameProblem old new → claim_at old.pile hand ≡ Some held
-      → state_of targets B new ≡ with_claim (state_of targets B old) hand None → GoesOnBy A B targets hand 0 0 1 old new
+      → state_of targets B new ≡ with_claim (state_of targets B old) hand None → GoesOnByHand A B targets hand 0 0 1 old new
   goes-back old new hand held same has state =
       goes-step hand 0 0 1 old new same (λ g is all fit run. subst (StepBy (frame_at A B targets g all) hand 0 0 1 (state_of targets B old)) (sym state)
       (release hand (claim_of targets B held) (ap (option_map (claim_of targets B)) has), refl, refl, refl, refl))
@@ -291,14 +291,14 @@ module _ {F L : Type 0} (A : LatticeAlgebra L) (B : EdgeAlgebra F L) (targets : 
         | None ↦ λ empty. goes-on old new (goes-nowhere hand old new same (state ∙ without-claim old hand empty))
       ] refl
 
-  pub goes-same : (hand : ℕ) (old new : CoreData F) → new ≡ old → GoesOnBy A B targets hand 0 0 0 old new
+  pub goes-same : (hand : ℕ) (old new : CoreData F) → new ≡ old → GoesOnByHand A B targets hand 0 0 0 old new
   goes-same hand old new same =
       goes-nowhere hand old new (record { program = ap (λ c. c.program) same; graph = ap (λ c. c.graph) same; roots = ap (λ c. c.roots) same }) (ap (state_of targets B) same)
 
   pub goes-finish : (old new : CoreData F) (hand : ℕ) (work : WorkData F) → IsSameProblem old new
       → IsCurrent targets B old hand work → work.done ≡ length work.parts
       → ((held : Held (TaskData F)) → claim_at old.pile hand ≡ Some held → state_of targets B new ≡ finished (state_of targets B old) hand (claim_of targets B held))
-      → GoesOnBy A B targets hand 0 0 0 old new
+      → GoesOnByHand A B targets hand 0 0 0 old new
   goes-finish old new hand work same current over state =
       goes-step hand 0 0 0 old new same (λ g is all fit run. finishes A B targets g all old new hand work work.task current.claim current.parts over state)
 

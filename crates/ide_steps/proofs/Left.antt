@@ -21,7 +21,7 @@ use Rattle.ide_wire.specs.Key.{same_key, same_key_exact, same_key_laws, same_key
 use Rattle.ide_wire.specs.KeyOrder.{key_cmp}
 use Rattle.ide_wire.specs.declared.key.Key.{Key}
 use Rattle.ide_worklist.specs.Worklist.{is_pending}
-use Rattle.ide_steps.specs.Changed.{entry_of, entry_then, noted_count}
+use Rattle.ide_steps.specs.Changed.{standing_entry, entry_then, noted_count}
 use Rattle.ide_steps.specs.Core.{CoreData}
 use Rattle.ide_steps.specs.Items.{AreChangedItems, is_left, is_left_of, item_of, left_keys}
 use Rattle.ide_steps.specs.declared.changes.Entry.{Entry}
@@ -84,7 +84,7 @@ module _ {F : Type 0} (same : F → F → Bool) (exact : (f g : F) → same f g 
     notes = unwrap_or core.changes []
 
     then-is : (changes : Option (List (Key × Entry F))) (key : Key)
-        → entry_then (record core { changes = changes }) key ≡ unwrap_or (lookup (same_key key) (unwrap_or changes [])) (entry_of core key)
+        → entry_then (record core { changes = changes }) key ≡ unwrap_or (lookup (same_key key) (unwrap_or changes [])) (standing_entry core key)
     then-is None key = refl
     then-is (Some list) key = refl
 
@@ -93,7 +93,7 @@ module _ {F : Type 0} (same : F → F → Bool) (exact : (f g : F) → same f g 
 
     -- a key that is left is present and changed
     of-left : IsDistinct same_key (keys_of (unwrap_or core.changes [])) → (key : Key) → IsIn key (left_keys same core (unwrap_or core.changes []))
-        → (is_some (found core.table key) ≡ true) × (entry_of core key ≢ entry_then core key)
+        → (is_some (found core.table key) ≡ true) × (standing_entry core key ≢ entry_then core key)
     of-left once key there =
         let note : (x : Key × Entry F) × IsIn x (filter test notes) × (x.0 ≡ key) = of-map (λ (x : Key × Entry F). x.0) (filter test notes) there in
         let kept = of-filter test notes note.1 in
@@ -101,22 +101,22 @@ module _ {F : Type 0} (same : F → F → Bool) (exact : (f g : F) → same f g 
         let noted : lookup (same_key key) notes ≡ Some note.0.1 =
         lookup-from_Contains same_key_laws key note.0.1 notes once (subst (Contains notes) is (contains-in kept.0)) in
         let changed : test (key, note.0.1) ≡ true = subst (λ (k : Key). test (k, note.0.1) ≡ true) note.2 kept.1 in
-        let then : entry_then core key ≡ note.0.1 = then-is core.changes key ∙ ap (λ o. unwrap_or o (entry_of core key)) noted in (
+        let then : entry_then core key ≡ note.0.1 = then-is core.changes key ∙ ap (λ o. unwrap_or o (standing_entry core key)) noted in (
           left-present (found core.table key) note.0.1.function (is_pending core.pile key) note.0.1.pending changed,
-          λ equal. left-differs (entry_of core key) note.0.1 changed (equal ∙ then),
+          λ equal. left-differs (standing_entry core key) note.0.1 changed (equal ∙ then),
         )
 
     -- and each that is so is left
-    in-left : (key : Key) (f : F) → found core.table key ≡ Some f → entry_of core key ≢ entry_then core key
+    in-left : (key : Key) (f : F) → found core.table key ≡ Some f → standing_entry core key ≢ entry_then core key
         → IsIn key (left_keys same core (unwrap_or core.changes []))
     in-left key f is other = by (lookup (same_key key) notes) refl
       where
         by : (o : Option (Entry F)) → lookup (same_key key) notes ≡ o → IsIn key (left_keys same core (unwrap_or core.changes []))
-        by None none = absurd (other (sym (then-is core.changes key ∙ ap (λ o. unwrap_or o (entry_of core key)) none)))
+        by None none = absurd (other (sym (then-is core.changes key ∙ ap (λ o. unwrap_or o (standing_entry core key)) none)))
         by (Some before) noted =
-            let then : entry_then core key ≡ before = then-is core.changes key ∙ ap (λ o. unwrap_or o (entry_of core key)) noted in
+            let then : entry_then core key ≡ before = then-is core.changes key ∙ ap (λ o. unwrap_or o (standing_entry core key)) noted in
             let listed : IsIn (key, before) notes = in-contains notes (key, before) (Contains-from_lookup same_key_exact key before notes noted) in
-            let left : test (key, before) ≡ true = differs-left (entry_of core key) before f is (λ equal. other (equal ∙ sym then)) in
+            let left : test (key, before) ≡ true = differs-left (standing_entry core key) before f is (λ equal. other (equal ∙ sym then)) in
             in-map (λ (x : Key × Entry F). x.0) (in-filter test listed left)
 
     present : (o : Option F) → is_some o ≡ true → o ≡ Some (or_top B o)
@@ -129,7 +129,7 @@ module _ {F : Type 0} (same : F → F → Bool) (exact : (f g : F) → same f g 
       left = left_keys same core (unwrap_or core.changes [])
 
       listed : (key : Key) (f : F) (waits : Bool) → Contains (map (item_of B core) sorted) (key, f, waits)
-          → (found core.table key ≡ Some f) × (waits ≡ is_pending core.pile key) × (entry_of core key ≢ entry_then core key)
+          → (found core.table key ≡ Some f) × (waits ≡ is_pending core.pile key) × (standing_entry core key ≢ entry_then core key)
       listed key f waits there =
           let at : (u : Key) × IsIn u sorted × (item_of B core u ≡ (key, f, waits)) =
           of-map (item_of B core) sorted (in-contains (map (item_of B core) sorted) (key, f, waits) there) in
@@ -142,7 +142,7 @@ module _ {F : Type 0} (same : F → F → Bool) (exact : (f g : F) → same f g 
             changed.1,
           )
 
-      lists : (key : Key) (f : F) (waits : Bool) → found core.table key ≡ Some f → waits ≡ is_pending core.pile key → entry_of core key ≢ entry_then core key
+      lists : (key : Key) (f : F) (waits : Bool) → found core.table key ≡ Some f → waits ≡ is_pending core.pile key → standing_entry core key ≢ entry_then core key
           → Contains (map (item_of B core) sorted) (key, f, waits)
       lists key f waits is waiting other =
           let there : IsIn key sorted = in-contains sorted key (Contains-permutation left sorted key moved (contains-in (in-left key f is other))) in

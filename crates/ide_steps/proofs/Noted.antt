@@ -14,20 +14,20 @@ use Rattle.ide_wire.specs.declared.key.Key.{Key}
 use Rattle.ide_worklist.specs.Worklist.{Pile, ends, is_pending}
 use Rattle.ide_worklist.specs.declared.claim.Claim.{Claim}
 use Rattle.ide_steps.specs.declared.changes.Entry.{Entry}
-use Rattle.ide_steps.specs.Changed.{HasRoom, Notes, Remembers, ended_key, entry_at, entry_of, grows, is_touched, noted, noted_after, noted_count, or_else, with_change, with_note}
+use Rattle.ide_steps.specs.Changed.{HasRoom, Notes, Remembers, ended_key, entry_at, standing_entry, grows, is_touched, noted, noted_after, noted_count, or_entry, with_change, with_note}
 use Rattle.ide_steps.specs.Core.{CoreData, IsUnchanged}
 use Rattle.ide_steps.proofs.Entries.{last_of-other}
 
-or-none : {X : Type 0} (o : Option X) → or_else o None ≡ o
+or-none : {X : Type 0} (o : Option X) → or_entry o None ≡ o
 or-none None = refl
 or-none (Some x) = refl
 
 -- what is looked up in a list with one entry more
 lookup-more : {X : Type 0} (test : Key → Bool) (es : List (Key × X)) (key : Key) (x : X)
-    → lookup test (es ++ (key, x) ∷ []) ≡ or_else (lookup test es) (cond (test key) (Some x) None)
+    → lookup test (es ++ (key, x) ∷ []) ≡ or_entry (lookup test es) (cond (test key) (Some x) None)
 lookup-more test [] key x = refl
 lookup-more test (e ∷ es) key x =
-    elim (test e.0) as (λ b. cond b (Some e.1) (lookup test (es ++ (key, x) ∷ [])) ≡ or_else (cond b (Some e.1) (lookup test es)) (cond (test key) (Some x) None)) [
+    elim (test e.0) as (λ b. cond b (Some e.1) (lookup test (es ++ (key, x) ∷ [])) ≡ or_entry (cond b (Some e.1) (lookup test es)) (cond (test key) (Some x) None)) [
       | true ↦ refl
       | false ↦ lookup-more test es key x
     ]
@@ -51,7 +51,7 @@ end-kept (Some claim) q waits other =
     ] other
 
 or-or : {X : Type 0} (o : Option X) (first later : Bool) (x : X)
-    → or_else (or_else o (cond first (Some x) None)) (cond later (Some x) None) ≡ or_else o (cond (later || first) (Some x) None)
+    → or_entry (or_entry o (cond first (Some x) None)) (cond later (Some x) None) ≡ or_entry o (cond (later || first) (Some x) None)
 or-or (Some y) first later x = refl
 or-or None true true x = refl
 or-or None true false x = refl
@@ -81,16 +81,16 @@ module _ {F : Type 0} where
   noted-with None key entry q = refl
   noted-with (Some list) key entry q =
       elim (lookup (same_key key) list) as (λ o. lookup (same_key key) list ≡ o
-      → lookup (same_key q) (cond (is_some o) list (list ++ (key, entry key) ∷ [])) ≡ or_else (lookup (same_key q) list) (cond (same_key key q) (Some (entry q)) None)) [
+      → lookup (same_key q) (cond (is_some o) list (list ++ (key, entry key) ∷ [])) ≡ or_entry (lookup (same_key q) list) (cond (same_key key q) (Some (entry q)) None)) [
         | Some x ↦ λ there. known x there (same_key key q) refl
-        | None ↦ λ none. lookup-more (same_key q) list key (entry key) ∙ ap (or_else (lookup (same_key q) list)) (entry-same key q entry)
+        | None ↦ λ none. lookup-more (same_key q) list key (entry key) ∙ ap (or_entry (lookup (same_key q) list)) (entry-same key q entry)
       ] refl
     where
       known : (x : Entry F) → lookup (same_key key) list ≡ Some x → (b : Bool) → same_key key q ≡ b
-          → lookup (same_key q) list ≡ or_else (lookup (same_key q) list) (cond b (Some (entry q)) None)
+          → lookup (same_key q) list ≡ or_entry (lookup (same_key q) list) (cond b (Some (entry q)) None)
       known x there true same =
           let here : lookup (same_key q) list ≡ Some x = ap (λ k. lookup (same_key k) list) (sym (same_key_exact key q same)) ∙ there in
-          here ∙ sym (ap (λ o. or_else o (Some (entry q))) here)
+          here ∙ sym (ap (λ o. or_entry o (Some (entry q))) here)
       known x there false other = sym (or-none (lookup (same_key q) list))
 
   -- nothing is noted later
@@ -122,14 +122,14 @@ module _ {F : Type 0} where
       ]
 
   -- the key that changes is noted
-  pub notes-change : (old new : CoreData F) (changed : Option Key) → new.changes ≡ with_change old.changes changed (entry_of old) → Notes old new changed
-  notes-change old new changed is = record { changes = is; count = ap noted_count is ∙ change-counted old.changes changed (entry_of old) }
+  pub notes-change : (old new : CoreData F) (changed : Option Key) → new.changes ≡ with_change old.changes changed (standing_entry old) → Notes old new changed
+  notes-change old new changed is = record { changes = is; count = ap noted_count is ∙ change-counted old.changes changed (standing_entry old) }
 
   after-keeps : (notes : Option (List (Key × Entry F))) (later : Bool) (entry : Entry F) (q : Key) → is_some (noted notes q) ≡ true
       → is_some (noted_after notes later entry q) ≡ true
   after-keeps None later entry q is = is
   after-keeps (Some list) later entry q is =
-      elim (lookup (same_key q) list) as (λ o. is_some o ≡ true → is_some (or_else o (cond later (Some entry) None)) ≡ true) [
+      elim (lookup (same_key q) list) as (λ o. is_some o ≡ true → is_some (or_entry o (cond later (Some entry) None)) ≡ true) [
         | Some x ↦ λ _. refl
         | None ↦ λ no. absurd (cc (no))
       ] is
@@ -138,27 +138,27 @@ module _ {F : Type 0} where
       → unwrap_or (noted_after notes later before q) now ≡ unwrap_or (noted notes q) before
   after-entry None later before now q some stays = absurd (cc (some))
   after-entry (Some list) later before now q some stays =
-      elim (lookup (same_key q) list) as (λ o. unwrap_or (or_else o (cond later (Some before) None)) now ≡ unwrap_or o before) [
+      elim (lookup (same_key q) list) as (λ o. unwrap_or (or_entry o (cond later (Some before) None)) now ≡ unwrap_or o before) [
         | Some x ↦ refl
         | None ↦ elim later as (λ b. (b ≡ false → now ≡ before) → unwrap_or (cond b (Some before) None) now ≡ before) [ true ↦ λ _. refl | false ↦ λ is. is refl ] stays
       ]
 
   -- entries that change are noted as they were
   pub remembers-noted : (old new : CoreData F) (later : Key → Bool) → is_some new.changes ≡ is_some old.changes
-      → ((q : Key) → noted new.changes q ≡ noted_after old.changes (later q) (entry_of old q) q)
-      → ((q : Key) → later q ≡ false → entry_of new q ≡ entry_of old q) → Remembers old new
+      → ((q : Key) → noted new.changes q ≡ noted_after old.changes (later q) (standing_entry old q) q)
+      → ((q : Key) → later q ≡ false → standing_entry new q ≡ standing_entry old q) → Remembers old new
   remembers-noted old new later noting is stays = record {
     noting = noting;
-    keeps = λ q there. subst (λ o. is_some o ≡ true) (sym (is q)) (after-keeps old.changes (later q) (entry_of old q) q there);
+    keeps = λ q there. subst (λ o. is_some o ≡ true) (sym (is q)) (after-keeps old.changes (later q) (standing_entry old q) q there);
     entries = λ some q.
-        ap (λ o. unwrap_or o (entry_of new q)) (is q) ∙ after-entry old.changes (later q) (entry_of old q) (entry_of new q) q some (stays q);
+        ap (λ o. unwrap_or o (standing_entry new q)) (is q) ∙ after-entry old.changes (later q) (standing_entry old q) (standing_entry new q) q some (stays q);
   }
 
-  pub remembers-change : (old new : CoreData F) (changed : Option Key) → new.changes ≡ with_change old.changes changed (entry_of old)
-      → ((q : Key) → is_touched changed q ≡ false → entry_of new q ≡ entry_of old q) → Remembers old new
+  pub remembers-change : (old new : CoreData F) (changed : Option Key) → new.changes ≡ with_change old.changes changed (standing_entry old)
+      → ((q : Key) → is_touched changed q ≡ false → standing_entry new q ≡ standing_entry old q) → Remembers old new
   remembers-change old new changed is stays =
-      remembers-noted old new (is_touched changed) (ap is_some is ∙ change-noting old.changes changed (entry_of old))
-      (λ q. ap (λ notes. noted notes q) is ∙ change-noted old.changes changed (entry_of old) q) stays
+      remembers-noted old new (is_touched changed) (ap is_some is ∙ change-noting old.changes changed (standing_entry old))
+      (λ q. ap (λ notes. noted notes q) is ∙ change-noted old.changes changed (standing_entry old) q) stays
 
   -- an image and notes that are as they were
   pub remembers-same : (old new : CoreData F) → new.changes ≡ old.changes → new.table ≡ old.table → new.pile.pending ≡ old.pile.pending → Remembers old new
@@ -207,8 +207,8 @@ module _ {F : Type 0} where
       → noted_after notes later e q ≡ noted_after notes later f q
   after-same None later e f q same = refl
   after-same (Some list) later e f q same =
-      elim later as (λ b. (b ≡ true → e ≡ f) → or_else (lookup (same_key q) list) (cond b (Some e) None) ≡ or_else (lookup (same_key q) list) (cond b (Some f) None)) [
-        | true ↦ λ is. ap (λ x. or_else (lookup (same_key q) list) (Some x)) (is refl)
+      elim later as (λ b. (b ≡ true → e ≡ f) → or_entry (lookup (same_key q) list) (cond b (Some e) None) ≡ or_entry (lookup (same_key q) list) (cond b (Some f) None)) [
+        | true ↦ λ is. ap (λ x. or_entry (lookup (same_key q) list) (Some x)) (is refl)
         | false ↦ λ _. refl
       ] same
 
@@ -247,7 +247,7 @@ module _ {F : Type 0} where
   after-after None (Some list) first later entry q noting is = absurd (cc (noting))
   after-after (Some list) None first later entry q noting is = absurd (cc (noting))
   after-after (Some list) (Some more) first later entry q noting is =
-      ap (λ o. or_else o (cond later (Some entry) None)) is ∙ or-or (lookup (same_key q) list) first later entry
+      ap (λ o. or_entry o (cond later (Some entry) None)) is ∙ or-or (lookup (same_key q) list) first later entry
 
   -- room for some is room for fewer
   pub room-fewer : {S : Type 0} (m n : ℕ) (map : Option (IndexMap Key (Entry F) S)) → m ≤ n → HasRoom n map → HasRoom m map

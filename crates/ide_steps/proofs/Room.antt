@@ -19,7 +19,7 @@ use Rattle.ide_wire.specs.declared.key.Key.{Key}
 use Rattle.ide_wire.specs.declared.key.Key.TheVariants.{Jump, Summary}
 use Rattle.ide_steps.specs.Core.{StandsIn}
 use Rattle.ide_steps.specs.Items.{StandsAt}
-use Rattle.ide_steps.specs.Room.{calls_of, key_space}
+use Rattle.ide_steps.specs.Room.{call_nodes_of, key_space}
 
 -- a node with a site is a node of the graph
 site-within : (graph : Supergraph) → length graph.sites ≡ graph.nodes → (n : ℕ) → is_some_call (slice_get graph.sites n) ≡ true → n < graph.nodes
@@ -76,17 +76,17 @@ module _ (make : ℕ → ℕ → ℕ → Key) (facts : ℕ) where
 
 module _ (graph : Supergraph) where
   pub all_keys : List Key
-  all_keys = grid Jump graph.facts (range_with_len 0 graph.nodes) ++ grid Summary graph.facts (calls_of graph)
+  all_keys = grid Jump graph.facts (range_with_len 0 graph.nodes) ++ grid Summary graph.facts (call_nodes_of graph)
 
   pub length-all : length all_keys ≡ key_space graph
   unfolding all_keys
   length-all =
-      let both = length-append (grid Jump graph.facts (range_with_len 0 graph.nodes)) (grid Summary graph.facts (calls_of graph)) in
+      let both = length-append (grid Jump graph.facts (range_with_len 0 graph.nodes)) (grid Summary graph.facts (call_nodes_of graph)) in
       let jumps = length-grid Jump graph.facts (range_with_len 0 graph.nodes) in
       let nodes = length-range_with_len 0 graph.nodes in
-      let summaries = length-grid Summary graph.facts (calls_of graph) in
-      both ∙ (λ i. jumps i + summaries i) ∙ sum (length (range_with_len 0 graph.nodes)) (length (calls_of graph)) (graph.facts * graph.facts)
-      ∙ ap (λ n. (n + length (calls_of graph)) * (graph.facts * graph.facts)) nodes
+      let summaries = length-grid Summary graph.facts (call_nodes_of graph) in
+      both ∙ (λ i. jumps i + summaries i) ∙ sum (length (range_with_len 0 graph.nodes)) (length (call_nodes_of graph)) (graph.facts * graph.facts)
+      ∙ ap (λ n. (n + length (call_nodes_of graph)) * (graph.facts * graph.facts)) nodes
     where
       sum : (m n k : ℕ) → m * k + n * k ≡ (m + n) * k
       sum m n k = omega arith
@@ -94,9 +94,9 @@ module _ (graph : Supergraph) where
   pub in-all : length graph.sites ≡ graph.nodes → (key : Key) → IsPlaced graph key → IsKeyInRange graph.facts key → IsIn key all_keys
   unfolding all_keys
   in-all sited (Jump n a b) within facts =
-      in-left (grid Summary graph.facts (calls_of graph)) (in-grid Jump graph.facts (range_with_len 0 graph.nodes) n a b (in-range_below graph.nodes n within) facts.0 facts.1)
+      in-left (grid Summary graph.facts (call_nodes_of graph)) (in-grid Jump graph.facts (range_with_len 0 graph.nodes) n a b (in-range_below graph.nodes n within) facts.0 facts.1)
   in-all sited (Summary n a b) call facts =
-      in-right (grid Jump graph.facts (range_with_len 0 graph.nodes)) (in-grid Summary graph.facts (calls_of graph) n a b
+      in-right (grid Jump graph.facts (range_with_len 0 graph.nodes)) (in-grid Summary graph.facts (call_nodes_of graph) n a b
       (in-filter (λ m. is_some_call (slice_get graph.sites m)) (in-range_below graph.nodes n (site-within graph sited n call)) call) facts.0 facts.1)
 
   member-of : {key : Key} {keys : List Key} → IsIn key keys → list_any (same_key key) keys ≡ true

@@ -15,7 +15,7 @@ use Rattle.ide_tasks.specs.Parts.{owed}
 use Rattle.ide_tasks.specs.Task.{TaskData}
 use Rattle.ide_tasks.specs.Work.{WorkData}
 use Rattle.ide_theory.proofs.Laws.Targets.{nat_eq-refl}
-use Rattle.ide_theory.specs.State.{State, nothing_done, put, rest_of, without_first, marked, with_claim, part_done, lowered_by, finished}
+use Rattle.ide_theory.specs.State.{State, nothing_done, put, rest_of, without_first, claim_marked, with_claim, part_done, with_lowered, finished}
 use Rattle.ide_wire.specs.declared.key.Key.{Key}
 use Rattle.ide_wire.specs.Key.{same_key, same_key_exact}
 use Rattle.ide_worklist.specs.Worklist.{Pile, IsWorklist, is_pending, claim_at, put_hand, with_done, ends, ends_key, marked as marked_claim}
@@ -45,7 +45,7 @@ module _ {F L : Type 0} (targets : Targets F) (B : EdgeAlgebra F L) where
   or_top-unwrap (Some f) = refl
 
   pub claim-marked : (key : Key) (o : Option (Held (TaskData F)))
-      → option_map (claim_of targets B) (marked_claim key o) ≡ option_map (marked key) (option_map (claim_of targets B) o)
+      → option_map (claim_of targets B) (marked_claim key o) ≡ option_map (claim_marked key) (option_map (claim_of targets B) o)
   claim-marked key None = refl
   claim-marked key (Some c) =
       elim (same_key c.key key) as (λ b. option_map (claim_of targets B) (cond b (Some (record c { lowered = true })) (Some c))
@@ -59,13 +59,13 @@ module _ {F L : Type 0} (targets : Targets F) (B : EdgeAlgebra F L) where
   pub state-lowered : (table new_table : Table F) (pile new_pile : Pile (TaskData F)) (key : Key) (g : F) → Lowers B table new_table key g
       → ((q : Key) → is_pending new_pile q ≡ (same_key key q || is_pending pile q))
       → ((h : ℕ) → claim_at new_pile h ≡ marked_claim key (claim_at pile h))
-      → state-at new_table new_pile ≡ lowered_by B (state-at table pile) key g
+      → state-at new_table new_pile ≡ with_lowered B (state-at table pile) key g
   state-lowered table new_table pile new_pile key g lowers pending claims =
       let gets : (q : Key) → found new_table q ≡ put same_key (found table) key (Some (B.meet (unwrap_or (found table key) B.all_top) g)) q =
       λ q. lowers.entries q ∙ ap (λ f. cond (same_key key q) (Some (B.meet f g)) (found table q)) (or_top-unwrap (found table key)) in
       let waits : (q : Key) → is_pending new_pile q ≡ put same_key (is_pending pile) key true q =
       λ q. pending q ∙ or-cond (same_key key q) (is_pending pile q) in
-      let hands : (h : ℕ) → option_map (claim_of targets B) (claim_at new_pile h) ≡ option_map (marked key) (option_map (claim_of targets B) (claim_at pile h)) =
+      let hands : (h : ℕ) → option_map (claim_of targets B) (claim_at new_pile h) ≡ option_map (claim_marked key) (option_map (claim_of targets B) (claim_at pile h)) =
       λ h. ap (option_map (claim_of targets B)) (claims h) ∙ claim-marked key (claim_at pile h) in
       λ i. record { get = λ q. gets q i; pending = λ q. waits q i; claims = λ h. hands h i }
 

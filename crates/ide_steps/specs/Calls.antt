@@ -12,7 +12,7 @@ use Rattle.ide_theory.specs.State.{finished, with_claim}
 use Rattle.ide_worklist.specs.Worklist.{claim_at}
 use Rattle.ide_worklist.specs.declared.claim.Claim.{Claim as Held}
 use Rattle.ide_steps.specs.Core.{CoreData, IsSameProblem}
-use Rattle.ide_steps.specs.Going.{GoesOnBy}
+use Rattle.ide_steps.specs.Going.{GoesOnByHand}
 use Rattle.ide_steps.specs.State.{IsTaskOf, claim_of, state_of}
 use Rattle.ide_steps.specs.Steps.{IsLowered, IsSkipped, IsTaken, progress_at}
 
@@ -22,19 +22,19 @@ module _ {F L : Type 0} (A : LatticeAlgebra L) (B : EdgeAlgebra F L) (targets : 
   pub record CallsAreSteps : Type 0 where
     pub claim : (hand : ℕ) (old new : CoreData F) (task : TaskData F) → IsSameProblem old new → IsTaken targets B hand old new task
         → ((graph : Supergraph) → old.graph ≡ Some graph → AreExitsOwned graph → IsSome (found old.table task.key) → IsTaskOf targets B graph old.table task)
-        → GoesOnBy A B targets hand 1 0 0 old new
+        → GoesOnByHand A B targets hand 1 0 0 old new
     pub lower : (hand : ℕ) (old new : CoreData F) (work after : WorkData F) (task : TaskData F) → IsSameProblem old new
         → progress_at old.pile hand ≡ Some (task, work.done) → work.parts ≡ owed targets B task
         → IsLowered B (state_of targets B old) (state_of targets B new) hand work after
-        → GoesOnBy A B targets hand 0 1 0 old new
+        → GoesOnByHand A B targets hand 0 1 0 old new
     pub skip : (hand : ℕ) (old new : CoreData F) (work after : WorkData F) (task : TaskData F) → IsSameProblem old new
         → progress_at old.pile hand ≡ Some (task, work.done) → work.parts ≡ owed targets B task
         → IsSkipped B (state_of targets B old) (state_of targets B new) hand work after
-        → GoesOnBy A B targets hand 0 0 0 old new
+        → GoesOnByHand A B targets hand 0 0 0 old new
     pub finish : (hand : ℕ) (old new : CoreData F) (held : Held (TaskData F)) → IsSameProblem old new
         → claim_at old.pile hand ≡ Some held → (claim_of targets B held).parts ≡ []
         → state_of targets B new ≡ finished (state_of targets B old) hand (claim_of targets B held)
-        → GoesOnBy A B targets hand 0 0 0 old new
+        → GoesOnByHand A B targets hand 0 0 0 old new
     pub release : (hand : ℕ) (old new : CoreData F) (held : Held (TaskData F)) → IsSameProblem old new
         → claim_at old.pile hand ≡ Some held → state_of targets B new ≡ with_claim (state_of targets B old) hand None
-        → GoesOnBy A B targets hand 0 0 1 old new
+        → GoesOnByHand A B targets hand 0 0 1 old new

@@ -14,9 +14,9 @@ use Rattle.ide_steps.specs.declared.changes.Entry.{Entry}
 use Rattle.ide_steps.specs.Core.{CoreData}
 
 -- the first value, or else the second
-abbrev pub or_else : {X : Type 0} → Option X → Option X → Option X
-or_else None other = other
-or_else (Some x) other = Some x
+abbrev pub or_entry : {X : Type 0} → Option X → Option X → Option X
+or_entry None other = other
+or_entry (Some x) other = Some x
 
 -- the key that the end of the claim takes out of the pending ones
 abbrev pub ended_key : {T : Type 0} → Option (Claim T) → Option Key
@@ -34,8 +34,8 @@ module _ {F : Type 0} where
   entry_at table pile key = record { function = found table key; pending = is_pending pile key }
 
   -- the key's entry, as it stands
-  abbrev pub entry_of : CoreData F → Key → Entry F
-  entry_of core key = entry_at core.table core.pile key
+  abbrev pub standing_entry : CoreData F → Key → Entry F
+  standing_entry core key = entry_at core.table core.pile key
 
   -- what a map notes: nothing where nobody asked
   abbrev pub notes_of : {S : Type 0} → Option (IndexMap Key (Entry F) S) → Option (List (Key × Entry F))
@@ -80,7 +80,7 @@ module _ {F : Type 0} where
   -- what is noted for a key, where some keys were noted later with the entries that they had
   abbrev pub noted_after : Option (List (Key × Entry F)) → Bool → Entry F → Key → Option (Entry F)
   noted_after None later entry key = None
-  noted_after (Some list) later entry key = or_else (lookup (same_key key) list) (if later then Some entry else None)
+  noted_after (Some list) later entry key = or_entry (lookup (same_key key) list) (if later then Some entry else None)
 
   -- each key is noted as absent, if changes are noted and it is not yet
   abbrev pub NotesAbsent : {T : Type 0} → (old new : Option (List (Key × Entry F))) → Pile T → List Key → Type 0
@@ -93,15 +93,15 @@ module _ {F : Type 0} where
 
   -- the entry that the key had when changes were last asked for: the noted one, or else the one that stands
   abbrev pub entry_then : CoreData F → Key → Entry F
-  entry_then core key = unwrap_or (noted core.changes key) (entry_of core key)
+  entry_then core key = unwrap_or (noted core.changes key) (standing_entry core key)
 
   -- where changes were noted, each key's entry of then is the listed one, or else the one that stands
   abbrev pub HandsOut : (old new : CoreData F) → List (Key × Entry F) → Type 0
-  HandsOut old new list = IsSome old.changes → (key : Key) → entry_then old key ≡ unwrap_or (lookup (same_key key) list) (entry_of new key)
+  HandsOut old new list = IsSome old.changes → (key : Key) → entry_then old key ≡ unwrap_or (lookup (same_key key) list) (standing_entry new key)
 
   -- the entry of the key that changes, if one does, is noted, and no other
   pub record Notes (old new : CoreData F) (changed : Option Key) : Type 0 where
-    pub changes : new.changes ≡ with_change old.changes changed (entry_of old)
+    pub changes : new.changes ≡ with_change old.changes changed (standing_entry old)
     pub count : noted_count new.changes ≡ noted_count old.changes + grows old.changes changed
 
   -- the entry of the key of the work's next part is noted, and no other

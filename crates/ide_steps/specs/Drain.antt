@@ -11,7 +11,7 @@ use Rattle.ide_worklist.specs.declared.claim.Claim.{Claim}
 use Rattle.ide_steps.specs.declared.part.Parted.{Parted}
 use Rattle.ide_steps.specs.declared.part.Parted.TheVariants.{Lowered, Same, NoPart}
 use Rattle.ide_steps.specs.Core.{CoreData}
-use Rattle.ide_steps.specs.Going.{GoesOnBy}
+use Rattle.ide_steps.specs.Going.{GoesOnByHand}
 use Rattle.ide_steps.specs.Steps.{IsCurrent}
 
 -- a claim whose key was lowered leaves the key pending at its end
@@ -82,7 +82,7 @@ module _ {F L : Type 0} (A : LatticeAlgebra L) (B : EdgeAlgebra F L) (targets : 
   -- other's, and are paid for; none is given back
   pub record GoesOnPaid (claims : ℕ) (old new : CoreData F) : Type 0 where
     pub lowerings : ℕ
-    pub goes : GoesOnBy A B targets 0 claims lowerings 0 old new
+    pub goes : GoesOnByHand A B targets 0 claims lowerings 0 old new
     pub paid : ArePaid B claims lowerings old new
 
   -- the same for the one claim or none, by whether a task was run
@@ -91,7 +91,7 @@ module _ {F L : Type 0} (A : LatticeAlgebra L) (B : EdgeAlgebra F L) (targets : 
 
   -- hand 0 claims the task, if there is one: that is one step, or none
   abbrev pub ClaimsTask : (old new : CoreData F) → Option (TaskData F) → Type 0
-  ClaimsTask old new task = GoesOnBy A B targets 0 (if is_some task then 1 else 0) 0 0 old new
+  ClaimsTask old new task = GoesOnByHand A B targets 0 (if is_some task then 1 else 0) 0 0 old new
 
   -- so many tasks were claimed and are paid for, told up to the largest number of 64 bits
   abbrev pub Drains : (old new : CoreData F) → ℕ → Type 0
@@ -100,4 +100,4 @@ module _ {F L : Type 0} (A : LatticeAlgebra L) (B : EdgeAlgebra F L) (targets : 
   -- the parts of the work of hand 0 are steps, where it is its claim, and a finished claim is paid for
   abbrev pub RunsWork : {T E : Type 0} → Result T E → WorkData F → (old new : CoreData F) → Type 0
   RunsWork result work old new =
-      (lowerings : ℕ) × (IsCurrent targets B old 0 work → GoesOnBy A B targets 0 0 lowerings 0 old new) × OnOk result (ArePaid B 1 lowerings old new)
+      (lowerings : ℕ) × (IsCurrent targets B old 0 work → GoesOnByHand A B targets 0 0 lowerings 0 old new) × OnOk result (ArePaid B 1 lowerings old new)

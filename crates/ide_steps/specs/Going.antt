@@ -24,7 +24,7 @@ module _ {F L : Type 0} (A : LatticeAlgebra L) (B : EdgeAlgebra F L) (targets : 
   -- over a graph that is fit, steps of one hand lead from the one core's state to the other's, where a
   -- run came to that: so many of them are claims, parts that lower a key, and claims given back; program
   -- and roots stay
-  pub record GoesOnBy (hand claims lowerings releases : ℕ) (old new : CoreData F) : Type 0 where
+  pub record GoesOnByHand (hand claims lowerings releases : ℕ) (old new : CoreData F) : Type 0 where
     pub same : IsSameProblem old new
     pub steps : (graph : Supergraph) → old.graph ≡ Some graph → (all : HaveEdgesOf graph.facts graph.sites) → IsFit graph
         → Run (frame_at A B targets graph all) (state_of targets B old)
@@ -39,4 +39,4 @@ module _ {F L : Type 0} (A : LatticeAlgebra L) (B : EdgeAlgebra F L) (targets : 
     pub claims : ℕ
     pub lowerings : ℕ
     pub releases : ℕ
-    pub by : GoesOnBy hand claims lowerings releases old new
+    pub by : GoesOnByHand hand claims lowerings releases old new

@@ -13,7 +13,7 @@ use Rattle.ide_wire.specs.KeyOrder.{key_cmp}
 use Rattle.ide_wire.specs.declared.key.Key.{Key}
 use Rattle.ide_wire.specs.declared.key.Key.TheVariants.{Jump, Summary}
 use Rattle.ide_worklist.specs.Worklist.{Pile, is_pending}
-use Rattle.ide_steps.specs.Changed.{entry_of, entry_then}
+use Rattle.ide_steps.specs.Changed.{standing_entry, entry_then}
 use Rattle.ide_steps.specs.Core.{CoreData}
 use Rattle.ide_steps.specs.declared.changes.Entry.{Entry as Noted}
 
@@ -56,7 +56,7 @@ left_keys same core notes = map (λ note. note.0) (filter (is_left_of same core)
 pub record AreChangedItems {F : Type 0} (core : CoreData F) (items : List (Key × F × Bool)) : Type 0 where
   pub ascending : IsStrictlySortedBy key_cmp (map (λ item. item.0) items)
   pub exact : (key : Key) (f : F) (waits : Bool) → Contains items (key, f, waits)
-      ↔ ((found core.table key ≡ Some f) × (waits ≡ is_pending core.pile key) × (entry_of core key ≢ entry_then core key))
+      ↔ ((found core.table key ≡ Some f) × (waits ≡ is_pending core.pile key) × (standing_entry core key ≢ entry_then core key))
 
 -- the key is pending or not, as told, and each other key as it was
 abbrev pub SetsPending : {T : Type 0} → Key → Bool → (old new : Pile T) → Type 0

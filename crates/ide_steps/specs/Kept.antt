@@ -1,5 +1,5 @@
 -- What is known of tasks by what is kept of a loaded program.
-use Rattle.std.specs.Prelude.{◌≡◌, ℕ, ◌<◌, Result, Some, IfOk, IsSome, slice_get, slice_index}
+use Rattle.std.specs.Prelude.{◌≡◌, ℕ, ◌<◌, Option, Result, Some, IfOk, IsSome, slice_get, slice_index}
 use Rattle.ide_graph.specs.Exits.{AreExitsOwned}
 use Rattle.ide_graph.specs.declared.site.Site.{Site}
 use Rattle.ide_graph.specs.Supergraph.{Supergraph}
@@ -10,8 +10,9 @@ use Rattle.ide_tasks.specs.Task.{TaskData}
 use Rattle.ide_tasks.specs.declared.partners.Partners.{Partners}
 use Rattle.ide_wire.specs.Key.{node_of}
 use Rattle.ide_wire.specs.declared.key.Key.{Key}
+use Rattle.ide_worklist.specs.Worklist.{Pile}
 use Rattle.ide_steps.specs.declared.loaded.Loaded.{Loaded}
-use Rattle.ide_steps.specs.Core.{CoreData, IsProgramKept}
+use Rattle.ide_steps.specs.Core.{AreKeysKept, CoreData, IsProgramKept}
 use Rattle.ide_steps.specs.State.{ArePartnersOf, IsTaskOf}
 
 module _ {P L F : Type 0} (targets : Targets F) (loaded : Loaded P L F) where
@@ -43,3 +44,9 @@ module _ {P L F : Type 0} (targets : Targets F) (B : EdgeAlgebra F L) (loaded : 
   abbrev pub GivesPartners : {E : Type 0} → Site → ℕ → Result (Partners F) E → Type 0
   GivesPartners site procedure result =
       WhereKeptAt targets loaded key site procedure (IfOk result (ArePartnersIn targets B loaded table key site))
+
+-- the program that is loaded, if one is, is kept, and no key of the pile stands outside of its graph
+abbrev pub KeepsLoaded : {P L F : Type 0} → Targets F → EdgeAlgebra F L → Option (Loaded P L F) → Pile (TaskData F) → Type 0
+KeepsLoaded {P} {L} {F} targets B held pile =
+    (loaded : Loaded P L F) → held ≡ Some loaded
+    → IsProgramKept targets loaded.program loaded.graph loaded.sources × AreKeysKept targets B loaded.graph pile

@@ -21,12 +21,12 @@ use Rattle.ide_steps.specs.Going.{IsFit}
 use Rattle.ide_steps.specs.State.{state_of}
 
 -- the call nodes of a graph
-abbrev pub calls_of : Supergraph → List ℕ
-calls_of graph = filter (λ n. is_some_call (slice_get graph.sites n)) (range_with_len 0 graph.nodes)
+abbrev pub call_nodes_of : Supergraph → List ℕ
+call_nodes_of graph = filter (λ n. is_some_call (slice_get graph.sites n)) (range_with_len 0 graph.nodes)
 
 -- a jump for each node and two facts, and a summary for each call node and two facts
 abbrev pub key_space : Supergraph → ℕ
-key_space graph = (graph.nodes + length (calls_of graph)) * (graph.facts * graph.facts)
+key_space graph = (graph.nodes + length (call_nodes_of graph)) * (graph.facts * graph.facts)
 
 -- the graph is that of a program that says so, with the program's edges
 pub record IsGraphSaid (said : Option ProgramValue) (graph : Supergraph) : Type 0 where
@@ -37,7 +37,7 @@ pub record IsGraphSaid (said : Option ProgramValue) (graph : Supergraph) : Type 
 
 -- what every core keeps: its tables have each key once, and the loaded graph has a site for each node and is that of the
 -- program that is loaded
-pub record IsWhole {F : Type 0} (core : CoreData F) : Type 0 where
+pub record IsWholeCore {F : Type 0} (core : CoreData F) : Type 0 where
   pub distinct : IsDistinct same_key (keys_of core.table.entries)
   pub sited : (graph : Supergraph) → core.graph ≡ Some graph → length graph.sites ≡ graph.nodes
   pub said : (graph : Supergraph) → core.graph ≡ Some graph → IsGraphSaid core.program graph
@@ -52,7 +52,7 @@ module _ {F L : Type 0} (A : LatticeAlgebra L) (B : EdgeAlgebra F L) (targets : 
   -- the functions of a core have lost no more ranks than those of all keys have
   abbrev pub ImagesHaveRoom : Type 0
   ImagesHaveRoom =
-      (core : CoreData F) → IsWhole core
+      (core : CoreData F) → IsWholeCore core
       → InRuns core (λ graph. spent B core.table.entries ≤ key_space graph * B.height)
 
   -- so many tasks are at most the pending keys, and the ranks that the functions of all keys have

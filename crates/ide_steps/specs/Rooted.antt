@@ -20,7 +20,7 @@ use Rattle.ide_worklist.specs.Worklist.{IsFree, Pile, claim_at, is_pending}
 use Rattle.ide_steps.specs.Core.{CoreData}
 use Rattle.ide_steps.specs.Refusal.{IsRootName}
 use Rattle.ide_steps.specs.State.{state_of}
-use Rattle.ide_steps.specs.Steps.{IsBelow, SameTasks}
+use Rattle.ide_steps.specs.Steps.{IsKeyBelow, SameTasks}
 
 -- the claim, marked as lowered if its key is one of these
 abbrev pub marked_all : {T : Type 0} → List Key → Option (Held T) → Option (Held T)
@@ -60,8 +60,8 @@ abbrev pub AllAbsent : {F : Type 0} → CoreData F → List (Key × F) → Type 
 AllAbsent core entries = All (λ entry. found core.table entry.0 ≡ None) entries
 
 -- these entries are what a root's start gets in the core's state
-abbrev pub AreSeeds : {F L : Type 0} → Targets F → EdgeAlgebra F L → CoreData F → ℕ → ℕ → List (Key × F) → Type 0
-AreSeeds targets B core start count entries =
+abbrev pub AreSeedEntries : {F L : Type 0} → Targets F → EdgeAlgebra F L → CoreData F → ℕ → ℕ → List (Key × F) → Type 0
+AreSeedEntries targets B core start count entries =
     seeded_below B (state_of targets B core) start count ≡ with_entries (state_of targets B core) entries
 
 -- the procedure of the name is a root now, and each absent entry of its start is the identity; in a run
@@ -85,4 +85,4 @@ pub record IsBegun {F L : Type 0} (A : LatticeAlgebra L) (B : EdgeAlgebra F L) (
   pub met : (all : HaveEdgesOf graph.facts graph.sites) → AreJoined graph.sites (start_at graph)
       → start_at graph (slice_index graph.starts root) ≡ slice_index graph.starts root → graph.entries ≤ graph.facts
       → Run (frame_at A B targets graph all) (state_of targets B old)
-      → (d : ℕ) → d < graph.entries → IsBelow B (state_of targets B new) (Jump (slice_index graph.starts root) d d) B.id
+      → (d : ℕ) → d < graph.entries → IsKeyBelow B (state_of targets B new) (Jump (slice_index graph.starts root) d d) B.id

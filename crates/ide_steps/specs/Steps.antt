@@ -6,7 +6,7 @@ use Rattle.ide_tasks.specs.Parts.{owed}
 use Rattle.ide_tasks.specs.Task.{TaskData}
 use Rattle.ide_tasks.specs.Work.{WorkData}
 use Rattle.ide_theory.specs.Invariant.{unclaimed}
-use Rattle.ide_theory.specs.State.{State, finished, lowered_by, new_claim, part_done, with_claim}
+use Rattle.ide_theory.specs.State.{State, finished, with_lowered, new_claim, part_done, with_claim}
 use Rattle.ide_wire.specs.declared.key.Key.{Key}
 use Rattle.ide_worklist.specs.Worklist.{Pile, claim_at, is_pending}
 use Rattle.ide_worklist.specs.declared.claim.Claim.{Claim as Held}
@@ -68,12 +68,12 @@ module _ {F : Type 0} where
 
   module _ {L : Type 0} (B : EdgeAlgebra F L) where
     -- to meet the key's function with this one changes nothing
-    abbrev pub IsBelow : State F → Key → F → Type 0
-    IsBelow s t g = B.meet (unwrap_or (s.get t) B.all_top) g ≡ unwrap_or (s.get t) B.all_top
+    abbrev pub IsKeyBelow : State F → Key → F → Type 0
+    IsKeyBelow s t g = B.meet (unwrap_or (s.get t) B.all_top) g ≡ unwrap_or (s.get t) B.all_top
 
     -- to meet it changes the key's function, and makes none that is always top
     pub record Changes (s : State F) (t : Key) (g : F) : Type 0 where
-      pub falls : ¬ (IsBelow s t g)
+      pub falls : ¬ (IsKeyBelow s t g)
       pub present : B.meet (unwrap_or (s.get t) B.all_top) g ≢ B.all_top
 
     -- the work's next part is done, which lowered its key
@@ -81,14 +81,14 @@ module _ {F : Type 0} where
       pub part : Key × F
       pub next : slice_get old.parts old.done ≡ Some part
       pub changes : Changes s part.0 part.1
-      pub state : t ≡ part_done (lowered_by B s part.0 part.1) hand
+      pub state : t ≡ part_done (with_lowered B s part.0 part.1) hand
       pub counted : IsOneMore old new
 
     -- the work's next part is done, which its key had received already
     pub record IsSkipped (s t : State F) (hand : ℕ) (old new : WorkData F) : Type 0 where
       pub part : Key × F
       pub next : slice_get old.parts old.done ≡ Some part
-      pub met : IsBelow s part.0 part.1
+      pub met : IsKeyBelow s part.0 part.1
       pub state : t ≡ part_done s hand
       pub counted : IsOneMore old new
 
@@ -124,7 +124,7 @@ module _ {F L : Type 0} (targets : Targets F) (B : EdgeAlgebra F L) where
 
   -- the key has received the function already
   abbrev pub HasReceived : CoreData F → Key → F → Type 0
-  HasReceived core key f = IsBelow B (state_of targets B core) key f
+  HasReceived core key f = IsKeyBelow B (state_of targets B core) key f
 
   -- to meet the key's function with this one changes it
   abbrev pub IsChangedBy : CoreData F → Key → F → Type 0
@@ -132,7 +132,7 @@ module _ {F L : Type 0} (targets : Targets F) (B : EdgeAlgebra F L) where
 
   -- the key's function is met with this one, and the key is pending
   abbrev pub IsLoweredBy : (old new : CoreData F) → Key → F → Type 0
-  IsLoweredBy old new key f = state_of targets B new ≡ lowered_by B (state_of targets B old) key f
+  IsLoweredBy old new key f = state_of targets B new ≡ with_lowered B (state_of targets B old) key f
 
   -- the hand does the work's next part, which lowers its key
   abbrev pub LowersPart : ℕ → (old new : CoreData F) → (work after : WorkData F) → Type 0

@@ -1,7 +1,7 @@
 //! Laws of tasks. The functions do nothing: their clauses are the laws.
 ghost use Rattle.ide_steps.specs.Calls.{CallsAreSteps};
 ghost use Rattle.ide_steps.specs.Owed.{TasksOweTheirParts};
-ghost use Rattle.ide_steps.specs.Room.{ImagesHaveRoom, IsWhole};
+ghost use Rattle.ide_steps.specs.Room.{ImagesHaveRoom, IsWholeCore};
 
 use crate::machine::Core;
 use ide_problem::Problem;
@@ -29,7 +29,7 @@ pub fn calls_are_steps<P: Problem>()
 
 /// Each core's tables have each key once, and its graph a site for each node.
 pub fn cores_are_whole<P: Problem>(core: &Core<P>)
-    ensures { IsWhole core.now }
+    ensures { IsWholeCore core.now }
 {
     let _ = core.tables.key_count();
     if let Some(loaded) = &core.loaded {

@@ -1,7 +1,7 @@
 //! The core: its state and what may be asked of it.
 ghost use Rattle.ide_graph.specs.GraphOf.{IsGraphOf};
 ghost use Rattle.ide_graph.specs.ProgramEdges.{HasEdgesOf};
-ghost use Rattle.ide_steps.specs.Changed.{HandsOut, Notes, Remembers, entry_of, entry_then, noted, noted_count};
+ghost use Rattle.ide_steps.specs.Changed.{HandsOut, Notes, Remembers, standing_entry, entry_then, noted, noted_count};
 ghost use Rattle.ide_steps.specs.Core.{IsInside, IsSameProblem, IsUnchanged};
 ghost use Rattle.ide_steps.specs.Drain.{HasLess, IsPaidBy};
 ghost use Rattle.std.specs.Prelude.{◌≡◌, ℕ, ◌↔◌, [], None, Some, Ok, length, unwrap_or, IsTrue, IfErr, OnOk, OnErr, IsOkUnless};
@@ -54,15 +54,15 @@ impl<P: Problem> Model for Core<P> {
     ghost use Rattle.std.specs.Option.{option_map};
     ghost use Rattle.std.specs.Arc.{arc_value};
     ghost use Rattle.ide_steps.specs.declared.loaded.Loaded.{Loaded};
-    ghost use Rattle.std.specs.Prelude.{◌≡◌, Some};
     ghost use Rattle.ide_steps.specs.Changed.{notes_of};
-    ghost use Rattle.ide_steps.specs.Core.{AreKeysKept, CoreData, IsProgramKept};
+    ghost use Rattle.ide_steps.specs.Core.{CoreData};
+    ghost use Rattle.ide_steps.specs.Kept.{KeepsLoaded};
 
     ghost Value = { CoreData P.F };
 
     ghost view = { λ c. record { program = option_map (λ loaded. value_of (arc_value {X = Loaded P P.L P.F} loaded).program) c.loaded; graph = option_map (λ loaded. (arc_value {X = Loaded P P.L P.F} loaded).graph) c.loaded; roots = c.roots.items; table = c.tables; pile = c.worklist; changes = notes_of c.changes } };
 
-    ghost invariant = { λ c. (loaded : Loaded P P.L P.F) → option_map (arc_value {X = Loaded P P.L P.F}) c.loaded ≡ Some loaded → IsProgramKept P.targets loaded.program loaded.graph loaded.sources × AreKeysKept P.targets P.F.edge loaded.graph c.worklist };
+    ghost invariant = { λ c. KeepsLoaded P.targets P.F.edge (option_map (arc_value {X = Loaded P P.L P.F}) c.loaded) c.worklist };
 }
 
 impl<P: Problem> Core<P> {
@@ -169,13 +169,20 @@ impl<P: Problem> Core<P> {
         self.tables.key_count()
     }
 
+    /// How many keys are pending.
+    pub fn pending_count(&self) -> usize
+        ensures { result ≡ length self.now.pile.pending }
+    {
+        self.worklist.pending_count()
+    }
+
     /// Hands out, for each key that changed since this was last called, the entry that the key had
     /// then: none the first time. From now on changes are noted.
     pub fn take_changes(&mut self) -> IndexMap<Key, Entry<P::F>>
         ensures once { IsDistinct same_key (keys_of result.entries) }
         ensures list { result.entries ≡ unwrap_or self.old.changes [] }
         ensures entries { HandsOut self.old self.new result.entries }
-        ensures anew { (key : Key) → entry_then self.new key ≡ entry_of self.new key }
+        ensures anew { (key : Key) → entry_then self.new key ≡ standing_entry self.new key }
         ensures stays { self.new ≡ record self.old { changes = Some [] } }
     {
         let anew = Some(IndexMap::new(self.alloc));

@@ -5,7 +5,7 @@ ghost use Rattle.ide_tables.specs.Tables.{found};
 ghost use Rattle.ide_steps.specs.Changed.{Remembers};
 ghost use Rattle.ide_steps.specs.Core.{AreInside, IsUnchanged};
 ghost use Rattle.ide_steps.specs.Refusal.{IsNoRoot, IsRootName, IsRootNow, IsRootRefusal, RootFault};
-ghost use Rattle.ide_steps.specs.Rooted.{AllAbsent, AllAt, AreSeeds, Enters, IsBegun, MarksAll, Queues};
+ghost use Rattle.ide_steps.specs.Rooted.{AllAbsent, AllAt, AreSeedEntries, Enters, IsBegun, MarksAll, Queues};
 ghost use Rattle.ide_steps.specs.Steps.{SameTasks};
 
 use crate::changes;
@@ -70,7 +70,7 @@ impl<P: Problem> Core<P> {
         requires few { entries ≤ 2 ^ 16 }
         ensures place { IfOk result (λ jumps. AllAt start jumps.items) }
         ensures absent { IfOk result (λ jumps. AllAbsent self.now jumps.items) }
-        ensures entered { IfOk result (λ jumps. AreSeeds P.targets P.F.edge self.now start entries jumps.items) }
+        ensures entered { IfOk result (λ jumps. AreSeedEntries P.targets P.F.edge self.now start entries jumps.items) }
     {
         let mut jumps = Vec::new(self.alloc);
         for fact in 0..entries {

@@ -7,16 +7,16 @@ use Rattle.std.proofs.lemmas.List.{length-append, length-map, map-append, take_a
 use Rattle.ide_batch.proofs.Folding.{lead}
 use Rattle.ide_batch.specs.Applied.{HasImage, IsGraphed}
 use Rattle.ide_batch.specs.Bodies.{IsEntryOf}
-use Rattle.ide_batch.specs.Fold.{IsBatch, ProgramImage, SaysChange, entry_at, named, procedures}
+use Rattle.ide_batch.specs.Fold.{IsBatch, ProgramImage, SaysChange, image_entry, named, procedures}
 use Rattle.ide_batch.specs.Items.{Item}
 use Rattle.ide_batch.specs.Records as records
 use Rattle.ide_batch.specs.Records.{RecordValue}
 use Rattle.ide_journal.specs.Format.{Entry, Head, IsEntry}
 use Rattle.ide_journal.specs.declared.version.Version.{Version}
-use Rattle.ide_steps.specs.Changed.{entry_of, entry_then, noted}
+use Rattle.ide_steps.specs.Changed.{standing_entry, entry_then, noted}
 use Rattle.ide_steps.specs.Core.{CoreData}
 use Rattle.ide_steps.specs.Items.{AreChangedItems}
-use Rattle.ide_steps.specs.Room.{IsWhole}
+use Rattle.ide_steps.specs.Room.{IsWholeCore}
 use Rattle.ide_steps.specs.State.{state_of as core_state}
 use Rattle.ide_tables.specs.Tables.{found}
 use Rattle.ide_text.specs.Value.{ProgramValue}
@@ -51,7 +51,7 @@ module _ {F L : Type 0} (a : Analysis F L) where
   IsGoodImage image = (v : ProgramValue) → image.program ≡ Some v → (by : GraphBy v) → IsGood procedures (frame_by a.lattice a.functions a.targets by) v image
 
   -- an absent key of an image does not wait
-  absent_still : Knows a → (image : ProgramImage F) (core : CoreData F) → IsWhole core → IsGraphed core.program core.graph
+  absent_still : Knows a → (image : ProgramImage F) (core : CoreData F) → IsWholeCore core → IsGraphed core.program core.graph
       → image.program ≡ core.program → IsStill image → IsGoodImage image → (key : Key) → image.get key ≡ None → image.pending key ≡ false
   absent_still knows image core whole graphed program still good key none = by core.program refl
     where
@@ -69,10 +69,10 @@ module _ {F L : Type 0} (a : Analysis F L) where
 
   -- what a core has whose notes begin anew
   pub entries_anew : (image : ProgramImage F) (core : CoreData F) → HasImage image core → core.changes ≡ Some [] → (key : Key)
-      → entry_at image key ≡ told (entry_then core key)
+      → image_entry image key ≡ told (entry_then core key)
   entries_anew image core has anew key =
-      let now : entry_at image key ≡ told (entry_of core key) = λ i. (has.get key i, has.pending key i) in
-      now ∙ sym (ap (λ notes. told (unwrap_or (noted notes key) (entry_of core key))) anew)
+      let now : image_entry image key ≡ told (standing_entry core key) = λ i. (has.get key i, has.pending key i) in
+      now ∙ sym (ap (λ notes. told (unwrap_or (noted notes key) (standing_entry core key))) anew)
 
   -- other notes make no other image
   pub has_anew : (image : ProgramImage F) (old new : CoreData F) → BeginsAnew old new → HasImage image old → HasImage image new
@@ -108,7 +108,7 @@ module _ {F L : Type 0} (a : Analysis F L) where
   spelled_at head table value entry same spells = subst (λ (version : Version). IsEntryOf (forms_of a) version value entry) same spells.spelled
 
   module _ (knows : Knows a) (head : Head) (w : StoreWorld a head) (reached : IsReached a head w) (table : TableData F)
-      {handed : List Entry} (works : WorksOn a head w table handed) (whole : IsWhole table.core) where
+      {handed : List Entry} (works : WorksOn a head w table handed) (whole : IsWholeCore table.core) where
     -- the image is good
     now_good : IsGoodImage w.world.image
     now_good =
@@ -124,7 +124,7 @@ module _ {F L : Type 0} (a : Analysis F L) where
         (subst (λ (sealed : List (Sealed Entry)). IsFolded (rules_at head) (contents sealed) works.base.image) (sym all) works.base.folded)
 
     -- an absent key was absent, and did not wait
-    was_absent : (key : Key) → found table.core.table key ≡ None → told (entry_then table.core key) ≡ told (entry_of table.core key)
+    was_absent : (key : Key) → found table.core.table key ≡ None → told (entry_then table.core key) ≡ told (standing_entry table.core key)
     was_absent key none =
         sym (works.base.entries key) ∙ (λ i. (base_none i, base_waits i)) ∙ (λ i. (sym now_none i, sym now_waits i))
         ∙ (λ i. (works.image.get key i, works.image.pending key i))
@@ -154,8 +154,8 @@ module _ {F L : Type 0} (a : Analysis F L) where
     -- the items that changed lead from what the records give back to the image
     pub changes_told : (items : List (Item F)) → AreChangedItems table.core items → IsBatch items works.base.image w.world.image
     changes_told items changed key =
-        let now : told (entry_of table.core key) ≡ entry_at w.world.image key = λ i. (sym (works.image.get key) i, sym (works.image.pending key) i) in
-        subst (λ (e : Option F × Bool). SaysChange (named items key) e (entry_at w.world.image key)) (sym (works.base.entries key))
+        let now : told (standing_entry table.core key) ≡ image_entry w.world.image key = λ i. (sym (works.image.get key) i, sym (works.image.pending key) i) in
+        subst (λ (e : Option F × Bool). SaysChange (named items key) e (image_entry w.world.image key)) (sym (works.base.entries key))
         (subst (λ (e : Option F × Bool). SaysChange (named items key) (told (entry_then table.core key)) e) now
         (says_change a.same knows.is_same table.core items key changed (was_absent key)))
 
@@ -183,13 +183,13 @@ module _ {F L : Type 0} (a : Analysis F L) where
         folded_pushed (rules_at head) w.world.sealed entry (length w.world.history) works.base.image w.world.image works.base.folded does
 
   -- where no item changed, entries are as the records give them back
-  still_entries : Knows a → (table : TableData F) → IsWhole table.core → AreChangedItems table.core []
+  still_entries : Knows a → (table : TableData F) → IsWholeCore table.core → AreChangedItems table.core []
       → (head : Head) (w : StoreWorld a head) {handed : List Entry} → IsReached a head w → (works : WorksOn a head w table handed)
-      → (key : Key) → entry_at works.base.image key ≡ entry_at w.world.image key
+      → (key : Key) → image_entry works.base.image key ≡ image_entry w.world.image key
   still_entries knows table whole unchanged head w reached works key = changes_told knows head w reached table works whole [] unchanged key
 
   -- so nothing is new
-  pub finds_nothing : Knows a → (table : TableData F) → IsWhole table.core → AreChangedItems table.core []
+  pub finds_nothing : Knows a → (table : TableData F) → IsWholeCore table.core → AreChangedItems table.core []
       → (head : Head) (w : StoreWorld a head) {handed : List Entry} → IsReached a head w → WorksOn a head w table handed → HasNothingNew a head w
   finds_nothing knows table whole unchanged head w reached works = record {
     base = works.base.image;
@@ -198,7 +198,7 @@ module _ {F L : Type 0} (a : Analysis F L) where
   }
 
   -- and notes may begin anew
-  pub forgets_nothing : Knows a → (old new : TableData F) → IsWhole old.core → AreChangedItems old.core [] → KeepsRest old new
+  pub forgets_nothing : Knows a → (old new : TableData F) → IsWholeCore old.core → AreChangedItems old.core [] → KeepsRest old new
       → BeginsAnew old.core new.core → FindsNothing a old new
   forgets_nothing knows old new whole unchanged rest anew = record {
     rest = rest;
@@ -226,7 +226,7 @@ module _ {F L : Type 0} (a : Analysis F L) where
   }
 
   -- the record of the items that changed is sealed
-  pub seals_batch : Knows a → (entry : Entry) (old new : TableData F) → IsWhole old.core → SpellsChanges a old entry → old.sealed < 4294967295
+  pub seals_batch : Knows a → (entry : Entry) (old new : TableData F) → IsWholeCore old.core → SpellsChanges a old entry → old.sealed < 4294967295
       → WaitsFor (entry ∷ []) old new → BeginsAnew old.core new.core → IsAct a old new (λ head. Batches entry)
   seals_batch knows entry old new whole spells less waits anew head w handed reached works =
       let has : HasImage w.world.image new.core = has_anew w.world.image old.core new.core anew works.image in (

@@ -14,7 +14,7 @@ use Rattle.ide_steps.specs.Core.{CoreData}
 use Rattle.ide_steps.specs.declared.changes.Entry.{Entry as Noted}
 use Rattle.ide_wire.specs.declared.key.Key.{Key}
 use Rattle.ide_worklist.specs.Worklist.{IsFree, Pile}
-use Rattle.ide_store.specs.Engine.{AreNew}
+use Rattle.ide_store.specs.Engine.{AreNewHalves}
 use Rattle.ide_store.specs.Half.{Writes}
 use Rattle.ide_store.specs.Opening.{BeginsOn, half_over}
 use Rattle.ide_store.specs.Table.{Analysis, IsTable, TableData}
@@ -53,7 +53,7 @@ module _ {F : Type 0} (core new : CoreData F) (anew : new ≡ record core { chan
 
 -- two halves that begin are at work on a new store
 pub new_halves : {F L : Type 0} (a : Analysis F L) {D : Type 0} {G : Ghosts D} (head : Head) (table : TableData F) (writer : WriterHalf D G) → JournalsWriteStores G
-    → BeginsOn a table → head.version ≡ table.version → Writes head [] 0 writer → AreNew a head table writer
+    → BeginsOn a table → head.version ≡ table.version → Writes head [] 0 writer → AreNewHalves a head table writer
 new_halves a head table writer stores begins version writes = record {
   live = (stores head [] 0).live writer.journal writes.behind;
   at_work = record { handed = []; works = begins head version _ _; writes = writes; work = refl; disk = refl };

@@ -10,7 +10,7 @@ use Rattle.ide_lattice.specs.Algebra.{EdgeAlgebra}
 use Rattle.ide_problem.specs.Flow.{Targets}
 use Rattle.ide_steps.specs.Claiming.{FindsTask, KeepsAllBut}
 use Rattle.ide_steps.specs.Kept.{IsTaskWhere}
-use Rattle.ide_steps.specs.Room.{IsWhole}
+use Rattle.ide_steps.specs.Room.{IsWholeCore}
 use Rattle.ide_steps.specs.State.{ArePartnersOf, IsTaskOf, claim_of}
 use Rattle.ide_tables.specs.Tables.{Table, found}
 use Rattle.ide_tasks.specs.Parts.{owed}
@@ -89,7 +89,7 @@ module _ {F L : Type 0} (a : Analysis F L) (knows : Knows a) where
         some_of w.world.image.program (λ none. true≢false (sym waits ∙ image_still a head knows w reached on.running none key))
 
     -- the task of a key that waits owes what a claim of it does, over each graph of the program
-    owes_parts : (task : TaskData F) → IsWhole table.core → w.world.image.pending task.key ≡ true
+    owes_parts : (task : TaskData F) → IsWholeCore table.core → w.world.image.pending task.key ≡ true
         → ((graph : Supergraph) → IsTaskWhere a.targets a.functions graph table.core task)
         → (v : ProgramValue) → w.world.image.program ≡ Some v → (by : GraphBy v)
         → ArePartsOf (frame_by a.lattice a.functions a.targets by) w.world.image.get task.key (owed a.targets a.functions task)
@@ -114,7 +114,7 @@ module _ {F L : Type 0} (a : Analysis F L) (knows : Knows a) where
         (task_on a.targets a.functions kept.graph by.graph table.core.table same.facts task same.sites (is_task kept.graph graph.1 exits there))
         (subst (λ (g : Key → Option F). AreKeysInRange K g) get reaches.ranged.keys))
 
-  pub hands_claim : (hand : ℕ) (old new : TableData F) (task : TaskData F) → IsWhole old.core → KeepsRest old new
+  pub hands_claim : (hand : ℕ) (old new : TableData F) (task : TaskData F) → IsWholeCore old.core → KeepsRest old new
       → KeepsAllBut hand old.core new.core → FindsTask a.targets a.functions hand old.core new.core task → TakesTask a hand old new task
   hands_claim hand old new task kept_whole rest keeps finds head w handed reached on =
       let waits : w.world.image.pending task.key ≡ true = on.image.pending task.key ∙ finds.taken.pending in

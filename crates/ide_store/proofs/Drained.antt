@@ -15,7 +15,7 @@ use Rattle.ide_steps.proofs.Free.{free-without}
 use Rattle.ide_steps.specs.Drain.{AreOthersFree, ForTask, HasLess, HasNoMore, TakesOut, potential}
 use Rattle.ide_steps.specs.DrainRefusal.{MayDrain}
 use Rattle.ide_steps.specs.PartRefusal.{IsFinishRefusal, left as part_left, other as other_work, wanting}
-use Rattle.ide_steps.specs.Room.{IsWhole}
+use Rattle.ide_steps.specs.Room.{IsWholeCore}
 use Rattle.ide_steps.specs.State.{claim_of}
 use Rattle.ide_steps.specs.Steps.{EndsDone, FindsNone, GivesBack, IsCurrent, LowersPart, SkipsPart, progress_at}
 use Rattle.ide_steps.specs.declared.part.Parted.{Parted}
@@ -172,7 +172,7 @@ module _ {F L : Type 0} (a : Analysis F L) where
 
   module _ (acts : CallsAreActs a) (old new : TableData F) (rest : KeepsRest old new) where
     -- a task is claimed, or none
-    pub takes_works : (result : Result (Option (TaskData F)) Refused) → IsWhole old.core → KeepsAllBut 0 old.core new.core
+    pub takes_works : (result : Result (Option (TaskData F)) Refused) → IsWholeCore old.core → KeepsAllBut 0 old.core new.core
         → ForTask result (FindsTask a.targets a.functions 0 old.core new.core) → (result ≡ Ok None → FindsQuiet old.core new.core)
         → OnErr result (IsUnchanged old.core new.core) → (claims : ℕ) × WorksBy a old new claims 0 × IfOk result (λ task. claims ≡ cond (is_some task) 1 0)
     takes_works (Ok (Some task)) whole keeps finds quiet same = (

@@ -7,9 +7,9 @@ use Rattle.std.proofs.lemmas.Bool.Decides.{nat_tests}
 use Rattle.ide_wire.specs.declared.key.Key.{Key}
 use Rattle.ide_wire.specs.declared.key.Key.TheVariants.{Jump}
 use Rattle.ide_theory.specs.Best.{IsBest}
-use Rattle.ide_theory.specs.Frame.{Frame, IsLawful, AreRoots}
+use Rattle.ide_theory.specs.Frame.{Frame, IsLawfulFrame, AreRoots}
 use Rattle.ide_theory.specs.Image.{IsMet, HasRoots}
-use Rattle.ide_theory.specs.Images.{Procedures, Image, state_of}
+use Rattle.ide_theory.specs.Images.{Procedures, Image, image_state}
 use Rattle.ide_theory.specs.Member.{IsIn}
 use Rattle.ide_theory.specs.Members.{in-either, in-one, of-map}
 use Rattle.ide_theory.specs.Run.{IsQuiet, Run, Steps}
@@ -19,7 +19,7 @@ use Rattle.ide_theory.proofs.Laws.Reached.{met-on, run-on}
 use Rattle.ide_theory.proofs.Laws.Released.{run-released}
 use Rattle.ide_theory.proofs.Laws.Runs.{run-best}
 use Rattle.ide_theory.proofs.Laws.Seeded.{start-seeded}
-use Rattle.ide_store.specs.Roots.{entry_of, roots_named, starts_of}
+use Rattle.ide_store.specs.Roots.{root_entry, roots_named, starts_of}
 use Rattle.ide_store.specs.Tally.{Tally, state_with}
 use Rattle.ide_store.proofs.Working.{IsWorkTo}
 
@@ -36,10 +36,10 @@ module _ {Program Name : Type 0} (procedures : Procedures Program Name) (K : Fra
   HaveStarts get names = (name : Name) → IsIn name names → HasStart get name
 
   pub record IsGood (image : Image Program Name F) : Type 0 where
-    pub run : Run K (state_of image)
+    pub run : Run K (image_state image)
     pub begun : HaveStarts image.get image.roots
 
-  module _ (laws : IsLawful K) where
+  module _ (laws : IsLawfulFrame K) where
     -- no steps of hands take that away
     pub starts_kept : (s t : State F) (names : List Name) → Run K s → Steps K s t → HaveStarts s.get names → HaveStarts t.get names
     starts_kept s t names run way have name among =
@@ -80,7 +80,7 @@ module _ {Program Name : Type 0} (procedures : Procedures Program Name) (K : Fra
             let same : begins.0 ≡ r = sym (ap (λ (o : Option ℕ). unwrap_or o 0) begins.1) ∙ found.2 in
             subst (λ (n : ℕ). start_of n ≡ n) same (starts found.0 begins.0 begins.1)
 
-        proper : (k : ℕ) → k < K.facts → IsTrue (A.proper (entry_of procedures K p k))
+        proper : (k : ℕ) → k < K.facts → IsTrue (A.proper (root_entry procedures K p k))
         proper k less = elim (nat_lt k (procedures.entries p)) as (λ b. IsTrue (A.proper (cond b A.bottom A.top))) [
           | true ↦ laws.lattice.proper_bottom
           | false ↦ laws.lattice.proper_top
@@ -94,12 +94,12 @@ module _ {Program Name : Type 0} (procedures : Procedures Program Name) (K : Fra
         by r (nat_lt d (procedures.entries p)) refl (λ below. subst (λ (n : ℕ). IsMet K image.get (Jump n d d) B.id) same (has.met d (grind (arith, nat_tests, below))))
       where
         by : (r : ℕ) (b : Bool) → nat_lt d (procedures.entries p) ≡ b → (nat_lt d (procedures.entries p) ≡ true → IsMet K image.get (Jump r d d) B.id)
-            → (entry_of procedures K p d ≡ A.top) ⊎ IsMet K image.get (Jump r d d) B.id
+            → (root_entry procedures K p d ≡ A.top) ⊎ IsMet K image.get (Jump r d d) B.id
         by r true is met = inr (met is)
         by r false is met = inl (ap (λ b. cond b A.bottom A.top) is)
 
     pub good_is_best : (image : Image Program Name F) → ((name : Name) (r : ℕ) → procedures.start p name ≡ Some r → start_of r ≡ r) → IsGood image
-        → IsQuiet (state_of image) → (begin : ℕ → ℕ → L) → IsStarted K (roots_named procedures K p image.roots) image.get begin
+        → IsQuiet (image_state image) → (begin : ℕ → ℕ → L) → IsStarted K (roots_named procedures K p image.roots) image.get begin
         → (n d : ℕ) → d < K.facts → IsBest K (roots_named procedures K p image.roots) n d (value_at K image.get begin n d)
     good_is_best image starts good quiet begin started n d less =
         run-best K laws (roots_named procedures K p image.roots)

@@ -4,7 +4,7 @@ use Rattle.std.specs.Prelude.{if◌then◌else◌, nat_lt, slice_get, slice_inde
 use Rattle.std.specs.List.{All}
 use Rattle.std.proofs.lemmas.List.{drop_all, length-append, length-map, length-take-le, map-append, take-append-le, take_all}
 use Rattle.ide_disk.specs.declared.disk.Disk.{Ghosts}
-use Rattle.ide_journal.specs.Calls.{MakesItsCall, after_call}
+use Rattle.ide_journal.specs.Calls.{MakesItsCall, after_stage_call}
 use Rattle.ide_journal.specs.Format.{Entry, Head, IsEntry, head_of}
 use Rattle.ide_journal.specs.Lists.{IsAtRest, IsUnderWay, entries_of, entry_of}
 use Rattle.ide_journal.specs.Opening.{IsOpened}
@@ -20,7 +20,7 @@ use Rattle.ide_wire.specs.declared.refused.Refused.{Refused}
 use Rattle.ide_journal.specs.Refusals.{IsAdvanceRefusal, advance_device, advance_failed}
 use Rattle.ide_store.specs.Half.{AdvancesTo, HasBegun, IsBeginRefusal, IsJustBegun, OpensStore, StepsTo, Writes, called, calls, failed, fails, limit, memory, stored_one, stores, waits}
 use Rattle.ide_store.specs.declared.writer.WriterHalf.{WriterHalf}
-use Rattle.ide_store.specs.OneDisk.{Calls, Fails, Stores, next_stage, tail_of}
+use Rattle.ide_store.specs.OneDisk.{DoesGoodCall, Fails, Stores, next_stage, tail_of}
 use Rattle.ide_store.specs.Writing.{HasNext, IsHonestAfter, StandsBehind, work_of}
 use Rattle.ide_store.proofs.OneDisk.{all_proper, kept_get, next_taken, pushed_get}
 use Rattle.ide_store.proofs.Writing.{writes_store}
@@ -178,7 +178,7 @@ module _ {D : Type 0} {G : Ghosts D} (head : Head) (records : List Entry) (store
   -- a good call that does not store
   pub good_call : (old new : Journal D G) (p : Phase) → StandsBehind head records stored old → HasNext head records stored old
       → LeadsTo old.stage new.stage p → (new.stage ≡ Idle → ⊥) → MakesItsCall old new → KeepsOrStores old new
-      → Calls records stored (work_of old) (G.state old.disk) (work_of new) (G.state new.disk) × StandsBehind head records stored new
+      → DoesGoodCall records stored (work_of old) (G.state old.disk) (work_of new) (G.state new.disk) × StandsBehind head records stored new
   good_call old new p stands has leads busy makes keeps =
       let more : p ≢ phase.Stored = λ same. busy (leads.1 ∙ ap stage_after same) in (
         (writes_store G head records stored).calls old new p has leads more makes,
@@ -250,8 +250,8 @@ module _ {D : Type 0} {G : Ghosts D} (head : Head) (records : List Entry) (store
 
   -- a call of a record that was just put under way is one of the journal at rest
   pub calls_begun : (old mid new : Journal D G) → old.stage ≡ Idle → mid.stage ≡ Begun → mid.gate ≡ old.gate → mid.disk ≡ old.disk
-      → Calls records stored (work_of mid) (G.state mid.disk) (work_of new) (G.state new.disk)
-      → Calls records stored (work_of old) (G.state old.disk) (work_of new) (G.state new.disk)
+      → DoesGoodCall records stored (work_of mid) (G.state mid.disk) (work_of new) (G.state new.disk)
+      → DoesGoodCall records stored (work_of old) (G.state old.disk) (work_of new) (G.state new.disk)
   calls_begun old mid new idle begun gate disk call = record {
     entry = call.entry;
     under_way = call.under_way;
@@ -260,8 +260,8 @@ module _ {D : Type 0} {G : Ghosts D} (head : Head) (records : List Entry) (store
         call.work_is ∙ (λ i. record { gate = gate i; stage = next_stage (begun i) })
         ∙ ap (λ (s : Stage). record { gate = old.gate; stage = next_stage s }) (sym idle);
     disk_is =
-        call.disk_is ∙ (λ i. after_call (begun i) (gate i) (tail_of stored call.entry) (G.state (disk i)))
-        ∙ ap (λ (s : Stage). after_call s old.gate (tail_of stored call.entry) (G.state old.disk)) (sym idle);
+        call.disk_is ∙ (λ i. after_stage_call (begun i) (gate i) (tail_of stored call.entry) (G.state (disk i)))
+        ∙ ap (λ (s : Stage). after_stage_call s old.gate (tail_of stored call.entry) (G.state old.disk)) (sym idle);
   }
 
   -- a step is what the call for the record under way is, where one was put so before it or now
@@ -270,8 +270,8 @@ module _ {D : Type 0} {G : Ghosts D} (head : Head) (records : List Entry) (store
   stepped old mid new _ has (called call) = calls (record { event = event has.way; writes = call.writes })
     where
       event : (mid.journal ≡ old.journal) ⊎ IsJustBegun old.journal mid.journal
-          → Calls records stored (work_of old.journal) (G.state old.journal.disk) (work_of new.journal) (G.state new.journal.disk)
-      event (inl same) = subst (λ (j : Journal D G). Calls records stored (work_of j) (G.state j.disk) (work_of new.journal) (G.state new.journal.disk)) same call.event
+          → DoesGoodCall records stored (work_of old.journal) (G.state old.journal.disk) (work_of new.journal) (G.state new.journal.disk)
+      event (inl same) = subst (λ (j : Journal D G). DoesGoodCall records stored (work_of j) (G.state j.disk) (work_of new.journal) (G.state new.journal.disk)) same call.event
       event (inr now) = calls_begun old.journal mid.journal new.journal now.idle now.begun now.gate now.disk call.event
   stepped old mid new _ has (stored_one one) = stores (record { event = event has.way; writes = one.writes })
     where

@@ -13,13 +13,13 @@ use Rattle.ide_steps.proofs.States.{claim-of-work}
 use Rattle.ide_steps.specs.Changed.{Remembers, entry_then, noted}
 use Rattle.ide_steps.specs.Core.{CoreData, IsSameProblem}
 use Rattle.ide_steps.specs.State.{claim_of}
-use Rattle.ide_steps.specs.Steps.{EndsDone, GivesBack, IsBelow, IsCurrent, LowersPart, SkipsPart}
+use Rattle.ide_steps.specs.Steps.{EndsDone, GivesBack, IsKeyBelow, IsCurrent, LowersPart, SkipsPart}
 use Rattle.ide_tables.specs.Tables.{found}
 use Rattle.ide_tasks.specs.Parts.{owed}
 use Rattle.ide_tasks.specs.Task.{TaskData}
 use Rattle.ide_tasks.specs.Work.{WorkData}
 use Rattle.ide_theory.specs.Images.{IsSame, is_met, received}
-use Rattle.ide_theory.specs.State.{Claim, State, finished, lowered_by, part_done, with_claim}
+use Rattle.ide_theory.specs.State.{Claim, State, finished, with_lowered, part_done, with_claim}
 use Rattle.ide_wire.specs.Key.{same_key}
 use Rattle.ide_wire.specs.declared.key.Key.{Key}
 use Rattle.ide_worklist.specs.Worklist.{claim_at}
@@ -28,7 +28,7 @@ use Rattle.ide_store.proofs.Reached.{Knows}
 use Rattle.ide_store.proofs.Working.{part_is}
 use Rattle.ide_store.specs.Hands.{Parts}
 use Rattle.ide_store.specs.Machine.{ProgramStep}
-use Rattle.ide_store.specs.Table.{Analysis, IsAct, KeepsRest, StoreWorld, TableData, WorksOn, state_of, told}
+use Rattle.ide_store.specs.Table.{Analysis, IsAct, KeepsRest, StoreWorld, TableData, WorksOn, table_state, told}
 use Rattle.ide_store.specs.TableCalls.{DoesPart, EndsClaim, GivesClaimBack}
 use Rattle.ide_store.specs.Tally.{Tally, state_with}
 
@@ -51,17 +51,17 @@ then_stays old new table pending changes key =
 
 module _ {F L : Type 0} (functions : EdgeAlgebra F L) (same : F → F → Bool) (is_same : IsSame same) (s : State F) (key : Key) (g : F) where
   -- a part that lowers its key does, and one that was met changes nothing
-  lowers : ¬ (IsBelow functions s key g) → received procedures functions same s key g ≡ lowered_by functions s key g
+  lowers : ¬ (IsKeyBelow functions s key g) → received procedures functions same s key g ≡ with_lowered functions s key g
   lowers falls = by (is_met procedures functions same s key g) refl
     where
-      by : (b : Bool) → is_met procedures functions same s key g ≡ b → cond b s (lowered_by functions s key g) ≡ lowered_by functions s key g
+      by : (b : Bool) → is_met procedures functions same s key g ≡ b → cond b s (with_lowered functions s key g) ≡ with_lowered functions s key g
       by true is = absurd (falls (is_same.exact _ _ is))
       by false is = refl
 
-  stays : IsBelow functions s key g → received procedures functions same s key g ≡ s
+  stays : IsKeyBelow functions s key g → received procedures functions same s key g ≡ s
   stays met = by (is_met procedures functions same s key g) refl
     where
-      by : (b : Bool) → is_met procedures functions same s key g ≡ b → cond b s (lowered_by functions s key g) ≡ s
+      by : (b : Bool) → is_met procedures functions same s key g ≡ b → cond b s (with_lowered functions s key g) ≡ s
       by true is = refl
       by false is = absurd (true≢false (sym (ap (same (functions.meet (unwrap_or (s.get key) functions.all_top) g)) (sym met) ∙ is_same.refl _) ∙ is))
 
@@ -88,7 +88,7 @@ has_next {F = F} targets functions core hand work part own at =
 
 module _ {F L : Type 0} (a : Analysis F L) (head : Head) where
   -- the image and the claims of a world are those of the core that works on it
-  pub state_is : (w : StoreWorld a head) (table : TableData F) {handed : List Entry} → WorksOn a head w table handed → state_with w.world.image w.claims ≡ state_of a table
+  pub state_is : (w : StoreWorld a head) (table : TableData F) {handed : List Entry} → WorksOn a head w table handed → state_with w.world.image w.claims ≡ table_state a table
   state_is w table on = λ i. record {
     get = λ key. on.image.get key i;
     pending = λ key. on.image.pending key i;
@@ -98,7 +98,7 @@ module _ {F L : Type 0} (a : Analysis F L) (head : Head) where
   -- the half works on the world of its new state, where nothing is sealed and entries of then stay
   pub works_on : (w : StoreWorld a head) (old new : TableData F) (image : ProgramImage F) (claims : ℕ → Option (Claim F)) (history : List (ProgramStep F))
       (tally : Tally F) {handed : List Entry} → WorksOn a head w old handed → KeepsRest old new → IsSameProblem old.core new.core
-      → image.program ≡ w.world.image.program → image.roots ≡ w.world.image.roots → state_with image claims ≡ state_of a new
+      → image.program ≡ w.world.image.program → image.roots ≡ w.world.image.roots → state_with image claims ≡ table_state a new
       → ((key : Key) → entry_then new.core key ≡ entry_then old.core key)
       → WorksOn a head (record { world = record w.world { image = image; history = history }; claims = claims; tally = tally }) new handed
   works_on w old new image claims history tally {handed} on rest problem program roots state entries = record {
@@ -160,7 +160,7 @@ module _ {F L : Type 0} (a : Analysis F L) where
   does_next : (hand : ℕ) (old new : TableData F) (work : WorkData F) (part : Key × F) → is_some old.core.changes ≡ true → KeepsRest old new
       → IsSameProblem old.core new.core → Remembers old.core new.core → IsCurrent a.targets a.functions old.core hand work
       → slice_get work.parts work.done ≡ Some part
-      → state_of a new ≡ part_done (received procedures a.functions a.same (state_of a old) part.0 part.1) hand
+      → table_state a new ≡ part_done (received procedures a.functions a.same (table_state a old) part.0 part.1) hand
       → IsAct a old new (λ head. Parts hand part.0 part.1)
   does_next hand old new work part notes rest problem remembers own at state head w handed reached on =
       let has = has_next a.targets a.functions old.core hand work part own at in (
@@ -188,7 +188,7 @@ module _ {F L : Type 0} (a : Analysis F L) where
       counted = λ i. record { task = is.counted.task i; parts = is.counted.parts i; done = is.counted.done i };
       act = does_next hand old new work is.part notes rest problem remembers own is.next
           (is.state
-          ∙ ap (λ (s : State F). part_done s hand) (sym (lowers a.functions a.same knows.is_same (state_of a old) is.part.0 is.part.1 is.changes.falls)));
+          ∙ ap (λ (s : State F). part_done s hand) (sym (lowers a.functions a.same knows.is_same (table_state a old) is.part.0 is.part.1 is.changes.falls)));
     }
 
     pub hands_skip : (hand : ℕ) (old new : TableData F) (work after : WorkData F) → is_some old.core.changes ≡ true → KeepsRest old new
@@ -200,5 +200,5 @@ module _ {F L : Type 0} (a : Analysis F L) where
       counted = λ i. record { task = is.counted.task i; parts = is.counted.parts i; done = is.counted.done i };
       act = does_next hand old new work is.part notes rest problem remembers own is.next
           (is.state
-          ∙ ap (λ (s : State F). part_done s hand) (sym (stays a.functions a.same knows.is_same (state_of a old) is.part.0 is.part.1 is.met)));
+          ∙ ap (λ (s : State F). part_done s hand) (sym (stays a.functions a.same knows.is_same (table_state a old) is.part.0 is.part.1 is.met)));
     }

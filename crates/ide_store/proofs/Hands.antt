@@ -17,23 +17,23 @@ use Rattle.ide_steps.proofs.Rooted.{entered-present}
 use Rattle.ide_text.specs.Value.{ProgramValue}
 use Rattle.ide_wire.specs.Key.{same_key}
 use Rattle.ide_wire.specs.declared.key.Key.{Key}
-use Rattle.ide_theory.specs.Frame.{IsLawful}
-use Rattle.ide_theory.specs.Images.{Finish, IsSame, Load, Part, Root, absent_below, is_met, loaded, received, seeded_below, state_of, step}
+use Rattle.ide_theory.specs.Frame.{IsLawfulFrame}
+use Rattle.ide_theory.specs.Images.{Finish, IsSame, Load, Part, Root, absent_below, is_met, loaded, received, seeded_below, image_state, step}
 use Rattle.ide_theory.specs.Member.{IsIn}
 use Rattle.ide_theory.specs.Members.{not-in-empty}
 use Rattle.ide_theory.specs.Run.{ArePartsOf, Run, begins}
-use Rattle.ide_theory.specs.State.{Claim, State, lowered_by, part_done}
+use Rattle.ide_theory.specs.State.{Claim, State, with_lowered, part_done}
 use Rattle.ide_theory.proofs.Laws.Changes.{some-inj}
 use Rattle.ide_theory.proofs.Laws.ImageWays.{seeds-below}
 use Rattle.ide_theory.proofs.Laws.Paid.{claims-paid}
 use Rattle.ide_theory.proofs.Laws.Ranks.{lowerings-few}
 use Rattle.ide_theory.proofs.Laws.Reached.{run-on}
 use Rattle.ide_store.specs.Answers.{GraphBy, IsWorkFew, frame_by}
-use Rattle.ide_store.specs.Hands.{Act, Allowed, AreAllowed, Batches, Roots, CanBatch, CanBegin, CanEnd, CanLoad, CanPart, CanRelease, CanClaim, Claims, Ends, EveryRunAnswers, FitsNext, Hands, Happens, IsOfStore, IsSound, Loads, Parts, ProgramEvent, Releases, absent_from, absent_in, claims_after, idle, next, rules, state_in, tally_after, worked}
+use Rattle.ide_store.specs.Hands.{Act, Allowed, AreAllowed, Batches, Roots, CanBatch, CanBegin, CanEnd, CanLoad, CanPart, CanRelease, CanClaim, Claims, Ends, EveryRunAnswers, FitsNext, Hands, Happens, IsOfStore, IsSoundWorld, Loads, Parts, ProgramEvent, Releases, absent_from, absent_in, claims_after, idle, next, rules, state_in, tally_after, worked}
 use Rattle.ide_store.specs.Machine.{Does, ProgramStep, machine}
 use Rattle.ide_store.specs.Store.{Store, StoreLaws}
 use Rattle.ide_store.specs.Tally.{state_with}
-use Rattle.ide_store.specs.World.{Acks, AreAlike, AreExact, Begins, Calls, Can, Crashes, Fails, IsFolded, LeadTo, Opens, Rules, Running, Seals, Sealed, Steps, Stops, Stores, after, contents, image_after}
+use Rattle.ide_store.specs.World.{Acks, AreAlike, AreExact, Begins, Calls, Can, Crashes, Fails, IsFolded, LeadTo, Opens, Rules, Running, Seals, Sealed, Steps, Stops, Stores, after_event, contents, image_after}
 use Rattle.ide_store.proofs.Good.{HaveStarts, IsGood, good_is_best, good_released, has_roots, start_has, starts_kept, starts_more}
 use Rattle.ide_store.proofs.Marks.{all_pushed, folded_pushed, mark_at, mark_before, pushed, take_more}
 use Rattle.ide_store.proofs.Working.{IsWorkTo, begun_now, claimed_on, finished_on, part_is, part_steps, parted_on, released_on, root_is, seeded_on}
@@ -42,7 +42,7 @@ use Rattle.ide_store.proofs.World.{IsKept, kept, kept_created, one_image, read, 
 -- the last record is the last to lead
 lead_split : {Image Step R : Type 0} (rules : Rules Image Step R) (records : List R) (r : R) (before now : Image) → LeadTo rules (records ++ r ∷ []) before now
     → (between : Image) × LeadTo rules records before between × rules.Leads r between now
-lead_split rules [] r before now (after, leads, same) = (before, refl, subst (rules.Leads r before) same leads)
+lead_split rules [] r before now (after_event, leads, same) = (before, refl, subst (rules.Leads r before) same leads)
 lead_split rules (x ∷ records) r before now (first, leads, rest) =
     let more = lead_split rules records r first now rest in
     (more.0, (first, leads, more.1), more.2)
@@ -69,7 +69,7 @@ module _ {Image Step R : Type 0} {S : Store R} (rules : Rules Image Step R) (exa
 
 -- what is known of programs and their graphs
 pub record Known {F L : Type 0} (A : LatticeAlgebra L) (B : EdgeAlgebra F L) (targets : Targets F) : Type 0 where
-  pub lawful : {v : ProgramValue} (by : GraphBy v) → IsLawful (frame_by A B targets by)
+  pub lawful : {v : ProgramValue} (by : GraphBy v) → IsLawfulFrame (frame_by A B targets by)
   pub starts : {v : ProgramValue} (by : GraphBy v) (name : List ℕ) (r : ℕ) → procedures.start v name ≡ Some r → (frame_by A B targets by).graph.start_of r ≡ r
   pub fits : {v : ProgramValue} (by : GraphBy v) → procedures.entries v ≤ by.graph.facts
   pub keys : {v : ProgramValue} (by : GraphBy v) → (keys : List Key) × (length keys ≡ key_space by.graph)
@@ -116,7 +116,7 @@ module _ {F L : Type 0} (A : LatticeAlgebra L) (B : EdgeAlgebra F L) (targets : 
       put_in true f = refl
       put_in false f = has
 
-      by : (b : Bool) → is_some ((cond b s (lowered_by B s key g)).get k) ≡ true
+      by : (b : Bool) → is_some ((cond b s (with_lowered B s key g)).get k) ≡ true
       by true = has
       by false = put_in (same_key key k) _
 
@@ -133,7 +133,7 @@ module _ {F L : Type 0} (A : LatticeAlgebra L) (B : EdgeAlgebra F L) (targets : 
   run_now w held v is by = let work = held.work v is by in run-on (frame_by A B targets by) (known.lawful by) work.run work.way
 
   -- a record of the image as it is
-  sealed_held : (w : Hands F S) (r : Entry) → IsHeld w → Can acts_by w.world (Seals r) → IsWhole (record w { world = after acts_by w.world (Seals r) })
+  sealed_held : (w : Hands F S) (r : Entry) → IsHeld w → Can acts_by w.world (Seals r) → IsWhole (record w { world = after_event acts_by w.world (Seals r) })
   sealed_held w r held can =
       let catches = can.2 in
       record {
@@ -193,7 +193,7 @@ module _ {F L : Type 0} (A : LatticeAlgebra L) (B : EdgeAlgebra F L) (targets : 
     };
     noted = λ base folded.
         let noted = whole.noted base folded in
-        record { program = noted.program; roots = noted.roots; present = λ k has. still_present (state_of w.world.image) key g k (noted.present k has) };
+        record { program = noted.program; roots = noted.roots; present = λ k has. still_present (image_state w.world.image) key g k (noted.present k has) };
   }
     where
       is_one : state_in A B targets same forms version S (next A B targets same forms version S w (Parts h key g))
@@ -232,7 +232,7 @@ module _ {F L : Type 0} (A : LatticeAlgebra L) (B : EdgeAlgebra F L) (targets : 
   loads_held w v r whole can =
       let base = some_base w whole.held in
       let now : Hands F S = record {
-        world = after acts_by w.world (Steps (Load v));
+        world = after_event acts_by w.world (Steps (Load v));
         claims = λ h. None;
         tally = tally_after A B targets same forms version S w (Loads v r);
       } in
@@ -245,14 +245,14 @@ module _ {F L : Type 0} (A : LatticeAlgebra L) (B : EdgeAlgebra F L) (targets : 
       (record {
         world = kept acts_by exact laws w.world (Steps (Load v)) whole.held.world can.running;
         stored = whole.held.stored;
-        work = λ u is by. begun_now (frame_by A B targets by) (state_of now.world.image) begins;
+        work = λ u is by. begun_now (frame_by A B targets by) (image_state now.world.image) begins;
         begun = λ u is by name among. elim (not-in-empty among) [ ];
       })
       (can.running, can.fits, record { base = base.0; folded = base.1; leads = does })
 
   -- ---- a batch
   pub batches_held : (w : Hands F S) (r : Entry) → IsWhole w → CanBatch A B targets same forms version S w r
-      → IsWhole (record w { world = after acts_by w.world (Seals r) }) × IsFolded acts_by (contents (after acts_by w.world (Seals r)).sealed) w.world.image
+      → IsWhole (record w { world = after_event acts_by w.world (Seals r) }) × IsFolded acts_by (contents (after_event acts_by w.world (Seals r)).sealed) w.world.image
   batches_held w r whole can =
       let noted = whole.noted can.base can.folded in
       let does : Does B same forms version r can.base w.world.image = record {
@@ -269,13 +269,13 @@ module _ {F L : Type 0} (A : LatticeAlgebra L) (B : EdgeAlgebra F L) (targets : 
       → IsFolded acts_by (contents w.world.sealed) w.world.image → w.world.image.program ≡ Some v → procedures.start v name ≡ Some start
       → IsEntryOf forms version (records.Root name) r → FitsNext A B targets same forms version S w.world r
       → IsWhole (record {
-        world = after acts_by (after acts_by w.world (Steps (Root name))) (Seals r);
+        world = after_event acts_by (after_event acts_by w.world (Steps (Root name))) (Seals r);
         claims = claims_after A B targets same forms version S w (Roots name first r);
         tally = tally_after A B targets same forms version S w (Roots name first r);
       })
   root_held w name first r v start whole running folded is_loaded starts spelled fits =
       let now : Hands F S = record {
-        world = after acts_by w.world (Steps (Root name));
+        world = after_event acts_by w.world (Steps (Root name));
         claims = claims_after A B targets same forms version S w (Roots name first r);
         tally = tally_after A B targets same forms version S w (Roots name first r);
       } in
@@ -341,7 +341,7 @@ module _ {F L : Type 0} (A : LatticeAlgebra L) (B : EdgeAlgebra F L) (targets : 
       (subst (λ (i : ProgramImage F). IsFolded acts_by (contents w.world.sealed) i) is can.first.folded) can.loaded can.starts can.spelled can.fits
   begins_held w name (Some batch) r whole can =
       let before = batches_held w batch whole can.first in
-      root_held (record w { world = after acts_by w.world (Seals batch) }) name (Some batch) r can.program can.start before.0 can.running
+      root_held (record w { world = after_event acts_by w.world (Seals batch) }) name (Some batch) r can.program can.start before.0 can.running
       before.1 can.loaded can.starts can.spelled can.fits
 
   -- ---- an opening
@@ -356,7 +356,7 @@ module _ {F L : Type 0} (A : LatticeAlgebra L) (B : EdgeAlgebra F L) (targets : 
         held = record {
           world = kept acts_by exact laws w.world (Opens found image work disks) whole.held.world can;
           stored = stored;
-          work = λ v is by. begun_now (frame_by A B targets by) (state_of image) (good v is by).run;
+          work = λ v is by. begun_now (frame_by A B targets by) (image_state image) (good v is by).run;
           begun = λ v is by. (good v is by).begun;
         };
         noted = λ base other.
@@ -376,8 +376,8 @@ module _ {F L : Type 0} (A : LatticeAlgebra L) (B : EdgeAlgebra F L) (targets : 
 
   -- what happens else leaves images, records and claims
   still_held : (w : Hands F S) (e : ProgramEvent F S) → IsWhole w → Can acts_by w.world e
-      → (after acts_by w.world e).image ≡ w.world.image → (after acts_by w.world e).sealed ≡ w.world.sealed
-      → IsWhole (record w { world = after acts_by w.world e })
+      → (after_event acts_by w.world e).image ≡ w.world.image → (after_event acts_by w.world e).sealed ≡ w.world.sealed
+      → IsWhole (record w { world = after_event acts_by w.world e })
   still_held w e whole can same_image same_sealed = record {
     held = record {
       world = kept acts_by exact laws w.world e whole.held.world can;
@@ -460,7 +460,7 @@ module _ {F L : Type 0} (A : LatticeAlgebra L) (B : EdgeAlgebra F L) (targets : 
             omega (arith, both, spent, work.lowerings, work.entries, room);
       }
 
-  sound : (w : Hands F S) → IsWhole w → IsSound A B targets same forms version S w
+  sound : (w : Hands F S) → IsWhole w → IsSoundWorld A B targets same forms version S w
   sound w whole = record {
     recovers = recoverable acts_by exact laws w.world whole.held.world;
     answers = λ v is by.

@@ -30,3 +30,4 @@ pub mod Drained
 pub mod Frozen
 pub mod Crashes
 pub mod MayCrash
+pub mod Stored

@@ -1,7 +1,7 @@
 -- A journal's record leads from an image to one other at most.
 use Rattle.std.proofs.Common.{◌≡◌, ◌∙◌, ℕ, List, [], Bool, refl, ap, sym, subst}
 use Rattle.ide_batch.proofs.Apart.{apart}
-use Rattle.ide_batch.specs.Fold.{LeadsTo, ProgramImage, procedures}
+use Rattle.ide_batch.specs.Fold.{RecordLeads, ProgramImage, procedures}
 use Rattle.ide_batch.specs.Items.{Functions}
 use Rattle.ide_batch.specs.Records.{RecordValue, Load, Root, Batch}
 use Rattle.ide_journal.specs.declared.version.Version.{Version}
@@ -22,8 +22,8 @@ one_value text p q parsed other =
     sym ((parsed_again p).equal q (subst (λ (t : List ℕ). IsParsed t q) (sym (printed_again text p parsed)) other))
 
 module _ {F L : Type 0} (functions : EdgeAlgebra F L) (same : F → F → Bool) where
-  leads_once : (value : RecordValue F) (before now other : ProgramImage F) → LeadsTo functions same value before now
-      → LeadsTo functions same value before other → now ≡ other
+  leads_once : (value : RecordValue F) (before now other : ProgramImage F) → RecordLeads functions same value before now
+      → RecordLeads functions same value before other → now ≡ other
   leads_once (Load text) before now other (p, parsed, is) (q, parsed_other, is_other) =
       is ∙ ap (λ v. step procedures functions same before (images.Load v)) (one_value text p q parsed parsed_other) ∙ sym is_other
   leads_once (Root name) before now other is is_other = is ∙ sym is_other
@@ -34,4 +34,4 @@ module _ {F L : Type 0} (functions : EdgeAlgebra F L) (same : F → F → Bool) 
   machine_is_exact forms free version entry before now other does does_other =
       let one : does.value ≡ does_other.value = apart forms free version does.value does_other.value entry.1 entry.1 [] []
       (sym does.spelled.kind ∙ does_other.spelled.kind) does.spelled.body does_other.spelled.body refl refl in
-      leads_once does_other.value before now other (subst (λ (value : RecordValue F). LeadsTo functions same value before now) one does.leads) does_other.leads
+      leads_once does_other.value before now other (subst (λ (value : RecordValue F). RecordLeads functions same value before now) one does.leads) does_other.leads

@@ -4,7 +4,7 @@ use Rattle.std.specs.Prelude.{slice_get}
 use Rattle.std.proofs.lemmas.List.{append-nil, append_assoc, drop_all, get_or_append_left, length-append, length-take-le, take-append-le, take_all}
 use Rattle.ide_disk.specs.Disk.{DiskState, CrashLeaves, Keeps, Wrote, put_at, settled, synced_now, written}
 use Rattle.ide_journal.specs.Bytes.{IsBeforeOrAfter, Knows}
-use Rattle.ide_journal.specs.Calls.{after_call}
+use Rattle.ide_journal.specs.Calls.{after_stage_call}
 use Rattle.ide_journal.specs.Format.{Entry, Head, Holds, IsEntry, IsPages, after_gate, header}
 use Rattle.ide_journal.specs.Lists.{HoldsWithOrWithout}
 use Rattle.ide_journal.specs.declared.stage.Stage.{Stage}
@@ -12,8 +12,8 @@ use Rattle.ide_journal.specs.declared.stage.Stage.TheVariants.{Idle, Begun, Writ
 use Rattle.ide_journal.proofs.Left.{gate_written, left_in}
 use Rattle.ide_journal.proofs.Lists.{holds_before, holds_either, pages_push}
 use Rattle.ide_journal.proofs.OneList.{holds_one_list, holds_the_same}
-use Rattle.ide_store.specs.OneDisk.{Calls, Fails, IsLive, KnowsOf, Opens, Stops, Stores, Writer, next_stage, one_disk, tail_of}
-use Rattle.ide_store.specs.Store.{IsFound, IsSafe, StoreLaws}
+use Rattle.ide_store.specs.OneDisk.{DoesGoodCall, Fails, IsLive, KnowsOf, Opens, Stops, Stores, Writer, next_stage, one_disk, tail_of}
+use Rattle.ide_store.specs.Store.{IsFoundOf, IsSafe, StoreLaws}
 use Rattle.ide_store.specs.World.{AreAlike, Rules}
 
 -- the record of a number, behind those before it
@@ -86,7 +86,7 @@ tail_some number entry = omega (arith, length-append (after_gate number entry) (
 -- the stored records are found, or these and the next
 found_either : (head : Head) (records : List Entry) (stored : ℕ) (entry : Entry) (left : List ℕ) → stored ≤ length records
     → slice_get records stored ≡ Some entry → HoldsWithOrWithout head (take stored records) entry left
-    → (found : List Entry) × Holds head found left × IsFound records stored found
+    → (found : List Entry) × Holds head found left × IsFoundOf records stored found
 found_either head records stored entry left some is either =
     let next = next_taken records stored entry is in
     elim either [
@@ -102,7 +102,7 @@ live_left : (head : Head) (records : List Entry) (stored : ℕ) (stage : Stage) 
     → IsPages 0 (take stored records) pages → stored ≤ length records → length records ≤ 4294967295
     → ((number : ℕ) (entry : Entry) → slice_get records number ≡ Some entry → IsEntry entry) → slice_get records stored ≡ next
     → KnowsOf stage (header head ++ pages) stored next disk → CrashLeaves disk left
-    → (found : List Entry) × Holds head found left × IsFound records stored found
+    → (found : List Entry) × Holds head found left × IsFoundOf records stored found
 live_left head records stored Failed pages next disk left whole some few proper is knows leaves = absurd knows
 live_left head records stored Idle pages next disk left whole some few proper is knows leaves =
     let split : left ≡ (header head ++ pages) ++ 0 ∷ [] = subst (λ (d : DiskState). CrashLeaves d left) knows leaves in
@@ -172,7 +172,7 @@ live_sealed head records stored r work disk live fits =
 
 -- a call brings the disk to what is known at the next stage
 knows_called : (stage : Stage) (base : List ℕ) (number : ℕ) (entry : Entry) (gate : ℕ) (disk : DiskState) → gate ≡ length base → stage ≢ GateWritten
-    → KnowsOf stage base number (Some entry) disk → KnowsOf (next_stage stage) base number (Some entry) (after_call stage gate (tail_of number entry) disk)
+    → KnowsOf stage base number (Some entry) disk → KnowsOf (next_stage stage) base number (Some entry) (after_stage_call stage gate (tail_of number entry) disk)
 knows_called Idle base number entry gate disk at more knows = rw (at, knows) (ap (λ (now : List ℕ). record {
   synced = base ++ 0 ∷ [];
   changes = Wrote (length base + 1) (length (tail_of number entry)) ∷ [];
@@ -190,12 +190,12 @@ knows_called GateWritten base number entry gate disk at more knows = absurd (mor
 knows_called Failed base number entry gate disk at more knows = absurd knows
 
 live_called : (head : Head) (records : List Entry) (stored : ℕ) (work next : Writer) (disk after : DiskState) → IsLive head records stored work disk
-    → Calls records stored work disk next after → IsLive head records stored next after
+    → DoesGoodCall records stored work disk next after → IsLive head records stored next after
 live_called head records stored work next disk after live calls =
     let base : List ℕ = header head ++ live.pages in
     let known = subst (λ (o : Option Entry). KnowsOf work.stage base stored o disk) calls.under_way live.knows in
     let now = knows_called work.stage base stored calls.entry work.gate disk live.gate calls.more known in
-    let now_at = subst (λ (o : Option Entry). KnowsOf (next_stage work.stage) base stored o (after_call work.stage work.gate (tail_of stored calls.entry) disk)) (sym calls.under_way) now in
+    let now_at = subst (λ (o : Option Entry). KnowsOf (next_stage work.stage) base stored o (after_stage_call work.stage work.gate (tail_of stored calls.entry) disk)) (sym calls.under_way) now in
     rw (calls.work_is, calls.disk_is) (record {
       pages = live.pages;
       whole = live.whole;

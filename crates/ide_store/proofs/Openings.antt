@@ -30,7 +30,7 @@ use Rattle.ide_store.proofs.World.{one_image, read}
 -- what values lead to, the records that spell them lead to
 spelled_lead : {F L : Type 0} (functions : EdgeAlgebra F L) (same : F → F → Bool) (forms : Functions F) (version : Version)
     → (values : List (RecordValue F)) (entries : List Entry) (before now : ProgramImage F) → AreEntriesOf forms version values entries
-    → fold.LeadTo functions same values before now → LeadTo (machine functions same forms version) entries before now
+    → fold.RecordsLead functions same values before now → LeadTo (machine functions same forms version) entries before now
 spelled_lead functions same forms version [] [] before now spelled leads = leads
 spelled_lead functions same forms version [] (entry ∷ entries) before now spelled leads = absurd spelled
 spelled_lead functions same forms version (value ∷ values) [] before now spelled leads = absurd spelled

@@ -11,7 +11,7 @@ use Rattle.ide_batch.specs.Records as records
 use Rattle.ide_graph.specs.Numbers.{start_of}
 use Rattle.ide_journal.specs.Format.{Entry, Head}
 use Rattle.ide_steps.specs.Core.{CoreData}
-use Rattle.ide_steps.specs.Room.{IsGraphSaid, IsWhole}
+use Rattle.ide_steps.specs.Room.{IsGraphSaid, IsWholeCore}
 use Rattle.ide_steps.specs.Rooted.{IsBegun}
 use Rattle.ide_steps.specs.State.{claim_of, state_of as core_state}
 use Rattle.ide_text.specs.Parsed.{IsParsed}
@@ -38,7 +38,7 @@ use Rattle.ide_store.specs.World.{IsFolded, after_all, contents}
 
 module _ {F L : Type 0} (a : Analysis F L) where
   -- ---- a program is loaded
-  pub seals_load : (program : Program) (text : List ℕ) (entry : Entry) (old new : TableData F) → IsWhole old.core
+  pub seals_load : (program : Program) (text : List ℕ) (entry : Entry) (old new : TableData F) → IsWholeCore old.core
       → IsParsed text program → SpellsRecord a old (records.Load text) entry → old.sealed < 4294967295
       → WaitsFor (entry ∷ []) old new → IsLoadedWith program new.core → new.core.changes ≡ Some []
       → IsAct a old new (λ head. Loads (value_of program) entry)
@@ -81,7 +81,7 @@ module _ {F L : Type 0} (a : Analysis F L) where
       )
 
   -- ---- a procedure becomes a root
-  module _ (head : Head) (w : StoreWorld a head) (old : TableData F) {handed : List Entry} (works : WorksOn a head w old handed) (whole : IsWhole old.core)
+  module _ (head : Head) (w : StoreWorld a head) (old : TableData F) {handed : List Entry} (works : WorksOn a head w old handed) (whole : IsWholeCore old.core)
       (mid : CoreData F) (name : List ℕ) (begins : IsBegun a.lattice a.functions a.targets old.core mid name) where
     -- the program of the graph, and where the procedure begins
     abbrev said : IsGraphSaid old.core.program begins.graph
@@ -214,7 +214,7 @@ module _ {F L : Type 0} (a : Analysis F L) where
   }
 
   -- what changed is sealed first, if anything did, and then the root
-  pub seals_root : Knows a → (name : List ℕ) (first : Option Entry) (entry : Entry) (old new : TableData F) (mid : CoreData F) → IsWhole old.core
+  pub seals_root : Knows a → (name : List ℕ) (first : Option Entry) (entry : Entry) (old new : TableData F) (mid : CoreData F) → IsWholeCore old.core
       → SpellsFirst a old first → SpellsRecord a old (records.Root name) entry → old.sealed < 4294967294
       → IsBegun a.lattice a.functions a.targets old.core mid name → BeginsAnew mid new.core
       → WaitsFor (behind_first first entry) old new → IsAct a old new (λ head. Roots name first entry)

@@ -18,10 +18,10 @@ use Rattle.ide_store.specs.Answers.{GraphBy, frame_by, roots_by}
 use Rattle.ide_store.specs.Draining.{AreByDrainer, IsByHand, WorksBy}
 use Rattle.ide_store.specs.Engine.{AreOpened, MayCrash, StepsDisk, StepsDiskOver, all_stored, at_once, did_call, did_fail, no_memory, within_call, within_opening}
 use Rattle.ide_store.specs.Half.{Writes}
-use Rattle.ide_store.specs.Hands.{Batches, Claims, Ends, Happens, IsSound, Loads, Parts, Releases, Roots}
+use Rattle.ide_store.specs.Hands.{Batches, Claims, Ends, Happens, IsSoundWorld, Loads, Parts, Releases, Roots}
 use Rattle.ide_store.specs.OneDisk.{IsLive, Writer, one_disk}
 use Rattle.ide_store.specs.Recovery.{OneDiskAnswers}
-use Rattle.ide_store.specs.Runs.{AreOnRun, AreOnRunUnlessFailed, EnginesStayOnRuns, IsBestImage, IsImageOfRun, IsLeft, IsOfTable}
+use Rattle.ide_store.specs.Runs.{AreOnRun, AreOnRunUnlessFailed, EnginesStayOnRuns, IsBestImage, IsImageOfRun, IsLeftByRun, IsOfTable}
 use Rattle.ide_store.specs.Table.{Analysis, AreActs, IsAct, IsReached, MayDoAll, StoreAct, StoreWorld, TableData, after_act, after_acts, forms_of, new_store}
 use Rattle.ide_store.specs.World.{Closed as Shut, Crashes, Fails, Opens, Stops}
 use Rattle.ide_store.specs.Writing.{work_of}
@@ -75,11 +75,11 @@ module _ {F L : Type 0} (a : Analysis F L) (head : Head) where
 
   -- what acts lead to leaves a disk
   left_by : (w : StoreWorld a head) → IsReached a head w → (acts : List (StoreAct a head)) → MayDoAll a head w acts
-      → IsLeft a head (after_acts a head w acts).world.disks
+      → IsLeftByRun a head (after_acts a head w acts).world.disks
   left_by w reached acts can = record { world = after_acts a head w acts; reached = reached_more a head w acts reached can; stands = refl }
 
   -- a crash leaves the disk of a world that acts led to
-  crash_leaves : (w : StoreWorld a head) → IsReached a head w → (left : List ℕ) → MayCrash a head w left → IsLeft a head (settled left)
+  crash_leaves : (w : StoreWorld a head) → IsReached a head w → (left : List ℕ) → MayCrash a head w left → IsLeftByRun a head (settled left)
   crash_leaves w reached left (at_once can) = left_by w reached (Happens (Crashes left) ∷ []) (can, tt)
   crash_leaves w reached left (within_call can) = left_by w reached (Happens (Fails (settled left)) ∷ Happens (Crashes left) ∷ []) can
   crash_leaves w reached left (within_opening can) = left_by w reached (Happens (Stops (settled left) Shut) ∷ Happens (Crashes left) ∷ []) can
@@ -143,7 +143,7 @@ module _ {F L : Type 0} (a : Analysis F L) {D : Type 0} {G : Ghosts D} where
       made _ (no_memory at_work) working = record { head = on.head; world = on.world; reached = on.reached; at_work = at_work }
 
   -- ---- an opening
-  opening_stays : (head : Head) (before : DiskState) (table : TableData F) (writer : WriterHalf D G) → IsLeft a head before
+  opening_stays : (head : Head) (before : DiskState) (table : TableData F) (writer : WriterHalf D G) → IsLeftByRun a head before
       → AreOpened a head before table writer → AreOnRun a table writer
   opening_stays head before table writer left opens =
       let is = opens left.world left.reached left.stands in
@@ -158,9 +158,9 @@ module _ {F L : Type 0} (a : Analysis F L) {D : Type 0} {G : Ghosts D} where
 module _ {F L : Type 0} (a : Analysis F L) (answers : OneDiskAnswers a.lattice a.functions a.targets a.same a.proper a.form) where
   -- what is so of every run is so of the world
   sound : (head : Head) (w : StoreWorld a head) → IsReached a head w
-      → IsSound a.lattice a.functions a.targets a.same (forms_of a) head.version (one_disk head) w
+      → IsSoundWorld a.lattice a.functions a.targets a.same (forms_of a) head.version (one_disk head) w
   sound head w reached =
-      subst (λ (u : StoreWorld a head). IsSound a.lattice a.functions a.targets a.same (forms_of a) head.version (one_disk head) u) reached.is
+      subst (λ (u : StoreWorld a head). IsSoundWorld a.lattice a.functions a.targets a.same (forms_of a) head.version (one_disk head) u) reached.is
       (answers head reached.work reached.disk reached.live reached.acts reached.can)
 
   -- so the frozen image of a run answers with best values

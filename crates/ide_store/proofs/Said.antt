@@ -4,7 +4,7 @@ use Rattle.ide_batch.specs.Applied.{IsGraphed}
 use Rattle.ide_graph.proofs.LawfulLemmas.{edges_lawful}
 use Rattle.ide_graph.specs.Supergraph.{Supergraph}
 use Rattle.ide_steps.specs.Core.{CoreData}
-use Rattle.ide_steps.specs.Room.{IsGraphSaid, IsWhole}
+use Rattle.ide_steps.specs.Room.{IsGraphSaid, IsWholeCore}
 use Rattle.ide_text.specs.Value.{ProgramValue}
 use Rattle.ide_theory.proofs.Laws.Changes.{some-inj}
 use Rattle.ide_theory.proofs.Laws.Programs.{site-lawful}
@@ -23,7 +23,7 @@ module _ {F : Type 0} (core : CoreData F) where
   }
 
   -- where a program is loaded, the core has such a graph
-  pub graph_kept : IsWhole core → IsGraphed core.program core.graph → (v : ProgramValue) → core.program ≡ Some v
+  pub graph_kept : IsWholeCore core → IsGraphed core.program core.graph → (v : ProgramValue) → core.program ≡ Some v
       → (by : GraphBy v) × (core.graph ≡ Some by.graph)
   unfolding graph_said
   graph_kept whole graphed v is =

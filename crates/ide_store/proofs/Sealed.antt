@@ -12,7 +12,7 @@ use Rattle.ide_journal.specs.Lists.{entries_of, entry_of}
 use Rattle.ide_journal.specs.declared.record.RawRecord.{RawRecord}
 use Rattle.ide_steps.specs.Changed.{noted_count}
 use Rattle.ide_steps.specs.Core.{CoreData}
-use Rattle.ide_steps.specs.Room.{IsWhole}
+use Rattle.ide_steps.specs.Room.{IsWholeCore}
 use Rattle.ide_steps.specs.Rooted.{IsBegun}
 use Rattle.ide_steps.specs.declared.changes.Entry.{Entry as Noted}
 use Rattle.ide_text.specs.Parsed.{IsParsed}
@@ -69,7 +69,7 @@ pub where_some : {X P : Type 0} (o : Option X) (x : X) → o ≡ Some x → IfSo
 where_some None x is p = absurd (cc (is))
 where_some (Some y) x is p = p
 
-module _ {F L : Type 0} (a : Analysis F L) (acts : CallsAreActs a) (old new : TableData F) (whole : IsWhole old.core) (now : TableData F)
+module _ {F L : Type 0} (a : Analysis F L) (acts : CallsAreActs a) (old new : TableData F) (whole : IsWholeCore old.core) (now : TableData F)
     (is_now : old ≡ now) where
   -- a program is loaded
   pub loads_program : (program : Program) (text : List ℕ) (entry : Entry) (number : ℕ) → IsParsed text program → SpellsRecord a now (records.Load text) entry

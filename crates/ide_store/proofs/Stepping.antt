@@ -17,7 +17,7 @@ use Rattle.ide_wire.specs.declared.refused.Refused.{Refused}
 use Rattle.ide_wire.specs.declared.refused.Refused.TheVariants.{Disk, NoMemory}
 use Rattle.ide_store.specs.Engine.{AreAtWork, DidCall, DidFail, HandsOver, StepsDisk, StepsDiskOver, all_stored, did_call, did_fail, kept, no_memory, took}
 use Rattle.ide_store.specs.Half.{HasCalled, HasStored, IsSameHalf, StepsOver, StepsTo, Writes, calls, fails, rests, stores, waits}
-use Rattle.ide_store.specs.OneDisk.{Calls, Fails, Stores, Writer}
+use Rattle.ide_store.specs.OneDisk.{DoesGoodCall, Fails, Stores, Writer}
 use Rattle.ide_store.specs.Table.{Analysis, IsTable, StoreWorld, TableData, WorksOn}
 use Rattle.ide_store.specs.World as world
 use Rattle.ide_store.specs.World.{contents}
@@ -52,8 +52,8 @@ none_mapped f (x ∷ xs) is = cc (is)
 
 module _ (handed more : List Entry) (stored : ℕ) where
   -- a call over the records that were handed over is one over all of them
-  calls_over : (work next : Writer) (disk after : DiskState) → Calls handed stored work disk next after
-      → Calls (handed ++ more) stored work disk next after
+  calls_over : (work next : Writer) (disk after : DiskState) → DoesGoodCall handed stored work disk next after
+      → DoesGoodCall (handed ++ more) stored work disk next after
   calls_over work next disk after call = record {
     entry = call.entry;
     under_way = more_get handed more call.entry stored call.under_way;

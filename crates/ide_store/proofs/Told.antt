@@ -2,7 +2,7 @@
 use Rattle.std.proofs.Common.{◌≡◌, ◌≢◌, ◌∙◌, ◌⊎◌, Bool, true, false, cond, List, [], ◌∷◌, Option, Some, None, refl, ap, sym, subst, inl, inr, true≢false}
 use Rattle.ide_batch.specs.Fold.{SaysChange, named, or_else, said_by}
 use Rattle.ide_batch.specs.Items.{Item}
-use Rattle.ide_steps.specs.Changed.{entry_of, entry_then}
+use Rattle.ide_steps.specs.Changed.{standing_entry, entry_then}
 use Rattle.ide_steps.specs.Core.{CoreData}
 use Rattle.ide_steps.specs.Items.{AreChangedItems}
 use Rattle.ide_steps.specs.declared.changes.Entry.{Entry as Noted}
@@ -95,11 +95,11 @@ module _ {F : Type 0} (same : F → F → Bool) (is_same : IsSame same) where
 
   -- of each key the changed items say what is so now, where that is new
   pub says_change : (core : CoreData F) (items : List (Item F)) (key : Key) → AreChangedItems core items
-      → (found core.table key ≡ None → told (entry_then core key) ≡ told (entry_of core key))
-      → SaysChange (named items key) (told (entry_then core key)) (told (entry_of core key))
+      → (found core.table key ≡ None → told (entry_then core key) ≡ told (standing_entry core key))
+      → SaysChange (named items key) (told (entry_then core key)) (told (standing_entry core key))
   says_change core items key changed absent = by (named items key) refl
     where
-      by : (o : Option (Option F × Bool)) → named items key ≡ o → SaysChange o (told (entry_then core key)) (told (entry_of core key))
+      by : (o : Option (Option F × Bool)) → named items key ≡ o → SaysChange o (told (entry_then core key)) (told (standing_entry core key))
       by (Some e) is =
           let there = named_some items key e is in
           let exact = (changed.exact key there.0 there.1).0 (contains-in there.3) in (
@@ -108,9 +108,9 @@ module _ {F : Type 0} (same : F → F → Bool) (is_same : IsSame same) where
           )
       by None none = present (found core.table key) refl
         where
-          present : (o : Option F) → found core.table key ≡ o → told (entry_then core key) ≡ told (entry_of core key)
+          present : (o : Option F) → found core.table key ≡ o → told (entry_then core key) ≡ told (standing_entry core key)
           present None is = absent is
-          present (Some f) is = elim (same_notes (entry_of core key) (entry_then core key)) [
+          present (Some f) is = elim (same_notes (standing_entry core key) (entry_then core key)) [
             | inl same ↦ ap told (sym same)
             | inr other ↦ absurd (named_none items key f (is_pending core.pile key)
                 (in-contains items _ ((changed.exact key f (is_pending core.pile key)).1 (is, refl, other))) none)

@@ -4,9 +4,9 @@ use Rattle.std.specs.Prelude.{unwrap_or}
 use Rattle.ide_wire.specs.declared.key.Key.{Key}
 use Rattle.ide_lattice.specs.Algebra.{EdgeAlgebra}
 use Rattle.ide_theory.specs.Frame.{Frame}
-use Rattle.ide_theory.specs.Images.{Procedures, Image, IsSame, Root, absent_below, entered, begun, is_met, received, seeded_below, state_of, step, with_state}
-use Rattle.ide_theory.specs.Run.{ArePartsOf, Run, Step, Steps, claim, claims_in, claims_of, finish, joined, lower, lowerings_in, lowerings_of, more, none, release, releases_in, releases_of, seeds_in, seeds_of, skip}
-use Rattle.ide_theory.specs.State.{Claim, State, finished, lowered_by, new_claim, part_done, with_claim}
+use Rattle.ide_theory.specs.Images.{Procedures, Image, IsSame, Root, absent_below, entered, root_begun, is_met, received, seeded_below, image_state, step, with_state}
+use Rattle.ide_theory.specs.Run.{ArePartsOf, Run, Step, Steps, claim, claims_in, claims_of, finish, steps_joined, lower, lowerings_in, lowerings_of, more, none, release, releases_in, releases_of, seeds_in, seeds_of, skip}
+use Rattle.ide_theory.specs.State.{Claim, State, finished, with_lowered, new_claim, part_done, with_claim}
 use Rattle.ide_theory.proofs.Laws.ImageWays.{root-image, seeds-below}
 use Rattle.ide_theory.proofs.Laws.Ways.{joined-claims, joined-lowerings, joined-releases, joined-seeds}
 use Rattle.ide_store.specs.Tally.{Tally, nothing_since, state_with}
@@ -65,7 +65,7 @@ module _ (K : Frame) where
       let entries = joined-seeds work.way seeds.way in
       record {
         run = work.run;
-        way = joined work.way seeds.way;
+        way = steps_joined work.way seeds.way;
         claims = omega (arith, claims, seeds.claims, work.claims);
         lowerings = omega (arith, lowerings, seeds.lowerings, work.lowerings);
         releases = omega (arith, releases, seeds.releases, work.releases);
@@ -80,7 +80,7 @@ module _ (K : Frame) where
   parted_on procedures same is_same tally s h c k g rest mine parts work = by (is_met procedures B same s k g) refl
     where
       by : (b : Bool) → is_met procedures B same s k g ≡ b
-          → IsWorkTo K (record tally { lowerings = tally.lowerings + cond b 0 1 }) (part_done (cond b s (lowered_by B s k g)) h)
+          → IsWorkTo K (record tally { lowerings = tally.lowerings + cond b 0 1 }) (part_done (cond b s (with_lowered B s k g)) h)
       by true is = worked tally _ s _ work (skip h c k g rest mine parts (is_same.exact _ _ is)) refl (omega arith) (omega arith) (omega arith) (omega arith)
       by false is =
           worked tally _ s _ work
@@ -93,7 +93,7 @@ module _ (K : Frame) where
       → s.claims h ≡ Some c → c.parts ≡ (k, g) ∷ rest → Steps K s (part_done (received procedures B same s k g) h)
   part_steps procedures same is_same s h c k g rest mine parts = by (is_met procedures B same s k g) refl
     where
-      by : (b : Bool) → is_met procedures B same s k g ≡ b → Steps K s (part_done (cond b s (lowered_by B s k g)) h)
+      by : (b : Bool) → is_met procedures B same s k g ≡ b → Steps K s (part_done (cond b s (with_lowered B s k g)) h)
       by true is = more none (skip h c k g rest mine parts (is_same.exact _ _ is))
       by false is =
           more none
@@ -102,13 +102,13 @@ module _ (K : Frame) where
 -- the image of a part, and what it leaves of the claims, are one state
 pub part_is : {Program Name F L : Type 0} (procedures : Procedures Program Name) (B : EdgeAlgebra F L) (same : F → F → Bool)
     (image : Image Program Name F) (claims : ℕ → Option (Claim F)) (h : ℕ) (k : Key) (g : F)
-    → state_with (with_state image (received procedures B same (state_of image) k g)) (part_done (received procedures B same (state_with image claims) k g) h).claims
+    → state_with (with_state image (received procedures B same (image_state image) k g)) (part_done (received procedures B same (state_with image claims) k g) h).claims
     ≡ part_done (received procedures B same (state_with image claims) k g) h
-part_is procedures B same image claims h k g = by (is_met procedures B same (state_of image) k g)
+part_is procedures B same image claims h k g = by (is_met procedures B same (image_state image) k g)
   where
     by : (b : Bool)
-        → state_with (with_state image (cond b (state_of image) (lowered_by B (state_of image) k g))) (part_done (cond b (state_with image claims) (lowered_by B (state_with image claims) k g)) h).claims
-        ≡ part_done (cond b (state_with image claims) (lowered_by B (state_with image claims) k g)) h
+        → state_with (with_state image (cond b (image_state image) (with_lowered B (image_state image) k g))) (part_done (cond b (state_with image claims) (with_lowered B (state_with image claims) k g)) h).claims
+        ≡ part_done (cond b (state_with image claims) (with_lowered B (state_with image claims) k g)) h
     by true = refl
     by false = refl
 
@@ -120,6 +120,6 @@ pub root_is : {Program Name : Type 0} (procedures : Procedures Program Name) (K 
     ≡ seeded_below K.functions (state_with image claims) r (procedures.entries p)
 root_is procedures K same image claims p name r is starts =
     let s = state_with image claims in
-    let marked = ap (λ o. entered procedures K.functions same o name s) is ∙ ap (λ o. begun procedures K.functions same p o s) starts in
+    let marked = ap (λ o. entered procedures K.functions same o name s) is ∙ ap (λ o. root_begun procedures K.functions same p o s) starts in
     ap (λ (i : Image _ _ _). state_with i (entered procedures K.functions same image.program name s).claims) (root-image procedures K same image s p name r is starts)
     ∙ ap (λ (u : State K.F). record (seeded_below K.functions s r (procedures.entries p)) { claims = u.claims }) marked

@@ -3,8 +3,8 @@ use Rattle.std.proofs.Common.{◌≡◌, ◌∙◌, ◌≤◌, ◌<◌, ℕ, ◌
 use Rattle.std.proofs.lemmas.List.Sums.{fold-append}
 use Rattle.std.proofs.lemmas.List.{length-append, length-map, length-take-le, map-append, take-map}
 use Rattle.ide_store.proofs.Marks.{AreMarks, mark_at, marks_cut, marks_sealed, marks_stepped, no_marks, pushed}
-use Rattle.ide_store.specs.Store.{IsFound, IsSafe, Store, StoreLaws}
-use Rattle.ide_store.specs.World.{Acks, Begins, Calls, Can, CanAll, Closed, Crashes, Event, EveryRunRecovers, Failed, Fails, AreAlike, IsRecoverable, Mode, Opens, Recovers, Rules, Running, Seals, Sealed, Steps, Stops, Stores, World, after, after_all, contents, created, image_after, opened, AreExact, IsFolded, LeadTo}
+use Rattle.ide_store.specs.Store.{IsFoundOf, IsSafe, Store, StoreLaws}
+use Rattle.ide_store.specs.World.{Acks, Begins, Calls, Can, CanAll, Closed, Crashes, Event, EveryRunRecovers, Failed, Fails, AreAlike, IsRecoverable, Mode, Opens, Recovers, Rules, Running, Seals, Sealed, Steps, Stops, Stores, World, after_event, after_all, contents, created, image_after, opened, AreExact, IsFolded, LeadTo}
 
 -- what is kept
 pub record IsKept {Image Step R : Type 0} {S : Store R} (rules : Rules Image Step R) (w : World Image Step S) : Type 0 where
@@ -71,7 +71,7 @@ module _ {Image Step R : Type 0} {S : Store R} (rules : Rules Image Step R) (exa
         acked = omega arith;
       }
 
-  kept_stepped : (w : World Image Step S) (s : Step) → IsKept rules w → w.mode ≡ Running → IsKept rules (after rules w (Steps s))
+  kept_stepped : (w : World Image Step S) (s : Step) → IsKept rules w → w.mode ≡ Running → IsKept rules (after_event rules w (Steps s))
   kept_stepped w s kept runs = record {
     image = λ _. ap (λ (image : Image). rules.step image s) (kept.image runs) ∙ sym (fold-append rules.step rules.empty w.history (s ∷ []));
     live = kept.live;
@@ -81,7 +81,7 @@ module _ {Image Step R : Type 0} {S : Store R} (rules : Rules Image Step R) (exa
     acked = kept.acked;
   }
 
-  kept_sealed : (w : World Image Step S) (r : R) → IsKept rules w → Can rules w (Seals r) → IsKept rules (after rules w (Seals r))
+  kept_sealed : (w : World Image Step S) (r : R) → IsKept rules w → Can rules w (Seals r) → IsKept rules (after_event rules w (Seals r))
   kept_sealed w r kept can =
       let records : contents (pushed w.sealed r (length w.history)) ≡ contents w.sealed ++ r ∷ [] =
       map-append (λ (s : Sealed R). s.content) w.sealed (record { content = r; mark = length w.history } ∷ []) in
@@ -124,12 +124,12 @@ module _ {Image Step R : Type 0} {S : Store R} (rules : Rules Image Step R) (exa
   crashed_safe : (w : World Image Step S) (left : S.Left) → IsKept rules w → S.Leaves w.disks left
       → IsSafe S (contents w.sealed) w.stored (S.crashed left)
   crashed_safe w left kept leaves = record {
-    each = λ other may. subst (λ (it : S.Left). (found : List R) × S.Holds found it × IsFound (contents w.sealed) w.stored found)
+    each = λ other may. subst (λ (it : S.Left). (found : List R) × S.Holds found it × IsFoundOf (contents w.sealed) w.stored found)
         (sym (laws.crashed_leaves left other may)) (kept.safe.each left leaves);
     possible = laws.crashed_reads left;
   }
 
-  pub kept : (w : World Image Step S) (e : Event Image Step S) → IsKept rules w → Can rules w e → IsKept rules (after rules w e)
+  pub kept : (w : World Image Step S) (e : Event Image Step S) → IsKept rules w → Can rules w e → IsKept rules (after_event rules w e)
   kept w (Steps s) is can = kept_stepped w s is can
   kept w (Seals r) is can = kept_sealed w r is can
   kept w (Begins work) is can =
@@ -158,7 +158,7 @@ module _ {Image Step R : Type 0} {S : Store R} (rules : Rules Image Step R) (exa
   pub all_kept : (w : World Image Step S) (events : List (Event Image Step S)) → IsKept rules w → CanAll rules w events
       → IsKept rules (after_all rules w events)
   all_kept w [] is can = is
-  all_kept w (e ∷ events) is can = all_kept (after rules w e) events (kept w e is can.0) can.1
+  all_kept w (e ∷ events) is can = all_kept (after_event rules w e) events (kept w e is can.0) can.1
 
   pub kept_created : (work : S.Work) (disks : S.Disks) → S.Live [] 0 work disks → IsKept rules (created {S = S} rules work disks)
   kept_created work disks live = record {

@@ -5,7 +5,7 @@ use Rattle.std.proofs.lemmas.List.{length-take-le}
 use Rattle.ide_disk.specs.Disk.{DiskState}
 use Rattle.ide_disk.specs.declared.disk.Disk.{Ghosts}
 use Rattle.ide_journal.specs.Bytes.{EndsAt, Knows}
-use Rattle.ide_journal.specs.Calls.{MakesItsCall, after_call, gate_after}
+use Rattle.ide_journal.specs.Calls.{MakesItsCall, after_stage_call, gate_after}
 use Rattle.ide_journal.specs.Format.{Entry, Head, after_gate, header}
 use Rattle.ide_journal.specs.Phases.{stage_after, stage_before}
 use Rattle.ide_journal.specs.declared.journal.Journal.{Journal}
@@ -88,9 +88,9 @@ module _ {D : Type 0} (G : Ghosts D) (head : Head) (records : List Entry) (store
 
   -- the call of the stage, by what the store knows
   call_is : (old new : Journal D G) (has : HasNext head records stored old) → MakesItsCall old new
-      → G.state new.disk ≡ after_call old.stage old.gate (tail_of stored has.entry) (G.state old.disk)
+      → G.state new.disk ≡ after_stage_call old.stage old.gate (tail_of stored has.entry) (G.state old.disk)
   call_is old new has makes =
-      makes.disk ∙ ap (λ (xs : List ℕ). after_call old.stage old.gate xs (G.state old.disk)) (has.under_way.stands.tail ∙ tail_is old has)
+      makes.disk ∙ ap (λ (xs : List ℕ). after_stage_call old.stage old.gate xs (G.state old.disk)) (has.under_way.stands.tail ∙ tail_is old has)
 
   pub writes_store : WritesStore G head records stored
   writes_store = record {
@@ -116,7 +116,7 @@ module _ {D : Type 0} (G : Ghosts D) (head : Head) (records : List Entry) (store
           ∙ ap (λ (n : ℕ). n + length (after_gate (length (take stored records)) has.entry ++ 0 ∷ [])) (sym has.under_way.stands.gate)
           ∙ ap (λ (xs : List ℕ). old.gate + length xs) (tail_is old has) in
           λ i. record { gate = gate i; stage = leads.1 i };
-      disk_is = call_is old new has makes ∙ ap (λ (s : Stage). after_call s old.gate (tail_of stored has.entry) (G.state old.disk)) leads.0;
+      disk_is = call_is old new has makes ∙ ap (λ (s : Stage). after_stage_call s old.gate (tail_of stored has.entry) (G.state old.disk)) leads.0;
     };
     fails = λ old new has leaves honest. record {
       entry = has.entry;

@@ -11,7 +11,7 @@ use Rattle.ide_steps.specs.Changed.{Remembers}
 use Rattle.ide_steps.specs.Claiming.{FindsTask, KeepsAllBut}
 use Rattle.ide_steps.specs.Core.{CoreData, IsSameProblem}
 use Rattle.ide_steps.specs.Items.{AreChangedItems}
-use Rattle.ide_steps.specs.Room.{IsWhole}
+use Rattle.ide_steps.specs.Room.{IsWholeCore}
 use Rattle.ide_steps.specs.Rooted.{IsBegun}
 use Rattle.ide_steps.specs.Steps.{EndsDone, GivesBack, IsCurrent, LowersPart, SkipsPart}
 use Rattle.ide_tasks.specs.Task.{TaskData}
@@ -54,7 +54,7 @@ module _ {F L : Type 0} (a : Analysis F L) where
 
 -- each call, by what it says of the core before and after it, is an act of the store
 pub record CallsAreActs {F L : Type 0} (a : Analysis F L) : Type 0 where
-  pub claim : (hand : ℕ) (old new : TableData F) (task : TaskData F) → IsWhole old.core → KeepsRest old new
+  pub claim : (hand : ℕ) (old new : TableData F) (task : TaskData F) → IsWholeCore old.core → KeepsRest old new
       → KeepsAllBut hand old.core new.core → FindsTask a.targets a.functions hand old.core new.core task → TakesTask a hand old new task
   pub lower : (hand : ℕ) (old new : TableData F) (work after : WorkData F) → is_some old.core.changes ≡ true → KeepsRest old new
       → IsSameProblem old.core new.core → Remembers old.core new.core → IsCurrent a.targets a.functions old.core hand work
@@ -68,15 +68,15 @@ pub record CallsAreActs {F L : Type 0} (a : Analysis F L) : Type 0 where
   pub release : (hand : ℕ) (old new : TableData F) → KeepsRest old new → IsSameProblem old.core new.core
       → new.core.table ≡ old.core.table → new.core.pile.pending ≡ old.core.pile.pending → new.core.changes ≡ old.core.changes
       → (claim_at old.core.pile hand ≡ None → ⊥) → GivesBack a.targets a.functions hand old.core new.core → GivesClaimBack a hand old new
-  pub load : (program : Program) (text : List ℕ) (entry : Entry) (old new : TableData F) → IsWhole old.core
+  pub load : (program : Program) (text : List ℕ) (entry : Entry) (old new : TableData F) → IsWholeCore old.core
       → IsParsed text program → SpellsRecord a old (records.Load text) entry → old.sealed < 4294967295
       → WaitsFor (entry ∷ []) old new → IsLoadedWith program new.core → new.core.changes ≡ Some []
       → IsAct a old new (λ head. Loads (value_of program) entry)
-  pub root : (name : List ℕ) (first : Option Entry) (entry : Entry) (old new : TableData F) (mid : CoreData F) → IsWhole old.core
+  pub root : (name : List ℕ) (first : Option Entry) (entry : Entry) (old new : TableData F) (mid : CoreData F) → IsWholeCore old.core
       → SpellsFirst a old first → SpellsRecord a old (records.Root name) entry → old.sealed < 4294967294
       → IsBegun a.lattice a.functions a.targets old.core mid name → BeginsAnew mid new.core
       → WaitsFor (behind_first first entry) old new → IsAct a old new (λ head. Roots name first entry)
-  pub batch : (entry : Entry) (old new : TableData F) → IsWhole old.core → SpellsChanges a old entry → old.sealed < 4294967295
+  pub batch : (entry : Entry) (old new : TableData F) → IsWholeCore old.core → SpellsChanges a old entry → old.sealed < 4294967295
       → WaitsFor (entry ∷ []) old new → BeginsAnew old.core new.core → IsAct a old new (λ head. Batches entry)
-  pub nothing : (old new : TableData F) → IsWhole old.core → AreChangedItems old.core [] → KeepsRest old new → BeginsAnew old.core new.core
+  pub nothing : (old new : TableData F) → IsWholeCore old.core → AreChangedItems old.core [] → KeepsRest old new → BeginsAnew old.core new.core
       → FindsNothing a old new

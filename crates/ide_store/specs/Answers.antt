@@ -15,7 +15,7 @@ use Rattle.ide_theory.specs.Bounds.{HasPending, pending_of}
 use Rattle.ide_theory.specs.Frame.{Frame, Roots}
 use Rattle.ide_theory.specs.Graphs.{frame_at}
 use Rattle.ide_theory.specs.Image.{HasRoots}
-use Rattle.ide_theory.specs.Images.{state_of}
+use Rattle.ide_theory.specs.Images.{image_state}
 use Rattle.ide_theory.specs.Run.{IsQuiet}
 use Rattle.ide_theory.specs.Sites.{HaveEdgesOf}
 use Rattle.ide_theory.specs.Value.{IsStarted, value_at}
@@ -44,7 +44,7 @@ module _ {F L : Type 0} (A : LatticeAlgebra L) (B : EdgeAlgebra F L) (targets : 
   -- each fact at each node
   pub record AnswersBest (image : ProgramImage F) : Type 0 where
     pub roots : HasRoots frame_by (roots_by image.roots) image.get
-    pub best : IsQuiet (state_of image) → (start : ℕ → ℕ → L) → IsStarted frame_by (roots_by image.roots) image.get start
+    pub best : IsQuiet (image_state image) → (start : ℕ → ℕ → L) → IsStarted frame_by (roots_by image.roots) image.get start
         → (n d : ℕ) → d < by.graph.facts → IsBest frame_by (roots_by image.roots) n d (value_at frame_by image.get start n d)
 
   -- each claim is paid by a key that was pending at the beginning, by a lowering, by a claim that was given back or by an

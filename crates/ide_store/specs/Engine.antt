@@ -1,5 +1,5 @@
 -- A store that works and writes: which calls of it are which acts of its world.
-use Rattle.std.specs.Prelude.{◌≡◌, ◌⊎◌, ℕ, Bool, true, false, List, [], ◌∷◌, Result, Ok, Err, length}
+use Rattle.std.specs.Prelude.{◌≡◌, ◌⊎◌, ℕ, Bool, true, false, List, [], ◌∷◌, Result, Ok, Err, IfOk, length}
 use Rattle.ide_batch.specs.Fold.{ProgramImage}
 use Rattle.ide_disk.specs.Disk.{DiskState, settled}
 use Rattle.ide_disk.specs.declared.disk.Disk.{Ghosts}
@@ -35,7 +35,7 @@ module _ {F L : Type 0} (a : Analysis F L) {D : Type 0} {G : Ghosts D} (head : H
     pub disk : w.world.disks ≡ G.state writer.journal.disk
 
   -- they are at work on a new store
-  pub record AreNew (table : TableData F) (writer : WriterHalf D G) : Type 0 where
+  pub record AreNewHalves (table : TableData F) (writer : WriterHalf D G) : Type 0 where
     pub live : IsLive head [] 0 (work_of writer.journal) (G.state writer.journal.disk)
     pub at_work : AreAtWork (new_store a head (work_of writer.journal) (G.state writer.journal.disk)) table writer
 
@@ -100,9 +100,28 @@ pub data IsEngineStop {F L : Type 0} (a : Analysis F L) {D : Type 0} (G : Ghosts
       → IsOpenStop a writer.journal.version (entries_of records) refused → IsEngineStop a G tag old new refused
 
 -- the disk after an opening, in the engine or beside the refusal
-abbrev pub disk_after : {P D F L : Type 0} {G : Ghosts D} → Result (Engine P D F L G) (Refused × D) → D
-disk_after (Ok engine) = engine.writer.journal.disk
-disk_after (Err pair) = pair.1
+abbrev pub engine_disk_after : {P D F L : Type 0} {G : Ghosts D} → Result (Engine P D F L G) (Refused × D) → D
+engine_disk_after (Ok engine) = engine.writer.journal.disk
+engine_disk_after (Err pair) = pair.1
+
+module _ {F L : Type 0} (a : Analysis F L) {P D E : Type 0} {G : Ghosts D} where
+  -- over an honest disk, an engine that was made is at work on a new store
+  abbrev pub MakesEngine : Head → D → Result (Engine P D L F G) E → Type 0
+  MakesEngine head disk result = G.honest disk → IfOk result (λ engine. AreNewHalves a head engine.table engine.writer)
+
+  -- over an honest disk, one that was opened is at work on each world that acts led to and that stood on it
+  abbrev pub OpensEngine : ℕ → D → Result (Engine P D L F G) E → Type 0
+  OpensEngine tag disk result = G.honest disk → IfOk result (λ engine.
+      AreOpened a (head_of engine.writer.journal.version tag) (G.state disk) engine.table engine.writer)
+
+module _ {F L : Type 0} (a : Analysis F L) {P D : Type 0} {G : Ghosts D} (old new : Engine P D L F G) where
+  -- over an honest disk, a step of the engine is a step of the disk in each world on which it is at work
+  abbrev pub StepsEngine : Result Bool Refused → Type 0
+  StepsEngine result = G.honest old.writer.journal.disk → (head : Head) → StepsDiskOver a head old.table new.table old.writer new.writer result
+
+  -- and what a crash at any moment of the step leaves, it may leave of each such world
+  abbrev pub CrashesEngine : Type 0
+  CrashesEngine = G.honest old.writer.journal.disk → (head : Head) → CrashesOver a head old.table old.writer new.writer
 
 -- over the records that an opening found, and a half that goes on from them, the two are at work
 abbrev pub HalvesOpen : {F L : Type 0} → Analysis F L → {D : Type 0} → Ghosts D → Type 0

@@ -8,7 +8,7 @@ use Rattle.ide_journal.specs.Moments.{LeavesOnly}
 use Rattle.ide_wire.specs.declared.refused.Refused.{Refused}
 use Rattle.ide_wire.specs.declared.refused.Refused.TheVariants.{NoMemory, Disk, Limit}
 use Rattle.ide_journal.specs.declared.record.RawRecord.{RawRecord}
-use Rattle.ide_store.specs.OneDisk.{Calls, Fails, Opens, Stores}
+use Rattle.ide_store.specs.OneDisk.{DoesGoodCall, Fails, Opens, Stores}
 use Rattle.ide_journal.specs.declared.journal.Journal.{Journal}
 use Rattle.ide_journal.specs.declared.stage.Stage.TheVariants.{Idle, Begun}
 use Rattle.ide_store.specs.Writing.{HasNext, StandsBehind, work_of}
@@ -33,9 +33,9 @@ module _ {D : Type 0} {G : Ghosts D} where
     pub writes : Writes (head_of half.journal.version tag) (entries_of records) (length records) half
 
   -- the disk after an opening, in the half or beside the refusal
-  abbrev pub disk_after : {R : Type 0} → Result (WriterHalf D G × R) (Refused × D) → D
-  disk_after (Ok pair) = pair.0.journal.disk
-  disk_after (Err pair) = pair.1
+  abbrev pub half_disk_after : {R : Type 0} → Result (WriterHalf D G × R) (Refused × D) → D
+  half_disk_after (Ok pair) = pair.0.journal.disk
+  half_disk_after (Err pair) = pair.1
 
   -- the journal is as it was, and the records that wait
   pub record IsSameHalf (old new : WriterHalf D G) : Type 0 where
@@ -63,7 +63,7 @@ module _ {D : Type 0} {G : Ghosts D} where
 
     -- a good call was made
     pub record HasCalled (old new : WriterHalf D G) : Type 0 where
-      pub event : Calls records stored (work_of old.journal) (G.state old.journal.disk) (work_of new.journal) (G.state new.journal.disk)
+      pub event : DoesGoodCall records stored (work_of old.journal) (G.state old.journal.disk) (work_of new.journal) (G.state new.journal.disk)
       pub writes : Writes head records stored new
 
     -- one that stored a record
@@ -104,8 +104,8 @@ module _ {D : Type 0} {G : Ghosts D} where
   abbrev pub BeginsNext : (old new : WriterHalf D G) → Type 0
   BeginsNext old new = (head : Head) (records : List Entry) (stored : ℕ) → Writes head records stored old → HasBegun head records stored old new
 
-  abbrev pub Rests : (old new : WriterHalf D G) → Type 0
-  Rests old new = (head : Head) (records : List Entry) (stored : ℕ) → Writes head records stored old → (stored ≡ length records) × IsSameHalf old new
+  abbrev pub HalfRests : (old new : WriterHalf D G) → Type 0
+  HalfRests old new = (head : Head) (records : List Entry) (stored : ℕ) → Writes head records stored old → (stored ≡ length records) × IsSameHalf old new
 
   abbrev pub AdvancesOver : (old new : WriterHalf D G) → Result Bool Refused → Type 0
   AdvancesOver old new result = (head : Head) (records : List Entry) (stored : ℕ) → Writes head records stored old

@@ -1,7 +1,7 @@
 -- The world of a store with the hands that work on its image: what each of them may do, and what that is to the store.
 use Rattle.std.specs.Prelude.{◌≡◌, ◌≢◌, ℕ, ◌+◌, Bool, true, cond, List, [], ◌∷◌, Option, Some, None, length}
 use Rattle.ide_batch.specs.Bodies.{IsEntryOf}
-use Rattle.ide_batch.specs.Fold.{IsBatch, ProgramImage, entry_at, procedures}
+use Rattle.ide_batch.specs.Fold.{IsBatch, ProgramImage, image_entry, procedures}
 use Rattle.ide_batch.specs.Items.{Functions, Item}
 use Rattle.ide_batch.specs.Records as records
 use Rattle.ide_journal.specs.Format.{Entry}
@@ -12,7 +12,7 @@ use Rattle.ide_text.specs.Parsed.{IsParsed}
 use Rattle.ide_text.specs.Program.{value_of}
 use Rattle.ide_text.specs.Value.{ProgramValue}
 use Rattle.ide_text.specs.declared.program.Program.{Program}
-use Rattle.ide_theory.specs.Images.{Part, Finish, Load, Root, absent_below, entered, is_met, loaded, received, state_of}
+use Rattle.ide_theory.specs.Images.{Part, Finish, Load, Root, absent_below, entered, is_met, loaded, received, image_state}
 use Rattle.ide_theory.specs.Run.{ArePartsOf}
 use Rattle.ide_theory.specs.State.{Claim, State, finished, new_claim, part_done, with_claim}
 use Rattle.ide_wire.specs.declared.key.Key.{Key}
@@ -102,7 +102,7 @@ module _ {F L : Type 0} (A : LatticeAlgebra L) (B : EdgeAlgebra F L) (targets : 
   absent_in (Some v) name s = absent_from v (procedures.start v name) s
 
   abbrev pub tally_then : Tally F → ProgramEvent F S → Tally F
-  tally_then tally (Opens found image work disks) = nothing_since (state_of image)
+  tally_then tally (Opens found image work disks) = nothing_since (image_state image)
   tally_then tally e = tally
 
   abbrev pub tally_after : Hands F S → Act F S → Tally F
@@ -110,7 +110,7 @@ module _ {F L : Type 0} (A : LatticeAlgebra L) (B : EdgeAlgebra F L) (targets : 
   tally_after w (Parts h key g) = record w.tally { lowerings = w.tally.lowerings + cond (is_met procedures B same (state_in w) key g) 0 1 }
   tally_after w (Ends h c) = w.tally
   tally_after w (Releases h) = record w.tally { releases = w.tally.releases + 1 }
-  tally_after w (Loads v r) = nothing_since (state_of {F = F} (loaded {Name = List ℕ} (Some v)))
+  tally_after w (Loads v r) = nothing_since (image_state {F = F} (loaded {Name = List ℕ} (Some v)))
   tally_after w (Roots name first r) = record w.tally { entries = w.tally.entries + absent_in w.world.image.program name (state_in w) }
   tally_after w (Batches r) = w.tally
   tally_after w (Happens e) = tally_then w.tally e
@@ -176,7 +176,7 @@ module _ {F L : Type 0} (A : LatticeAlgebra L) (B : EdgeAlgebra F L) (targets : 
   pub record IsCaughtUp (w : Hands F S) : Type 0 where
     pub base : ProgramImage F
     pub folded : IsFolded rules (contents w.world.sealed) base
-    pub entries : (key : Key) → entry_at base key ≡ entry_at w.world.image key
+    pub entries : (key : Key) → image_entry base key ≡ image_entry w.world.image key
 
   abbrev pub CanGoFirst : Hands F S → Option Entry → Type 0
   CanGoFirst w None = IsCaughtUp w
@@ -214,11 +214,11 @@ module _ {F L : Type 0} (A : LatticeAlgebra L) (B : EdgeAlgebra F L) (targets : 
 
   -- a store that was just created
   abbrev pub idle : S.Work → S.Disks → Hands F S
-  idle work disks = record { world = created rules work disks; claims = λ h. None; tally = nothing_since (state_of (rules.empty)) }
+  idle work disks = record { world = created rules work disks; claims = λ h. None; tally = nothing_since (image_state (rules.empty)) }
 
   -- what is so whatever was done and happened before: it recovers; and over each graph of the image's program its answers
   -- are best, and the work since the last opening or load was little
-  pub record IsSound (w : Hands F S) : Type 0 where
+  pub record IsSoundWorld (w : Hands F S) : Type 0 where
     pub recovers : IsRecoverable rules w.world
     pub answers : (v : ProgramValue) → w.world.image.program ≡ Some v → (by : GraphBy v) → AnswersBest A B targets by w.world.image
     pub work : (v : ProgramValue) → w.world.image.program ≡ Some v → (by : GraphBy v) → IsWorkFew A B targets by w.tally
@@ -227,4 +227,4 @@ module _ {F L : Type 0} (A : LatticeAlgebra L) (B : EdgeAlgebra F L) (targets : 
   abbrev pub EveryRunAnswers : Type 0
   EveryRunAnswers =
       (work : S.Work) (disks : S.Disks) → S.Live [] 0 work disks → (acts : List (Act F S)) → AreAllowed (idle work disks) acts
-      → IsSound (worked (idle work disks) acts)
+      → IsSoundWorld (worked (idle work disks) acts)

@@ -12,6 +12,7 @@ pub mod Recovery
 pub mod Roots
 pub mod Runs
 pub mod Store
+pub mod Storing
 pub mod Table
 pub mod TableCalls
 pub mod Tally

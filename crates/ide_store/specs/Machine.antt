@@ -1,7 +1,7 @@
 -- The machine of an analysis: images of programs, their steps, and what the records of a journal do.
 use Rattle.std.specs.Prelude.{List, ℕ, Bool, None}
 use Rattle.ide_batch.specs.Bodies.{IsEntryOf}
-use Rattle.ide_batch.specs.Fold.{LeadsTo, ProgramImage, procedures}
+use Rattle.ide_batch.specs.Fold.{RecordLeads, ProgramImage, procedures}
 use Rattle.ide_batch.specs.Items.{Functions}
 use Rattle.ide_batch.specs.Records.{RecordValue}
 use Rattle.ide_journal.specs.Format.{Entry}
@@ -20,7 +20,7 @@ pub record Does {F L : Type 0} (functions : EdgeAlgebra F L) (same : F → F →
     (entry : Entry) (before now : ProgramImage F) : Type 0 where
   pub value : RecordValue F
   pub spelled : IsEntryOf forms version value entry
-  pub leads : LeadsTo functions same value before now
+  pub leads : RecordLeads functions same value before now
 
 -- over a store of that version, from the empty image on
 abbrev pub machine : {F L : Type 0} → EdgeAlgebra F L → (F → F → Bool) → Functions F → Version → Rules (ProgramImage F) (ProgramStep F) Entry

@@ -2,7 +2,7 @@
 use Rattle.std.specs.Prelude.{◌≡◌, ◌≢◌, ℕ, ◌+◌, ◌≤◌, List, [], ◌∷◌, ◌++◌, Option, Some, None, length, slice_get, take}
 use Rattle.ide_disk.specs.Disk.{DiskState, CrashLeaves, settled, synced_now}
 use Rattle.ide_journal.specs.Bytes.{Knows}
-use Rattle.ide_journal.specs.Calls.{after_call}
+use Rattle.ide_journal.specs.Calls.{after_stage_call}
 use Rattle.ide_journal.specs.Format.{Entry, Head, Holds, IsEntry, IsPages, after_gate, header}
 use Rattle.ide_journal.specs.Lists.{HoldsWithOrWithout}
 use Rattle.ide_journal.specs.Opening.{LeftOrSame}
@@ -46,12 +46,12 @@ next_stage GateWritten = Idle
 next_stage Failed = Failed
 
 -- a good call that does not store the next record yet
-pub record Calls (records : List Entry) (stored : ℕ) (work : Writer) (disk : DiskState) (next : Writer) (after : DiskState) : Type 0 where
+pub record DoesGoodCall (records : List Entry) (stored : ℕ) (work : Writer) (disk : DiskState) (next : Writer) (after : DiskState) : Type 0 where
   pub entry : Entry
   pub under_way : slice_get records stored ≡ Some entry
   pub more : work.stage ≢ GateWritten
   pub work_is : next ≡ record work { stage = next_stage work.stage }
-  pub disk_is : after ≡ after_call work.stage work.gate (tail_of stored entry) disk
+  pub disk_is : after ≡ after_stage_call work.stage work.gate (tail_of stored entry) disk
 
 -- one that stores it
 pub record Stores (records : List Entry) (stored : ℕ) (work : Writer) (disk : DiskState) (next : Writer) (after : DiskState) : Type 0 where
@@ -93,7 +93,7 @@ one_disk head = record {
   Holds = Holds head;
   Fits = λ number entry. IsEntry entry × (number ≤ 4294967294);
   Live = IsLive head;
-  Calls = Calls;
+  Calls = DoesGoodCall;
   Stores = Stores;
   Fails = λ records stored work disk after. Fails head records stored after;
   Begins = λ records work next. ⊥;

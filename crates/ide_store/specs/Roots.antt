@@ -10,8 +10,8 @@ module _ {Program Name : Type 0} (procedures : Procedures Program Name) (K : Fra
   starts_of names = map (λ name. unwrap_or (procedures.start p name) 0) names
 
   -- what is known of a fact there: bottom of those that hold at an entry
-  abbrev pub entry_of : ℕ → K.L
-  entry_of k = cond (nat_lt k (procedures.entries p)) K.lattice.bottom K.lattice.top
+  abbrev pub root_entry : ℕ → K.L
+  root_entry k = cond (nat_lt k (procedures.entries p)) K.lattice.bottom K.lattice.top
 
   abbrev pub roots_named : List Name → Roots K
-  roots_named names = roots_of K (starts_of names) entry_of
+  roots_named names = roots_of K (starts_of names) root_entry

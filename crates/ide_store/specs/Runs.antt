@@ -12,7 +12,7 @@ use Rattle.ide_theory.specs.Value.{IsStarted, value_at}
 use Rattle.ide_wire.specs.declared.refused.Refused.{Refused}
 use Rattle.ide_store.specs.Answers.{GraphBy, frame_by, roots_by}
 use Rattle.ide_store.specs.Draining.{WorksBy}
-use Rattle.ide_store.specs.Engine.{AreAtWork, AreNew, AreOpened, MayCrash, StepsDiskOver}
+use Rattle.ide_store.specs.Engine.{AreAtWork, AreNewHalves, AreOpened, MayCrash, StepsDiskOver}
 use Rattle.ide_store.specs.Freezing.{IsImageOf, IsImageOver}
 use Rattle.ide_store.specs.Hands.{Happens}
 use Rattle.ide_store.specs.Table.{Analysis, IsAct, IsReached, IsSameTable, StoreAct, StoreWorld, TableData}
@@ -26,7 +26,7 @@ module _ {F L : Type 0} (a : Analysis F L) (head : Head) where
   IsOfTable act = Unit {0}
 
   -- the disk is that of a world that acts led to
-  pub record IsLeft (disk : DiskState) : Type 0 where
+  pub record IsLeftByRun (disk : DiskState) : Type 0 where
     pub world : StoreWorld a head
     pub reached : IsReached a head world
     pub stands : world.world.disks ≡ disk
@@ -64,11 +64,11 @@ module _ {F L : Type 0} (a : Analysis F L) where
 -- whichever calls of its halves are made, an engine stays on a run, until a call of the disk fails
 pub record EnginesStayOnRuns (P : Type 0) {F L : Type 0} (a : Analysis F L) {D : Type 0} (G : Ghosts D) : Type 0 where
   -- a new store begins one, and an opening goes on from a disk that one left: as it stands at any time, or as a crash leaves it
-  pub made : (head : Head) (table : TableData F) (writer : WriterHalf D G) → AreNew a head table writer → AreOnRun a table writer
-  pub opened : (head : Head) (before : DiskState) (table : TableData F) (writer : WriterHalf D G) → IsLeft a head before
+  pub made : (head : Head) (table : TableData F) (writer : WriterHalf D G) → AreNewHalves a head table writer → AreOnRun a table writer
+  pub opened : (head : Head) (before : DiskState) (table : TableData F) (writer : WriterHalf D G) → IsLeftByRun a head before
       → AreOpened a head before table writer → AreOnRun a table writer
-  pub leaves : (table : TableData F) (writer : WriterHalf D G) (on : AreOnRun a table writer) → IsLeft a on.head (G.state writer.journal.disk)
-  pub crashes : (head : Head) (w : StoreWorld a head) → IsReached a head w → (left : List ℕ) → MayCrash a head w left → IsLeft a head (settled left)
+  pub leaves : (table : TableData F) (writer : WriterHalf D G) (on : AreOnRun a table writer) → IsLeftByRun a on.head (G.state writer.journal.disk)
+  pub crashes : (head : Head) (w : StoreWorld a head) → IsReached a head w → (left : List ℕ) → MayCrash a head w left → IsLeftByRun a head (settled left)
   -- calls of the half that works: an act, all that one hand did, nothing to seal, or a refusal
   pub act : (old new : TableData F) (writer : WriterHalf D G) (act : (head : Head) → StoreAct a head)
       → ((head : Head) → IsOfTable a head (act head)) → IsAct a old new act → AreOnRun a old writer → AreOnRun a new writer

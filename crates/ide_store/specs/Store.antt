@@ -29,7 +29,7 @@ pub record Store (R : Type 0) : Type 1 where
   pub Stops : Disks → Disks → Type 0
 
 -- the stored records were found, and perhaps some behind them
-pub record IsFound {R : Type 0} (records : List R) (stored : ℕ) (found : List R) : Type 0 where
+pub record IsFoundOf {R : Type 0} (records : List R) (stored : ℕ) (found : List R) : Type 0 where
   pub count : ℕ
   pub least : stored ≤ count
   pub most : count ≤ length records
@@ -38,7 +38,7 @@ pub record IsFound {R : Type 0} (records : List R) (stored : ℕ) (found : List 
 -- whatever a crash leaves holds the stored records, and perhaps some behind them; and what is read is
 -- something that a crash may leave
 pub record IsSafe {R : Type 0} (S : Store R) (records : List R) (stored : ℕ) (disks : S.Disks) : Type 0 where
-  pub each : (left : S.Left) → S.Leaves disks left → (found : List R) × S.Holds found left × IsFound records stored found
+  pub each : (left : S.Left) → S.Leaves disks left → (found : List R) × S.Holds found left × IsFoundOf records stored found
   pub possible : S.Leaves disks (S.reads disks)
 
 -- what a store keeps; two lists that the same bytes hold are alike

@@ -3,7 +3,7 @@ use Rattle.std.specs.Prelude.{◌≡◌, ℕ, ◌≤◌, ◌++◌, Bool, true, f
 use Rattle.std.specs.List.{All}
 use Rattle.std.specs.Option.{is_some}
 use Rattle.ide_batch.specs.Applied.{HasImage}
-use Rattle.ide_batch.specs.Fold.{ProgramImage, entry_at}
+use Rattle.ide_batch.specs.Fold.{ProgramImage, image_entry}
 use Rattle.ide_batch.specs.Items.{Functions, functions_by}
 use Rattle.ide_journal.specs.Format.{Entry, Head, IsEntry}
 use Rattle.ide_journal.specs.declared.version.Version.{Version}
@@ -45,8 +45,8 @@ module _ {F L : Type 0} (a : Analysis F L) where
   forms_of = functions_by a.proper a.form a.same a.functions.all_top
 
   -- the core as a state of the tabulation
-  abbrev pub state_of : TableData F → State F
-  state_of table = core.state_of a.targets a.functions table.core
+  abbrev pub table_state : TableData F → State F
+  table_state table = core.state_of a.targets a.functions table.core
 
 module _ {F : Type 0} where
   -- all but the core is as it was
@@ -114,7 +114,7 @@ module _ {F L : Type 0} (a : Analysis F L) (head : Head) where
     pub folded : IsFolded (rules a.lattice a.functions a.targets a.same (forms_of a) head.version (one_disk head)) (contents w.world.sealed) image
     pub program : image.program ≡ w.world.image.program
     pub roots : image.roots ≡ w.world.image.roots
-    pub entries : (key : Key) → entry_at image key ≡ told (entry_then core key)
+    pub entries : (key : Key) → image_entry image key ≡ told (entry_then core key)
 
   -- nothing changed since the last record
   abbrev pub HasNothingNew : StoreWorld → Type 0
@@ -127,7 +127,7 @@ module _ {F L : Type 0} (a : Analysis F L) (head : Head) where
     pub working : table.failed ≡ false
     pub version : table.version ≡ head.version
     pub image : HasImage w.world.image table.core
-    pub claims : (hand : ℕ) → w.claims hand ≡ (state_of a table).claims hand
+    pub claims : (hand : ℕ) → w.claims hand ≡ (table_state a table).claims hand
     pub base : IsBase w table.core
     pub sealed : length w.world.sealed ≡ table.sealed
     pub waits : contents w.world.sealed ≡ handed ++ table.waiting

@@ -9,7 +9,7 @@ use Rattle.ide_steps.specs.PartRefusal.{IsFinishRefusal, IsPartRefusal}
 use Rattle.ide_steps.specs.Refusal.{IsNoRoot}
 use Rattle.ide_steps.specs.Core.{CoreData}
 use Rattle.ide_steps.specs.State as steps
-use Rattle.ide_steps.specs.Steps.{IsBelow, IsCurrent}
+use Rattle.ide_steps.specs.Steps.{IsKeyBelow, IsCurrent}
 use Rattle.ide_tables.specs.Tables.{found}
 use Rattle.ide_tasks.specs.Parts.{owed}
 use Rattle.ide_tasks.specs.Task.{TaskData}
@@ -107,7 +107,7 @@ module _ {F : Type 0} where
 module _ {F L : Type 0} (targets : Targets F) (B : EdgeAlgebra F L) (core : CoreData F) (hand : ℕ) (work : WorkData F) where
   -- the work's next part would change its key
   abbrev pub FallsBy : Key × F → Type 0
-  FallsBy part = ¬ (IsBelow B (steps.state_of targets B core) part.0 part.1)
+  FallsBy part = ¬ (IsKeyBelow B (steps.state_of targets B core) part.0 part.1)
 
   -- as many keys are noted as a batch may have, and the work's next part would change another one
   pub record PartOverflows : Type 0 where

@@ -1,6 +1,6 @@
 -- What hands did since an image was opened or its program loaded.
 use Rattle.std.specs.Prelude.{ℕ, Option}
-use Rattle.ide_theory.specs.Images.{Image, state_of}
+use Rattle.ide_theory.specs.Images.{Image, image_state}
 use Rattle.ide_theory.specs.State.{Claim, State}
 
 -- the state that they began from, how many keys they claimed, how many parts lowered a key, how many
@@ -18,4 +18,4 @@ nothing_since begun = record { begun = begun; claims = 0; lowerings = 0; release
 
 -- the image with the claims of hands, as a state of the tabulation
 abbrev pub state_with : {Program Name F : Type 0} → Image Program Name F → (ℕ → Option (Claim F)) → State F
-state_with image claims = record (state_of image) { claims = claims }
+state_with image claims = record (image_state image) { claims = claims }

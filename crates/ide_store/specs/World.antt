@@ -86,17 +86,17 @@ opened w found image work disks = record {
   mode = Running;
 }
 
-abbrev pub after : {Image Step R : Type 0} {S : Store R} → Rules Image Step R → World Image Step S → Event Image Step S → World Image Step S
-after rules w (Steps s) = record w { image = rules.step w.image s; history = w.history ++ s ∷ [] }
-after rules w (Seals r) = record w { sealed = w.sealed ++ record { content = r; mark = length w.history } ∷ [] }
-after rules w (Begins work) = record w { work = work }
-after rules w (Calls work disks) = record w { work = work; disks = disks }
-after rules w (Stores work disks) = record w { stored = w.stored + 1; work = work; disks = disks }
-after rules w (Fails disks) = record w { disks = disks; mode = Failed }
-after rules w Acks = record w { acked = w.stored }
-after {S = S} rules w (Crashes left) = record w { disks = S.crashed left; mode = Closed }
-after rules w (Opens found image work disks) = opened w found image work disks
-after rules w (Stops disks mode) = record w { disks = disks; mode = mode }
+abbrev pub after_event : {Image Step R : Type 0} {S : Store R} → Rules Image Step R → World Image Step S → Event Image Step S → World Image Step S
+after_event rules w (Steps s) = record w { image = rules.step w.image s; history = w.history ++ s ∷ [] }
+after_event rules w (Seals r) = record w { sealed = w.sealed ++ record { content = r; mark = length w.history } ∷ [] }
+after_event rules w (Begins work) = record w { work = work }
+after_event rules w (Calls work disks) = record w { work = work; disks = disks }
+after_event rules w (Stores work disks) = record w { stored = w.stored + 1; work = work; disks = disks }
+after_event rules w (Fails disks) = record w { disks = disks; mode = Failed }
+after_event rules w Acks = record w { acked = w.stored }
+after_event {S = S} rules w (Crashes left) = record w { disks = S.crashed left; mode = Closed }
+after_event rules w (Opens found image work disks) = opened w found image work disks
+after_event rules w (Stops disks mode) = record w { disks = disks; mode = mode }
 
 -- the record leads from the image of those sealed to that of the machine
 pub record Catches {Image Step R : Type 0} {S : Store R} (rules : Rules Image Step R) (w : World Image Step S) (r : R) : Type 0 where
@@ -121,11 +121,11 @@ Can {S = S} rules w (Stops disks mode) = (mode ≡ Running → ⊥) × S.Stops w
 -- each of the events can happen after those before it
 abbrev pub CanAll : {Image Step R : Type 0} {S : Store R} → Rules Image Step R → World Image Step S → List (Event Image Step S) → Type 0
 CanAll rules w [] = Unit {0}
-CanAll rules w (e ∷ events) = Can rules w e × CanAll rules (after rules w e) events
+CanAll rules w (e ∷ events) = Can rules w e × CanAll rules (after_event rules w e) events
 
 abbrev pub after_all : {Image Step R : Type 0} {S : Store R} → Rules Image Step R → World Image Step S → List (Event Image Step S) → World Image Step S
 after_all rules w [] = w
-after_all rules w (e ∷ events) = after_all rules (after rules w e) events
+after_all rules w (e ∷ events) = after_all rules (after_event rules w e) events
 
 -- a store that was just created
 abbrev pub created : {Image Step R : Type 0} {S : Store R} → Rules Image Step R → S.Work → S.Disks → World Image Step S

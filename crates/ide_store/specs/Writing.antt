@@ -11,7 +11,7 @@ use Rattle.ide_journal.specs.Stands.{HasFailed}
 use Rattle.ide_journal.specs.declared.journal.Journal.{Journal}
 use Rattle.ide_journal.specs.declared.stage.Phase.{Phase}
 use Rattle.ide_journal.specs.declared.stage.Phase.TheVariants.{Stored}
-use Rattle.ide_store.specs.OneDisk.{Calls, Fails, IsLive, Stores, Writer}
+use Rattle.ide_store.specs.OneDisk.{DoesGoodCall, Fails, IsLive, Stores, Writer}
 
 module _ {D : Type 0} {G : Ghosts D} where
   -- where it stands
@@ -43,7 +43,7 @@ pub record WritesStore {D : Type 0} (G : Ghosts D) (head : Head) (records : List
   pub live : (journal : Journal D G) → StandsBehind head records stored journal
       → IsLive head records stored (work_of journal) (G.state journal.disk)
   pub calls : (old new : Journal D G) (phase : Phase) → HasNext head records stored old → LeadsTo old.stage new.stage phase → phase ≢ Stored
-      → MakesItsCall old new → Calls records stored (work_of old) (G.state old.disk) (work_of new) (G.state new.disk)
+      → MakesItsCall old new → DoesGoodCall records stored (work_of old) (G.state old.disk) (work_of new) (G.state new.disk)
   pub stores : (old new : Journal D G) → HasNext head records stored old → LeadsTo old.stage new.stage Stored
       → MakesItsCall old new → Stores records stored (work_of old) (G.state old.disk) (work_of new) (G.state new.disk)
   pub fails : (old new : Journal D G) → HasNext head records stored old → LeavesRecords old new → IsHonestAfter G old.disk new.disk

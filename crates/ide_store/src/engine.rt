@@ -22,7 +22,7 @@ pub struct Engine<P: Problem, D: Disk> {
 }
 
 impl<P: Problem, D: Disk> Engine<P, D> {
-    ghost use Rattle.ide_store.specs.Engine.{AreNew, AreOpened, CrashesOpening, CrashesOver, IsEngineStop, StepsDiskOver, StopsOpening, disk_after};
+    ghost use Rattle.ide_store.specs.Engine.{CrashesEngine, CrashesOpening, IsEngineStop, MakesEngine, OpensEngine, StepsEngine, StopsOpening, engine_disk_after};
     ghost use Rattle.ide_disk.specs.OneCall.{FailsOnce};
     ghost use Rattle.ide_journal.specs.Format.{Head, head_of};
     ghost use Rattle.ide_journal.specs.Refusals.{CountsFaults, IsCreateRefusal};
@@ -31,7 +31,7 @@ impl<P: Problem, D: Disk> Engine<P, D> {
     ///
     /// Refusals: those of [`WriterHalf::create`]; the disk comes back.
     pub fn create(alloc: Global, disk: D, version: Version) -> Result<Self, (Refused, D)>
-        ensures made { D.honest disk → IfOk result (λ engine. AreNew ⟦<P as Kept>⟧.analysis (head_of version P.TAG) engine.table engine.writer) }
+        ensures made { MakesEngine ⟦<P as Kept>⟧.analysis (head_of version P.TAG) disk result }
         ensures honest { D.honest disk → IfOk result (λ engine. D.honest engine.writer.journal.disk) }
         ensures refused { IfErr result (λ pair. IsCreateRefusal D.Disk disk pair.1 pair.0) }
     {
@@ -48,18 +48,18 @@ impl<P: Problem, D: Disk> Engine<P, D> {
     ///
     /// Refusals: those of [`WriterHalf::open`] and of [`TableHalf::open`]; the disk comes back.
     pub fn open(alloc: Global, disk: D) -> Result<Self, (Refused, D)>
-        ensures opened { D.honest disk → IfOk result (λ engine. AreOpened ⟦<P as Kept>⟧.analysis (head_of engine.writer.journal.version P.TAG) (D.state disk) engine.table engine.writer) }
-        ensures honest { D.honest disk → D.honest (disk_after result) }
+        ensures opened { OpensEngine ⟦<P as Kept>⟧.analysis P.TAG disk result }
+        ensures honest { D.honest disk → D.honest (engine_disk_after result) }
 
         // What a crash at any moment of the call leaves, one of each world whose disk it was may leave.
         // An opening that is refused has stopped in each of them.
-        ensures crashes { D.honest disk → (head : Head) → CrashesOpening ⟦<P as Kept>⟧.analysis head D.Disk disk (disk_after result) }
+        ensures crashes { D.honest disk → (head : Head) → CrashesOpening ⟦<P as Kept>⟧.analysis head D.Disk disk (engine_disk_after result) }
         ensures stops { D.honest disk → (head : Head) → IfErr result (λ pair. StopsOpening ⟦<P as Kept>⟧.analysis head D.Disk disk pair.1) }
         ensures refused { D.honest disk → IfErr result (λ pair. IsEngineStop ⟦<P as Kept>⟧.analysis D.Disk P.TAG disk pair.1 pair.0) }
 
         // `Disk` is answered where a call of the disk failed, and at Ok none did.
         ensures fault { IfErr result (λ pair. pair.0 ≡ Refused.Disk → FailsOnce D.Disk disk pair.1) }
-        ensures failures { OnOk result (D.failures (disk_after result) ≡ D.failures disk) }
+        ensures failures { OnOk result (D.failures (engine_disk_after result) ≡ D.failures disk) }
     {
         halves_open::<P, D>();
         match WriterHalf::open(alloc, disk, P::TAG) {
@@ -79,12 +79,12 @@ impl<P: Problem, D: Disk> Engine<P, D> {
     /// Refusals: `Failed`, where a call failed before; `Disk`, where this one did: from then on each call
     /// is refused; `NoMemory`, before the first call for a record.
     pub fn disk_step(&mut self) -> Result<bool, Refused>
-        ensures steps { D.honest self.old.writer.journal.disk → (head : Head) → StepsDiskOver ⟦<P as Kept>⟧.analysis head self.old.table self.new.table self.old.writer self.new.writer result }
+        ensures steps { StepsEngine ⟦<P as Kept>⟧.analysis self.old self.new result }
         ensures honest { D.honest self.old.writer.journal.disk → D.honest self.new.writer.journal.disk }
 
         // What a crash at any moment of the call leaves, one of each world on which the halves were at
         // work may leave.
-        ensures crashes { D.honest self.old.writer.journal.disk → (head : Head) → CrashesOver ⟦<P as Kept>⟧.analysis head self.old.table self.old.writer self.new.writer }
+        ensures crashes { CrashesEngine ⟦<P as Kept>⟧.analysis self.old self.new }
 
         // `Disk` is answered where a call of the disk failed, and at Ok none did. From then on nothing
         // is done.

@@ -8,7 +8,8 @@
 //! crash may come between any two calls and within each, an opening's among them. The calls of the
 //! journal are the events of such a store (`specs/Writing`), and so are those of the half of a store
 //! that writes (`WriterHalf`, `specs/Half`). The calls of the half that works (`TableHalf`,
-//! `specs/TableCalls`, `specs/Draining`) are what hands do. An [`Engine`] has both.
+//! `specs/TableCalls`, `specs/Draining`) are what hands do. An [`Engine`] has both, and stores all that
+//! was sealed by one disk call after the other (`specs/Storing`).
 #![tactic(auto)]
 
 mod draining;
@@ -18,6 +19,7 @@ mod laws;
 mod opening;
 mod outbox;
 mod sealing;
+mod storing;
 mod table;
 mod writer;
 

@@ -25,7 +25,7 @@ pub struct WriterHalf<D: Disk> {
 
 impl<D: Disk> WriterHalf<D> {
     ghost use Rattle.ide_store.specs.Engine.{HandsOver};
-    ghost use Rattle.ide_store.specs.Half.{AdvancesOver, BeginsNext, CrashesStep, IsBeginRefusal, IsSameHalf, OpensStore, Rests, Seals, StepsOver, Writes, disk_after};
+    ghost use Rattle.ide_store.specs.Half.{AdvancesOver, BeginsNext, CrashesStep, IsBeginRefusal, IsSameHalf, OpensStore, HalfRests, Seals, StepsOver, Writes, half_disk_after};
     ghost use Rattle.ide_disk.specs.OneCall.{FailsOnce};
     ghost use Rattle.ide_journal.specs.Format.{head_of};
     ghost use Rattle.ide_journal.specs.Opening.{KeepsRecords};
@@ -56,16 +56,16 @@ impl<D: Disk> WriterHalf<D> {
     /// Refusals: those of [`Journal::open`]; the disk comes back.
     pub fn open(alloc: Global, disk: D, tag: u8) -> Result<(Self, Vec<RawRecord>), (Refused, D)>
         ensures opened { D.honest disk → IfOk result (λ pair. OpensStore tag disk pair.0 pair.1.items) }
-        ensures honest { D.honest disk → D.honest (disk_after result) }
+        ensures honest { D.honest disk → D.honest (half_disk_after result) }
 
         // A crash at any moment of the call leaves what one before it could leave, or the list that
         // the disk held.
-        ensures any_moment { D.honest disk → KeepsRecords D.Disk disk (disk_after result) }
+        ensures any_moment { D.honest disk → KeepsRecords D.Disk disk (half_disk_after result) }
         ensures refused { D.honest disk → IfErr result (λ pair. IsOpenRefusal D.Disk tag disk pair.1 pair.0) }
 
         // `Disk` is answered where a call of the disk failed, and at Ok none did.
         ensures fault { IfErr result (λ pair. pair.0 ≡ Refused.Disk → FailsOnce D.Disk disk pair.1) }
-        ensures failures { OnOk result (D.failures (disk_after result) ≡ D.failures disk) }
+        ensures failures { OnOk result (D.failures (half_disk_after result) ≡ D.failures disk) }
     {
         match Journal::open(alloc, disk, tag) {
             Ok((journal, records)) => {
@@ -132,7 +132,7 @@ impl<D: Disk> WriterHalf<D> {
     fn begin_next(&mut self) -> Result<bool, Refused>
         ensures begins { result ≡ Ok true → BeginsNext self.old self.new }
         ensures busy { result ≡ Ok true → (IsIdle self.new.journal → ⊥) }
-        ensures rests { result ≡ Ok false → Rests self.old self.new }
+        ensures rests { result ≡ Ok false → HalfRests self.old self.new }
         ensures disk { self.new.journal.disk ≡ self.old.journal.disk }
         ensures failed { HasFailed self.old.journal → (result ≡ Ok true) × HasFailed self.new.journal }
         ensures refused { IfErr result (IsBeginRefusal self.old self.new) }

@@ -2,8 +2,8 @@
 //!
 //! The program is as wide as a text may be, so that a few tasks change so many keys: the tests are also
 //! run with checks and unproved, where a task costs a thousand times as much.
-use crate::engines::{Given, Hand, create, load, root, seal};
 use ide_disk::MemDisk;
+use ide_engines::{Given, Hand, create, load, root, seal};
 use ide_instances::CopyConst;
 use ide_journal::Version;
 use ide_problem::Problem;

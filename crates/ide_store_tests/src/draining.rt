@@ -1,6 +1,7 @@
 //! Draining: all that is left is done by one hand, and batches that are full are sealed on the way.
-use crate::engines::{begin, create, expect_kept, items_of, load, root, seal};
+use crate::kept::expect_kept;
 use ide_disk::MemDisk;
+use ide_engines::{begin, create, items_of, load, root, seal};
 use ide_instances::{CopyConst, ShiftConst, Uninit};
 use ide_journal::Version;
 use ide_problem::Problem;

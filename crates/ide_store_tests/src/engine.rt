@@ -1,9 +1,11 @@
 //! Stores that work and write: the numbers of their records, how many disk calls these take, and that a run
 //! goes on from what was sealed.
-use crate::engines::{
-    Given, Hand, begin, create, disk_step, expect_kept, items_of, load, root, seal, store_all,
-};
+use crate::kept::expect_kept;
 use ide_disk::MemDisk;
+use ide_engines::{
+    Given, Hand, begin, count_calls, create, disk_step, items_of, load, makes_call, root, seal,
+    seal_empty_main,
+};
 use ide_instances::{ConstFn, ConstValue, CopyConst, ShiftConst, Uninit};
 use ide_journal::Version;
 use ide_journal_tests::harms::has_length;
@@ -42,36 +44,15 @@ fn a_root_seals_what_changed_first(rt: HostRuntime) -> Result<(), Fail> {
     Ok(())
 }
 
-/// Seals the run of an empty main: its load, its root and what its three tasks changed.
-pub(crate) fn seal_empty_main<P: Problem>(
-    rt: &(impl Abort + AllocGlobal),
-    table: &mut TableHalf<P>,
-) -> Result<(), Fail> {
-    begin(rt.alloc(), table, EMPTY)?;
-    assert!(rt; Hand::new(0).drain(rt.alloc(), table) == Ok(3));
-    assert!(rt; seal(table) == Ok(Some(2)));
-    Ok(())
-}
-
-/// Makes the disk call of that number, and asserts how many records are acknowledged then.
-pub(crate) fn expect_step<P: Problem>(
-    rt: &impl Abort,
-    engine: &mut Engine<P, MemDisk>,
-    number: u64,
-) {
-    assert!(rt; disk_step(engine) == Ok(true), "call {number}");
-    assert!(rt; engine.acked() == number / 4, "call {number}");
-}
-
 /// Asserts that the run of an empty main takes twelve disk calls.
 fn expect_twelve_calls<P: Problem>(
     rt: &(impl Abort + AllocGlobal),
     engine: &mut Engine<P, MemDisk>,
 ) -> Result<(), Fail> {
     assert!(rt; disk_step(engine) == Ok(false));
-    seal_empty_main(rt, &mut engine.table)?;
+    assert!(rt; seal_empty_main(rt.alloc(), &mut engine.table) == Ok(true));
     for number in 1..13 {
-        expect_step(rt, engine, number);
+        assert!(rt; makes_call(engine, number) == Ok(true), "call {number}");
     }
     assert!(rt; disk_step(engine) == Ok(false));
     assert!(rt; engine.acked() == 3);
@@ -128,7 +109,7 @@ fn value_at<P: Problem>(
     fact: Fact,
 ) -> Result<P::L, Refused> {
     let closed = table.freeze()?;
-    let values = closed.values(alloc, 1)?;
+    let values = closed.values_alone(alloc)?;
     let value = values.at(node, fact)?;
     Ok(value)
 }
@@ -210,7 +191,7 @@ fn expect_no_records<P: Problem>(
 #[test]
 fn refused_calls_make_no_record(rt: HostRuntime) -> Result<(), Fail> {
     let mut engine: Engine<CopyConst, MemDisk> = create(rt.alloc(), Version::Two)?;
-    assert!(rt; store_all(&mut engine) == Ok(0));
+    assert!(rt; count_calls(&mut engine) == Ok(0));
     expect_no_records(&rt, &mut engine.table)?;
     let engine = expect_kept(&rt, engine, 12)?;
     assert!(rt; engine.acked() == 3);

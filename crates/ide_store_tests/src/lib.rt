@@ -10,12 +10,6 @@ mod draining;
 #[cfg(test)]
 mod engine;
 #[cfg(test)]
-mod engines;
-#[cfg(test)]
-mod openings;
-#[cfg(test)]
-mod stops;
-#[cfg(test)]
-mod turns;
+mod kept;
 #[cfg(test)]
 mod writer;

@@ -4,14 +4,14 @@ use Rattle.std.specs.Prelude.{◌≡◌, ℕ, ◌<◌, ◌≤◌, List, [], IsTr
 use Rattle.ide_lattice.specs.Algebra.{LatticeAlgebra, EdgeAlgebra}
 use Rattle.ide_lattice.specs.Laws.{IsLattice, IsEdgeAlgebra}
 use Rattle.ide_problem.specs.Flow.{AreTargets}
-use Rattle.ide_theory.specs.Path.{Supergraph}
+use Rattle.ide_theory.specs.Path.{FlowGraph}
 
 pub record Frame : Type 1 where
   pub L : Type 0
   pub F : Type 0
   pub lattice : LatticeAlgebra L
   pub functions : EdgeAlgebra F L
-  pub graph : Supergraph
+  pub graph : FlowGraph
   -- how many facts there are
   pub facts : ℕ
   -- for an edge and a fact at its source: the facts at its end that depend on it, with functions
@@ -28,7 +28,7 @@ pub record AreRoots (K : Frame) (R : Roots K) : Type 0 where
   pub proper : (k : ℕ) → k < K.facts → IsTrue (K.lattice.proper (R.entry k))
 
 -- the laws of the lattice, of its functions, of the flow, and of where edges lead
-pub record IsLawful (K : Frame) : Type 0 where
+pub record IsLawfulFrame (K : Frame) : Type 0 where
   pub lattice : IsLattice K.lattice
   pub functions : IsEdgeAlgebra K.lattice K.functions
   pub in_order : (e : K.graph.Edge) (k : ℕ) → AreTargets K.functions.proper 0 K.facts (K.targets e k)

@@ -6,7 +6,7 @@ use Rattle.ide_lattice.specs.Algebra.{LatticeAlgebra, EdgeAlgebra}
 use Rattle.ide_problem.specs.Flow.{Targets}
 use Rattle.ide_theory.specs.Frame.{Frame, Roots}
 use Rattle.ide_theory.specs.Member.{IsIn}
-use Rattle.ide_theory.specs.Path.{Supergraph}
+use Rattle.ide_theory.specs.Path.{FlowGraph}
 
 -- an edge of a program with so many facts: the node that it leaves, and its data
 pub record Edge (facts : ℕ) : Type 0 where
@@ -26,7 +26,7 @@ pub record Edges : Type 0 where
 abbrev pub AreMatched : (G : Edges) → Edge G.facts → Edge G.facts → Type 0
 AreMatched G call ret = IsIn {T = Edge G.facts × Edge G.facts} (call, ret) G.calls
 
-abbrev pub supergraph_of : Edges → Supergraph
+abbrev pub supergraph_of : Edges → FlowGraph
 supergraph_of G = record {
   Edge = Edge G.facts;
   from = λ e. e.from;

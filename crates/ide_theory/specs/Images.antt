@@ -7,7 +7,7 @@ use Rattle.ide_wire.specs.declared.key.Key.{Key}
 use Rattle.ide_wire.specs.declared.key.Key.TheVariants.{Jump}
 use Rattle.ide_theory.specs.Frame.{Frame}
 use Rattle.ide_theory.specs.Run.{Step, claim, skip, lower, release, finish, root, Steps, none, more, claims_in, lowerings_in, releases_in, seeds_in}
-use Rattle.ide_theory.specs.State.{State, put, lowered_by, seeded}
+use Rattle.ide_theory.specs.State.{State, put, with_lowered, seeded}
 
 -- of each program: where the procedure of a name begins, and how many facts may hold there
 pub record Procedures (Program Name : Type 0) : Type 0 where
@@ -33,8 +33,8 @@ abbrev pub loaded : {Program Name F : Type 0} → Option Program → Image Progr
 loaded program = record { program = program; roots = []; get = λ _. None; pending = λ _. false }
 
 -- the image as a state without claims
-abbrev pub state_of : {Program Name F : Type 0} → Image Program Name F → State F
-state_of i = record { get = i.get; pending = i.pending; claims = λ _. None }
+abbrev pub image_state : {Program Name F : Type 0} → Image Program Name F → State F
+image_state i = record { get = i.get; pending = i.pending; claims = λ _. None }
 
 -- the image with the functions and the pending keys of a state
 abbrev pub with_state : {Program Name F : Type 0} → Image Program Name F → State F → Image Program Name F
@@ -62,27 +62,27 @@ module _ {Program Name F L : Type 0} (procedures : Procedures Program Name) (fun
 
   -- the key receives the function, where it has not yet
   abbrev pub received : State F → Key → F → State F
-  received s key g = cond (is_met s key g) s (lowered_by functions s key g)
+  received s key g = cond (is_met s key g) s (with_lowered functions s key g)
 
   -- the entries at the start, if the program has the procedure
-  abbrev pub begun : Program → Option ℕ → State F → State F
-  begun p None s = s
-  begun p (Some r) s = seeded_below functions s r (procedures.entries p)
+  abbrev pub root_begun : Program → Option ℕ → State F → State F
+  root_begun p None s = s
+  root_begun p (Some r) s = seeded_below functions s r (procedures.entries p)
 
   abbrev pub entered : Option Program → Name → State F → State F
   entered None name s = s
-  entered (Some p) name s = begun p (procedures.start p name) s
+  entered (Some p) name s = root_begun p (procedures.start p name) s
 
   abbrev pub step : Image Program Name F → ImageStep Program Name F → Image Program Name F
-  step i (Part key g) = with_state i (received (state_of i) key g)
+  step i (Part key g) = with_state i (received (image_state i) key g)
   step i (Finish key lowered) = record i { pending = put same_key i.pending key lowered }
   step i (Load p) = loaded (Some p)
-  step i (Root name) = record (with_state i (entered i.program name (state_of i))) { roots = i.roots ++ name ∷ [] }
+  step i (Root name) = record (with_state i (entered i.program name (image_state i))) { roots = i.roots ++ name ∷ [] }
 
   -- the image after the steps, one after the other
-  abbrev pub after : Image Program Name F → List (ImageStep Program Name F) → Image Program Name F
-  after i [] = i
-  after i (x ∷ xs) = after (step i x) xs
+  abbrev pub after_steps_of : Image Program Name F → List (ImageStep Program Name F) → Image Program Name F
+  after_steps_of i [] = i
+  after_steps_of i (x ∷ xs) = after_steps_of (step i x) xs
 
 -- what a step of a hand is to an image: each part, whether it was met or not, and each end of a claim
 abbrev pub image_steps_of : {Program Name : Type 0} {K : Frame} {s t : State K.F} → Step K s t → List (ImageStep Program Name K.F)

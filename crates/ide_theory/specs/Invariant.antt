@@ -19,8 +19,8 @@ pub data IsSettled (K : Frame) (s : State K.F) (ks : List Key) (k : Key) (g : K.
   awaits : (q : Key) → IsIn q ks → IsOpen s q → IsSettled K s ks k g
   owed : (h : ℕ) (c : Claim K.F) → s.claims h ≡ Some c → IsIn c.key ks → c.lowered ≡ false → IsIn {T = Key × K.F} (k, g) c.parts → IsSettled K s ks k g
 
-abbrev pub IsReady : (K : Frame) → State K.F → Type 0
-IsReady K s = (ks : List Key) (k : Key) (g : K.F) → Instance K s.get ks k g → IsSettled K s ks k g
+abbrev pub AreInstancesSettled : (K : Frame) → State K.F → Type 0
+AreInstancesSettled K s = (ks : List Key) (k : Key) (g : K.F) → Instance K s.get ks k g → IsSettled K s ks k g
 
 -- a claimed key is pending, and no two hands have one key
 pub record IsHeld {F : Type 0} (s : State F) : Type 0 where
@@ -32,7 +32,7 @@ abbrev pub AreOwed : (K : Frame) → State K.F → Type 0
 AreOwed K s = (h : ℕ) (c : Claim K.F) → s.claims h ≡ Some c → (k : Key) (g : K.F) → IsIn {T = Key × K.F} (k, g) c.parts → MeetOf K.functions (OfKey K k) g
 
 pub record IsInvariant (K : Frame) (s : State K.F) : Type 0 where
-  pub ready : IsReady K s
+  pub ready : AreInstancesSettled K s
   pub held : IsHeld s
   pub sound : IsSound K s.get
   pub owed : AreOwed K s

@@ -46,38 +46,38 @@ module _ (K : Frame) (get : Key → Option K.F) where
   open K use {F, functions.{compose, id}, facts, targets, graph.{Edge, from, to}}
 
   -- over a call edge: the identity at each target
-  abbrev pub seed_parts : Edge → ℕ → List (Key × F)
-  seed_parts e b = map (λ t. (Jump (to e) t.0 t.0, id)) (targets e b)
+  abbrev pub parts_of_seed : Edge → ℕ → List (Key × F)
+  parts_of_seed e b = map (λ t. (Jump (to e) t.0 t.0, id)) (targets e b)
 
   -- over a flat edge: the function goes on to each target
-  abbrev pub flat_parts : Edge → ℕ → ℕ → F → List (Key × F)
-  flat_parts e a b f = map (λ t. (Jump (to e) a t.0, compose f t.1)) (targets e b)
+  abbrev pub parts_over_flat : Edge → ℕ → ℕ → F → List (Key × F)
+  parts_over_flat e a b f = map (λ t. (Jump (to e) a t.0, compose f t.1)) (targets e b)
 
   -- at a call node: the function goes on by each summary from its fact
-  abbrev pub after_parts : ℕ → ℕ → ℕ → F → ℕ → List (Key × F)
-  after_parts n a b f site = flat_map (λ d. if_some (get (Summary n b d)) (λ s. (Jump site a d, compose f s) ∷ [])) (range_with_len 0 facts)
+  abbrev pub parts_after_call : ℕ → ℕ → ℕ → F → ℕ → List (Key × F)
+  parts_after_call n a b f site = flat_map (λ d. if_some (get (Summary n b d)) (λ s. (Jump site a d, compose f s) ∷ [])) (range_with_len 0 facts)
 
   -- at an exit: the summaries of a call, from each fact that the call's flow carries to the first one
-  abbrev pub exit_parts : ℕ → ℕ → F → Edge × Edge → List (Key × F)
-  exit_parts a b f pair =
+  abbrev pub parts_at_exit : ℕ → ℕ → F → Edge × Edge → List (Key × F)
+  parts_at_exit a b f pair =
       flat_map (λ x. flat_map (λ t. cond (nat_eq t.0 a) (map (λ u. (Summary (from pair.0) x u.0, compose (compose t.1 f) u.1)) (targets pair.1 b)) [])
       (targets pair.0 x)) (range_with_len 0 facts)
 
   -- for a summary: each jump function to its fact goes on
-  abbrev pub resumed_parts : ℕ → ℕ → ℕ → F → ℕ → List (Key × F)
-  resumed_parts c b d s site = flat_map (λ a. if_some (get (Jump c a b)) (λ f. (Jump site a d, compose f s) ∷ [])) (range_with_len 0 facts)
+  abbrev pub parts_resumed : ℕ → ℕ → ℕ → F → ℕ → List (Key × F)
+  parts_resumed c b d s site = flat_map (λ a. if_some (get (Jump c a b)) (λ f. (Jump site a d, compose f s) ∷ [])) (range_with_len 0 facts)
 
   abbrev pub jump_parts : NodeEdges Edge → ℕ → ℕ → ℕ → F → List (Key × F)
   jump_parts here n a b f =
-      flat_map (λ e. seed_parts e b) here.calls
-      ++ (flat_map (λ e. flat_parts e a b f) here.flat
-      ++ (flat_map (after_parts n a b f) here.return_sites
-      ++ flat_map (exit_parts a b f) here.callers))
+      flat_map (λ e. parts_of_seed e b) here.calls
+      ++ (flat_map (λ e. parts_over_flat e a b f) here.flat
+      ++ (flat_map (parts_after_call n a b f) here.return_sites
+      ++ flat_map (parts_at_exit a b f) here.callers))
 
   -- the parts of the key, each a key and the function that it receives; none where it is absent
   abbrev pub parts_of : (ℕ → NodeEdges Edge) → Key → List (Key × F)
   parts_of at (Jump n a b) = if_some (get (Jump n a b)) (jump_parts (at n) n a b)
-  parts_of at (Summary c b d) = if_some (get (Summary c b d)) (λ s. flat_map (resumed_parts c b d s) (at c).return_sites)
+  parts_of at (Summary c b d) = if_some (get (Summary c b d)) (λ s. flat_map (parts_resumed c b d s) (at c).return_sites)
 
 -- the facts of the key are in range
 abbrev pub IsKeyInRange : ℕ → Key → Type 0

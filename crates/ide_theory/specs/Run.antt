@@ -5,7 +5,7 @@ use Rattle.ide_wire.specs.declared.key.Key.TheVariants.{Jump}
 use Rattle.ide_theory.specs.Frame.{Frame}
 use Rattle.ide_theory.specs.Member.{IsIn}
 use Rattle.ide_theory.specs.Image.{Instance, IsMet}
-use Rattle.ide_theory.specs.State.{Claim, State, nothing_done, new_claim, with_claim, part_done, lowered_at, seeded_at, finished}
+use Rattle.ide_theory.specs.State.{Claim, State, nothing_done, new_claim, with_claim, part_done, lowered_in_frame, seeded_at, finished}
 
 -- the parts that a claim of the key owes: what each instance with the key gives, and nothing else
 pub record ArePartsOf (K : Frame) (get : Key → Option K.F) (q : Key) (parts : List (Key × K.F)) : Type 0 where
@@ -22,7 +22,7 @@ pub data Step (K : Frame) : State K.F → State K.F → Type 0 where
   skip : {s : State K.F} → (h : ℕ) (c : Claim K.F) (t : Key) (g : K.F) (rest : List (Key × K.F)) → s.claims h ≡ Some c
       → c.parts ≡ (t, g) ∷ rest → IsMet K s.get t g → Step K s (part_done s h)
   lower : {s : State K.F} → (h : ℕ) (c : Claim K.F) (t : Key) (g : K.F) (rest : List (Key × K.F)) → s.claims h ≡ Some c
-      → c.parts ≡ (t, g) ∷ rest → (IsMet K s.get t g → ⊥) → Step K s (part_done (lowered_at K s t g) h)
+      → c.parts ≡ (t, g) ∷ rest → (IsMet K s.get t g → ⊥) → Step K s (part_done (lowered_in_frame K s t g) h)
   release : {s : State K.F} → (h : ℕ) (c : Claim K.F) → s.claims h ≡ Some c → Step K s (with_claim s h None)
   finish : {s : State K.F} → (h : ℕ) (c : Claim K.F) → s.claims h ≡ Some c → c.parts ≡ [] → Step K s (finished s h c)
   root : {s : State K.F} → (r d : ℕ) → K.graph.start_of r ≡ r → d < K.facts → s.get (Jump r d d) ≡ None → Step K s (seeded_at K s (Jump r d d))
@@ -38,9 +38,9 @@ pub data Steps (K : Frame) : State K.F → State K.F → Type 0 where
   more : {s t u : State K.F} → Steps K s t → Step K t u → Steps K s u
 
 -- the first steps, and then the next
-abbrev pub joined : {K : Frame} {s t u : State K.F} → Steps K s t → Steps K t u → Steps K s u
-joined first none = first
-joined first (more steps step) = more (joined first steps) step
+abbrev pub steps_joined : {K : Frame} {s t u : State K.F} → Steps K s t → Steps K t u → Steps K s u
+steps_joined first none = first
+steps_joined first (more steps step) = more (steps_joined first steps) step
 
 -- how many of the steps are claims
 abbrev pub claims_of : {K : Frame} {s t : State K.F} → Step K s t → ℕ

@@ -17,10 +17,10 @@ pub record IsEdgeOf (facts : ℕ) (edge : EdgeData) : Type 0 where
   pub counted : edge.facts ≡ facts
 
 -- each edge of the site is
-abbrev pub HasEdgesOf : ℕ → Site → Type 0
-HasEdgesOf facts (Normal edges) = Each (IsEdgeOf facts) edges
-HasEdgesOf facts (Call calls along) = Each (IsEdgeOf facts) calls × IsEdgeOf facts along
-HasEdgesOf facts (Exit start callers) = Each (λ caller. IsEdgeOf facts caller.call × IsEdgeOf facts caller.back) callers
+abbrev pub HasLawfulEdges : ℕ → Site → Type 0
+HasLawfulEdges facts (Normal edges) = Each (IsEdgeOf facts) edges
+HasLawfulEdges facts (Call calls along) = Each (IsEdgeOf facts) calls × IsEdgeOf facts along
+HasLawfulEdges facts (Exit start callers) = Each (λ caller. IsEdgeOf facts caller.call × IsEdgeOf facts caller.back) callers
 
 -- the edge that leaves the node
 abbrev pub edge_from : (facts n : ℕ) (edge : EdgeData) → IsEdgeOf facts edge → Edge facts
@@ -37,7 +37,7 @@ callers_at facts n (caller ∷ callers) all =
     (edge_from facts caller.call_node caller.call all.0.0, edge_from facts n caller.back all.0.1) ∷ callers_at facts n callers all.1
 
 -- what stands at the node n by its site
-abbrev pub edges_at : (facts n : ℕ) (site : Site) → HasEdgesOf facts site → NodeEdges (Edge facts)
+abbrev pub edges_at : (facts n : ℕ) (site : Site) → HasLawfulEdges facts site → NodeEdges (Edge facts)
 edges_at facts n (Normal edges) all = record { calls = []; flat = edges_from facts n edges all; return_sites = []; callers = [] }
 edges_at facts n (Call calls along) all =
     record { calls = edges_from facts n calls all.0; flat = edge_from facts n along all.1 ∷ []; return_sites = along.end ∷ []; callers = [] }
@@ -45,10 +45,10 @@ edges_at facts n (Exit start callers) all = record { calls = []; flat = []; retu
 
 -- the sites have edges of a program with so many facts
 abbrev pub HaveEdgesOf : ℕ → List Site → Type 0
-HaveEdgesOf facts sites = (n : ℕ) (site : Site) → slice_get sites n ≡ Some site → HasEdgesOf facts site
+HaveEdgesOf facts sites = (n : ℕ) (site : Site) → slice_get sites n ≡ Some site → HasLawfulEdges facts site
 
 -- nothing stands past the nodes
-abbrev pub edges_found : (facts n : ℕ) (site : Option Site) → ((s : Site) → site ≡ Some s → HasEdgesOf facts s) → NodeEdges (Edge facts)
+abbrev pub edges_found : (facts n : ℕ) (site : Option Site) → ((s : Site) → site ≡ Some s → HasLawfulEdges facts s) → NodeEdges (Edge facts)
 edges_found facts n None all = record { calls = []; flat = []; return_sites = []; callers = [] }
 edges_found facts n (Some site) all = edges_at facts n site (all site refl)
 

@@ -35,8 +35,8 @@ abbrev pub without_first : {F : Type 0} → Claim F → Claim F
 without_first c = record c { parts = rest_of c.parts }
 
 -- the claim, marked as lowered if it is of the key
-abbrev pub marked : {F : Type 0} → Key → Claim F → Claim F
-marked t c = record c { lowered = same_key c.key t || c.lowered }
+abbrev pub claim_marked : {F : Type 0} → Key → Claim F → Claim F
+claim_marked t c = record c { lowered = same_key c.key t || c.lowered }
 
 -- a claim of the key that owes the parts
 abbrev pub new_claim : {F : Type 0} → Key → List (Key × F) → Claim F
@@ -55,15 +55,15 @@ abbrev pub with_function : {F : Type 0} → State F → Key → F → State F
 with_function s t f = record {
   get = put same_key s.get t (Some f);
   pending = put same_key s.pending t true;
-  claims = λ h. option_map (marked t) (s.claims h);
+  claims = λ h. option_map (claim_marked t) (s.claims h);
 }
 
 -- the key receives the function
-abbrev pub lowered_by : {F L : Type 0} → EdgeAlgebra F L → State F → Key → F → State F
-lowered_by B s t g = with_function s t (B.meet (unwrap_or (s.get t) B.all_top) g)
+abbrev pub with_lowered : {F L : Type 0} → EdgeAlgebra F L → State F → Key → F → State F
+with_lowered B s t g = with_function s t (B.meet (unwrap_or (s.get t) B.all_top) g)
 
-abbrev pub lowered_at : (K : Frame) → State K.F → Key → K.F → State K.F
-lowered_at K = lowered_by K.functions
+abbrev pub lowered_in_frame : (K : Frame) → State K.F → Key → K.F → State K.F
+lowered_in_frame K = with_lowered K.functions
 
 -- the key becomes the identity, as one does that was absent
 abbrev pub seeded : {F L : Type 0} → EdgeAlgebra F L → State F → Key → State F

@@ -14,7 +14,7 @@ use Rattle.ide_theory.specs.Parts.{NodeEdges, AreEdgesOf, parts_of, AreKeysInRan
 use Rattle.ide_theory.specs.Reached.{IsRunOf, DoRunsGoOn}
 use Rattle.ide_wire.specs.declared.key.Key.{Key}
 use Rattle.ide_wire.specs.declared.key.Key.TheVariants.{Jump}
-use Rattle.ide_theory.specs.Images.{Procedures, Image, Root, with_state, seeded_below, absent_below, step, after, image_steps_in, IsSame, AreSeeds}
+use Rattle.ide_theory.specs.Images.{Procedures, Image, Root, with_state, seeded_below, absent_below, step, after_steps_of, image_steps_in, IsSame, AreSeeds}
 use Rattle.ide_theory.specs.Invariant.{IsInvariant, unclaimed}
 use Rattle.ide_text.specs.declared.program.Program.{Program}
 use Rattle.ide_graph.specs.Ends.{AreEndsNodes}
@@ -112,7 +112,7 @@ module _ {L F : Type 0} (lattice : LatticeAlgebra L) (functions : EdgeAlgebra F 
   WaysAreImageSteps Code Name =
       (procedures : Procedures Code Name) (same : F → F → Bool) → IsSame same → (G : Edges) (i : Image Code Name F) (s t : State F)
       → (way : Steps (frame_of lattice functions targets G) s t) → seeds_in way ≡ 0
-      → after procedures functions same (with_state i s) (image_steps_in way) ≡ with_state i t
+      → after_steps_of procedures functions same (with_state i s) (image_steps_in way) ≡ with_state i t
 
   -- and a root's step of an image is its absent entries, one after the other
   abbrev pub RootsAreWays : Type 0 → Type 0 → Type 0

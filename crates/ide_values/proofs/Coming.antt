@@ -5,16 +5,16 @@ use Rattle.std.specs.Map.{lookup}
 use Rattle.ide_theory.specs.Member.{Each}
 use Rattle.ide_wire.specs.Key.{same_key, same_key_exact}
 use Rattle.ide_wire.specs.declared.key.Key.{Key}
-use Rattle.ide_values.specs.Pass.{Goes, stays, then}
+use Rattle.ide_values.specs.Pass.{GoesBy, stays, then}
 use Rattle.ide_values.proofs.Filled.{none_past}
 
 module _ {X V : Type 0} (step : V → X → V) (IsAmong : X → Type 0) where
-  pub goes_trans : {u v w : V} → Goes step IsAmong u v → Goes step IsAmong v w → Goes step IsAmong u w
+  pub goes_trans : {u v w : V} → GoesBy step IsAmong u v → GoesBy step IsAmong v w → GoesBy step IsAmong u w
   goes_trans first stays = first
   goes_trans first (then more x is) = then (goes_trans first more) x is
 
-  pub goes_by : {u v w : V} → Goes step IsAmong u v → (x : X) → IsAmong x → w ≡ step v x → Goes step IsAmong u w
-  goes_by {u} so_far x is e = subst (Goes step IsAmong u) (sym e) (then so_far x is)
+  pub goes_by : {u v w : V} → GoesBy step IsAmong u v → (x : X) → IsAmong x → w ≡ step v x → GoesBy step IsAmong u w
+  goes_by {u} so_far x is e = subst (GoesBy step IsAmong u) (sym e) (then so_far x is)
 
 -- what holds of each entry holds of each present key with its function
 pub each_found : {F : Type 0} (P : Key × F → Type 0) (entries : List (Key × F)) (key : Key) (f : F)

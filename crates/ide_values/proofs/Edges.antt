@@ -11,7 +11,7 @@ use Rattle.ide_problem.specs.Flow.{AreTargets, function_to}
 use Rattle.ide_theory.specs.Given.{Edge}
 use Rattle.ide_theory.specs.Member.{IsIn, first, later, Each}
 use Rattle.ide_graph.specs.Joined.{HasCall}
-use Rattle.ide_theory.specs.Sites.{IsEdgeOf, HasEdgesOf, edges_from, edges_found}
+use Rattle.ide_theory.specs.Sites.{IsEdgeOf, HasLawfulEdges, edges_from, edges_found}
 use Rattle.ide_values.specs.Pass.{calls_in}
 
 pub none_in : {T : Type 0} {x : T} → IsIn x [] → ⊥
@@ -45,7 +45,7 @@ module _ (facts n : ℕ) where
   ]
 
   -- the data of a call at a node are those of one of its edges
-  pub call_edge : (site : Option Site) (all : (s : Site) → site ≡ Some s → HasEdgesOf facts s) (d : EdgeData) → IsIn d (calls_in site)
+  pub call_edge : (site : Option Site) (all : (s : Site) → site ≡ Some s → HasLawfulEdges facts s) (d : EdgeData) → IsIn d (calls_in site)
       → (e : Edge facts) × IsIn e (edges_found facts n site all).calls × (e.edge ≡ d)
   call_edge None all d is = elim (none_in is) [ ]
   call_edge (Some (Normal edges)) all d is = elim (none_in is) [ ]
@@ -53,7 +53,7 @@ module _ (facts n : ℕ) where
   call_edge (Some (Exit start callers)) all d is = elim (none_in is) [ ]
 
   -- and each such edge has data of a call
-  pub call_data : (site : Option Site) (all : (s : Site) → site ≡ Some s → HasEdgesOf facts s) (e : Edge facts)
+  pub call_data : (site : Option Site) (all : (s : Site) → site ≡ Some s → HasLawfulEdges facts s) (e : Edge facts)
       → IsIn e (edges_found facts n site all).calls → IsIn e.edge (calls_in site)
   call_data None all e is = elim (none_in is) [ ]
   call_data (Some (Normal edges)) all e is = elim (none_in is) [ ]

@@ -3,13 +3,13 @@ use Rattle.std.proofs.Common.{◌≡◌, ℕ, ◌+◌, ◌<◌, ◌≤◌, Bool,
 use Rattle.std.proofs.lemmas.List.Sums.{sum_by-set}
 use Rattle.ide_lattice.specs.Algebra.{LatticeAlgebra}
 use Rattle.ide_values.specs.declared.passes.Starts.{Starts}
-use Rattle.ide_values.specs.Falling.{Falls, ranks}
+use Rattle.ide_values.specs.Falling.{StartsFall, ranks}
 
 module _ {P L F : Type 0} (A : LatticeAlgebra L) where
-  pub falls_not : (starts : Starts P L F) → Falls A starts starts
+  pub falls_not : (starts : Starts P L F) → StartsFall A starts starts
   falls_not starts = record { least = omega arith; waiting = omega arith; marked = omega arith }
 
-  pub falls_then : {u v w : Starts P L F} → Falls A u v → Falls A v w → Falls A u w
+  pub falls_then : {u v w : Starts P L F} → StartsFall A u v → StartsFall A v w → StartsFall A u w
   falls_then once more = record {
     least = omega (arith, once.least, more.least);
     waiting = omega (arith, once.waiting, more.waiting);
@@ -19,7 +19,7 @@ module _ {P L F : Type 0} (A : LatticeAlgebra L) where
   -- a value of lesser rank at a place pays for one that waits, and for the mark
   pub falls_at : (old new : Starts P L F) (place : ℕ) (value : L) → new.values.items ≡ set old.values.items place value
       → new.has_fallen ≡ true → place < length old.values.items → A.rank value < A.rank (get_or old.values.items place A.top)
-      → length new.waiting.items ≤ length old.waiting.items + 1 → Falls A old new
+      → length new.waiting.items ≤ length old.waiting.items + 1 → StartsFall A old new
   falls_at old new place value is mark within less few =
       let sum = sum_by-set A.rank old.values.items place value A.top within in
       let all : ranks A new.values.items ≡ ranks A (set old.values.items place value) = ap (ranks A) is in

@@ -18,9 +18,9 @@ use Rattle.ide_wire.specs.declared.key.Key.TheVariants.{Jump, Summary}
 use Rattle.ide_wire.specs.Key.{same_key, same_key_laws, same_key_exact}
 use Rattle.ide_graph.specs.Supergraph.{Supergraph}
 use Rattle.ide_tables.specs.Tables.{Table, found}
-use Rattle.ide_theory.specs.Parts.{IsKeyInRange}
-use Rattle.ide_values.specs.Fill.{AreFilled, IsImage, lowered, value_from}
+use Rattle.ide_values.specs.Fill.{Fills, FillsFrom, IsFilledAt, IsImage, Meets, lowered, value_from}
 use Rattle.ide_values.specs.Start.{value_before}
+use Rattle.ide_values.proofs.Places.{place_within}
 
 module _ {F L : Type 0} (A : LatticeAlgebra L) (laws : IsLattice A) (B : EdgeAlgebra F L) (functions : IsEdgeAlgebra A B)
     (start : ℕ → ℕ → L) (started : (n a : ℕ) → IsTrue (A.proper (start n a))) (n d : ℕ) where
@@ -152,38 +152,39 @@ proper_at A laws xs all i = elim (inside xs i) [
     inside : {X : Type 0} (xs : List X) (i : ℕ) → (i < length xs) ⊎ (length xs ≤ i)
     inside xs i = grind (arith)
 
-module _ {F L : Type 0} (A : LatticeAlgebra L) (B : EdgeAlgebra F L) (graph : Supergraph) (table : Table F) (starts : List L) where
-  -- the values after the first entries of the table
-  pub record IsFilledBy (i : ℕ) (values : List L) : Type 0 where
-    pub count : length values ≡ graph.nodes * graph.facts
-    pub filled : IsImage B graph (found table) → (n d : ℕ) → n < graph.nodes → d < graph.facts
-        → get_or values (n * graph.facts + d) A.top
-        ≡ fold (λ v e. lowered A B (value_before A graph starts) n d v e.0 e.1) A.top (take i table.entries)
+module _ {F L : Type 0} (A : LatticeAlgebra L) (B : EdgeAlgebra F L) (graph : Supergraph) (table : Table F) (starts : List L) (first : ℕ) where
+  -- the rows from a node on after the first entries of the table
+  pub record IsFilledBy (i : ℕ) (rows : List L) : Type 0 where
+    pub filled : IsImage B graph (found table) → (k n d : ℕ) → k < length rows → n < graph.nodes → d < graph.facts
+        → n * graph.facts + d ≡ first * graph.facts + k
+        → get_or rows k A.top ≡ fold (λ v e. lowered A B (value_before A graph starts) n d v e.0 e.1) A.top (take i table.entries)
 
   pub filled_more : (i : ℕ) (old new : List L) (e : Key × F) → slice_get table.entries i ≡ Some e → found table e.0 ≡ Some e.1
-      → length new ≡ length old
-      → (IsKeyInRange graph.facts e.0 → length old ≡ graph.nodes * graph.facts → (n d : ℕ) → n < graph.nodes → d < graph.facts
-      → get_or new (n * graph.facts + d) A.top
-      ≡ lowered A B (value_before A graph starts) n d (get_or old (n * graph.facts + d) A.top) e.0 e.1)
-      → IsFilledBy i old → IsFilledBy (i + 1) new
+      → length new ≡ length old → Meets A B graph starts first e.0 e.1 old new → IsFilledBy i old → IsFilledBy (i + 1) new
   filled_more i old new e stands present same step so_far = record {
-    count = same ∙ so_far.count;
-    filled = λ image n d h k.
-        step (image.facts e.0 e.1 present) so_far.count n d h k
-        ∙ ap (λ v. lowered A B (value_before A graph starts) n d v e.0 e.1) (so_far.filled image n d h k)
+    filled = λ image k n d within h r place.
+        let there : k < length old = omega (arith, within, same) in
+        step (image.facts e.0 e.1 present) k n d there h r place
+        ∙ ap (λ v. lowered A B (value_before A graph starts) n d v e.0 e.1) (so_far.filled image k n d there h r place)
         ∙ sym (fold_more (λ v e. lowered A B (value_before A graph starts) n d v e.0 e.1) A.top table.entries i e stands);
   }
 
   -- past the last entry the values are those that follow
   pub all_filled : IsLattice A → IsEdgeAlgebra A B → IsDistinct same_key (keys_of table.entries)
-      → (i : ℕ) (values : List L) → length table.entries ≤ i → IsFilledBy i values
-      → IsImage B graph (found table) → All (λ v. IsTrue (A.proper v)) starts → AreFilled A B graph (found table) starts values
-  all_filled laws functions distinct i values past so_far image proper n d h k =
-      so_far.filled image n d h k
+      → (i : ℕ) (rows : List L) → length table.entries ≤ i → IsFilledBy i rows → FillsFrom A B graph table starts first rows
+  all_filled laws functions distinct i rows past so_far k within image proper n d h r place =
+      so_far.filled image k n d within h r place
       ∙ ap (fold (λ v e. lowered A B (value_before A graph starts) n d v e.0 e.1) A.top) (take_all i table.entries past)
       ∙ filled-is A laws B functions (value_before A graph starts)
       (λ m a. proper_at A laws starts proper (slice_index graph.owners m * graph.facts + a)) n d
       table.entries distinct graph.facts (λ a f is. (image.facts (Jump n a d) f is).0) image.proper
+
+module _ {F L : Type 0} (A : LatticeAlgebra L) (B : EdgeAlgebra F L) (graph : Supergraph) (table : Table F) (starts : List L) where
+  -- rows that are filled from the first node on are the rows of all nodes
+  pub all_rows : (rows : List L) → length rows ≡ graph.nodes * graph.facts
+      → ((k : ℕ) → k < length rows → IsFilledAt A B graph table starts k (get_or rows k A.top)) → Fills A B graph table starts rows
+  all_rows rows count each image proper n d h r =
+      each (n * graph.facts + d) (omega (arith, count, place_within n d graph.nodes graph.facts h r)) image proper n d h r refl
 
 -- where nothing stands, the list has ended
 pub none_past : {X : Type 0} (xs : List X) (i : ℕ) → slice_get xs i ≡ None → length xs ≤ i

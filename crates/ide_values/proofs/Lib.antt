@@ -5,7 +5,11 @@ pub mod Sound
 pub mod Started
 pub mod Falling
 pub mod Filled
+pub mod Follows
+pub mod Halves
 pub mod Lines
+pub mod Lowered
 pub mod Passing
 pub mod Places
 pub mod Refused
+pub mod Workers

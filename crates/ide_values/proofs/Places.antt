@@ -1,5 +1,5 @@
 -- Places in rows: each place of a row is one of its own.
-use Rattle.std.proofs.Common.{◌≡◌, ◌≢◌, ℕ, ◌+◌, ◌*◌, ◌<◌, ◌≤◌, ◌&&◌, ◌⊎◌, true, false, cond, List, length, get_or, ap, sym, subst, refl, ◌∙◌, inl, inr, arith}
+use Rattle.std.proofs.Common.{◌≡◌, ℕ, ◌+◌, ◌*◌, ◌<◌, ◌≤◌, ◌&&◌, ◌⊎◌, true, false, cond, ap, subst, refl, inl, inr, arith}
 use Rattle.std.specs.Prelude.{nat_eq}
 use Rattle.std.proofs.Math.Nat.{mul-le-mul_right}
 use Rattle.std.proofs.lemmas.Bool.Decides.{nat_tests}
@@ -37,33 +37,21 @@ place_within n d nodes count h k =
     let one : (n + 1) * count ≡ n * count + count = grind (arith) in
     omega (arith, rows, one, k)
 
--- what meeting one place with a value does to each place of the rows
-pub at_each_place : {L : Type 0} (top : L) (meet : L → L → L) (old new : List L) (count m b place : ℕ) (x y : L) → b < count
-    → place ≡ m * count + b
-    → ((q : ℕ) → q ≢ place → get_or new q top ≡ get_or old q top)
-    → (place < length old → get_or new place top ≡ meet (get_or old place top) y)
-    → (n d : ℕ) → d < count → n * count + d < length old → (m ≡ n → y ≡ x)
-    → get_or new (n * count + d) top ≡ cond (nat_eq m n && nat_eq b d) (meet (get_or old (n * count + d) top) x) (get_or old (n * count + d) top)
-at_each_place top meet old new count m b place x y h is other met n d k within same =
-    let met_here : m ≡ n → b ≡ d → get_or new (n * count + d) top ≡ meet (get_or old (n * count + d) top) x =
-    λ row fact.
-    let there : place ≡ n * count + d = is ∙ ap (λ r. r * count + b) row ∙ ap (λ f. n * count + f) fact in
-    subst (λ p. p < length old → get_or new p top ≡ meet (get_or old p top) y) there met within
-    ∙ ap (meet (get_or old (n * count + d) top)) (same row)
-    in
-    let kept : ((m ≡ n) × (b ≡ d) → ⊥) → get_or new (n * count + d) top ≡ get_or old (n * count + d) top =
-    λ apart. other (n * count + d) (λ e. apart (same_place m n b d count h k (sym is ∙ sym e)))
-    in
-    elim (nat_eq m n) as (λ t. nat_eq m n ≡ t → get_or new (n * count + d) top ≡ cond (t && nat_eq b d) (meet (get_or old (n * count + d) top) x) (get_or old (n * count + d) top)) [
-      | true ↦ λ e. elim (nat_eq b d) as (λ u. nat_eq b d ≡ u → get_or new (n * count + d) top ≡ cond u (meet (get_or old (n * count + d) top) x) (get_or old (n * count + d) top)) [
-        | true ↦ λ f. met_here (equal m n e) (equal b d f)
-        | false ↦ λ f. kept (λ both. differ b d f both.1)
+-- what is chosen where two rows and two facts are the same, and where they are not
+pub chosen_same : {L : Type 0} (m n b d : ℕ) (x y : L) → m ≡ n → b ≡ d → cond (nat_eq m n && nat_eq b d) x y ≡ x
+chosen_same m n b d x y row fact =
+    let here : (nat_eq m n && nat_eq b d) ≡ true = grind (arith, nat_tests) in
+    ap (λ t. cond t x y) here
+
+pub chosen_apart : {L : Type 0} (m n b d : ℕ) (x y : L) → ((m ≡ n) × (b ≡ d) → ⊥) → cond (nat_eq m n && nat_eq b d) x y ≡ y
+chosen_apart m n b d x y apart =
+    elim (nat_eq m n) as (λ t. nat_eq m n ≡ t → cond (t && nat_eq b d) x y ≡ y) [
+      | true ↦ λ e. elim (nat_eq b d) as (λ u. nat_eq b d ≡ u → cond u x y ≡ y) [
+        | true ↦ λ f. absurd (apart (equal m n e, equal b d f))
+        | false ↦ λ f. refl
       ] refl
-      | false ↦ λ e. kept (λ both. differ m n e both.0)
+      | false ↦ λ e. refl
     ] refl
   where
     equal : (a b : ℕ) → nat_eq a b ≡ true → a ≡ b
     equal a b e = grind (arith, nat_tests)
-
-    differ : (a b : ℕ) → nat_eq a b ≡ false → a ≡ b → ⊥
-    differ a b e same = grind (arith, nat_tests)

@@ -26,7 +26,7 @@ pub record AreOf (graph : Supergraph) (roots : List ℕ) (p : Program) : Type 0 
 
 module _ {F L : Type 0} (A : LatticeAlgebra L) (B : EdgeAlgebra F L) (targets : Targets F) where
   -- a run over the graph came to the tables: no key waits, and the roots have their identities
-  pub record IsAtRest (graph : Supergraph) (all : HaveEdgesOf graph.facts graph.sites) (roots : List ℕ) (table : Table F) : Type 0 where
+  pub record TablesRest (graph : Supergraph) (all : HaveEdgesOf graph.facts graph.sites) (roots : List ℕ) (table : Table F) : Type 0 where
     pub state : State F
     pub run : Run (frame_at A B targets graph all) state
     pub image : state.get ≡ found table
@@ -36,7 +36,7 @@ module _ {F L : Type 0} (A : LatticeAlgebra L) (B : EdgeAlgebra F L) (targets : 
   -- where the graph is of a program and a run came to the tables, each value is best at its node and fact
   abbrev pub AreBest : Supergraph → List ℕ → Table F → (ℕ → ℕ → L) → Type 0
   AreBest graph roots table value =
-      (p : Program) → AreOf graph roots p → (all : HaveEdgesOf graph.facts graph.sites) → IsAtRest graph all roots table
+      (p : Program) → AreOf graph roots p → (all : HaveEdgesOf graph.facts graph.sites) → TablesRest graph all roots table
       → (n d : ℕ) → n < graph.nodes → d < graph.facts
       → IsBest (frame_at A B targets graph all) (roots_at A B targets graph all roots) n d (value n d)
 
@@ -50,5 +50,5 @@ module _ {F L : Type 0} (A : LatticeAlgebra L) (B : EdgeAlgebra F L) (targets : 
   abbrev pub DumpsOfBestAreBest : Type 0
   DumpsOfBestAreBest =
       (graph : Supergraph) (roots : List ℕ) (table : Table F) (value : ℕ → ℕ → L) (shown : L → List ℕ) → AreBest graph roots table value
-      → (p : Program) → AreOf graph roots p → (all : HaveEdgesOf graph.facts graph.sites) → IsAtRest graph all roots table
+      → (p : Program) → AreOf graph roots p → (all : HaveEdgesOf graph.facts graph.sites) → TablesRest graph all roots table
       → IsBestDump (frame_at A B targets graph all) (roots_at A B targets graph all roots) graph shown (dump_of graph (λ n d. shown (value n d)))

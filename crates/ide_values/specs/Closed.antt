@@ -1,4 +1,5 @@
 -- The start values for the roots over a closed graph, and the values that follow.
+use Rattle.std.specs.Global.{Vec}
 use Rattle.std.specs.Prelude.{◌≡◌, ℕ, ◌+◌, ◌*◌, ◌<◌, List, slice_index_or}
 use Rattle.ide_graph.specs.Closed.{IsClosed}
 use Rattle.ide_graph.specs.Joined.{AreJoined, start_at}
@@ -10,7 +11,7 @@ use Rattle.ide_theory.specs.Member.{IsIn}
 use Rattle.ide_theory.specs.Sites.{HaveEdgesOf}
 use Rattle.ide_theory.specs.Value.{IsStarted, value_at}
 use Rattle.ide_tables.specs.Tables.{Table, found}
-use Rattle.ide_values.specs.Fill.{IsImage}
+use Rattle.ide_values.specs.Fill.{Fills, IsImage}
 
 -- the graph is closed, and roots are procedures
 pub record IsRooted (graph : Supergraph) (roots : List ℕ) : Type 0 where
@@ -25,3 +26,7 @@ pub record FollowFrom {F L : Type 0} (A : LatticeAlgebra L) (B : EdgeAlgebra F L
       × IsStarted (frame_at A B targets graph all) (roots_at A B targets graph all roots) (found table) start
       × ((n d : ℕ) → n < graph.nodes → d < graph.facts
       → slice_index_or values (n * graph.facts + d) A.top ≡ value_at (frame_at A B targets graph all) (found table) start n d)
+
+-- what is filled from the start values follows
+abbrev pub LeadOn : {F L : Type 0} → LatticeAlgebra L → EdgeAlgebra F L → Targets F → Supergraph → Table F → List ℕ → Vec L → Type 0
+LeadOn {L = L} A B targets graph table roots starts = (rows : List L) → Fills A B graph table starts.items rows → FollowFrom A B targets graph table roots rows

@@ -10,7 +10,7 @@ ranks A values = sum_by A.rank values
 
 -- the ranks of start values do not rise, and what they fall by pays for places that wait anew and for the
 -- mark of a fall
-pub record Falls {P L F : Type 0} (A : LatticeAlgebra L) (old new : Starts P L F) : Type 0 where
+pub record StartsFall {P L F : Type 0} (A : LatticeAlgebra L) (old new : Starts P L F) : Type 0 where
   pub least : ranks A new.values.items ≤ ranks A old.values.items
   pub waiting : ranks A new.values.items + length new.waiting.items ≤ ranks A old.values.items + length old.waiting.items
   pub marked : ranks A new.values.items + cond new.has_fallen 1 0 ≤ ranks A old.values.items + cond old.has_fallen 1 0

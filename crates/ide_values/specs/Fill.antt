@@ -41,9 +41,21 @@ Fills A B graph table starts values =
 abbrev pub FillsRows : {F L : Type 0} → LatticeAlgebra L → EdgeAlgebra F L → Supergraph → Table F → List L → Vec L → Type 0
 FillsRows A B graph table starts values = Fills A B graph table starts values.items
 
--- each value is met with what the key's function gives it
-abbrev pub Meets : {F L : Type 0} → LatticeAlgebra L → EdgeAlgebra F L → Supergraph → List L → Key → F → List L → List L → Type 0
-Meets A B graph starts key f old new =
-    IsKeyInRange graph.facts key → length old ≡ graph.nodes * graph.facts → (n d : ℕ) → n < graph.nodes → d < graph.facts
-    → slice_index_or new (n * graph.facts + d) A.top
-    ≡ lowered A B (value_before A graph starts) n d (slice_index_or old (n * graph.facts + d) A.top) key f
+-- over an image of the graph, where the starts are proper, the value is what belongs at the place of the rows
+abbrev pub IsFilledAt : {F L : Type 0} → LatticeAlgebra L → EdgeAlgebra F L → Supergraph → Table F → List L → ℕ → L → Type 0
+IsFilledAt A B graph table starts place value =
+    IsImage B graph (found table) → All (λ v. IsTrue (A.proper v)) starts
+    → (n d : ℕ) → n < graph.nodes → d < graph.facts → n * graph.facts + d ≡ place
+    → value ≡ value_from A B (found table) (value_before A graph starts n) graph.facts n d
+
+-- so is each value of some of the rows, those from a node on
+abbrev pub FillsFrom : {F L : Type 0} → LatticeAlgebra L → EdgeAlgebra F L → Supergraph → Table F → List L → ℕ → List L → Type 0
+FillsFrom A B graph table starts first rows =
+    (k : ℕ) → k < length rows → IsFilledAt A B graph table starts (first * graph.facts + k) (slice_index_or rows k A.top)
+
+-- each value of the rows from a node on is met with what the key's function gives it
+abbrev pub Meets : {F L : Type 0} → LatticeAlgebra L → EdgeAlgebra F L → Supergraph → List L → ℕ → Key → F → List L → List L → Type 0
+Meets A B graph starts first key f old new =
+    IsKeyInRange graph.facts key → (k n d : ℕ) → k < length old → n < graph.nodes → d < graph.facts
+    → n * graph.facts + d ≡ first * graph.facts + k
+    → slice_index_or new k A.top ≡ lowered A B (value_before A graph starts) n d (slice_index_or old k A.top) key f

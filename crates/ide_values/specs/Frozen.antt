@@ -6,7 +6,7 @@ use Rattle.ide_steps.specs.declared.closed.Closed.{Closed}
 use Rattle.ide_tables.specs.Tables.{Table}
 use Rattle.ide_values.specs.Best.{AreBest}
 use Rattle.ide_values.specs.Closed.{FollowFrom}
-use Rattle.ide_values.specs.Values.{AreValues, ValuesData, value_of}
+use Rattle.ide_values.specs.Values.{AreValues, ValuesData, value_there}
 
 module _ {F L : Type 0} (A : LatticeAlgebra L) (B : EdgeAlgebra F L) (targets : Targets F) where
   -- the values follow from start values for the roots of the image, over its graph and its tables
@@ -19,4 +19,4 @@ module _ {F L : Type 0} (A : LatticeAlgebra L) (B : EdgeAlgebra F L) (targets : 
 
   -- the values are best, where a run over their graph came to the tables
   abbrev pub AreBestOf : Table F → ValuesData L → Type 0
-  AreBestOf table values = AreBest A B targets values.graph values.roots table (value_of A values)
+  AreBestOf table values = AreBest A B targets values.graph values.roots table (value_there A values)

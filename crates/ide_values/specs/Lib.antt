@@ -10,5 +10,7 @@ pub mod Pass
 pub mod Passing
 pub mod Refusal
 pub mod Settled
+pub mod Share
+pub mod SharedFill
 pub mod Start
 pub mod Values

@@ -60,6 +60,6 @@ pub record Passes {X V : Type 0} (step : V → X → V) (IsSteady : V → X → 
   pub steady : fallen ≡ false → Each (IsSteady old) xs
 
 -- steps by elements that are among some, in any order, any number of times
-pub data Goes {X V : Type 0} (step : V → X → V) (IsAmong : X → Type 0) : V → V → Type 0 where
-  stays : {v : V} → Goes step IsAmong v v
-  then : {u v : V} → Goes step IsAmong u v → (x : X) → IsAmong x → Goes step IsAmong u (step v x)
+pub data GoesBy {X V : Type 0} (step : V → X → V) (IsAmong : X → Type 0) : V → V → Type 0 where
+  stays : {v : V} → GoesBy step IsAmong v v
+  then : {u v : V} → GoesBy step IsAmong u v → (x : X) → IsAmong x → GoesBy step IsAmong u (step v x)

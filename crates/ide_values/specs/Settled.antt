@@ -7,12 +7,12 @@ use Rattle.ide_problem.specs.Flow.{Targets}
 use Rattle.ide_tables.specs.Tables.{Table, found}
 use Rattle.ide_wire.specs.declared.key.Key.{Key}
 use Rattle.ide_values.specs.Enter.{entered_rows}
-use Rattle.ide_values.specs.Pass.{Goes, IsSteadyBy, by_entry}
+use Rattle.ide_values.specs.Pass.{GoesBy, IsSteadyBy, by_entry}
 
 module _ {F L : Type 0} (A : LatticeAlgebra L) (B : EdgeAlgebra F L) (targets : Targets F) (graph : Supergraph) (table : Table F) where
   -- values come of others by what functions of present keys hand on
   abbrev pub ComesTo : List L → List L → Type 0
-  ComesTo old new = Goes (λ values (e : Key × F). by_entry A B graph targets values e.0 e.1) (λ e. found table e.0 ≡ Some e.1) old new
+  ComesTo old new = GoesBy (λ values (e : Key × F). by_entry A B graph targets values e.0 e.1) (λ e. found table e.0 ≡ Some e.1) old new
 
   -- the function of no present key hands anything on that would change the values
   abbrev pub IsSteady : List L → Type 0

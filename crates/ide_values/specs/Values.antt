@@ -19,8 +19,8 @@ pub record ValuesData (L : Type 0) : Type 0 where
   pub values : List L
 
 -- the value of a fact at a node
-abbrev pub value_of : {L : Type 0} → LatticeAlgebra L → ValuesData L → ℕ → ℕ → L
-value_of A values node fact = slice_index_or values.values (node * values.graph.facts + fact) A.top
+abbrev pub value_there : {L : Type 0} → LatticeAlgebra L → ValuesData L → ℕ → ℕ → L
+value_there A values node fact = slice_index_or values.values (node * values.graph.facts + fact) A.top
 
 -- the node or the fact is not there
 abbrev pub IsOutside : {L : Type 0} → ValuesData L → ℕ → ℕ → Type 0
@@ -28,11 +28,11 @@ IsOutside values node fact = (values.graph.nodes ≤ node) ⊎ (values.graph.fac
 
 -- the lines of a node in the dump of the values, where each is shown so
 abbrev pub lines_of_values : {L : Type 0} → LatticeAlgebra L → (L → List ℕ) → ValuesData L → ℕ → List ℕ
-lines_of_values A shown values = lines_at values.graph (λ n d. shown (value_of A values n d))
+lines_of_values A shown values = lines_at values.graph (λ n d. shown (value_there A values n d))
 
 -- the dump of the values
 abbrev pub dump_of_values : {L : Type 0} → LatticeAlgebra L → (L → List ℕ) → ValuesData L → List ℕ
-dump_of_values A shown values = dump_of values.graph (λ n d. shown (value_of A values n d))
+dump_of_values A shown values = dump_of values.graph (λ n d. shown (value_there A values n d))
 
 -- the dump of the values is appended, and the lines of a node
 abbrev pub AppendsDump : {L : Type 0} → LatticeAlgebra L → (L → List ℕ) → ValuesData L → (old new : Vec ℕ) → Type 0

@@ -1,12 +1,13 @@
 //! The fill: each jump function lowers the value where it ends.
 ghost use Rattle.std.specs.Prelude.{◌≡◌, ◌*◌, IfOk, length};
-ghost use Rattle.ide_values.specs.Fill.{FillsRows, Meets};
+ghost use Rattle.ide_values.specs.Fill.{FillsFrom, FillsRows, Meets};
+ghost use Rattle.ide_values.specs.Start.{AreTops};
 
 use crate::rows::{lower, place_of, tops, value_before};
 use ide_graph::Graph;
 use ide_lattice::EdgeFn;
 use ide_tables::Tables;
-use ide_wire::Key;
+use ide_wire::{Key, Node};
 use std::alloc::{AllocError, Global};
 
 /// The values of an image whose start values these are: rows by node, one value for each fact.
@@ -20,21 +21,52 @@ pub fn fill<F: EdgeFn>(
     ensures count { IfOk result (λ values. length values.items ≡ graph.now.nodes * graph.now.facts) }
 {
     let mut values = tops(alloc, graph.node_count() * graph.fact_count())?;
-    for index in 0..tables.key_count() {
-        if let Some(entry) = tables.entry_at(index) {
-            lower_by(&mut values, graph, starts, entry.0, entry.1);
-        }
-    }
+    fill_rows(graph, tables, starts, 0, values.as_mut_slice());
     Ok(values)
 }
 
-/// Lowers the value where the key ends by what its function makes of the value where it begins.
-fn lower_by<F: EdgeFn>(values: &mut [F::L], graph: &Graph, starts: &[F::L], key: Key, function: F)
-    ensures count { length values.new ≡ length values.old }
-    ensures lowered { Meets F.L.algebra F.edge graph.now starts.now key function values.old values.new }
+/// Fills rows of tops, of which the first is that of a node. It reads each entry of the tables, and
+/// applies the functions of those that end in the rows.
+pub(crate) fn fill_rows<F: EdgeFn>(
+    graph: &Graph,
+    tables: &Tables<F>,
+    starts: &[F::L],
+    first: Node,
+    rows: &mut [F::L],
+)
+    requires { AreTops F.L.algebra rows.old }
+    ensures count { length rows.new ≡ length rows.old }
+    ensures filled { FillsFrom F.L.algebra F.edge graph.now tables.now starts.now first rows.new }
 {
-    if let Key::Jump(node, from, to) = key {
+    for index in 0..tables.key_count() {
+        if let Some(entry) = tables.entry_at(index) {
+            lower_by(graph, starts, first, entry.0, entry.1, rows);
+        }
+    }
+}
+
+/// Lowers the value where the key ends, if the rows have it, by what its function makes of the value
+/// where it begins.
+fn lower_by<F: EdgeFn>(
+    graph: &Graph,
+    starts: &[F::L],
+    first: Node,
+    key: Key,
+    function: F,
+    rows: &mut [F::L],
+)
+    ensures count { length rows.new ≡ length rows.old }
+    ensures lowered { Meets F.L.algebra F.edge graph.now starts.now first key function rows.old rows.new }
+{
+    let Key::Jump(node, from, to) = key else {
+        return;
+    };
+    let Some(row) = node.checked_sub(first) else {
+        return;
+    };
+    let place = place_of(graph, row, to);
+    if place < rows.len() {
         let start = value_before(graph, starts, node, from);
-        lower(values, place_of(graph, node, to), function.apply(start));
+        lower(rows, place, function.apply(start));
     }
 }

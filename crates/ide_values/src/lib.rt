@@ -3,7 +3,7 @@
 //! The second phase of the algorithm of Sagiv, Reps and Horwitz (Theoretical Computer Science
 //! 167, 1996). Start values go through jump functions at call nodes and call flows to callees'
 //! starts until nothing changes; then each jump function, applied to its start value, lowers the
-//! value where it ends.
+//! value where it ends. This fill may be shared by several threads, and the values are the same.
 #![tactic(auto)]
 
 mod dump;
@@ -12,8 +12,11 @@ mod fill;
 mod laws;
 mod passes;
 mod rows;
+mod share;
+mod shared_fill;
 mod starts;
 mod values;
 
 pub use laws::{dumps_of_best_are_best, following_values_are_best};
+pub use shared_fill::FillGate;
 pub use values::{ValuePhase, Values};

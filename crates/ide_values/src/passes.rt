@@ -2,7 +2,7 @@
 ghost use Rattle.std.specs.Prelude.{◌≡◌, ◌<◌, ◌≤◌, ◌+◌, ℕ, Some, OnOk, IfOk, IfSome, false, length, slice_get, map};
 ghost use Rattle.std.specs.List.{All, range_with_len};
 ghost use Rattle.ide_graph.specs.Edges.{EndsWithin};
-ghost use Rattle.ide_values.specs.Falling.{Falls};
+ghost use Rattle.ide_values.specs.Falling.{StartsFall};
 ghost use Rattle.ide_values.specs.Pass.{calls_of};
 ghost use Rattle.ide_values.specs.Passing.{LowersAt, Marks, PassesAll, PassesOver, PassesTo, WaitsLess};
 
@@ -102,7 +102,7 @@ impl<P: Problem> Starts<P> {
     fn lower(&mut self, place: usize, value: P::L) -> Result<(), AllocError>
         ensures lowered { OnOk result (LowersAt P.L.algebra place value self.old self.new) }
         ensures marks { OnOk result (Marks self.old self.new) }
-        ensures falls { OnOk result (Falls P.L.algebra self.old self.new) }
+        ensures falls { OnOk result (StartsFall P.L.algebra self.old self.new) }
     {
         if place >= self.values.len() {
             return Ok(());
@@ -133,7 +133,7 @@ impl<P: Problem> Starts<P> {
         requires start { start < graph.now.nodes }
         ensures passed { OnOk result (PassesTo P.L.algebra P.F.edge P.targets graph.now jump.now start (target, function) self.old self.new) }
         ensures marks { OnOk result (Marks self.old self.new) }
-        ensures falls { OnOk result (Falls P.L.algebra self.old self.new) }
+        ensures falls { OnOk result (StartsFall P.L.algebra self.old self.new) }
     {
         let value = value_before(graph, self.values.as_slice(), jump.node, jump.from);
         let place = start_place(graph, procedure_at(graph, start), target);
@@ -151,7 +151,7 @@ impl<P: Problem> Starts<P> {
         requires node { jump.now.node < graph.now.nodes }
         requires end { edge.now.end < graph.now.nodes }
         ensures passes { OnOk result (PassesOver P.L.algebra P.F.edge P.targets graph.now jump.now edge.now self.old self.new) }
-        ensures falls { OnOk result (Falls P.L.algebra self.old self.new) }
+        ensures falls { OnOk result (StartsFall P.L.algebra self.old self.new) }
     {
         targets.clear();
         P::flow(edge, jump.to, targets)?;
@@ -172,7 +172,7 @@ impl<P: Problem> Starts<P> {
         requires node { jump.now.node < graph.now.nodes }
         requires ends { All (EndsWithin graph.now.nodes) edges.now }
         ensures passes { OnOk result (PassesAll P.L.algebra P.F.edge P.targets graph.now jump.now edges.now self.old self.new) }
-        ensures falls { OnOk result (Falls P.L.algebra self.old self.new) }
+        ensures falls { OnOk result (StartsFall P.L.algebra self.old self.new) }
     {
         for edge in edges {
             self.pass_over(graph, jump, edge, targets)?;

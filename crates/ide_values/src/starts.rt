@@ -1,6 +1,6 @@
 //! Start values: the value of each fact at each procedure's start.
 ghost use Rattle.std.specs.Prelude.{OnOk, IfOk, false};
-ghost use Rattle.ide_values.specs.Falling.{Falls};
+ghost use Rattle.ide_values.specs.Falling.{StartsFall};
 ghost use Rattle.ide_values.specs.Passing.{Comes, Rests, PassesBy, PassesEach, RisesNowhere};
 ghost use Rattle.ide_values.specs.Settled.{AreStartRows};
 
@@ -91,7 +91,7 @@ impl<P: Problem> Starts<P> {
         targets: &mut TargetList<P::F>,
     ) -> Result<(), AllocError>
         ensures comes { Comes P.L.algebra P.F.edge P.targets graph.now tables.now result self.old self.new }
-        ensures falls { OnOk result (Falls P.L.algebra self.old self.new) }
+        ensures falls { OnOk result (StartsFall P.L.algebra self.old self.new) }
     {
         let first = jumps.partition_point(|jump| jump.from < place);
         for jump in &jumps[first..] {
@@ -112,7 +112,7 @@ impl<P: Problem> Starts<P> {
         targets: &mut TargetList<P::F>,
     ) -> Result<(), AllocError>
         ensures comes { Comes P.L.algebra P.F.edge P.targets graph.now tables.now result self.old self.new }
-        ensures falls { OnOk result (Falls P.L.algebra self.old self.new) }
+        ensures falls { OnOk result (StartsFall P.L.algebra self.old self.new) }
     {
         let Some(entry) = tables.entry_at(index) else {
             return Ok(());
@@ -130,7 +130,7 @@ impl<P: Problem> Starts<P> {
     ) -> Result<(), AllocError>
         ensures comes { Comes P.L.algebra P.F.edge P.targets graph.now tables.now result self.old self.new }
         ensures passes { OnOk result (PassesEach P.L.algebra P.F.edge P.targets graph.now tables.now self.old self.new) }
-        ensures falls { OnOk result (Falls P.L.algebra self.old self.new) }
+        ensures falls { OnOk result (StartsFall P.L.algebra self.old self.new) }
     {
         for index in 0..tables.key_count() {
             let Some(entry) = tables.entry_at(index) else {
@@ -150,7 +150,7 @@ impl<P: Problem> Starts<P> {
         targets: &mut TargetList<P::F>,
     ) -> Result<(), AllocError>
         ensures passes { OnOk result (PassesBy P.L.algebra P.F.edge P.targets graph.now key function self.old self.new) }
-        ensures falls { OnOk result (Falls P.L.algebra self.old self.new) }
+        ensures falls { OnOk result (StartsFall P.L.algebra self.old self.new) }
     {
         let Key::Jump(node, from, to) = key else {
             return Ok(());

@@ -1,15 +1,18 @@
 //! The values of a program.
 ghost use Rattle.std.specs.Prelude.{◌≡◌, ◌↔◌, Err, IfErr, IfOk, OnOk, IsOkUnless};
 ghost use Rattle.ide_steps.specs.Frozen.{graph_in, program_in};
+ghost use Rattle.ide_steps.specs.declared.closed.Closed.{Closed};
 ghost use Rattle.ide_text.specs.Program.{value_of as program_value};
-ghost use Rattle.ide_values.specs.Closed.{FollowFrom};
+ghost use Rattle.ide_values.specs.Closed.{FollowFrom, LeadOn};
 ghost use Rattle.ide_values.specs.Frozen.{AreBestOf, AreValuesOf, FollowClosed};
 ghost use Rattle.ide_values.specs.Refusal.{AreWorkers, IsValuesRefusal};
-ghost use Rattle.ide_values.specs.Values.{AreValues, IsOutside, value_of};
+ghost use Rattle.ide_values.specs.Settled.{AreStartRows};
+ghost use Rattle.ide_values.specs.Values.{AreValues, IsOutside, value_there};
 
 use crate::fill::fill;
 use crate::laws::following_values_are_best;
 use crate::rows::{place_of, value_at_place};
+use crate::shared_fill::{FillGate, NoGate, fill_by};
 use crate::starts::start_values;
 use ide_graph::Graph;
 use ide_problem::Problem;
@@ -21,6 +24,7 @@ use ide_wire::{Fact, Node, Refused};
 use std::alloc::{AllocError, Global};
 use std::marker::Model;
 use std::sync::Arc;
+use std::thread::Threads;
 
 /// The value of each fact at each node of a program, for its roots.
 #[derive(Drop)]
@@ -44,33 +48,94 @@ impl<P: Problem> Model for Values<P> {
 
 /// The phase that turns a quiet image into values.
 pub trait ValuePhase<P: Problem> {
-    /// The values of the image. The count of workers is tested; the calling thread fills all.
+    ghost image: { Self → Closed P P.L P.F };
+
+    /// The image whose values they are.
+    fn image(&self) -> &Closed<P>
+        ensures { result.now ≡ image self.now };
+
+    /// The values of the image, by the calling thread alone.
+    ///
+    /// Refusal: `NoMemory`. It reads each entry of the tables twice, after work in proportion to how
+    /// the start values fall: once to see that none falls any more, and once for the fill.
+    final fn values_alone(&self, alloc: Global) -> Result<Values<P>, Refused>
+        ensures refused { IsOkUnless result Refused.NoMemory }
+        ensures program { IfOk result (λ values. values.program ≡ program_in (image self.now)) }
+        ensures graph { IfOk result (λ values. values.graph ≡ graph_in (image self.now)) }
+        ensures roots { IfOk result (λ values. values.roots ≡ (image self.now).roots.items) }
+        ensures follow { IfOk result (FollowClosed P.L.algebra P.F.edge P.targets (image self.now)) }
+        ensures values { IfOk result (AreValuesOf P.L.algebra P.F.edge P.targets (image self.now)) }
+        ensures best { IfOk result (AreBestOf P.L.algebra P.F.edge P.targets (image self.now).tables) }
+    {
+        Ok(values_of(alloc, self.image())?)
+    }
+
+    /// The values of the image, by so many workers. They are the same for any number of them.
     ///
     /// Refusals, in this order: `Limit` where there are no workers or more than 64; `NoMemory`.
-    /// It reads each entry of the tables twice, after work in proportion to how the start values
-    /// fall: once to see that none falls any more, and once for the fill.
-    fn values(&self, alloc: Global, workers: usize) -> Result<Values<P>, Refused>;
-}
-
-impl<P: Problem> ValuePhase<P> for Closed<P> {
-    fn values(&self, alloc: Global, workers: usize) -> Result<Values<P>, Refused>
+    final fn values<R: Threads + Sync>(
+        &self,
+        rt: &R,
+        alloc: Global,
+        workers: usize,
+    ) -> Result<Values<P>, Refused>
+    where
+        P::F: Sync,
+        P::L: Send + Sync,
         ensures workers { OnOk result (AreWorkers workers) }
         ensures refused { IfErr result (IsValuesRefusal workers) }
-        ensures program { IfOk result (λ values. values.program ≡ program_in self.now) }
-        ensures graph { IfOk result (λ values. values.graph ≡ graph_in self.now) }
-        ensures roots { IfOk result (λ values. values.roots ≡ self.now.roots.items) }
-        ensures follow { IfOk result (FollowClosed P.L.algebra P.F.edge P.targets self.now) }
-        ensures values { IfOk result (AreValuesOf P.L.algebra P.F.edge P.targets self.now) }
-        ensures best { IfOk result (AreBestOf P.L.algebra P.F.edge P.targets self.now.tables) }
+        ensures program { IfOk result (λ values. values.program ≡ program_in (image self.now)) }
+        ensures graph { IfOk result (λ values. values.graph ≡ graph_in (image self.now)) }
+        ensures roots { IfOk result (λ values. values.roots ≡ (image self.now).roots.items) }
+        ensures follow { IfOk result (FollowClosed P.L.algebra P.F.edge P.targets (image self.now)) }
+        ensures values { IfOk result (AreValuesOf P.L.algebra P.F.edge P.targets (image self.now)) }
+        ensures best { IfOk result (AreBestOf P.L.algebra P.F.edge P.targets (image self.now).tables) }
+    {
+        self.values_with(rt, alloc, workers, &NoGate)
+    }
+
+    /// The same, with a gate that is told of each worker before it fills its first node, also where
+    /// it has none. Of N nodes a worker i of W fills those from i * N / W up to (i + 1) * N / W,
+    /// exclusive, in a thread of its own, which is joined. Where no thread can be made for it, the
+    /// one that was to start it fills them.
+    ///
+    /// A worker reads each entry of the tables, and works on those at its nodes. Start values are
+    /// found before, by the calling thread.
+    final fn values_with<R: Threads + Sync, G: FillGate + Sync>(
+        &self,
+        rt: &R,
+        alloc: Global,
+        workers: usize,
+        gate: &G,
+    ) -> Result<Values<P>, Refused>
+    where
+        P::F: Sync,
+        P::L: Send + Sync,
+        ensures workers { OnOk result (AreWorkers workers) }
+        ensures refused { IfErr result (IsValuesRefusal workers) }
+        ensures program { IfOk result (λ values. values.program ≡ program_in (image self.now)) }
+        ensures graph { IfOk result (λ values. values.graph ≡ graph_in (image self.now)) }
+        ensures roots { IfOk result (λ values. values.roots ≡ (image self.now).roots.items) }
+        ensures follow { IfOk result (FollowClosed P.L.algebra P.F.edge P.targets (image self.now)) }
+        ensures values { IfOk result (AreValuesOf P.L.algebra P.F.edge P.targets (image self.now)) }
+        ensures best { IfOk result (AreBestOf P.L.algebra P.F.edge P.targets (image self.now).tables) }
     {
         if workers == 0 || workers > HANDS {
             return Err(Refused::Limit);
         }
-        Ok(values_of(alloc, self)?)
+        Ok(values_by(rt, alloc, self.image(), workers, gate)?)
     }
 }
 
-/// The values of an image.
+impl<P: Problem> ValuePhase<P> for Closed<P> {
+    ghost image = { λ closed. closed };
+
+    fn image(&self) -> &Closed<P> {
+        self
+    }
+}
+
+/// The values of an image, by the calling thread.
 fn values_of<P: Problem>(alloc: Global, closed: &Closed<P>) -> Result<Values<P>, AllocError>
     ensures program { IfOk result (λ values. values.program ≡ program_in closed.now) }
     ensures graph { IfOk result (λ values. values.graph ≡ graph_in closed.now) }
@@ -79,13 +144,62 @@ fn values_of<P: Problem>(alloc: Global, closed: &Closed<P>) -> Result<Values<P>,
     ensures values { IfOk result (AreValuesOf P.L.algebra P.F.edge P.targets closed.now) }
     ensures best { IfOk result (AreBestOf P.L.algebra P.F.edge P.targets closed.now.tables) }
 {
-    following_values_are_best::<P>();
     let rows = rows_of::<P>(
         alloc,
         &closed.loaded.graph,
         &closed.tables,
         closed.roots.as_slice(),
     )?;
+    values_from(alloc, closed, rows)
+}
+
+/// The values of an image, by so many workers.
+fn values_by<R: Threads + Sync, P: Problem, G: FillGate + Sync>(
+    rt: &R,
+    alloc: Global,
+    closed: &Closed<P>,
+    workers: usize,
+    gate: &G,
+) -> Result<Values<P>, AllocError>
+where
+    P::F: Sync,
+    P::L: Send + Sync,
+    requires { AreWorkers workers }
+    ensures program { IfOk result (λ values. values.program ≡ program_in closed.now) }
+    ensures graph { IfOk result (λ values. values.graph ≡ graph_in closed.now) }
+    ensures roots { IfOk result (λ values. values.roots ≡ closed.now.roots.items) }
+    ensures follow { IfOk result (FollowClosed P.L.algebra P.F.edge P.targets closed.now) }
+    ensures values { IfOk result (AreValuesOf P.L.algebra P.F.edge P.targets closed.now) }
+    ensures best { IfOk result (AreBestOf P.L.algebra P.F.edge P.targets closed.now.tables) }
+{
+    let rows = rows_by::<R, P, G>(
+        rt,
+        alloc,
+        &closed.loaded.graph,
+        &closed.tables,
+        closed.roots.as_slice(),
+        workers,
+        gate,
+    )?;
+    values_from(alloc, closed, rows)
+}
+
+/// The values of an image whose rows these are.
+fn values_from<P: Problem>(
+    alloc: Global,
+    closed: &Closed<P>,
+    rows: Vec<P::L>,
+) -> Result<Values<P>, AllocError>
+    requires follow { FollowFrom P.L.algebra P.F.edge P.targets (graph_in closed.now) closed.now.tables closed.now.roots.items rows.items }
+    requires values { AreValues P.L.algebra P.F.edge P.targets (graph_in closed.now) closed.now.tables closed.now.roots.items rows.items }
+    ensures program { IfOk result (λ values. values.program ≡ program_in closed.now) }
+    ensures graph { IfOk result (λ values. values.graph ≡ graph_in closed.now) }
+    ensures roots { IfOk result (λ values. values.roots ≡ closed.now.roots.items) }
+    ensures follow { IfOk result (FollowClosed P.L.algebra P.F.edge P.targets closed.now) }
+    ensures values { IfOk result (AreValuesOf P.L.algebra P.F.edge P.targets closed.now) }
+    ensures best { IfOk result (AreBestOf P.L.algebra P.F.edge P.targets closed.now.tables) }
+{
+    following_values_are_best::<P>();
     Ok(Values {
         loaded: Arc::try_clone(&closed.loaded)?,
         roots: closed.roots.to_vec(alloc)?,
@@ -93,20 +207,55 @@ fn values_of<P: Problem>(alloc: Global, closed: &Closed<P>) -> Result<Values<P>,
     })
 }
 
-/// The rows of values of a graph.
+/// The rows of values of a graph, by the calling thread.
 fn rows_of<P: Problem>(
     alloc: Global,
     graph: &Graph,
     tables: &Tables<P::F>,
     roots: &[usize],
 ) -> Result<Vec<P::L>, AllocError>
-    ensures follow { IfOk result (λ values. FollowFrom P.L.algebra P.F.edge P.targets graph.now tables.now roots.now values.items) }
-    ensures values { IfOk result (λ values. AreValues P.L.algebra P.F.edge P.targets graph.now tables.now roots.now values.items) }
+    ensures follow { IfOk result (λ rows. FollowFrom P.L.algebra P.F.edge P.targets graph.now tables.now roots.now rows.items) }
+    ensures values { IfOk result (λ rows. AreValues P.L.algebra P.F.edge P.targets graph.now tables.now roots.now rows.items) }
 {
-    sites_make_a_graph::<P>();
-    let starts = start_values::<P>(alloc, graph, tables, roots)?;
+    let starts = leading_starts::<P>(alloc, graph, tables, roots)?;
     let values = fill(alloc, graph, tables, starts.as_slice())?;
     Ok(values)
+}
+
+/// The rows of values of a graph, by so many workers.
+fn rows_by<R: Threads + Sync, P: Problem, G: FillGate + Sync>(
+    rt: &R,
+    alloc: Global,
+    graph: &Graph,
+    tables: &Tables<P::F>,
+    roots: &[usize],
+    workers: usize,
+    gate: &G,
+) -> Result<Vec<P::L>, AllocError>
+where
+    P::F: Sync,
+    P::L: Send + Sync,
+    requires { AreWorkers workers }
+    ensures follow { IfOk result (λ rows. FollowFrom P.L.algebra P.F.edge P.targets graph.now tables.now roots.now rows.items) }
+    ensures values { IfOk result (λ rows. AreValues P.L.algebra P.F.edge P.targets graph.now tables.now roots.now rows.items) }
+{
+    let starts = leading_starts::<P>(alloc, graph, tables, roots)?;
+    let values = fill_by(rt, alloc, graph, tables, starts.as_slice(), workers, gate)?;
+    Ok(values)
+}
+
+/// The start values of a graph, from which a fill leads to the values that follow.
+fn leading_starts<P: Problem>(
+    alloc: Global,
+    graph: &Graph,
+    tables: &Tables<P::F>,
+    roots: &[usize],
+) -> Result<Vec<P::L>, AllocError>
+    ensures starts { IfOk result (AreStartRows P.L.algebra P.F.edge P.targets graph.now tables.now roots.now) }
+    ensures lead { IfOk result (LeadOn P.L.algebra P.F.edge P.targets graph.now tables.now roots.now) }
+{
+    sites_make_a_graph::<P>();
+    start_values::<P>(alloc, graph, tables, roots)
 }
 
 impl<P: Problem> Values<P> {
@@ -116,7 +265,7 @@ impl<P: Problem> Values<P> {
     pub fn at(&self, node: Node, fact: Fact) -> Result<P::L, Refused>
         ensures out_of_range { (result ≡ Err Refused.OutOfRange) ↔ IsOutside self.now node fact }
         ensures refused { IsOkUnless result Refused.OutOfRange }
-        ensures value { IfOk result (λ value. value ≡ value_of P.L.algebra self.now node fact) }
+        ensures value { IfOk result (λ value. value ≡ value_there P.L.algebra self.now node fact) }
     {
         let graph = &self.loaded.graph;
         if node as usize >= graph.node_count() || fact as usize >= graph.fact_count() {

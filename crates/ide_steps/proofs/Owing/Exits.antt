@@ -14,7 +14,7 @@ use Rattle.ide_tasks.specs.declared.partners.Reaching.{Reaching}
 use Rattle.ide_tasks.specs.declared.sources.Source.{Source}
 use Rattle.ide_theory.specs.Given.{Edges, frame_of}
 use Rattle.ide_theory.specs.Member.{Each}
-use Rattle.ide_theory.specs.Parts.{exit_parts as exit_listed}
+use Rattle.ide_theory.specs.Parts.{parts_at_exit as exit_listed}
 use Rattle.ide_theory.specs.Sites.{IsEdgeOf, callers_at}
 use Rattle.ide_wire.specs.declared.key.Key.{Key}
 use Rattle.ide_wire.specs.declared.key.Key.TheVariants.{Summary}

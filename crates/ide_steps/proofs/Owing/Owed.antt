@@ -18,9 +18,9 @@ use Rattle.ide_tasks.specs.declared.partners.Partners.TheVariants.{Entries, Call
 use Rattle.ide_theory.specs.Frame.{Frame}
 use Rattle.ide_theory.specs.Graphs.{frame_at}
 use Rattle.ide_theory.specs.Member.{Each}
-use Rattle.ide_theory.specs.Parts.{NodeEdges, if_some, flat_parts as flat_listed, seed_parts as seed_listed, after_parts as after_listed, exit_parts as exit_listed, resumed_parts as resumed_listed, jump_parts, parts_of, AreKeysInRange}
+use Rattle.ide_theory.specs.Parts.{NodeEdges, if_some, parts_over_flat as flat_listed, parts_of_seed as seed_listed, parts_after_call as after_listed, parts_at_exit as exit_listed, parts_resumed as resumed_listed, jump_parts, parts_of, AreKeysInRange}
 use Rattle.ide_theory.specs.Run.{ArePartsOf}
-use Rattle.ide_theory.specs.Sites.{IsEdgeOf, HasEdgesOf, HaveEdgesOf, edges_from, callers_at, edges_at, edges_found, edges_of, node_edges}
+use Rattle.ide_theory.specs.Sites.{IsEdgeOf, HasLawfulEdges, HaveEdgesOf, edges_from, callers_at, edges_at, edges_found, edges_of, node_edges}
 use Rattle.ide_wire.specs.Key.{node_of}
 use Rattle.ide_wire.specs.declared.key.Key.{Key}
 use Rattle.ide_wire.specs.declared.key.Key.TheVariants.{Jump, Summary}
@@ -29,11 +29,11 @@ use Rattle.ide_steps.proofs.Owing.Exits.{callers-same}
 use Rattle.ide_steps.proofs.Owing.Partners.{HaveSame, same-of, same-append, same-nil, partners-same, some-inj}
 
 -- what stands at a node with a site is what the site has
-at-site : (facts n : ℕ) (o : Option Site) (all : (s : Site) → o ≡ Some s → HasEdgesOf facts s) (site : Site) → o ≡ Some site
-    → (own : HasEdgesOf facts site) × (edges_found facts n o all ≡ edges_at facts n site own)
+at-site : (facts n : ℕ) (o : Option Site) (all : (s : Site) → o ≡ Some s → HasLawfulEdges facts s) (site : Site) → o ≡ Some site
+    → (own : HasLawfulEdges facts site) × (edges_found facts n o all ≡ edges_at facts n site own)
 at-site facts n None all site is = elim (none-some site is) [ ]
 at-site facts n (Some s) all site is =
-    subst (λ u. (own : HasEdgesOf facts u) × (edges_at facts n s (all s refl) ≡ edges_at facts n u own)) (some-inj is) (all s refl, refl)
+    subst (λ u. (own : HasLawfulEdges facts u) × (edges_at facts n s (all s refl) ≡ edges_at facts n u own)) (some-inj is) (all s refl, refl)
 
 module _ {F L : Type 0} (A : LatticeAlgebra L) (B : EdgeAlgebra F L) (targets : Targets F) (graph : Supergraph) (all : HaveEdgesOf graph.facts graph.sites)
     (table : Table F) (few : graph.facts ≤ 2 ^ 16) (ranged : AreKeysInRange (frame_at A B targets graph all) (found table)) where
@@ -63,7 +63,7 @@ module _ {F L : Type 0} (A : LatticeAlgebra L) (B : EdgeAlgebra F L) (targets : 
       partners-same (λ a. Jump c a b) table jumps are graph.facts few (λ a f present. (ranged (Jump c a b) f present).0)
       (λ a f. (Jump m a d, B.compose f s))
 
-  call-same : (n a b : ℕ) (f : F) (calls : List EdgeData) (along : EdgeData) (own : HasEdgesOf graph.facts (Call calls along)) (summaries : List (ℕ × F))
+  call-same : (n a b : ℕ) (f : F) (calls : List EdgeData) (along : EdgeData) (own : HasLawfulEdges graph.facts (Call calls along)) (summaries : List (ℕ × F))
       → ArePartners (λ d. Summary n b d) table summaries
       → HaveSame (parts_at targets B (Jump n a b) f (Call calls along) (Entries summaries)) (jump_parts K (found table) (edges_at graph.facts n (Call calls along) own) n a b f)
   call-same n a b f calls along own summaries are =
@@ -80,7 +80,7 @@ module _ {F L : Type 0} (A : LatticeAlgebra L) (B : EdgeAlgebra F L) (targets : 
       (same-of flats (flats ++ []) (sym (append-nil flats)))
       (same-nil afters (afters_listed ++ []) (same-nil afters afters_listed (over-same n a b f along.end summaries are)))))
 
-  jump-same : (n a b : ℕ) (f : F) (site : Site) (own : HasEdgesOf graph.facts site) (partners : Partners F)
+  jump-same : (n a b : ℕ) (f : F) (site : Site) (own : HasLawfulEdges graph.facts site) (partners : Partners F)
       → ArePartnersOf targets B graph table (Jump n a b) site partners
       → HaveSame (parts_at targets B (Jump n a b) f site partners) (jump_parts K (found table) (edges_at graph.facts n site own) n a b f)
   jump-same n a b f (Normal edges) own partners are =
@@ -98,7 +98,7 @@ module _ {F L : Type 0} (A : LatticeAlgebra L) (B : EdgeAlgebra F L) (targets : 
       ∙ callers-same A B targets (edges_of graph.facts graph.sites all (start_at graph)) (found table) n a b f (slice_get callers) 0 callers own
       (λ k. let same : 0 + k ≡ k = omega arith in ap (slice_get callers) same))
 
-  summary-same : (c b d : ℕ) (s : F) (site : Site) (own : HasEdgesOf graph.facts site) (partners : Partners F)
+  summary-same : (c b d : ℕ) (s : F) (site : Site) (own : HasLawfulEdges graph.facts site) (partners : Partners F)
       → ArePartnersOf targets B graph table (Summary c b d) site partners
       → HaveSame (parts_at targets B (Summary c b d) s site partners) (flat_map (resumed_listed K (found table) c b d s) (edges_at graph.facts c site own).return_sites)
   summary-same c b d s (Normal edges) own (Entries jumps) are = same-of {T = Key × F} [] [] refl

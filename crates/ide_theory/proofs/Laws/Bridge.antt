@@ -7,7 +7,7 @@ use Rattle.ide_lattice.specs.Meets.{distributive-apply}
 use Rattle.ide_problem.specs.Flow.{function_to}
 use Rattle.ide_wire.specs.declared.key.Key.{Key}
 use Rattle.ide_wire.specs.declared.key.Key.TheVariants.{Jump, Summary}
-use Rattle.ide_theory.specs.Frame.{Frame, IsLawful}
+use Rattle.ide_theory.specs.Frame.{Frame, IsLawfulFrame}
 use Rattle.ide_theory.specs.Effect.{arrow}
 use Rattle.ide_theory.specs.Image.{IsTarget, function_of, Instance, flat, seed, after, summarised, IsMet}
 use Rattle.ide_theory.specs.Value.{jump_map}
@@ -33,13 +33,13 @@ present-is K get key f same = ap (λ o. unwrap_or o K.functions.all_top) same
 pub absent-is : (K : Frame) (get : Key → Option K.F) (key : Key) → get key ≡ None → function_of K get key ≡ K.functions.all_top
 absent-is K get key same = ap (λ o. unwrap_or o K.functions.all_top) same
 
-pub proper-function_of : (K : Frame) → IsLawful K → (get : Key → Option K.F) → HasProper K get → (key : Key) → IsTrue (K.functions.proper (function_of K get key))
+pub proper-function_of : (K : Frame) → IsLawfulFrame K → (get : Key → Option K.F) → HasProper K get → (key : Key) → IsTrue (K.functions.proper (function_of K get key))
 proper-function_of K laws get proper key = elim (present-or K get key) [
   | inl found ↦ subst (λ f. IsTrue (K.functions.proper f)) (sym (present-is K get key found.0 found.1)) (proper key found.0 found.1)
   | inr absent ↦ subst (λ f. IsTrue (K.functions.proper f)) (sym (absent-is K get key absent)) laws.functions.proper_all_top
 ]
 
-module _ (K : Frame) (laws : IsLawful K) (get : Key → Option K.F) (proper : HasProper K get) where
+module _ (K : Frame) (laws : IsLawfulFrame K) (get : Key → Option K.F) (proper : HasProper K get) where
   open K use {L, F, lattice as A, functions as B, facts, targets, graph, graph.{Edge, from, to, IsFlat, IsCall, Matched}}
 
   pub proper-of : (key : Key) → IsTrue (B.proper (function_of K get key))

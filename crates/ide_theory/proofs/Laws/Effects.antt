@@ -7,7 +7,7 @@ use Rattle.ide_lattice.specs.Laws.{IsEdgeAlgebra}
 use Rattle.ide_lattice.specs.Order.{IsBelow, IsDistributive, below-trans, below-antisym, below-top, distributive-mono}
 use Rattle.ide_lattice.specs.Meets.{proper-meet_of, meet_of-below, below-meet_of, distributive-apply}
 use Rattle.ide_problem.specs.Flow.{function_to, AreTargets}
-use Rattle.ide_theory.specs.Frame.{Frame, Roots, IsLawful}
+use Rattle.ide_theory.specs.Frame.{Frame, Roots, IsLawfulFrame}
 use Rattle.ide_theory.specs.Path.{Valid}
 use Rattle.ide_theory.specs.Effect.{arrow, edge_effect, path_effect}
 use Rattle.ide_theory.specs.Best.{IsBest}
@@ -24,7 +24,7 @@ proper-function_to A B laws d low count (t ∷ ts) lawful =
     choose true p q = p
     choose false p q = q
 
-module _ (K : Frame) (laws : IsLawful K) where
+module _ (K : Frame) (laws : IsLawfulFrame K) where
   open K use {L, F, lattice as A, functions as B, facts, targets, graph.{Edge}}
 
   -- an environment gives each fact a proper value

@@ -4,7 +4,7 @@ use Rattle.std.proofs.Common.{◌≤◌, sym, subst}
 use Rattle.ide_lattice.specs.Algebra.{LatticeAlgebra, EdgeAlgebra}
 use Rattle.ide_lattice.specs.Laws.{IsLattice, IsEdgeAlgebra}
 use Rattle.ide_problem.specs.Flow.{Targets, IsFlow, AreTargets}
-use Rattle.ide_theory.specs.Frame.{IsLawful}
+use Rattle.ide_theory.specs.Frame.{IsLawfulFrame}
 use Rattle.ide_theory.specs.Given.{Edges, IsGraph, frame_of, roots_of}
 use Rattle.ide_theory.specs.Theorem.{ValuesAreBest, RunsAreBest, BestIsUnique, TopIsBest, PartsAreOwed, PartsInRangeAreOwed, RunsAreSound, RunsGoOn, StartsAreSeeded, ClaimsArePaid, LoweringsAreFew}
 use Rattle.ide_theory.proofs.Laws.Effects.{best-unique, top-best}
@@ -18,7 +18,7 @@ use Rattle.ide_theory.proofs.Laws.Seeded.{start-seeded}
 
 module _ {L F : Type 0} (lattice : LatticeAlgebra L) (functions : EdgeAlgebra F L) (targets : Targets F)
     (lattice_laws : IsLattice lattice) (function_laws : IsEdgeAlgebra lattice functions) (flow : IsFlow functions targets) where
-  pub lawful-frame : (G : Edges) → IsGraph G → IsLawful (frame_of lattice functions targets G)
+  pub lawful-frame : (G : Edges) → IsGraph G → IsLawfulFrame (frame_of lattice functions targets G)
   lawful-frame G graph = record {
     lattice = lattice_laws;
     functions = function_laws;

@@ -7,7 +7,7 @@ use Rattle.ide_lattice.specs.Meets.{proper-meet_of, meet_of-below, below-meet_of
 use Rattle.ide_problem.specs.Flow.{function_to}
 use Rattle.ide_wire.specs.declared.key.Key.{Key}
 use Rattle.ide_wire.specs.declared.key.Key.TheVariants.{Jump, Summary}
-use Rattle.ide_theory.specs.Frame.{Frame, Roots, AreRoots, IsLawful}
+use Rattle.ide_theory.specs.Frame.{Frame, Roots, AreRoots, IsLawfulFrame}
 use Rattle.ide_theory.specs.Path.{SameLevel, Valid, within, enters}
 use Rattle.ide_theory.specs.Effect.{arrow, edge_effect, path_effect}
 use Rattle.ide_theory.specs.Best.{IsBelowPaths, IsBest}
@@ -38,7 +38,7 @@ pub record OfEntered (K : Frame) (R : Roots K) (s d : ℕ) (y : K.L) : Type 0 wh
   pub exploded : Exploded K path fact d function
   pub same : y ≡ K.functions.apply function (R.entry fact)
 
-module _ (K : Frame) (laws : IsLawful K) where
+module _ (K : Frame) (laws : IsLawfulFrame K) where
   open K use {L, F, lattice as A, functions as B, facts, targets, graph, graph.{Edge, from, to, IsFlat, IsCall, Matched, start_of}}
 
   -- the effect of a path is below what it does from fact to fact
@@ -189,7 +189,7 @@ module _ (K : Frame) (laws : IsLawful K) where
 
 -- in a sound image in which the roots' identities stand and each instance is met, the values that
 -- follow from found start values are best
-pub best-value : (K : Frame) → IsLawful K → (R : Roots K) → AreRoots K R → (get : Key → Option K.F) → IsSound K get → HasRoots K R get
+pub best-value : (K : Frame) → IsLawfulFrame K → (R : Roots K) → AreRoots K R → (get : Key → Option K.F) → IsSound K get → HasRoots K R get
     → ((ks : List Key) (key : Key) (g : K.F) → Instance K get ks key g → IsMet K get key g)
     → (start : ℕ → ℕ → K.L) → IsStarted K R get start → (n d : ℕ) → d < K.facts → IsBest K R n d (value_at K get start n d)
 best-value K laws R given_roots get sound roots met start started n d h =

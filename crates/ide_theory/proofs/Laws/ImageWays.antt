@@ -6,10 +6,10 @@ use Rattle.ide_wire.specs.declared.key.Key.{Key}
 use Rattle.ide_wire.specs.declared.key.Key.TheVariants.{Jump}
 use Rattle.ide_theory.specs.Frame.{Frame}
 use Rattle.ide_theory.specs.Image.{function_of, IsMet}
-use Rattle.ide_theory.specs.Images.{Procedures, Image, ImageStep, Root, with_state, seeded_once, seeded_below, absent_below, is_met, entered, begun, step as next, after, image_steps_of, image_steps_in, IsSame, AreSeeds}
+use Rattle.ide_theory.specs.Images.{Procedures, Image, ImageStep, Root, with_state, seeded_once, seeded_below, absent_below, is_met, entered, root_begun, step as next, after_steps_of, image_steps_of, image_steps_in, IsSame, AreSeeds}
 use Rattle.ide_theory.specs.Invariant.{unclaimed}
 use Rattle.ide_theory.specs.Run.{Step, claim, skip, lower, release, finish, root, Steps, none, more, seeds_of, seeds_in}
-use Rattle.ide_theory.specs.State.{State, lowered_by, seeded}
+use Rattle.ide_theory.specs.State.{State, with_lowered, seeded}
 
 -- the image with the functions of a state, and one root more
 abbrev with_root : {Program Name F : Type 0} → Image Program Name F → Name → State F → Image Program Name F
@@ -73,7 +73,7 @@ module _ {Program Name : Type 0} (procedures : Procedures Program Name) (K : Fra
       → next procedures B same (with_state i s) (Root name) ≡ record (with_state i (seeded_below B s r (procedures.entries p))) { roots = i.roots ++ name ∷ [] }
   root-image i s p name r is begins =
       ap (λ (o : Option Program). with_root i name (entered procedures B same o name (unclaimed s))) is
-      ∙ ap (λ (o : Option ℕ). with_root i name (begun procedures B same p o (unclaimed s))) begins
+      ∙ ap (λ (o : Option ℕ). with_root i name (root_begun procedures B same p o (unclaimed s))) begins
       ∙ ap (with_root i name) (below-unclaimed B s r (procedures.entries p))
 
 module _ {Program Name : Type 0} (procedures : Procedures Program Name) (K : Frame) (same : K.F → K.F → Bool) (is_same : IsSame same) where
@@ -90,25 +90,25 @@ module _ {Program Name : Type 0} (procedures : Procedures Program Name) (K : Fra
       by false is = is
 
   step-image : (i : Image Program Name F) {s t : State F} (happens : Step K s t) → seeds_of happens ≡ 0
-      → after procedures B same (with_state i s) (image_steps_of happens) ≡ with_state i t
+      → after_steps_of procedures B same (with_state i s) (image_steps_of happens) ≡ with_state i t
   step-image i (claim h q parts free waits alone owes) unrooted = refl
   step-image i (skip {s = s} h c x g rest mine parts met) unrooted =
-      ap (λ b. with_state i (cond b (unclaimed s) (lowered_by B (unclaimed s) x g))) (met-test s x g met)
+      ap (λ b. with_state i (cond b (unclaimed s) (with_lowered B (unclaimed s) x g))) (met-test s x g met)
   step-image i (lower {s = s} h c x g rest mine parts changes) unrooted =
-      ap (λ b. with_state i (cond b (unclaimed s) (lowered_by B (unclaimed s) x g))) (not-met-test s x g changes)
+      ap (λ b. with_state i (cond b (unclaimed s) (with_lowered B (unclaimed s) x g))) (not-met-test s x g changes)
   step-image i (release h c mine) unrooted = refl
   step-image i (finish h c mine over) unrooted = refl
   step-image i (root r d is_start in_range absent) rooted = let no : ⊥ = omega (arith, rooted) in absurd no
 
   after-append : (i : Image Program Name F) (xs ys : List (ImageStep Program Name F))
-      → after procedures B same i (xs ++ ys) ≡ after procedures B same (after procedures B same i xs) ys
+      → after_steps_of procedures B same i (xs ++ ys) ≡ after_steps_of procedures B same (after_steps_of procedures B same i xs) ys
   after-append i [] ys = refl
   after-append i (x ∷ xs) ys = after-append (next procedures B same i x) xs ys
 
   pub way-image : (i : Image Program Name F) {s t : State F} (way : Steps K s t) → seeds_in way ≡ 0
-      → after procedures B same (with_state i s) (image_steps_in way) ≡ with_state i t
+      → after_steps_of procedures B same (with_state i s) (image_steps_in way) ≡ with_state i t
   way-image i none unrooted = refl
   way-image i {s} (more steps happens) unrooted =
       after-append (with_state i s) (image_steps_in steps) (image_steps_of happens)
-      ∙ ap (λ j. after procedures B same j (image_steps_of happens)) (way-image i steps (omega (arith, unrooted)))
+      ∙ ap (λ j. after_steps_of procedures B same j (image_steps_of happens)) (way-image i steps (omega (arith, unrooted)))
       ∙ step-image i happens (omega (arith, unrooted))

@@ -3,12 +3,12 @@
 use Rattle.std.proofs.Common.{◌≡◌, ◌≢◌, ℕ, ◌⊎◌, true, List, [], ◌∷◌, Option, Some, None, option_map, IsTrue, ap, sym, subst, refl, ◌∙◌, inl, inr}
 use Rattle.ide_wire.specs.declared.key.Key.{Key}
 use Rattle.ide_wire.specs.declared.key.Key.TheVariants.{Jump}
-use Rattle.ide_theory.specs.Frame.{Frame, IsLawful}
+use Rattle.ide_theory.specs.Frame.{Frame, IsLawfulFrame}
 use Rattle.ide_theory.specs.Path.{here}
 use Rattle.ide_theory.specs.Member.{IsIn, first, later}
 use Rattle.ide_theory.specs.Image.{function_of, Instance, flat, seed, after, summarised, IsMet}
 use Rattle.ide_theory.specs.Entry.{done, MeetOf, one, both, OfKey, IsSound}
-use Rattle.ide_theory.specs.State.{Claim, State, rest_of, without_first, marked, new_claim, with_claim, part_done, lowered_at, finished, nothing_done}
+use Rattle.ide_theory.specs.State.{Claim, State, rest_of, without_first, claim_marked, new_claim, with_claim, part_done, lowered_in_frame, finished, nothing_done}
 use Rattle.ide_theory.specs.Run.{Step, claim, skip, lower, release, finish, root, Run, begins, goes_on}
 use Rattle.ide_theory.specs.Invariant.{awaits, IsHeld, IsInvariant}
 use Rattle.ide_theory.proofs.Laws.Changes.{key-tells, some-inj, none-some, map-tells, left-with, left-without, left-done}
@@ -73,17 +73,17 @@ module _ {F : Type 0} (s : State F) (held : IsHeld s) where
     one = λ i j d e left right same. held.one i j d e (left-without s h i d left).1 (left-without s h j e right).1 same;
   }
 
-module _ (K : Frame) (laws : IsLawful K) where
+module _ (K : Frame) (laws : IsLawfulFrame K) where
   open K use {L, F, lattice as A, functions as B}
 
-  pub held-lowered : (s : State F) → IsHeld s → (t : Key) (f : F) → IsHeld (lowered_at K s t f)
+  pub held-lowered : (s : State F) → IsHeld s → (t : Key) (f : F) → IsHeld (lowered_in_frame K s t f)
   held-lowered s held t f = record {
     pending = λ j c left.
-        let was : (e : Claim F) × (s.claims j ≡ Some e) × (marked t e ≡ c) = map-tells (marked t) (s.claims j) left in
+        let was : (e : Claim F) × (s.claims j ≡ Some e) × (claim_marked t e ≡ c) = map-tells (claim_marked t) (s.claims j) left in
         pending-lowered K laws s t f c.key (subst (λ u. s.pending u ≡ true) (ap (λ e. e.key) was.2) (held.pending j was.0 was.1));
     one = λ i j c d left right same.
-        let was : (e : Claim F) × (s.claims i ≡ Some e) × (marked t e ≡ c) = map-tells (marked t) (s.claims i) left in
-        let too : (e : Claim F) × (s.claims j ≡ Some e) × (marked t e ≡ d) = map-tells (marked t) (s.claims j) right in
+        let was : (e : Claim F) × (s.claims i ≡ Some e) × (claim_marked t e ≡ c) = map-tells (claim_marked t) (s.claims i) left in
+        let too : (e : Claim F) × (s.claims j ≡ Some e) × (claim_marked t e ≡ d) = map-tells (claim_marked t) (s.claims j) right in
         held.one i j was.0 too.0 was.1 too.1 (ap (λ e. e.key) was.2 ∙ same ∙ sym (ap (λ e. e.key) too.2));
   }
 
@@ -98,7 +98,7 @@ module _ (K : Frame) (laws : IsLawful K) where
         (subst (MeetOf B (OfKey K t)) (sym (all_top-meet A B laws.lattice laws.functions g (proper-owed t g meets))) meets)
   ]
 
-  pub sound-lowered : (s : State F) → IsSound K s.get → (t : Key) (g : F) → MeetOf B (OfKey K t) g → IsSound K (lowered_at K s t g).get
+  pub sound-lowered : (s : State F) → IsSound K s.get → (t : Key) (g : F) → MeetOf B (OfKey K t) g → IsSound K (lowered_in_frame K s t g).get
   sound-lowered s sound t g meets k f same = elim (key-tells s.get t (Some (B.meet (function_of K s.get t) g)) k) [
     | inl at_key ↦
         let is : B.meet (function_of K s.get t) g ≡ f = some-inj (sym at_key.1 ∙ same) in
@@ -106,7 +106,7 @@ module _ (K : Frame) (laws : IsLawful K) where
     | inr other ↦ sound k f (sym other.1 ∙ same)
   ]
 
-  pub inv-lowered : (s : State F) → IsInvariant K s → (t : Key) (f : F) → MeetOf B (OfKey K t) f → IsInvariant K (lowered_at K s t f)
+  pub inv-lowered : (s : State F) → IsInvariant K s → (t : Key) (f : F) → MeetOf B (OfKey K t) f → IsInvariant K (lowered_in_frame K s t f)
   inv-lowered s inv t f meets = record {
     ready = λ ks k g instance. elim (other-instance K laws s.get t (Some (B.meet (function_of K s.get t) f)) instance) [
       | inl among ↦ awaits t among (open-lowered K laws s t f)
@@ -116,7 +116,7 @@ module _ (K : Frame) (laws : IsLawful K) where
     held = held-lowered s inv.held t f;
     sound = sound-lowered s inv.sound t f meets;
     owed = λ j c left k g part.
-        let was : (e : Claim F) × (s.claims j ≡ Some e) × (marked t e ≡ c) = map-tells (marked t) (s.claims j) left in
+        let was : (e : Claim F) × (s.claims j ≡ Some e) × (claim_marked t e ≡ c) = map-tells (claim_marked t) (s.claims j) left in
         inv.owed j was.0 was.1 k g (subst (IsIn {T = Key × F} (k, g)) (sym (ap (λ e. e.parts) was.2)) part);
   }
 
@@ -151,7 +151,7 @@ module _ (K : Frame) (laws : IsLawful K) where
   inv-step (skip {s = s} h c t f rest mine parts has) inv = inv-done s inv h c t f rest mine parts has
   inv-step (lower {s = s} h c t f rest mine parts changes) inv =
       let meets : MeetOf B (OfKey K t) f = inv.owed h c mine t f (subst (IsIn {T = Key × F} (t, f)) (sym parts) first) in
-      inv-done (lowered_at K s t f) (inv-lowered s inv t f meets) h (marked t c) t f rest (ap (option_map (marked t)) mine) parts
+      inv-done (lowered_in_frame K s t f) (inv-lowered s inv t f meets) h (claim_marked t c) t f rest (ap (option_map (claim_marked t)) mine) parts
       (met-now K laws s (has-proper K laws s.get inv.sound) t f (proper-owed t f meets))
   inv-step (release {s = s} h c mine) inv = record {
     ready = λ ks k g instance. settled-release K laws s h inv.held (inv.ready ks k g instance);

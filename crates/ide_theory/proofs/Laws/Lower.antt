@@ -4,7 +4,7 @@
 use Rattle.std.proofs.Common.{◌≡◌, ℕ, ◌<◌, ◌⊎◌, List, [], ◌∷◌, ◌++◌, IsTrue, sym, subst, ◌∙◌, inl, inr}
 use Rattle.ide_lattice.specs.Order.{IsBelow, IsDistributive, below-trans, below-top, distributive-mono}
 use Rattle.ide_lattice.specs.Meets.{meet_of, proper-meet_of, meet_of-below, below-meet_of, distributive-meet_of, below-through}
-use Rattle.ide_theory.specs.Frame.{Frame, Roots, AreRoots, IsLawful}
+use Rattle.ide_theory.specs.Frame.{Frame, Roots, AreRoots, IsLawfulFrame}
 use Rattle.ide_theory.specs.Path.{SameLevel, here, step, through, Valid, within, enters}
 use Rattle.ide_theory.specs.Effect.{arrow, edge_effect, path_effect}
 use Rattle.ide_theory.proofs.Laws.Folds.{all-or, meet_of-top, distributive-then}
@@ -35,13 +35,13 @@ pub record IsClosed (K : Frame) (R : Roots K) (jump : ℕ → ℕ → ℕ → K.
       → IsBelow K.lattice (start (K.graph.to e) c) (arrow K e b c (jump (K.graph.from e) a b (start (K.graph.start_of (K.graph.from e)) a)))
 
 -- a same-level path stays in its procedure
-pub same-start : (K : Frame) → IsLawful K → {s n : ℕ} {es : List K.graph.Edge} → SameLevel K.graph s es n → K.graph.start_of s ≡ s
+pub same-start : (K : Frame) → IsLawfulFrame K → {s n : ℕ} {es : List K.graph.Edge} → SameLevel K.graph s es n → K.graph.start_of s ≡ s
     → K.graph.start_of n ≡ s
 same-start K laws here own = own
 same-start K laws (step e path flat) own = laws.flat e flat ∙ same-start K laws path own
 same-start K laws (through call ret path matched inner) own = laws.back call ret matched ∙ same-start K laws path own
 
-module _ (K : Frame) (laws : IsLawful K) (jump summary : ℕ → ℕ → ℕ → K.L → K.L)
+module _ (K : Frame) (laws : IsLawfulFrame K) (jump summary : ℕ → ℕ → ℕ → K.L → K.L)
     (good : (n a b : ℕ) → IsDistributive K.lattice (jump n a b)) (rules : IsSatisfied K jump summary) where
   open K use {L, lattice as A, facts, graph, graph.{Edge, from, to, IsFlat, IsCall, Matched, start_of}}
 

@@ -5,11 +5,11 @@ use Rattle.ide_wire.specs.Key.{same_key, same_key_refl}
 use Rattle.ide_wire.specs.declared.key.Key.{Key}
 use Rattle.ide_wire.specs.declared.key.Key.TheVariants.{Jump}
 use Rattle.ide_theory.specs.Bounds.{HasPending, pending_of, FindsClaimed, waiting_of, AreClaimsPaid}
-use Rattle.ide_theory.specs.Frame.{Frame, IsLawful}
+use Rattle.ide_theory.specs.Frame.{Frame, IsLawfulFrame}
 use Rattle.ide_theory.specs.Image.{function_of}
 use Rattle.ide_theory.specs.Invariant.{IsHeld}
 use Rattle.ide_theory.specs.Member.{IsIn, first, later}
-use Rattle.ide_theory.specs.State.{Claim, State, without_first, marked, new_claim, with_claim, part_done, with_function, lowered_at, seeded_at, finished}
+use Rattle.ide_theory.specs.State.{Claim, State, without_first, claim_marked, new_claim, with_claim, part_done, with_function, lowered_in_frame, seeded_at, finished}
 use Rattle.ide_theory.specs.Run.{Step, claim, skip, lower, release, finish, root, Run, Steps, none, more, claims_of, claims_in, lowerings_of, lowerings_in, releases_of, releases_in, seeds_of, seeds_in}
 use Rattle.ide_theory.proofs.Laws.Changes.{key-tells, hand-tells, same-or, some-inj, none-some, has-claim, kept-with, kept-done}
 use Rattle.ide_theory.proofs.Laws.Counts.{count-not, count-least, count-below, count-less, count-but, test-or, distinct-more, among-or}
@@ -129,7 +129,7 @@ module _ {F : Type 0} where
   finds-with s x f found finds j c has fresh = elim (same-or c.key x) [
     | inl same ↦ or-right (found c.key) (same_key x c.key) (key-same (sym same))
     | inr other ↦ or-left (found c.key) (same_key x c.key)
-        (finds j (marked x c) (ap (option_map (marked x)) has) (or-neither (same_key c.key x) c.lowered other.1 fresh))
+        (finds j (claim_marked x c) (ap (option_map (claim_marked x)) has) (or-neither (same_key c.key x) c.lowered other.1 fresh))
   ]
 
   -- a claim that is gone is of the key, or the test finds it
@@ -233,7 +233,7 @@ module _ {F : Type 0} where
         | inr other ↦ other.0 same
       ]
 
-module _ (K : Frame) (laws : IsLawful K) where
+module _ (K : Frame) (laws : IsLawfulFrame K) where
   open K use {F, functions as B}
 
   paid-step : (s : State F) {t u : State F} (step : Step K t u) → IsHeld t → (n m : ℕ) → IsPaid s t n m
@@ -248,7 +248,7 @@ module _ (K : Frame) (laws : IsLawful K) where
       let sum : n + 0 + waiting_of (part_done t h) found keys ≤ pending_of s keys + (m + 0 + 0 + 0) = omega (arith, paid) in
       sum
   paid-step s (lower {s = t} h c x g rest mine parts changes) held n m before keys covers found finds =
-      let now : State F = lowered_at K t x g in
+      let now : State F = lowered_in_frame K t x g in
       let paid : n + waiting_of (part_done now h) found keys ≤ pending_of s keys + (m + 1) =
       paid-done s now h n (m + 1) (paid-with s t x (B.meet (function_of K t.get x) g) n m before) keys covers found finds in
       let sum : n + 0 + waiting_of (part_done now h) found keys ≤ pending_of s keys + (m + 1 + 0 + 0) = omega (arith, paid) in

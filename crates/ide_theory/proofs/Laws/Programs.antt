@@ -10,7 +10,7 @@ use Rattle.ide_graph.specs.EdgeLaws.{AreLawful, IsLawful}
 use Rattle.ide_graph.specs.ProgramEdges.{IsNormal, IsCallFrom, IsCallerOf, IsSiteOf}
 use Rattle.ide_graph.specs.Numbers.{facts_of}
 use Rattle.ide_theory.specs.Member.{Each}
-use Rattle.ide_theory.specs.Sites.{IsEdgeOf, HasEdgesOf}
+use Rattle.ide_theory.specs.Sites.{IsEdgeOf, HasLawfulEdges}
 
 -- what holds of each element, and what follows from it
 each-all : {T : Type 0} (P Q : T → Type 0) → ((x : T) → P x → Q x) → (xs : List T) → All P xs → Each Q xs
@@ -21,7 +21,7 @@ module _ (p : Program) (lawful : AreLawful p) (facts : ℕ) (counted : facts ≡
   edge-is : (edge : EdgeData) → IsLawful p edge → IsEdgeOf facts edge
   edge-is edge is = record { lawful = is.lawful; counted = is.facts ∙ sym counted }
 
-  pub site-lawful : (n : ℕ) (s : Site) → IsSiteOf p n s → HasEdgesOf facts s
+  pub site-lawful : (n : ℕ) (s : Site) → IsSiteOf p n s → HasLawfulEdges facts s
   site-lawful n (Normal edges) is =
       each-all (IsNormal p n) (IsEdgeOf facts) (λ e normal. edge-is e (lawful.normal n e normal)) edges is.1.each
   site-lawful n (Call calls along) is = (

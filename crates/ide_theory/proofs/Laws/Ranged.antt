@@ -2,17 +2,17 @@
 use Rattle.std.proofs.Common.{◌≡◌, ℕ, ◌⊎◌, List, Some, ap, sym, subst, ◌∙◌, inl, inr}
 use Rattle.ide_wire.specs.declared.key.Key.{Key}
 use Rattle.ide_wire.specs.declared.key.Key.TheVariants.{Jump}
-use Rattle.ide_theory.specs.Frame.{Frame, IsLawful}
+use Rattle.ide_theory.specs.Frame.{Frame, IsLawfulFrame}
 use Rattle.ide_theory.specs.Member.{IsIn, first}
 use Rattle.ide_theory.specs.Image.{function_of, Instance}
-use Rattle.ide_theory.specs.State.{Claim, State, nothing_done, without_first, marked, new_claim, part_done, with_function, lowered_at}
+use Rattle.ide_theory.specs.State.{Claim, State, nothing_done, without_first, claim_marked, new_claim, part_done, with_function, lowered_in_frame}
 use Rattle.ide_theory.specs.Run.{ArePartsOf, Step, claim, skip, lower, release, finish, root, Run, begins, goes_on}
 use Rattle.ide_theory.specs.Parts.{NodeEdges, AreEdgesOf, parts_of, IsKeyInRange, AreAllInRange}
 use Rattle.ide_theory.proofs.Laws.Changes.{key-tells, none-some, map-tells, left-with, left-without, left-done}
 use Rattle.ide_theory.proofs.Laws.Kept.{in-rest}
 use Rattle.ide_theory.proofs.Laws.Parts.{instance-in-range, parts-are}
 
-module _ (K : Frame) (laws : IsLawful K) where
+module _ (K : Frame) (laws : IsLawfulFrame K) where
   open K use {F, functions as B, facts}
 
   pub ranged-done : (s : State F) → AreAllInRange K s → (h : ℕ) → AreAllInRange K (part_done s h)
@@ -33,7 +33,7 @@ module _ (K : Frame) (laws : IsLawful K) where
       | inr other ↦ all.keys k g (sym other.1 ∙ same)
     ];
     parts = λ j c left k g part.
-        let was : (e : Claim F) × (s.claims j ≡ Some e) × (marked t e ≡ c) = map-tells (marked t) (s.claims j) left in
+        let was : (e : Claim F) × (s.claims j ≡ Some e) × (claim_marked t e ≡ c) = map-tells (claim_marked t) (s.claims j) left in
         all.parts j was.0 was.1 k g (subst (IsIn {T = Key × F} (k, g)) (sym (ap (λ e. e.parts) was.2)) part);
   }
 
@@ -50,7 +50,7 @@ module _ (K : Frame) (laws : IsLawful K) where
   }
   ranged-step (skip {s = s} h c t f rest mine parts has) all = ranged-done s all h
   ranged-step (lower {s = s} h c t f rest mine parts changes) all =
-      ranged-done (lowered_at K s t f)
+      ranged-done (lowered_in_frame K s t f)
       (ranged-with s all t (B.meet (function_of K s.get t) f) (all.parts h c mine t f (subst (IsIn {T = Key × F} (t, f)) (sym parts) first))) h
   ranged-step (release {s = s} h c mine) all = record { keys = all.keys; parts = λ j d left. all.parts j d (left-without s h j d left).1 }
   ranged-step (finish {s = s} h c mine none) all = record { keys = all.keys; parts = λ j d left. all.parts j d (left-without s h j d left).1 }

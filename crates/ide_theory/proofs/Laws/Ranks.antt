@@ -4,7 +4,7 @@ use Rattle.std.specs.Prelude.{unwrap_or}
 use Rattle.ide_wire.specs.declared.key.Key.{Key}
 use Rattle.ide_wire.specs.declared.key.Key.TheVariants.{Jump}
 use Rattle.ide_theory.specs.Bounds.{spent_on, AreLoweringsFew}
-use Rattle.ide_theory.specs.Frame.{Frame, IsLawful}
+use Rattle.ide_theory.specs.Frame.{Frame, IsLawfulFrame}
 use Rattle.ide_theory.specs.Image.{function_of, IsMet}
 use Rattle.ide_theory.specs.Invariant.{IsInvariant}
 use Rattle.ide_theory.specs.Member.{IsIn, first, later}
@@ -106,7 +106,7 @@ module _ (K : Frame) where
   before-step (finish h c mine over) keys has = has
   before-step (root {s = s} r d is_start in_range absent) keys has = before-with s (Jump r d d) B.id keys has
 
-  module _ (laws : IsLawful K) where
+  module _ (laws : IsLawfulFrame K) where
     -- no function is of higher rank than always-top
     rank-most : (s : State F) → IsInvariant K s → (k : Key) → rank_at s.get k ≤ B.height
     rank-most s inv k = laws.functions.rank_most (function_of K s.get k) (proper-function_of K laws s.get (has-proper K laws s.get inv.sound) k)

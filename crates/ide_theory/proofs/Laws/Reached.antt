@@ -2,12 +2,12 @@
 use Rattle.std.proofs.Common.{◌≡◌, true, Some, IsTrue, sym, subst, ◌∙◌, inl, inr}
 use Rattle.ide_wire.specs.declared.key.Key.{Key}
 use Rattle.ide_wire.specs.declared.key.Key.TheVariants.{Jump}
-use Rattle.ide_theory.specs.Frame.{Frame, IsLawful}
+use Rattle.ide_theory.specs.Frame.{Frame, IsLawfulFrame}
 use Rattle.ide_theory.specs.Image.{function_of, IsMet}
 use Rattle.ide_theory.specs.Invariant.{IsInvariant}
 use Rattle.ide_theory.specs.Reached.{IsRunOf, DoRunsGoOn}
 use Rattle.ide_theory.specs.State.{State, with_function}
-use Rattle.ide_theory.specs.Run.{Step, claim, skip, lower, release, finish, root, Run, begins, goes_on, Steps, none, more, joined}
+use Rattle.ide_theory.specs.Run.{Step, claim, skip, lower, release, finish, root, Run, begins, goes_on, Steps, none, more, steps_joined}
 use Rattle.ide_theory.proofs.Laws.Changes.{key-tells}
 use Rattle.ide_theory.proofs.Laws.Sound.{has-proper}
 use Rattle.ide_theory.proofs.Laws.Kept.{inv-run}
@@ -43,7 +43,7 @@ module _ (K : Frame) where
   ]
   present-step (root {s = s} r d is_start in_range absent) inv present = present-with s present (Jump r d d) B.id
 
-  module _ (laws : IsLawful K) where
+  module _ (laws : IsLawfulFrame K) where
     pub present-run : {s : State F} → Run K s → ArePresent K s
     present-run begins = λ key waits. let no : ⊥ = cc (waits) in elim no [ ]
     present-run (goes_on run step) = present-step step (inv-run K laws run) (present-run run)
@@ -73,5 +73,5 @@ module _ (K : Frame) where
     runs-go-on = record {
       run = λ s t. run-on;
       keeps = λ s t. met-on;
-      compose = λ s t u. joined;
+      compose = λ s t u. steps_joined;
     }

@@ -6,10 +6,10 @@ use Rattle.ide_lattice.specs.Laws.{IsLattice, IsEdgeAlgebra}
 use Rattle.ide_wire.specs.Key.{same_key, same_key_refl}
 use Rattle.ide_wire.specs.declared.key.Key.{Key}
 use Rattle.ide_wire.specs.declared.key.Key.TheVariants.{Jump, Summary}
-use Rattle.ide_theory.specs.Frame.{Frame, IsLawful}
+use Rattle.ide_theory.specs.Frame.{Frame, IsLawfulFrame}
 use Rattle.ide_theory.specs.Member.{IsIn, first, later}
 use Rattle.ide_theory.specs.Image.{function_of, Instance, flat, seed, after, summarised, IsMet}
-use Rattle.ide_theory.specs.State.{Claim, State, put, rest_of, without_first, marked, new_claim, with_claim, part_done, with_function, lowered_at, seeded_at, finished}
+use Rattle.ide_theory.specs.State.{Claim, State, put, rest_of, without_first, claim_marked, new_claim, with_claim, part_done, with_function, lowered_in_frame, seeded_at, finished}
 use Rattle.ide_theory.specs.Run.{ArePartsOf}
 use Rattle.ide_theory.specs.Invariant.{IsOpen, IsSettled, met, awaits, owed, IsHeld}
 use Rattle.ide_theory.proofs.Laws.Changes.{key-tells, hand-tells, same-or, some-inj, none-some, map-tells, or-true, left-with, has-claim, kept-with, left-without, left-done, kept-done}
@@ -57,7 +57,7 @@ module _ {F L : Type 0} (A : LatticeAlgebra L) (B : EdgeAlgebra F L) (lattice : 
   pub now-met : (u g : F) → IsTrue (B.proper u) → IsTrue (B.proper g) → B.meet (B.meet u g) g ≡ B.meet u g
   now-met u g p q = meet-associative u g g p q q ∙ ap (B.meet u) (meet-idempotent g q)
 
-module _ (K : Frame) (laws : IsLawful K) where
+module _ (K : Frame) (laws : IsLawfulFrame K) where
   open K use {L, F, lattice as A, functions as B}
 
   -- an instance of the image that is changed at a key has the key among its premises, or stood before
@@ -86,13 +86,13 @@ module _ (K : Frame) (laws : IsLawful K) where
   ]
 
   -- to receive the identity at an absent key is to become it
-  pub lowered-is-seeded : (s : State F) (t : Key) → s.get t ≡ None → lowered_at K s t B.id ≡ seeded_at K s t
+  pub lowered-is-seeded : (s : State F) (t : Key) → s.get t ≡ None → lowered_in_frame K s t B.id ≡ seeded_at K s t
   lowered-is-seeded s t absent =
       ap (with_function s t) (ap (λ o. B.meet (unwrap_or o B.all_top) B.id) absent ∙ all_top-meet A B laws.lattice laws.functions B.id laws.functions.proper_id)
 
   -- the function of each key after one receives another
   pub function-lowered : (s : State F) (t : Key) (g : F) (k : Key)
-      → ((t ≡ k) × (function_of K (lowered_at K s t g).get k ≡ B.meet (function_of K s.get k) g)) ⊎ (function_of K (lowered_at K s t g).get k ≡ function_of K s.get k)
+      → ((t ≡ k) × (function_of K (lowered_in_frame K s t g).get k ≡ B.meet (function_of K s.get k) g)) ⊎ (function_of K (lowered_in_frame K s t g).get k ≡ function_of K s.get k)
   function-lowered s t g k = elim (key-tells s.get t (Some (B.meet (function_of K s.get t) g)) k) [
     | inl here ↦ inl (here.0, ap (λ o. unwrap_or o B.all_top) here.1 ∙ ap (λ u. B.meet (function_of K s.get u) g) here.0)
     | inr other ↦ inr (ap (λ o. unwrap_or o B.all_top) other.1)
@@ -100,7 +100,7 @@ module _ (K : Frame) (laws : IsLawful K) where
 
   -- a function that has been received stays received
   pub met-lowered : (s : State F) → HasProper K s.get → (t : Key) (g : F) → IsTrue (B.proper g) → (k : Key) (f : F) → IsTrue (B.proper f)
-      → IsMet K s.get k f → IsMet K (lowered_at K s t g).get k f
+      → IsMet K s.get k f → IsMet K (lowered_in_frame K s t g).get k f
   met-lowered s proper t g pg k f pf has =
       let u : F = function_of K s.get k in
       let pu : IsTrue (B.proper u) = proper-function_of K laws s.get proper k in
@@ -110,7 +110,7 @@ module _ (K : Frame) (laws : IsLawful K) where
       ]
 
   -- what a lowering gives its key is received
-  pub met-now : (s : State F) → HasProper K s.get → (t : Key) (g : F) → IsTrue (B.proper g) → IsMet K (lowered_at K s t g).get t g
+  pub met-now : (s : State F) → HasProper K s.get → (t : Key) (g : F) → IsTrue (B.proper g) → IsMet K (lowered_in_frame K s t g).get t g
   met-now s proper t g pg =
       let u : F = function_of K s.get t in
       let pu : IsTrue (B.proper u) = proper-function_of K laws s.get proper t in
@@ -164,37 +164,37 @@ module _ (K : Frame) (laws : IsLawful K) where
   ]
 
   -- what has the lowered key among its premises awaits it; all else stands as before
-  pub open-lowered : (s : State F) (t : Key) (f : F) → IsOpen (lowered_at K s t f) t
+  pub open-lowered : (s : State F) (t : Key) (f : F) → IsOpen (lowered_in_frame K s t f) t
   open-lowered s t f = record {
     pending = elim (key-tells s.pending t true t) [
       | inl here ↦ here.1
       | inr other ↦ elim (other.0 refl) [ ]
     ];
     stale = λ j d left is.
-        let before : (e : Claim F) × (s.claims j ≡ Some e) × (marked t e ≡ d) = map-tells (marked t) (s.claims j) left in
+        let before : (e : Claim F) × (s.claims j ≡ Some e) × (claim_marked t e ≡ d) = map-tells (claim_marked t) (s.claims j) left in
         let same : before.0.key ≡ t = ap (λ e. e.key) before.2 ∙ is in
         ap (λ e. e.lowered) (sym before.2) ∙ ap (λ b. b || before.0.lowered) (ap (λ u. same_key u t) same ∙ same_key_refl t);
   }
 
-  pub pending-lowered : (s : State F) (t : Key) (f : F) (q : Key) → s.pending q ≡ true → (lowered_at K s t f).pending q ≡ true
+  pub pending-lowered : (s : State F) (t : Key) (f : F) (q : Key) → s.pending q ≡ true → (lowered_in_frame K s t f).pending q ≡ true
   pending-lowered s t f q before = elim (key-tells s.pending t true q) [
     | inl here ↦ here.1
     | inr other ↦ other.1 ∙ before
   ]
 
   pub settled-lowered : (s : State F) → HasProper K s.get → (t : Key) (f : F) → IsTrue (B.proper f)
-      → {ks : List Key} {k : Key} {g : F} → IsTrue (B.proper g) → IsSettled K s ks k g → IsSettled K (lowered_at K s t f) ks k g
+      → {ks : List Key} {k : Key} {g : F} → IsTrue (B.proper g) → IsSettled K s ks k g → IsSettled K (lowered_in_frame K s t f) ks k g
   settled-lowered s proper t f pf {k = k} {g = g} pg (met has) = met (met-lowered s proper t f pf k g pg has)
   settled-lowered s proper t f pf pg (awaits p among expects) = awaits p among (record {
     pending = pending-lowered s t f p expects.pending;
     stale = λ j d left is.
-        let before : (e : Claim F) × (s.claims j ≡ Some e) × (marked t e ≡ d) = map-tells (marked t) (s.claims j) left in
+        let before : (e : Claim F) × (s.claims j ≡ Some e) × (claim_marked t e ≡ d) = map-tells (claim_marked t) (s.claims j) left in
         ap (λ e. e.lowered) (sym before.2)
         ∙ or-true (same_key before.0.key t) before.0.lowered (expects.stale j before.0 before.1 (ap (λ e. e.key) before.2 ∙ is));
   })
   settled-lowered s proper t f pf {ks = ks} pg (owed j d held among fresh part) = elim (same-or d.key t) [
     | inl same ↦ awaits t (subst (λ u. IsIn u ks) same among) (open-lowered s t f)
-    | inr differs ↦ owed j (marked t d) (ap (option_map (marked t)) held) among (ap (λ b. b || d.lowered) differs.1 ∙ fresh) part
+    | inr differs ↦ owed j (claim_marked t d) (ap (option_map (claim_marked t)) held) among (ap (λ b. b || d.lowered) differs.1 ∙ fresh) part
   ]
 
   -- without a claim its key is open

@@ -2,7 +2,7 @@
 use Rattle.std.proofs.Common.{◌≡◌, ◌≢◌, ℕ, zero, suc, ◌+◌, ◌≤◌, nat_eq, Option, Some, None, option_map, ap, sym, refl, ◌∙◌, inl, inr, subst, arith}
 use Rattle.ide_wire.specs.declared.key.Key.TheVariants.{Jump}
 use Rattle.ide_theory.specs.Frame.{Frame}
-use Rattle.ide_theory.specs.State.{Claim, State, put, without_first, marked, with_claim, lowered_at}
+use Rattle.ide_theory.specs.State.{Claim, State, put, without_first, claim_marked, with_claim, lowered_in_frame}
 use Rattle.ide_theory.specs.Run.{Step, claim, skip, lower, release, finish, root, Run, begins, goes_on}
 use Rattle.ide_theory.specs.Invariant.{unclaimed}
 use Rattle.ide_theory.proofs.Laws.Changes.{hand-tells}
@@ -47,10 +47,10 @@ module _ (K : Frame) where
   free-step (claim {s = s} h q parts free waits alone owes) n none = (n + (h + 1), free-with s n h _ none)
   free-step (skip {s = s} h c t g rest mine parts met) n none = (n, free-without s n h _ (ap (option_map without_first)) none)
   free-step (lower {s = s} h c t g rest mine parts changes) n none =
-      (n, free-without (lowered_at K s t g) n h _ (ap (option_map without_first)) (λ j most. ap (option_map (marked t)) (none j most)))
+      (n, free-without (lowered_in_frame K s t g) n h _ (ap (option_map without_first)) (λ j most. ap (option_map (claim_marked t)) (none j most)))
   free-step (release {s = s} h c mine) n none = (n, free-without s n h None (λ _. refl) none)
   free-step (finish {s = s} h c mine over) n none = (n, free-without s n h None (λ _. refl) none)
-  free-step (root r d is_start in_range absent) n none = (n, λ j most. ap (option_map (marked (Jump r d d))) (none j most))
+  free-step (root r d is_start in_range absent) n none = (n, λ j most. ap (option_map (claim_marked (Jump r d d))) (none j most))
 
   -- from some hand on no hand has a claim
   pub free-run : {s : State F} → Run K s → (n : ℕ) × AreFreeFrom s n

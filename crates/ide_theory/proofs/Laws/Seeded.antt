@@ -2,11 +2,11 @@
 use Rattle.std.proofs.Common.{◌≡◌, ℕ, ◌⊎◌, List, Option, Some, IsTrue, ap, sym, subst, refl, ◌∙◌, inl, inr}
 use Rattle.ide_wire.specs.declared.key.Key.{Key}
 use Rattle.ide_wire.specs.declared.key.Key.TheVariants.{Jump, Summary}
-use Rattle.ide_theory.specs.Frame.{Frame, IsLawful}
+use Rattle.ide_theory.specs.Frame.{Frame, IsLawfulFrame}
 use Rattle.ide_theory.specs.Member.{IsIn, first}
 use Rattle.ide_theory.specs.Image.{function_of, Instance, flat, seed, after, summarised, IsMet}
 use Rattle.ide_theory.specs.Invariant.{IsInvariant}
-use Rattle.ide_theory.specs.State.{Claim, State, without_first, marked, new_claim, part_done, lowered_at}
+use Rattle.ide_theory.specs.State.{Claim, State, without_first, claim_marked, new_claim, part_done, lowered_in_frame}
 use Rattle.ide_theory.specs.Run.{Step, claim, skip, lower, release, finish, root, Run, begins, goes_on}
 use Rattle.ide_theory.proofs.Laws.Bridge.{HasProper}
 use Rattle.ide_theory.proofs.Laws.Changes.{key-tells, none-some, map-tells, left-with, left-without, left-done}
@@ -22,7 +22,7 @@ record IsSeed (K : Frame) (k : Key) (g : K.F) : Type 0 where
   pub function_is : g ≡ K.functions.id
   pub begins : K.graph.start_of start ≡ start
 
-module _ (K : Frame) (laws : IsLawful K) where
+module _ (K : Frame) (laws : IsLawfulFrame K) where
   open K use {F, functions as B, graph.{start_of}}
 
   -- the start of the jump's procedure has received the identity of its first fact
@@ -72,18 +72,18 @@ module _ (K : Frame) (laws : IsLawful K) where
   }
 
   -- a key that receives such a function has its seed
-  seed-lowered : (s : State F) → HasProper K s.get → (t : Key) (g : F) → IsTrue (B.proper g) → IsSeeding s.get t g → HasSeed (lowered_at K s t g).get t
+  seed-lowered : (s : State F) → HasProper K s.get → (t : Key) (g : F) → IsTrue (B.proper g) → IsSeeding s.get t g → HasSeed (lowered_in_frame K s t g).get t
   seed-lowered s proper t g p (inl has) =
-      kept-seed s.get (lowered_at K s t g).get (λ k. met-lowered K laws s proper t g p k B.id laws.functions.proper_id) t has
+      kept-seed s.get (lowered_in_frame K s t g).get (λ k. met-lowered K laws s proper t g p k B.id laws.functions.proper_id) t has
   seed-lowered s proper t g p (inr is) =
-      let now : Key → Option F = (lowered_at K s t g).get in
+      let now : Key → Option F = (lowered_in_frame K s t g).get in
       let received : IsMet K now (Jump is.start is.fact is.fact) B.id =
       subst (λ k. IsMet K now k B.id) is.key_is (subst (IsMet K now t) is.function_is (met-now K laws s proper t g p)) in
       subst (HasSeed now) (sym is.key_is) (subst (λ n. IsMet K now (Jump n is.fact is.fact) B.id) (sym is.begins) received)
 
-  seeded-lowered : (s : State F) → HasProper K s.get → AreSeeded s → (t : Key) (g : F) → IsTrue (B.proper g) → IsSeeding s.get t g → AreSeeded (lowered_at K s t g)
+  seeded-lowered : (s : State F) → HasProper K s.get → AreSeeded s → (t : Key) (g : F) → IsTrue (B.proper g) → IsSeeding s.get t g → AreSeeded (lowered_in_frame K s t g)
   seeded-lowered s proper all t g p seeds =
-      let now : Key → Option F = (lowered_at K s t g).get in
+      let now : Key → Option F = (lowered_in_frame K s t g).get in
       let keeps : Keeps s.get now = λ k. met-lowered K laws s proper t g p k B.id laws.functions.proper_id in
       record {
         keys = λ k f same. elim (key-tells s.get t (Some (B.meet (function_of K s.get t) g)) k) [
@@ -91,7 +91,7 @@ module _ (K : Frame) (laws : IsLawful K) where
           | inr other ↦ kept-seed s.get now keeps k (all.keys k f (sym other.1 ∙ same))
         ];
         parts = λ j c left k f part.
-            let was : (e : Claim F) × (s.claims j ≡ Some e) × (marked t e ≡ c) = map-tells (marked t) (s.claims j) left in
+            let was : (e : Claim F) × (s.claims j ≡ Some e) × (claim_marked t e ≡ c) = map-tells (claim_marked t) (s.claims j) left in
             kept-seeding s.get now keeps k f (all.parts j was.0 was.1 k f (subst (IsIn {T = Key × F} (k, f)) (sym (ap (λ e. e.parts) was.2)) part));
       }
 
@@ -109,7 +109,7 @@ module _ (K : Frame) (laws : IsLawful K) where
   seeded-step (skip {s = s} h c t g rest mine parts met) inv all = seeded-done s all h
   seeded-step (lower {s = s} h c t g rest mine parts changes) inv all =
       let part : IsIn {T = Key × F} (t, g) c.parts = subst (IsIn {T = Key × F} (t, g)) (sym parts) first in
-      seeded-done (lowered_at K s t g)
+      seeded-done (lowered_in_frame K s t g)
       (seeded-lowered s (has-proper K laws s.get inv.sound) all t g (proper-owed K laws t g (inv.owed h c mine t g part)) (all.parts h c mine t g part)) h
   seeded-step (release {s = s} h c mine) inv all = record { keys = all.keys; parts = λ j d left. all.parts j d (left-without s h j d left).1 }
   seeded-step (finish {s = s} h c mine over) inv all = record { keys = all.keys; parts = λ j d left. all.parts j d (left-without s h j d left).1 }

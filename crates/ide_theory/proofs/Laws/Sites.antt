@@ -13,7 +13,7 @@ use Rattle.ide_problem.specs.Flow.{Targets}
 use Rattle.ide_theory.specs.Given.{Edge, Edges, IsGraph, AreMatched, frame_of}
 use Rattle.ide_theory.specs.Member.{IsIn, first, later, Each}
 use Rattle.ide_theory.specs.Parts.{NodeEdges, AreEdgesOf, CallBetween}
-use Rattle.ide_theory.specs.Sites.{IsEdgeOf, HasEdgesOf, HaveEdgesOf, edges_from, callers_at, edges_found, node_edges, edges_of}
+use Rattle.ide_theory.specs.Sites.{IsEdgeOf, HasLawfulEdges, HaveEdgesOf, edges_from, callers_at, edges_found, node_edges, edges_of}
 use Rattle.ide_theory.proofs.Laws.Changes.{some-inj, none-some}
 use Rattle.ide_theory.specs.Members.{contains-in, in-contains, first-or, not-in-empty, in-one, in-flat_map, of-flat_map, in-range_below}
 use Rattle.ide_theory.proofs.Laws.SameEdge.{same-edge}
@@ -79,7 +79,7 @@ module _ (facts n : ℕ) where
   abbrev pub SiteWith : Option Site → (Site → Type 0) → Type 0
   SiteWith o P = (s : Site) × (o ≡ Some s) × P s
 
-  pub of-flat : (o : Option Site) (all : (s : Site) → o ≡ Some s → HasEdgesOf facts s) (e : Edge facts) → IsIn e (edges_found facts n o all).flat
+  pub of-flat : (o : Option Site) (all : (s : Site) → o ≡ Some s → HasLawfulEdges facts s) (e : Edge facts) → IsIn e (edges_found facts n o all).flat
       → (e.from ≡ n) × SiteWith o (λ s. HasFlat s e.edge)
   of-flat None all e is = elim (not-in-empty is) [ ]
   of-flat (Some (Normal edges)) all e is =
@@ -88,7 +88,7 @@ module _ (facts n : ℕ) where
   of-flat (Some (Call calls along)) all e is = (ap (λ f. f.from) (in-one is), (Call calls along, refl, ap (λ f. f.edge) (in-one is)))
   of-flat (Some (Exit start callers)) all e is = elim (not-in-empty is) [ ]
 
-  pub of-calls : (o : Option Site) (all : (s : Site) → o ≡ Some s → HasEdgesOf facts s) (e : Edge facts) → IsIn e (edges_found facts n o all).calls
+  pub of-calls : (o : Option Site) (all : (s : Site) → o ≡ Some s → HasLawfulEdges facts s) (e : Edge facts) → IsIn e (edges_found facts n o all).calls
       → (e.from ≡ n) × SiteWith o (λ s. HasCall s e.edge)
   of-calls None all e is = elim (not-in-empty is) [ ]
   of-calls (Some (Normal edges)) all e is = elim (not-in-empty is) [ ]
@@ -97,7 +97,7 @@ module _ (facts n : ℕ) where
       (found.0, (Call calls along, refl, contains-in found.1))
   of-calls (Some (Exit start callers)) all e is = elim (not-in-empty is) [ ]
 
-  pub in-calls : (o : Option Site) (all : (s : Site) → o ≡ Some s → HasEdgesOf facts s) (e : Edge facts) → e.from ≡ n
+  pub in-calls : (o : Option Site) (all : (s : Site) → o ≡ Some s → HasLawfulEdges facts s) (e : Edge facts) → e.from ≡ n
       → SiteWith o (λ s. HasCall s e.edge) → IsIn e (edges_found facts n o all).calls
   in-calls None all e from with_it = elim (none-some with_it.1) [ ]
   in-calls (Some (Normal edges)) all e from with_it = elim (subst (λ s. HasCall s e.edge) (sym (some-inj with_it.1)) with_it.2) [ ]
@@ -107,7 +107,7 @@ module _ (facts n : ℕ) where
   in-calls (Some (Exit start callers)) all e from with_it = elim (subst (λ s. HasCall s e.edge) (sym (some-inj with_it.1)) with_it.2) [ ]
 
   -- each call of the site is one of those listed
-  pub call-listed : (o : Option Site) (all : (s : Site) → o ≡ Some s → HasEdgesOf facts s) (d : EdgeData) → SiteWith o (λ s. HasCall s d)
+  pub call-listed : (o : Option Site) (all : (s : Site) → o ≡ Some s → HasLawfulEdges facts s) (d : EdgeData) → SiteWith o (λ s. HasCall s d)
       → (e : Edge facts) × IsIn e (edges_found facts n o all).calls × (e.edge ≡ d)
   call-listed None all d with_it = elim (none-some with_it.1) [ ]
   call-listed (Some (Normal edges)) all d with_it = elim (subst (λ s. HasCall s d) (sym (some-inj with_it.1)) with_it.2) [ ]
@@ -115,14 +115,14 @@ module _ (facts n : ℕ) where
       edge-listed calls (all (Call calls along) refl).0 d (in-contains calls d (subst (λ s. HasCall s d) (sym (some-inj with_it.1)) with_it.2))
   call-listed (Some (Exit start callers)) all d with_it = elim (subst (λ s. HasCall s d) (sym (some-inj with_it.1)) with_it.2) [ ]
 
-  pub of-sites : (o : Option Site) (all : (s : Site) → o ≡ Some s → HasEdgesOf facts s) (m : ℕ) → IsIn m (edges_found facts n o all).return_sites
+  pub of-sites : (o : Option Site) (all : (s : Site) → o ≡ Some s → HasLawfulEdges facts s) (m : ℕ) → IsIn m (edges_found facts n o all).return_sites
       → SiteWith o (λ s. ReturnsTo s m)
   of-sites None all m is = elim (not-in-empty is) [ ]
   of-sites (Some (Normal edges)) all m is = elim (not-in-empty is) [ ]
   of-sites (Some (Call calls along)) all m is = (Call calls along, refl, in-one is)
   of-sites (Some (Exit start callers)) all m is = elim (not-in-empty is) [ ]
 
-  pub in-sites : (o : Option Site) (all : (s : Site) → o ≡ Some s → HasEdgesOf facts s) (m : ℕ) → SiteWith o (λ s. ReturnsTo s m)
+  pub in-sites : (o : Option Site) (all : (s : Site) → o ≡ Some s → HasLawfulEdges facts s) (m : ℕ) → SiteWith o (λ s. ReturnsTo s m)
       → IsIn m (edges_found facts n o all).return_sites
   in-sites None all m with_it = elim (none-some with_it.1) [ ]
   in-sites (Some (Normal edges)) all m with_it = elim (subst (λ s. ReturnsTo s m) (sym (some-inj with_it.1)) with_it.2) [ ]
@@ -130,7 +130,7 @@ module _ (facts n : ℕ) where
       subst (λ k. IsIn k (along.end ∷ [])) (sym (subst (λ s. ReturnsTo s m) (sym (some-inj with_it.1)) with_it.2)) first
   in-sites (Some (Exit start callers)) all m with_it = elim (subst (λ s. ReturnsTo s m) (sym (some-inj with_it.1)) with_it.2) [ ]
 
-  pub of-callers : (o : Option Site) (all : (s : Site) → o ≡ Some s → HasEdgesOf facts s) (e f : Edge facts)
+  pub of-callers : (o : Option Site) (all : (s : Site) → o ≡ Some s → HasLawfulEdges facts s) (e f : Edge facts)
       → IsIn {T = Edge facts × Edge facts} (e, f) (edges_found facts n o all).callers
       → (c : Caller) × SiteWith o (λ s. HasCaller s c) × (e.from ≡ c.call_node) × (e.edge ≡ c.call) × (f.from ≡ n) × (f.edge ≡ c.back)
   of-callers None all e f is = elim (not-in-empty is) [ ]
@@ -141,7 +141,7 @@ module _ (facts n : ℕ) where
       of-callers_at callers (all (Exit start callers) refl) e f is in
       (found.0, (Exit start callers, refl, contains-in found.1), found.2, found.3, found.4, found.5)
 
-  pub in-callers : (o : Option Site) (all : (s : Site) → o ≡ Some s → HasEdgesOf facts s) (c : Caller) → SiteWith o (λ s. HasCaller s c)
+  pub in-callers : (o : Option Site) (all : (s : Site) → o ≡ Some s → HasLawfulEdges facts s) (c : Caller) → SiteWith o (λ s. HasCaller s c)
       → (e : Edge facts) → e.from ≡ c.call_node → e.edge ≡ c.call
       → (f : Edge facts) × IsIn {T = Edge facts × Edge facts} (e, f) (edges_found facts n o all).callers × (f.from ≡ n) × (f.edge ≡ c.back)
   in-callers None all c with_it e from is = elim (none-some with_it.1) [ ]

@@ -5,7 +5,7 @@ use Rattle.ide_lattice.specs.Algebra.{LatticeAlgebra, EdgeAlgebra}
 use Rattle.ide_lattice.specs.Laws.{IsEdgeAlgebra}
 use Rattle.ide_wire.specs.declared.key.Key.{Key}
 use Rattle.ide_wire.specs.declared.key.Key.TheVariants.{Jump, Summary}
-use Rattle.ide_theory.specs.Frame.{Frame, IsLawful}
+use Rattle.ide_theory.specs.Frame.{Frame, IsLawfulFrame}
 use Rattle.ide_theory.specs.Path.{SameLevel, here, step, through}
 use Rattle.ide_theory.specs.Image.{IsTarget, Instance, flat, seed, after, summarised}
 use Rattle.ide_theory.specs.Entry.{Exploded, done, more, MeetOf, one, both, OfJump, OfSummary, OfKey, IsSound}
@@ -81,7 +81,7 @@ module _ {F L : Type 0} (A : LatticeAlgebra L) (B : EdgeAlgebra F L) (laws : IsE
       subst (MeetOf B T) (sym (compose-meet f g h (proper-meets pq l) (proper-meets pq m) (proper-meets pr n)))
       (both (meets-then pq pr join l n) (meets-then pq pr join m n))
 
-module _ (K : Frame) (laws : IsLawful K) where
+module _ (K : Frame) (laws : IsLawfulFrame K) where
   open K use {L, F, lattice as A, functions as B, facts, targets, graph, graph.{Edge, from, to, IsFlat, IsCall, Matched, start_of}}
 
   pub target-in-range : (e : Edge) (k d : ℕ) (f : F) → IsTarget K e k d f → IsInRange B.proper 0 facts (d, f)

@@ -2,7 +2,7 @@
 use Rattle.std.proofs.Common.{◌≡◌, ◌≢◌, ℕ, ◌⊎◌, true, List, [], ◌∷◌, None, ap₂, sym, refl, ◌∙◌, inl, inr}
 use Rattle.ide_wire.specs.declared.key.Key.{Key}
 use Rattle.ide_wire.specs.declared.key.Key.TheVariants.{Jump}
-use Rattle.ide_theory.specs.Frame.{Frame, Roots, IsLawful}
+use Rattle.ide_theory.specs.Frame.{Frame, Roots, IsLawfulFrame}
 use Rattle.ide_theory.specs.Path.{SameLevel, here, step, through}
 use Rattle.ide_theory.specs.Member.{IsIn}
 use Rattle.ide_theory.specs.Image.{IsMet, HasRoots}
@@ -47,7 +47,7 @@ inv-unclaimed K s inv = inv-of K (unclaimed s) (λ _. refl) (record {
 })
 
 -- the roots' identities stay in each step
-pub has-roots-step : (K : Frame) → IsLawful K → (R : Roots K) → {s t : State K.F} → Step K s t → IsInvariant K s → HasRoots K R s.get → HasRoots K R t.get
+pub has-roots-step : (K : Frame) → IsLawfulFrame K → (R : Roots K) → {s t : State K.F} → Step K s t → IsInvariant K s → HasRoots K R s.get → HasRoots K R t.get
 has-roots-step K laws R happens inv roots r d is_root within = elim (roots r d is_root within) [
   | inl top ↦ inl top
   | inr has ↦ inr (met-step K laws happens inv (Jump r d d) K.functions.id laws.functions.proper_id has)
@@ -68,7 +68,7 @@ exploded-empty K (more e k m g is path) none = elim (cons-nil none) [ ]
     cons-nil same = cc
 
 -- where only calls enter a node, its entries are the identity
-pub start-is-id : (K : Frame) → IsLawful K → (n : ℕ) → ((e : K.graph.Edge) → K.graph.IsFlat e → K.graph.to e ≢ n)
+pub start-is-id : (K : Frame) → IsLawfulFrame K → (n : ℕ) → ((e : K.graph.Edge) → K.graph.IsFlat e → K.graph.to e ≢ n)
     → ((call ret : K.graph.Edge) → K.graph.Matched call ret → K.graph.to ret ≢ n) → (a b : ℕ) {f : K.F} → MeetOf K.functions (OfJump K n a b) f → f ≡ K.functions.id
 start-is-id K laws n no_flat no_return a b (one of) = exploded-empty K of.exploded (empty-at K of.level no_flat no_return)
 start-is-id K laws n no_flat no_return a b (both l m) =

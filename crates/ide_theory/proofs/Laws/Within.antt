@@ -20,7 +20,7 @@ use Rattle.ide_theory.specs.Member.{IsIn, first}
 use Rattle.ide_theory.specs.Parts.{AreEdgesOf}
 use Rattle.ide_theory.specs.Run.{Step, claim, skip, lower, release, finish, root, Run, begins, goes_on}
 use Rattle.ide_theory.specs.Sites.{HaveEdgesOf, node_edges}
-use Rattle.ide_theory.specs.State.{Claim, State, nothing_done, without_first, marked, new_claim, part_done, with_function, lowered_at}
+use Rattle.ide_theory.specs.State.{Claim, State, nothing_done, without_first, claim_marked, new_claim, part_done, with_function, lowered_in_frame}
 use Rattle.ide_theory.specs.Within.{AreAllWithin, IsPlaced, is_call, is_some_call}
 use Rattle.ide_theory.proofs.Laws.Changes.{key-tells, none-some, map-tells, left-with, left-without, left-done}
 use Rattle.ide_theory.proofs.Laws.Kept.{in-rest}
@@ -61,7 +61,7 @@ module _ (K : Frame) (G : Supergraph) (has : AreNodesOf K G) where
       | inr other ↦ all.keys k g (sym other.1 ∙ same)
     ];
     parts = λ j c left k g part.
-        let was : (e : Claim F) × (s.claims j ≡ Some e) × (marked t e ≡ c) = map-tells (marked t) (s.claims j) left in
+        let was : (e : Claim F) × (s.claims j ≡ Some e) × (claim_marked t e ≡ c) = map-tells (claim_marked t) (s.claims j) left in
         all.parts j was.0 was.1 k g (subst (IsIn {T = Key × F} (k, g)) (sym (ap (λ e. e.parts) was.2)) part);
   }
 
@@ -78,7 +78,7 @@ module _ (K : Frame) (G : Supergraph) (has : AreNodesOf K G) where
   }
   within-step (skip {s = s} h c t f rest mine parts met) all = within-done s all h
   within-step (lower {s = s} h c t f rest mine parts changes) all =
-      within-done (lowered_at K s t f)
+      within-done (lowered_in_frame K s t f)
       (within-with s all t (B.meet (function_of K s.get t) f) (all.parts h c mine t f (subst (IsIn {T = Key × F} (t, f)) (sym parts) first))) h
   within-step (release {s = s} h c mine) all = record { keys = all.keys; parts = λ j d left. all.parts j d (left-without s h j d left).1 }
   within-step (finish {s = s} h c mine none) all = record { keys = all.keys; parts = λ j d left. all.parts j d (left-without s h j d left).1 }

@@ -8,7 +8,7 @@ returns g c = (
     parsed = c.in_ok-program.ensures.parsed;
     loaded = c.load.new.self;
     loads = c.in_ok-ticket.ensures.loads;
-    stores = c.in_ok-store_all.ensures;
+    stores = c.in_ok-store_all.ensures.stored;
   },
   c.in_ok-append_stored.ensures,
 )

@@ -11,5 +11,5 @@ returns g c = record {
   quiet = c.in_ok-drain.ensures.quiet;
   kept = c.seal.new.self;
   seals = seals_rest _ c.drain.new.self c.seal.new.self c.in_ok-seal.field-0 (λ is. c.in_ok-seal.ensures.nothing (ap (λ s. Ok s) is)) c.in_ok-seal.ensures.seals;
-  stores = c.in_ok-store_all.ensures;
+  stores = c.in_ok-store_all.ensures.stored;
 }

@@ -1,7 +1,7 @@
 use Rattle.std.proofs.Common.{ap, subst}
 use Rattle.std.proofs.lemmas.Result.{IfErr-weaker, err_from_is_err_and}
 use Rattle.std.specs.Option.{is_some}
-use Rattle.ide_steps.specs.Room.{IsWhole}
+use Rattle.ide_steps.specs.Room.{IsWholeCore}
 use Rattle.ide_service.specs.Served.{IsAnswerRefusal, no_values, not_frozen}
 use Rattle.ide_service.proofs.Results.{refused-on}
 use Rattle.ide_service.proofs.Served.{answers_over}
@@ -10,7 +10,7 @@ use Rattle.ide_service.proofs.answers.values_of_table.Goals as goal
 pub returns-clause-best : goal.returns-clause-best
 returns-clause-best g c =
     let frozen = c.in_ok-closed.ensures in
-    answers_over _ c.args.table.now c.in_ok-closed.closed (subst IsWhole c.core.ensures c.cores_are_whole.ensures) frozen.graph
+    answers_over _ c.args.table.now c.in_ok-closed.closed (subst IsWholeCore c.core.ensures c.cores_are_whole.ensures) frozen.graph
     c.values_of_runs_are_best.ensures c.values.result frozen.frozen c.values.ensures.program c.values.ensures.graph c.values.ensures.roots c.values.ensures.best
 
 pub returns-in_err-closed-clause-refused : goal.returns-in_err-closed-clause-refused

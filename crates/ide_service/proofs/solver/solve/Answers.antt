@@ -1,6 +1,6 @@
 use Rattle.std.proofs.Common.{map, refl}
 use Rattle.ide_values.specs.Dump.{dump_of}
-use Rattle.ide_values.specs.Values.{value_of}
+use Rattle.ide_values.specs.Values.{value_there}
 use Rattle.ide_service.proofs.Refused.{wants-memory}
 use Rattle.ide_service.proofs.Results.{on-ok}
 use Rattle.ide_service.proofs.solver.solve.Goals as goal
@@ -9,7 +9,7 @@ pub returns-clause-solution : goal.returns-clause-solution
 returns-clause-solution g c =
     let values = c.in_ok-values.values in
     let is = c.in_ok-values.ensures.solved in
-    let value = value_of g.P.L.Lattice.algebra values in
+    let value = value_there g.P.L.Lattice.algebra values in
     on-ok c.dump.result c.dump.ensures.text (λ text. (
       dump_of values.graph (λ n d. g.P.L.Lattice.shown (value n d)),
       text,

@@ -1,39 +1,12 @@
-use Rattle.std.proofs.Common.{Some, map, ap, subst, sym, ◌∙◌, arith}
-use Rattle.std.proofs.lemmas.Result.{IfErr-weaker, err_from_is_err_and}
-use Rattle.ide_graph.specs.Joined.{start_at}
-use Rattle.ide_theory.specs.Sites.{edges_of}
-use Rattle.ide_service.specs.Refusal.{IsSolveRefusal, memory}
-use Rattle.ide_service.proofs.Refused.{close-refused, drain-refused, values-refused}
-use Rattle.ide_service.proofs.Results.{refused-on, if-ok}
-use Rattle.ide_service.proofs.Solved.{solved}
+use Rattle.std.proofs.Common.{map}
+use Rattle.ide_service.proofs.Refused.{wants-memory}
+use Rattle.ide_service.proofs.Results.{if-ok}
 use Rattle.ide_service.proofs.solver.values_of.Goals as goal
 
-pub returns-in-Ok-clause-solved : goal.returns-in-Ok-clause-solved
-returns-in-Ok-clause-solved g c =
-    if-ok c.values.result c.values.ensures.program c.values.ensures.graph c.values.ensures.roots c.values.ensures.best (λ values program graph roots best.
-    solved g.P.L.Lattice.algebra g.P.F.EdgeFn.edge g.P.Problem.targets
-    (λ graph all joined. c.runs_go_on.ensures (edges_of graph.facts graph.sites all (start_at graph)) (c.sites_make_a_graph.ensures graph.facts graph.sites all (start_at graph) joined).0)
-    g.met.P.F.EdgeFn.lawful.proper_id
-    c.args.text.now (map (λ name. name.now) c.args.roots.now) c.in_ok-core.core c.drain.new.self c.in_ok-core.ensures.started.0 values c.in-Ok.closed.tables
-    c.in_ok-core.ensures.started.1 c.in_ok-drain.ensures.goes c.in_ok-drain.ensures.quiet
-    (c.in-Ok.ensures.program ∙ ap (λ o. Some o) (sym program)) (c.in-Ok.ensures.graph ∙ ap (λ o. Some o) (sym graph)) (roots ∙ c.in-Ok.ensures.roots) c.in-Ok.ensures.table best)
-
-pub returns-in-Ok-clause-refused : goal.returns-in-Ok-clause-refused
-returns-in-Ok-clause-refused g c =
-    IfErr-weaker c.values.result _ _ (λ refused is. values-refused c.args.text.now (map (λ name. name.now) c.args.roots.now) 1 (omega arith) (omega arith) is) c.values.ensures.refused
+pub returns-clause-solved : goal.returns-clause-solved
+returns-clause-solved g c =
+    let values = c.values_alone in
+    if-ok values.result values.ensures.program values.ensures.graph values.ensures.roots values.ensures.best c.in_ok-closed.ensures.leads
 
 pub returns-clause-refused : goal.returns-clause-refused
-returns-clause-refused g c =
-    elim (close-refused g.P.L.Lattice.algebra g.P.F.EdgeFn.edge g.P.Problem.targets c.args.text.now (map (λ name. name.now) c.args.roots.now)
-    c.in_ok-core.core c.drain.new.self c.in_ok-core.ensures.started.0 c.in_ok-core.ensures.started.1 c.in_ok-drain.ensures.goes c.in_ok-drain.ensures.quiet
-    c.in-Err.ensures.refused) [ ]
-
-pub returns-in_err-drain-clause-refused : goal.returns-in_err-drain-clause-refused
-returns-in_err-drain-clause-refused g c =
-    let p = err_from_is_err_and c.from_residual-in_err-drain.result c.from_residual-in_err-drain.ensures.1 in
-    let names = map (λ name. name.now) c.args.roots.now in
-    let refused = c.in_err-drain.field-0.0 in
-    let wanting = drain-refused g.P.L.Lattice.algebra g.P.F.EdgeFn.edge g.P.Problem.targets c.args.text.now names
-    c.in_ok-core.core c.in_ok-core.ensures.started.0 c.in_ok-core.ensures.started.1 c.in_err-drain.ensures.refused in
-    refused-on (IsSolveRefusal c.args.text.now names) c.from_residual-in_err-drain.result refused p.0 p.1 p.2
-    (subst (IsSolveRefusal c.args.text.now names) (sym wanting) memory)
+returns-clause-refused g c = wants-memory c.args.text.now (map (λ name. name.now) c.args.roots.now) c.values_alone.result c.values_alone.ensures.refused

@@ -1,7 +1,6 @@
-use Rattle.std.proofs.Common.{rules, ◌≡◌, ◌∙◌, ℕ, List, ap, length, subst}
+use Rattle.std.proofs.Common.{rules, ◌≡◌, ◌∙◌, ℕ, List, ap, length}
 use Rattle.std.specs.Prelude.{is_some}
 use Rattle.ide_text.specs.Program.{value_of}
-use Rattle.ide_cli.specs.Status.{ArePending}
 use Rattle.ide_cli.proofs.Told.{is_there}
 use Rattle.ide_cli.proofs.status.Status.of.Goals as goal
 
@@ -12,7 +11,7 @@ returns g c =
       program = is_there value_of c.program.result _ _ has (c.program.ensures ∙ ap (λ core. core.program) c.core-core.ensures);
       roots = ap (λ (r : List ℕ). length r) c.roots.ensures ∙ ap (λ core. length core.roots) c.core-core.ensures;
       keys = c.key_count-keys.ensures ∙ ap (λ core. length core.table.entries) c.core-core.ensures;
-      pending = subst (λ core. ArePending core c.in_ok-pending.pending) c.core-core.ensures c.in_ok-pending.ensures;
+      pending = c.pending_count-pending.ensures ∙ ap (λ core. length core.pile.pending) c.core-core.ensures;
       records = c.acked-records.ensures;
       bytes = c.in-Ok.ensures.length ∙ ap (λ disk. g.D.Disk.size disk) c.into_disk.ensures;
     }

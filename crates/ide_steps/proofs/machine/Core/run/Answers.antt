@@ -8,7 +8,7 @@ use Rattle.ide_steps.specs.Core.{AllStandIn, CoreData}
 use Rattle.ide_steps.specs.declared.part.Parted.{Parted}
 use Rattle.ide_steps.specs.declared.part.Parted.TheVariants.{Lowered, Same}
 use Rattle.ide_steps.specs.Drain.{IsPaidBy, left_by, lowerings_by, potential}
-use Rattle.ide_steps.specs.Going.{GoesOnBy}
+use Rattle.ide_steps.specs.Going.{GoesOnByHand}
 use Rattle.ide_steps.specs.Steps.{IsCurrent}
 use Rattle.ide_steps.proofs.Going.{goes-then, goes-finish, goes-lowered, goes-same, goes-skipped, goes-unchanged, parted-is, works-on}
 use Rattle.ide_steps.proofs.Noted.{remembers-same, remembers-then}
@@ -68,7 +68,7 @@ returns-clause-goes g c =
       λ working.
           let now = c.loop-work.invariant.2 working in
           goes-then A B targets start core over
-          (subst (GoesOnBy A B targets 0 0 c.loop-work.invariant.0 0 start) (sym done.1) now.1)
+          (subst (GoesOnByHand A B targets 0 0 c.loop-work.invariant.0 0 start) (sym done.1) now.1)
           (goes-finish A B targets core over 0 work c.end_claim.ensures.stays
           (subst (λ s. IsCurrent targets B s 0 work) (sym done.1) now.0) done.0 c.in_ok-end_claim.ensures.finished),
       record { keys = omega (arith, paid); ranks = omega (arith, ranks, same) },
@@ -193,7 +193,7 @@ returns-in_err-end_claim-clause-goes g c =
       c.loop-work.invariant.0 + 0,
       λ working.
           goes-then A B targets start core c.end_claim.new.self
-          (subst (GoesOnBy A B targets 0 0 c.loop-work.invariant.0 0 start) (sym done.1) (c.loop-work.invariant.2 working).1)
+          (subst (GoesOnByHand A B targets 0 0 c.loop-work.invariant.0 0 start) (sym done.1) (c.loop-work.invariant.2 working).1)
           (goes-same A B targets 0 core c.end_claim.new.self c.in_err-end_claim.ensures.unchanged),
       search rules,
     )

@@ -3,7 +3,7 @@ use Rattle.std.specs.Prelude.{nat_eq}
 use Rattle.ide_worklist.specs.Worklist.{claim_at, ends_key}
 use Rattle.ide_steps.specs.Changed.{Remembers}
 use Rattle.ide_steps.specs.Drain.{IsPaidBy, potential}
-use Rattle.ide_steps.specs.Going.{GoesOnBy}
+use Rattle.ide_steps.specs.Going.{GoesOnByHand}
 use Rattle.ide_steps.specs.Steps.{IsCurrent}
 use Rattle.ide_steps.proofs.machine.Core.run.Given as goal
 
@@ -16,7 +16,7 @@ invariant-loop-work g l =
     ⊎ ((potential g.P.F.EdgeFn.edge l.self ≡ potential g.P.F.EdgeFn.edge l.initial.self) × (ends_key (claim_at l.self.pile 0) ≡ true)))
     × (IsCurrent g.P.Problem.targets g.P.F.EdgeFn.edge l.initial.self 0 l.initial.work
     → IsCurrent g.P.Problem.targets g.P.F.EdgeFn.edge l.self 0 l.work
-    × GoesOnBy g.P.L.Lattice.algebra g.P.F.EdgeFn.edge g.P.Problem.targets 0 0 lowerings 0 l.initial.self l.self)
+    × GoesOnByHand g.P.L.Lattice.algebra g.P.F.EdgeFn.edge g.P.Problem.targets 0 0 lowerings 0 l.initial.self l.self)
     × IsPaidBy g.P.F.EdgeFn.edge 0 lowerings l.initial.self l.self
     × ((h : ℕ) → nat_eq 0 h ≡ false → claim_at l.initial.self.pile h ≡ None → claim_at l.self.pile h ≡ None)
     × (l.self.graph ≡ l.initial.self.graph)

@@ -1,7 +1,7 @@
 use Rattle.std.proofs.Common.{ap, sym, ◌∙◌, cond, subst, Some, Ok}
 use Rattle.std.specs.Option.{is_some}
 use Rattle.ide_tasks.specs.Parts.{owed}
-use Rattle.ide_steps.specs.Going.{GoesOnBy}
+use Rattle.ide_steps.specs.Going.{GoesOnByHand}
 use Rattle.ide_steps.proofs.Free.{free-after}
 use Rattle.ide_steps.proofs.Going.{goes-more, goes-on, goes-on-then, paid-task}
 use Rattle.ide_steps.proofs.Noted.{remembers-then}
@@ -24,7 +24,7 @@ returns-in-Ok-clause-claims g c =
     let ran = c.run.ensures.goes in
     goes-more A B targets c.run.result c.args.self.now c.run.new.self c.run.ensures.more
     (paid-task A B targets c.run.result c.args.self.now c.take_next.new.self c.run.new.self c.in_ok-task.ensures.same.0 c.in_ok-task.ensures.same.1
-    (subst (λ o. GoesOnBy A B targets 0 (cond (is_some o) 1 0) 0 0 c.args.self.now c.take_next.new.self) c.in-Some.is c.in_ok-task.ensures.claims)
+    (subst (λ o. GoesOnByHand A B targets 0 (cond (is_some o) 1 0) 0 0 c.args.self.now c.take_next.new.self) c.in-Some.is c.in_ok-task.ensures.claims)
     (ran.1 (record {
       claim = progress ∙ (λ i. Some (sym task i, sym c.in-Ok.ensures.none_done i));
       parts = c.in-Ok.ensures.parts ∙ ap (owed targets B) (sym task);

@@ -1,9 +1,9 @@
-use Rattle.ide_values.specs.Falling.{Falls}
+use Rattle.ide_values.specs.Falling.{StartsFall}
 use Rattle.ide_values.specs.Settled.{ComesTo}
 use Rattle.ide_values.proofs.passes.Starts.pass_from.Given as goal
 
 abbrev pub invariant-loop-jump : goal.invariant-loop-jump
 invariant-loop-jump g l = record {
   comes : ComesTo g.P.L.Lattice.algebra g.P.F.EdgeFn.edge g.P.Problem.targets l.graph l.tables l.initial.self.values.items l.self.values.items;
-  falls : Falls g.P.L.Lattice.algebra l.initial.self l.self;
+  falls : StartsFall g.P.L.Lattice.algebra l.initial.self l.self;
 }

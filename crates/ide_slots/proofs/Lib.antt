@@ -1,0 +1,17 @@
+pub mod Begins
+pub mod Checkpoints
+pub mod Chosen
+pub mod Disks
+pub mod Fillings
+pub mod FirstSlots
+pub mod Fronts
+pub mod Gates
+pub mod Heads
+pub mod OneSlot
+pub mod Openings
+pub mod Records
+pub mod Rows
+pub mod Standing
+pub mod Turning
+pub mod Whole
+pub mod Writers

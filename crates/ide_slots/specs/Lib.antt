@@ -1,0 +1,10 @@
+pub mod DiskCalls
+pub mod Filling
+pub mod FillingLaws
+pub mod Rows
+pub mod Sides
+pub mod Slot
+pub mod SlotLaws
+pub mod Two
+pub mod TwoCalls
+pub mod TwoLaws

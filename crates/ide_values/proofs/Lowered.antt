@@ -1,0 +1,55 @@
+-- Lowering one place of the rows from a node on by what a jump function gives it.
+use Rattle.std.proofs.Common.{◌≡◌, ◌≢◌, ℕ, ◌+◌, ◌*◌, ◌<◌, ◌≤◌, List, length, get_or, ap, sym, subst, ◌∙◌, inl, inr, arith}
+use Rattle.std.proofs.Math.Nat.{add-mul}
+use Rattle.std.proofs.lemmas.Bool.{cases_eq}
+use Rattle.ide_graph.specs.Supergraph.{Supergraph}
+use Rattle.ide_lattice.specs.Algebra.{LatticeAlgebra, EdgeAlgebra}
+use Rattle.ide_wire.specs.declared.key.Key.TheVariants.{Jump}
+use Rattle.ide_values.specs.Fill.{Meets}
+use Rattle.ide_values.specs.Start.{value_before}
+use Rattle.ide_values.proofs.Places.{chosen_apart, chosen_same, row_before, same_place}
+
+module _ {F L : Type 0} (A : LatticeAlgebra L) (B : EdgeAlgebra F L) (graph : Supergraph) (starts : List L) (first node from to : ℕ) (f : F) where
+  -- where the key ends at none of the places, nothing changes
+  pub meets_none : (rows : List L)
+      → ((k n d : ℕ) → k < length rows → d < graph.facts → n * graph.facts + d ≡ first * graph.facts + k → (node ≡ n) × (to ≡ d) → ⊥)
+      → Meets A B graph starts first (Jump node from to) f rows rows
+  meets_none rows apart has k n d within h r at = sym (chosen_apart node n to d _ _ (apart k n d within r at))
+
+  -- so where it ends at a node before them
+  pub meets_before : (rows : List L) → node < first → Meets A B graph starts first (Jump node from to) f rows rows
+  meets_before rows less =
+      meets_none rows (λ k n d within r at both.
+      let before : n < first = omega (arith, less, both.0) in
+      omega (arith, row_before n first d k graph.facts r before, at))
+
+  module _ (row place : ℕ) (sum : node ≡ first + row) (is : place ≡ row * graph.facts + to) where
+    -- the place is that of the key's end
+    ends_at : node * graph.facts + to ≡ first * graph.facts + place
+    ends_at = omega (arith, ap (λ n. n * graph.facts) sum, add-mul first row graph.facts, is)
+
+    ends_elsewhere : (k n d : ℕ) → n * graph.facts + d ≡ first * graph.facts + k → (k ≡ place → ⊥) → (node ≡ n) × (to ≡ d) → ⊥
+    ends_elsewhere k n d at other both =
+        let same : node * graph.facts + to ≡ n * graph.facts + d = ap (λ m. m * graph.facts + to) both.0 ∙ ap (λ b. n * graph.facts + b) both.1 in
+        other (omega (arith, ends_at, at, same))
+
+    -- and where it ends behind them
+    pub meets_behind : (rows : List L) → length rows ≤ place → Meets A B graph starts first (Jump node from to) f rows rows
+    meets_behind rows past =
+        meets_none rows (λ k n d within r at both. ends_elsewhere k n d at (λ same. omega (arith, same, within, past)) both)
+
+    -- else the value at the place is met
+    pub meets_there : (old new : List L) (value : L) → place < length old
+        → ((q : ℕ) → q ≢ place → get_or new q A.top ≡ get_or old q A.top)
+        → (place < length old → get_or new place A.top ≡ A.meet (get_or old place A.top) value)
+        → (node < graph.nodes → value ≡ B.apply f (value_before A graph starts node from))
+        → Meets A B graph starts first (Jump node from to) f old new
+    meets_there old new value there other met gives has k n d within h r at = elim (cases_eq k place) [
+      | inl same ↦
+          let both : (node ≡ n) × (to ≡ d) =
+          same_place node n to d graph.facts has.1 r (ends_at ∙ ap (λ p. first * graph.facts + p) (sym same) ∙ sym at) in
+          subst (λ p. get_or new p A.top ≡ A.meet (get_or old p A.top) value) (sym same) (met there)
+          ∙ ap (A.meet (get_or old k A.top)) (gives (omega (arith, h, both.0)))
+          ∙ sym (chosen_same node n to d _ _ both.0 both.1)
+      | inr apart ↦ other k apart ∙ sym (chosen_apart node n to d _ _ (ends_elsewhere k n d at apart))
+    ]

@@ -1,0 +1,94 @@
+//! The fill by several threads, of which each fills the rows of a range of nodes.
+ghost use Rattle.std.specs.Prelude.{◌≡◌, ◌*◌, ◌<◌, ◌≤◌, IfOk, length};
+ghost use Rattle.ide_values.specs.Fill.{FillsRows};
+ghost use Rattle.ide_values.specs.Refusal.{AreWorkers};
+ghost use Rattle.ide_values.specs.SharedFill.{first_node, sharing_of};
+
+use crate::fill::fill_rows;
+use crate::rows::tops;
+use crate::share::{Ranges, fill_shared};
+use ide_graph::Graph;
+use ide_lattice::EdgeFn;
+use ide_tables::Tables;
+use ide_wire::Node;
+use std::alloc::{AllocError, Global};
+use std::thread::Threads;
+
+/// What is told of the workers of a fill.
+pub trait FillGate {
+    /// Called in a worker's thread before its first node is filled, also where it has none.
+    fn begin(&self, worker: usize);
+}
+
+/// A gate that does nothing.
+#[derive(Drop)]
+pub(crate) struct NoGate;
+
+impl FillGate for NoGate {
+    fn begin(&self, _worker: usize) {}
+}
+
+/// The values of an image whose start values these are, as [`fill`](crate::fill::fill) gives them,
+/// by so many workers. Each has a thread, but that what no thread can be made for falls to another.
+pub(crate) fn fill_by<R: Threads + Sync, F: EdgeFn + Sync, G: FillGate + Sync>(
+    rt: &R,
+    alloc: Global,
+    graph: &Graph,
+    tables: &Tables<F>,
+    starts: &[F::L],
+    workers: usize,
+    gate: &G,
+) -> Result<Vec<F::L>, AllocError>
+where
+    F::L: Send + Sync,
+    requires { AreWorkers workers }
+    ensures filled { IfOk result (FillsRows F.L.algebra F.edge graph.now tables.now starts.now) }
+    ensures count { IfOk result (λ values. length values.items ≡ graph.now.nodes * graph.now.facts) }
+{
+    let mut values = tops(alloc, graph.node_count() * graph.fact_count())?;
+    let shared = SharedFill {
+        graph,
+        tables,
+        starts,
+        workers,
+        gate,
+    };
+    fill_shared(rt, &shared, 0, workers, values.as_mut_slice());
+    Ok(values)
+}
+
+/// A fill that workers share: what it reads, and how many they are.
+#[derive(Drop)]
+struct SharedFill<'a, F: EdgeFn, G> {
+    graph: &'a Graph,
+    tables: &'a Tables<F>,
+    starts: &'a [F::L],
+    workers: usize,
+    gate: &'a G,
+    ghost some: { 0 < workers },
+    ghost most: { workers ≤ 64 },
+}
+
+impl<'a, F: EdgeFn, G: FillGate> SharedFill<'a, F, G> {
+    /// The first node of a worker, or how many nodes there are behind the last.
+    fn first_node(&self, worker: usize) -> Node
+        requires { worker ≤ self.now.workers }
+        ensures node { result ≡ first_node self.now.graph.now.nodes self.now.workers worker }
+    {
+        (worker * self.graph.node_count() / self.workers) as Node
+    }
+}
+
+impl<'a, F: EdgeFn, G: FillGate> Ranges<F::L> for SharedFill<'a, F, G> {
+    ghost sharing = { λ s. sharing_of F.L.algebra F.edge s.graph.now s.tables.now s.starts.now s.workers };
+
+    fn start(&self, worker: usize) -> usize {
+        self.first_node(worker) as usize * self.graph.fact_count()
+    }
+
+    fn fill(&self, worker: usize, rows: &mut [F::L]) {
+        self.gate.begin(worker);
+        let first = self.first_node(worker);
+        fill_rows(self.graph, self.tables, self.starts, first, rows);
+    }
+}

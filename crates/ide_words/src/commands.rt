@@ -1,0 +1,210 @@
+//! The commands of the program, as `clap` is to read them.
+ghost use Rattle.std.specs.Prelude.{◌≡◌, [], false, IfOk};
+ghost use Rattle.clap.specs.Words.{app_of, rule_of};
+ghost use Rattle.ide_words.specs.Commands.{HasShape, IsCreate, IsExplain, IsIdesolve, IsOnce, IsOnceAlone, ask, check, dump, load, numbered, on_store, quiet, root, status, wanted, work, workers};
+
+use crate::words::{INSTANCES, NAMES};
+use clap::builder::ValueParser;
+use clap::{Arg, ArgAction, Command, Error};
+use std::alloc::Global;
+
+/// What stands below the list of commands.
+const HELP: &str = "Example: idesolve once copy FILE main
+
+Status 0: the answer is on the standard output. Status 1: refused, for the reason on the standard
+error, or the output could not be written. Status 2: the words are no command.";
+
+/// What stands below the words of `once` and of `create`.
+const ANALYSES: &str = "uninit  variables that may be read before they are written
+copy    constants, through numbers and copies
+shift   constants, through sums and differences with a number too";
+
+/// The most workers.
+const MOST_WORKERS: u64 = 64;
+/// The last position that a word may spell.
+const LAST_POSITION: u64 = 4_294_967_295;
+
+/// The command line of the program.
+pub(crate) fn idesolve<'a>(alloc: Global) -> Result<Command<'a>, Error>
+    ensures { IfOk result (λ command. IsIdesolve (app_of command)) }
+{
+    Ok(
+        Command::new(alloc, "idesolve")
+            .about("Solves interprocedural distributive environment problems")
+            .version("0.1.0")
+            .after_help(HELP)
+            .subcommand_required(true)
+            .subcommand(once(alloc)?)?
+            .subcommand(check(alloc)?)?
+            .subcommand(explain(alloc)?)?
+            .subcommand(create(alloc)?)?
+            .subcommand(load(alloc)?)?
+            .subcommand(root(alloc)?)?
+            .subcommand(work(alloc)?)?
+            .subcommand(ask(alloc)?)?
+            .subcommand(dump(alloc)?)?
+            .subcommand(status(alloc)?)?,
+    )
+}
+
+/// `once INSTANCE FILE PROC --workers N`
+fn once<'a>(alloc: Global) -> Result<Command<'a>, Error>
+    ensures { IfOk result IsOnce }
+{
+    let command = once_alone(alloc)?;
+    Ok(command.arg(workers(alloc))?)
+}
+
+/// `once INSTANCE FILE PROC`
+fn once_alone<'a>(alloc: Global) -> Result<Command<'a>, Error>
+    ensures { IfOk result IsOnceAlone }
+{
+    let instance = required(alloc, "INSTANCE", "The analysis").value_parser(INSTANCES.as_slice());
+    Ok(
+        Command::new(alloc, "once")
+            .about("Solves a program text in memory and prints the values")
+            .after_help(ANALYSES)
+            .arg(instance)?
+            .arg(required(alloc, "FILE", "The program text"))?
+            .arg(required(alloc, "PROC", "The root procedure"))?,
+    )
+}
+
+/// `check FILE`
+fn check<'a>(alloc: Global) -> Result<Command<'a>, Error>
+    ensures { IfOk result (HasShape check) }
+{
+    Ok(
+        Command::new(alloc, "check")
+            .about("Reads a program text and prints its counts, or its first fault")
+            .arg(required(alloc, "FILE", "The program text"))?,
+    )
+}
+
+/// `explain NAME`
+fn explain<'a>(alloc: Global) -> Result<Command<'a>, Error>
+    ensures { IfOk result IsExplain }
+{
+    let name = required(alloc, "NAME", "E1 to E16, or F1 to F9").value_parser(NAMES.as_slice());
+    Ok(
+        Command::new(alloc, "explain")
+            .about("Prints what a refusal or a fault means")
+            .arg(name)?,
+    )
+}
+
+/// `create STORE INSTANCE`
+fn create<'a>(alloc: Global) -> Result<Command<'a>, Error>
+    ensures { IfOk result IsCreate }
+{
+    let instance = required(alloc, "INSTANCE", "The analysis").value_parser(INSTANCES.as_slice());
+    let about = "Makes a store with no program in a file; an old file is replaced";
+    let command = on_store(alloc, "create", about)?;
+    Ok(command.after_help(ANALYSES).arg(instance)?)
+}
+
+/// `load STORE FILE`
+fn load<'a>(alloc: Global) -> Result<Command<'a>, Error>
+    ensures { IfOk result (HasShape load) }
+{
+    let command = on_store(alloc, "load", "Stores a program text")?;
+    Ok(command.arg(required(alloc, "FILE", "The program text"))?)
+}
+
+/// `root STORE PROC`
+fn root<'a>(alloc: Global) -> Result<Command<'a>, Error>
+    ensures { IfOk result (HasShape root) }
+{
+    let command = on_store(alloc, "root", "Stores a procedure as a root")?;
+    Ok(command.arg(required(alloc, "PROC", "The root procedure"))?)
+}
+
+/// `work STORE --workers N --quiet`
+fn work<'a>(alloc: Global) -> Result<Command<'a>, Error>
+    ensures { IfOk result (HasShape work) }
+{
+    let command = on_store(alloc, "work", "Does what is pending, and stores it")?;
+    Ok(command.arg(workers(alloc))?.arg(quiet(alloc))?)
+}
+
+/// `ask STORE PROC NODE FACT`
+fn ask<'a>(alloc: Global) -> Result<Command<'a>, Error>
+    ensures { IfOk result (HasShape ask) }
+{
+    let position = required(alloc, "NODE", "The position in it, from 0 on");
+    let about = "Prints the value of a fact at a position of a procedure";
+    Ok(
+        on_store(alloc, "ask", about)?
+            .arg(required(alloc, "PROC", "The procedure"))?
+            .arg(numbered(position, 0, LAST_POSITION))?
+            .arg(required(alloc, "FACT", "A variable, @zero or @result"))?,
+    )
+}
+
+/// `dump STORE`
+fn dump<'a>(alloc: Global) -> Result<Command<'a>, Error>
+    ensures { IfOk result (HasShape dump) }
+{
+    on_store(alloc, "dump", "Prints all values")
+}
+
+/// `status STORE`
+fn status<'a>(alloc: Global) -> Result<Command<'a>, Error>
+    ensures { IfOk result (HasShape status) }
+{
+    on_store(alloc, "status", "Prints how far the store has come")
+}
+
+/// A command on a store.
+fn on_store<'a>(alloc: Global, name: &'a str, about: &'a str) -> Result<Command<'a>, Error>
+    ensures { IfOk result (HasShape (on_store name.now [])) }
+{
+    Ok(
+        Command::new(alloc, name)
+            .about(about)
+            .arg(required(alloc, "STORE", "The store's file"))?,
+    )
+}
+
+/// A word that has to be given.
+fn required<'a>(alloc: Global, name: &'a str, help: &'a str) -> Arg<'a>
+    ensures rule { rule_of result ≡ wanted name.now }
+    ensures local { result.global ≡ false }
+{
+    Arg::new(alloc, name)
+        .help(help)
+        .required(true)
+        .action(ArgAction::Set)
+}
+
+/// The same, as a number from the one up to the other.
+fn numbered<'a>(word: Arg<'a>, least: u64, most: u64) -> Arg<'a>
+    ensures rule { rule_of result ≡ numbered least most (rule_of word.entry) }
+    ensures local { result.global ≡ word.entry.global }
+{
+    word.value_parser(ValueParser::unsigned(least, most))
+}
+
+/// `--workers N`
+fn workers<'a>(alloc: Global) -> Arg<'a>
+    ensures rule { rule_of result ≡ workers }
+    ensures local { result.global ≡ false }
+{
+    let count = Arg::new(alloc, "N")
+        .long("workers")
+        .help("How many workers, 1 to 64")
+        .action(ArgAction::Set)
+        .default_value("1");
+    numbered(count, 1, MOST_WORKERS)
+}
+
+/// `--quiet`
+fn quiet<'a>(alloc: Global) -> Arg<'a>
+    ensures rule { rule_of result ≡ quiet }
+    ensures local { result.global ≡ false }
+{
+    Arg::new(alloc, "quiet")
+        .long("quiet")
+        .help("Leaves out the progress on the standard error")
+        .action(ArgAction::SetTrue)
+}
