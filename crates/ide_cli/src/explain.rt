@@ -45,6 +45,8 @@ pub(crate) fn meaning_of(name: &str) -> &'static str {
             "No variable of that name is declared: no global, and no parameter or variable of the procedure.",
         "F7" => "No label of that name is declared in the procedure.",
         "F8" => "No procedure of that name is declared.",
-        _ => "The call passes more or fewer arguments than the procedure has parameters.",
+        "F9" => "The call passes more or fewer arguments than the procedure has parameters.",
+        _ =>
+            "The call states more than eight callees, or one of them twice. A call of more procedures is several calls, with a branch between them.",
     }
 }

@@ -1,11 +1,11 @@
 //! The tables of the worked programs: how many tasks they take, and what is in them then.
 use crate::cores::{begin, load, root_main};
-use ide_instances::{CopyConst, Uninit};
+use ide_instances::{ConstFn, CopyConst, Uninit};
 use ide_lattice::EdgeFn;
 use ide_problem::Problem;
 use ide_steps::Core;
 use ide_wire::{Fact, Key, Node, Refused};
-use ide_worked::{COPIES, EMPTY, TWO_CALLS};
+use ide_worked::{CALLEES, COPIES, EMPTY, TWO_CALLS};
 use std::process::Abort;
 use std::test::Fail;
 
@@ -163,9 +163,58 @@ fn tasks_and_quiescent_tables(rt: HostRuntime) -> Result<(), Fail> {
     expect_tables(&rt, &mut core, &mut again)
 }
 
-/// Whether one fact reaches the parameter of the procedure at node 0 over a call, by the identity.
-fn is_reached_from<P: Problem>(core: &Core<P>, call: Node, fact: Fact) -> bool {
-    match core.sources(call, 0, 2) {
+/// Asserts the function at a key, and that it is not pending.
+fn expect_function<P: Problem>(rt: &impl Abort, core: &Core<P>, key: Key, want: P::F) {
+    assert!(rt; core.get(key) == Some(want));
+    assert!(rt; !core.is_pending(key));
+}
+
+/// How many summaries stand at a call node.
+fn count_summaries<P: Problem>(core: &Core<P>, call: Node) -> Result<usize, Refused> {
+    let items = items_of(core)?;
+    let found = items.iter().filter(|item| is_summary(item.0, call));
+    Ok(found.count())
+}
+
+/// Whether the key is a summary at the call node.
+fn is_summary(key: Key, call: Node) -> bool {
+    match key {
+        Key::Summary(own, ..) => own == call,
+        Key::Jump(..) => false,
+    }
+}
+
+/// Asserts how many keys the program with a call of two procedures has: a call has one summary for
+/// each pair of facts, and each of its callees lowers it.
+fn expect_callees<P: Problem>(
+    rt: &(impl Abort + AllocGlobal),
+    core: &mut Core<P>,
+) -> Result<(), Fail> {
+    begin(rt.alloc(), core, CALLEES)?;
+    drain(core)?;
+    assert!(rt; core.is_quiet());
+    assert!(rt; core.key_count() == 31 + 14 + 14 + 2 + 2);
+    expect_summary(rt, core, 10, 0, 0);
+    expect_summary(rt, core, 12, 0, 0);
+    assert!(rt; count_summaries(core, 10) == Ok(2));
+    assert!(rt; count_summaries(core, 12) == Ok(2));
+    Ok(())
+}
+
+#[test]
+fn callees_lower_one_summary(rt: HostRuntime) -> Result<(), Fail> {
+    let mut core: Core<CopyConst> = Core::new(rt.alloc());
+    expect_callees(&rt, &mut core)?;
+    expect_function(&rt, &core, Key::Jump(3, 0, 1), ConstFn::Const(5));
+    expect_function(&rt, &core, Key::Jump(7, 0, 1), ConstFn::Const(6));
+    expect_function(&rt, &core, Key::Summary(10, 0, 3), ConstFn::Bottom);
+    expect_function(&rt, &core, Key::Summary(12, 0, 4), ConstFn::Const(5));
+    Ok(())
+}
+
+/// Whether one fact reaches the parameter of the procedure at a start over a call, by the identity.
+fn is_reached_from<P: Problem>(core: &Core<P>, call: Node, start: Node, fact: Fact) -> bool {
+    match core.sources(call, start, 2) {
         [source] => source.from.fact == fact && source.from.function == P::F::id(),
         _ => false,
     }
@@ -179,8 +228,8 @@ fn expect_sources<P: Problem>(
 ) -> Result<(), Fail> {
     assert!(rt; core.sources(6, 0, 2).is_empty());
     load(rt.alloc(), core, TWO_CALLS)?;
-    assert!(rt; is_reached_from(core, 6, 2));
-    assert!(rt; is_reached_from(core, 8, 3));
+    assert!(rt; is_reached_from(core, 6, 0, 2));
+    assert!(rt; is_reached_from(core, 8, 0, 3));
     assert!(rt; core.sources(7, 0, 2).is_empty());
     assert!(rt; core.sources(6, 1, 2).is_empty());
     Ok(())
@@ -190,4 +239,25 @@ fn expect_sources<P: Problem>(
 fn sources_of_the_two_calls(rt: HostRuntime) -> Result<(), Fail> {
     let mut core: Core<CopyConst> = Core::new(rt.alloc());
     expect_sources(&rt, &mut core)
+}
+
+/// Asserts what reaches the parameters over a call of two procedures and over a call of the first of
+/// them: a callee is told by its start.
+fn expect_sources_by_callee<P: Problem>(
+    rt: &(impl Abort + AllocGlobal),
+    core: &mut Core<P>,
+) -> Result<(), Fail> {
+    load(rt.alloc(), core, CALLEES)?;
+    assert!(rt; is_reached_from(core, 10, 0, 2));
+    assert!(rt; is_reached_from(core, 10, 4, 2));
+    assert!(rt; is_reached_from(core, 12, 0, 2));
+    assert!(rt; core.sources(12, 4, 2).is_empty());
+    assert!(rt; core.sources(10, 8, 2).is_empty());
+    Ok(())
+}
+
+#[test]
+fn sources_of_each_callee(rt: HostRuntime) -> Result<(), Fail> {
+    let mut core: Core<CopyConst> = Core::new(rt.alloc());
+    expect_sources_by_callee(&rt, &mut core)
 }

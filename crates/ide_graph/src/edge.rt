@@ -21,7 +21,7 @@ pub struct EdgeData {
 pub enum EdgeKind {
     /// Within a procedure, by one statement.
     Normal(Effect),
-    /// From a call node to the callee's start: each argument with the parameter that it goes to.
+    /// From a call node to a callee's start: each argument with the parameter that it goes to.
     Call(Listing<(Fact, Fact)>),
     /// From a callee's exit to the return site, with the fact that the call assigns, if any.
     Return(Option<Fact>),

@@ -1,8 +1,8 @@
 //! Small programs made by chance, for tests.
 use std::alloc::{AllocError, Global};
 
-/// What a statement of the callee may be: its parameter is `p` and its local `q`.
-const IN_CALLEE: [&[u8]; 8] = [
+/// What a statement of `f` may be: its parameter is `p` and its local `q`.
+const IN_F: [&[u8]; 9] = [
     b"q = p + 1\n",
     b"q = mix p g\n",
     b"g = q\n",
@@ -11,10 +11,14 @@ const IN_CALLEE: [&[u8]; 8] = [
     b"call f q\n",
     b"return p\n",
     b"goto out\n",
+    b"q = call h | k g\n",
 ];
 
+/// What the statement of `h` may be, whose parameter and local have the same names.
+const IN_H: [&[u8]; 4] = [b"q = p - 1\n", b"q = g\n", b"g = p\n", b"g = 4\n"];
+
 /// What a statement of `main` may be: its locals are `a` and `b`.
-const IN_MAIN: [&[u8]; 12] = [
+const IN_MAIN: [&[u8]; 16] = [
     b"a = 1\n",
     b"a = b\n",
     b"b = a + 1\n",
@@ -27,15 +31,23 @@ const IN_MAIN: [&[u8]; 12] = [
     b"a = call f b\n",
     b"call f g\n",
     b"skip\n",
+    b"b = call f | h a\n",
+    b"call h | k | f b\n",
+    b"a = call k | h g\n",
+    b"g = call h | f a\n",
 ];
 
-/// A text with a global, a procedure of one parameter that may call itself, and `main`, each with
-/// a few statements that the seed picks: equal seeds give equal texts.
+/// A text with a global, three procedures of one parameter, of which the first may call itself and
+/// the others, and `main`. They have a few statements that the seed picks, among them calls of one to
+/// three procedures: equal seeds give equal texts.
 pub(crate) fn text(alloc: Global, seed: u64) -> Result<Vec<u8>, AllocError> {
     let mut text = Vec::new(alloc);
     text.extend_from_slice(b"global g\nproc f p\nvar q\n")?;
-    let next = add_lines(&IN_CALLEE, 3, seed, &mut text)?;
-    text.extend_from_slice(b"at out\nreturn q\nend\nproc main\nvar a\nvar b\n")?;
+    let next = add_lines(&IN_F, 3, seed, &mut text)?;
+    text.extend_from_slice(b"at out\nreturn q\nend\nproc h p\nvar q\n")?;
+    let next = add_lines(&IN_H, 1, next, &mut text)?;
+    text.extend_from_slice(b"return q\nend\nproc k p\nreturn p\nend\n")?;
+    text.extend_from_slice(b"proc main\nvar a\nvar b\n")?;
     add_lines(&IN_MAIN, 4, next, &mut text)?;
     text.extend_from_slice(b"at out\nend\n")?;
     Ok(text)

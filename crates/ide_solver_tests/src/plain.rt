@@ -6,7 +6,8 @@ use ide_plain::agrees;
 use ide_problem::Problem;
 use ide_wire::Refused;
 use ide_worked::{
-    ADDS_IN_CALLEE, BRANCH_OF_TWO, COPIES, LOOP, RECURSION, SUM_OR_NUMBER, TWO_CALLS, UNREACHABLE,
+    ADDS_IN_CALLEE, BRANCH_OF_TWO, CALLEES, COPIES, LOOP, RECURSION, SUM_OR_NUMBER, TWO_CALLS,
+    UNREACHABLE,
 };
 use std::alloc::Global;
 use std::process::Abort;
@@ -60,6 +61,11 @@ fn calls(rt: HostRuntime) -> Result<(), Fail> {
 }
 
 #[test]
+fn calls_of_several_procedures(rt: HostRuntime) -> Result<(), Fail> {
+    expect(&rt, CALLEES)
+}
+
+#[test]
 fn recursion(rt: HostRuntime) -> Result<(), Fail> {
     expect(&rt, RECURSION)?;
     expect(&rt, ADDS_IN_CALLEE)
@@ -82,7 +88,7 @@ fn without_a_root_nothing_is_reached(rt: HostRuntime) -> Result<(), Fail> {
 fn programs_made_by_chance(rt: HostRuntime) -> Result<(), Fail> {
     for seed in 0..100u64 {
         let text = generated::text(rt.alloc(), seed)?;
-        expect_of(&rt, text.as_slice(), 20)?;
+        expect_of(&rt, text.as_slice(), 24)?;
     }
     Ok(())
 }

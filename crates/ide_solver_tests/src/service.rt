@@ -1,14 +1,14 @@
 //! From text to answer: what rows of `examples/rows.txt` cannot say, since the program has one root
 //! and prints names.
 use ide_graph::Graph;
-use ide_instances::{CopyConst, Reach, Uninit};
+use ide_instances::{ConstValue, CopyConst, Reach, Uninit};
 use ide_lattice::Lattice;
 use ide_problem::Problem;
 use ide_service::{solve, values_of};
 use ide_text::{Program, parse};
 use ide_values::Values;
 use ide_wire::{Fact, Node, Refused};
-use ide_worked::{COPIES, EMPTY, NUMBER, RECURSION, TWO_CALLS, UNREACHABLE};
+use ide_worked::{CALLEES, COPIES, EMPTY, NUMBER, RECURSION, TWO_CALLS, UNREACHABLE};
 use std::alloc::Global;
 use std::process::Abort;
 use std::test::Fail;
@@ -19,15 +19,15 @@ fn values<P: Problem>(alloc: Global, text: &str, roots: &[&[u8]]) -> Result<Valu
     Ok(values)
 }
 
-/// The node at a position of `main`, and the number of `@zero` there.
-fn place_of(graph: &Graph, position: u32) -> Result<(Node, Fact), Refused> {
-    let place = graph.find(b"main", position, b"@zero")?;
+/// The node at a position of `main`, and the number of the fact of that name there.
+fn place_of(graph: &Graph, position: u32, name: &str) -> Result<(Node, Fact), Refused> {
+    let place = graph.find(b"main", position, name.as_bytes())?;
     Ok(place)
 }
 
-/// The value of `@zero` at a position of `main`.
-fn value_at<P: Problem>(values: &Values<P>, position: u32) -> Result<P::L, Refused> {
-    let (node, fact) = place_of(&values.loaded().graph, position)?;
+/// The value of the fact of that name at a position of `main`.
+fn value_at<P: Problem>(values: &Values<P>, position: u32, name: &str) -> Result<P::L, Refused> {
+    let (node, fact) = place_of(&values.loaded().graph, position, name)?;
     let value = values.at(node, fact)?;
     Ok(value)
 }
@@ -42,7 +42,7 @@ fn expect_zero<P: Problem>(
 ) -> Result<(), Fail> {
     let values = values::<P>(rt.alloc(), text, roots)?;
     assert!(rt;
-        value_at(&values, position) == Ok(want),
+        value_at(&values, position, "@zero") == Ok(want),
         "at {position} in {text}"
     );
     Ok(())
@@ -53,6 +53,30 @@ fn reached_statements(rt: HostRuntime) -> Result<(), Fail> {
     let main = b"main".as_slice();
     expect_zero::<Reach>(&rt, UNREACHABLE, &[main], 3, Lattice::top())?;
     expect_zero::<Reach>(&rt, UNREACHABLE, &[main], 5, Lattice::bottom())
+}
+
+/// Asserts the value of a variable at the end of `main`, the position 6, with `main` as the root.
+fn expect_at_end<P: Problem>(
+    rt: &(impl Abort + AllocGlobal),
+    text: &str,
+    name: &str,
+    want: P::L,
+) -> Result<(), Fail> {
+    let values = values::<P>(rt.alloc(), text, &[b"main".as_slice()])?;
+    assert!(rt; value_at(&values, 6, name) == Ok(want), "{name} in {text}");
+    Ok(())
+}
+
+/// `CALLEES`, but that both procedures give back the same.
+const ALIKE: &str =
+    "proc f p\nvar r\nr = 5\nreturn r\nend\nproc h p\nvar r\nr = 5\nreturn r\nend\nproc main\nvar a\nvar x\nvar y\na = 1\nx = call f | h a\ny = call f a\nend\n";
+
+#[test]
+fn values_of_several_callees_are_met(rt: HostRuntime) -> Result<(), Fail> {
+    expect_at_end::<CopyConst>(&rt, CALLEES, "x", ConstValue::Bottom)?;
+    expect_at_end::<CopyConst>(&rt, CALLEES, "y", ConstValue::Const(5))?;
+    expect_at_end::<CopyConst>(&rt, ALIKE, "x", ConstValue::Const(5))?;
+    expect_at_end::<CopyConst>(&rt, ALIKE, "y", ConstValue::Const(5))
 }
 
 #[test]
@@ -174,5 +198,6 @@ fn expect_counts(
 fn graphs_of_the_worked_programs(rt: HostRuntime) -> Result<(), Fail> {
     expect_counts(&rt, EMPTY, 1, 2, 2)?;
     expect_counts(&rt, TWO_CALLS, 2, 11, 6)?;
+    expect_counts(&rt, CALLEES, 3, 15, 5)?;
     expect_counts(&rt, RECURSION, 2, 12, 3)
 }

@@ -5,8 +5,8 @@ use ide_problem::Problem;
 use ide_service::{solve, solve_shared};
 use ide_wire::Refused;
 use ide_worked::{
-    ADDS_IN_CALLEE, BRANCH, COPIES, EMPTY, INPUTS, LOOP, PASSES_GLOBAL, RECURSION, STATEMENTS,
-    TWO_CALLS, UNREACHABLE,
+    ADDS_IN_CALLEE, BRANCH, CALLEES, COPIES, EMPTY, INPUTS, LOOP, PASSES_GLOBAL, RECURSION,
+    STATEMENTS, TWO_CALLS, UNREACHABLE,
 };
 use std::alloc::Global;
 use std::process::Abort;
@@ -14,7 +14,7 @@ use std::test::Fail;
 use std::thread::Threads;
 
 /// Worked programs, from one with two nodes on.
-const WORKED: [&str; 11] = [
+const WORKED: [&str; 12] = [
     EMPTY,
     BRANCH,
     COPIES,
@@ -23,6 +23,7 @@ const WORKED: [&str; 11] = [
     STATEMENTS,
     INPUTS,
     TWO_CALLS,
+    CALLEES,
     ADDS_IN_CALLEE,
     PASSES_GLOBAL,
     RECURSION,

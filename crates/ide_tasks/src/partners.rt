@@ -16,7 +16,7 @@ pub enum Partners<F: Eq> {
     Callers(Listing<Reaching<F>>),
 }
 
-/// A fact at a call node whose call flow reaches the first fact of a jump at the callee's exit.
+/// A fact at a call node whose call flow reaches the first fact of a jump at a callee's exit.
 #[derive(Clone, Copy, PartialEq, Eq)]
 pub struct Reaching<F> {
     /// The index of the caller in the exit's site.

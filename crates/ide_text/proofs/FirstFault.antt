@@ -1,14 +1,14 @@
 -- A program has at most one first fault of its names, and none where its names have no fault.
 use Rattle.std.proofs.Common.{◌≡◌, ℕ, ◌≤◌, ◌==◌, cond, subst, sym, ap, refl, ◌∙◌, arith}
 use Rattle.ide_wire.specs.declared.refused.Fault.{Fault}
-use Rattle.ide_wire.specs.declared.refused.Fault.TheVariants.{TextTooLong, NoSuchLine, OutOfPlace, TooMany, DeclaredTwice, NoSuchVariable, NoSuchLabel, NoSuchProcedure, WrongArguments}
+use Rattle.ide_wire.specs.declared.refused.Fault.TheVariants.{TextTooLong, NoSuchLine, OutOfPlace, TooMany, DeclaredTwice, NoSuchVariable, NoSuchLabel, NoSuchProcedure, WrongArguments, WrongCallees}
 use Rattle.ide_text.specs.declared.program.Draft.{Draft}
 use Rattle.ide_text.specs.First.{IsFirst, number_of}
 use Rattle.ide_text.specs.NameFault.{NameFault, IsFirstNameFault, IsWellNamed}
 
 -- the fault with a number
 numbered : ℕ → Fault
-numbered n = cond (n == 1) TextTooLong (cond (n == 2) NoSuchLine (cond (n == 3) OutOfPlace (cond (n == 4) TooMany (cond (n == 5) DeclaredTwice (cond (n == 6) NoSuchVariable (cond (n == 7) NoSuchLabel (cond (n == 8) NoSuchProcedure WrongArguments)))))))
+numbered n = cond (n == 1) TextTooLong (cond (n == 2) NoSuchLine (cond (n == 3) OutOfPlace (cond (n == 4) TooMany (cond (n == 5) DeclaredTwice (cond (n == 6) NoSuchVariable (cond (n == 7) NoSuchLabel (cond (n == 8) NoSuchProcedure (cond (n == 9) WrongArguments WrongCallees))))))))
 
 numbered-number_of : (f : Fault) → numbered (number_of f) ≡ f
 unfolding numbered
@@ -21,6 +21,7 @@ numbered-number_of NoSuchVariable = refl
 numbered-number_of NoSuchLabel = refl
 numbered-number_of NoSuchProcedure = refl
 numbered-number_of WrongArguments = refl
+numbered-number_of WrongCallees = refl
 
 -- faults of one number are one
 pub number_of-injective : (f g : Fault) → number_of f ≡ number_of g → f ≡ g

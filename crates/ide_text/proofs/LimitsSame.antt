@@ -1,5 +1,5 @@
 -- Drafts of one value are within the same limits.
-use Rattle.std.proofs.Common.{ℕ, ◌+◌, ◌≡◌, List, [], ◌∷◌, ◌++◌, Option, Some, None, IfSome, length, map, reverse, vec_len, ap, sym, refl, ◌∙◌, subst, arith, append_assoc}
+use Rattle.std.proofs.Common.{◌≤◌, ◌≡◌, List, [], ◌∷◌, ◌++◌, IfSome, length, map, reverse, ap, sym, refl, ◌∙◌, subst, arith, append_assoc}
 use Rattle.std.specs.List.{AllByRecursion}
 use Rattle.std.proofs.lemmas.List.{reverse-append}
 use Rattle.ide_text.specs.declared.line.Line.{Line}
@@ -8,10 +8,10 @@ use Rattle.ide_text.specs.declared.program.Draft.{Draft}
 use Rattle.ide_text.specs.declared.program.Procedure.{Procedure}
 use Rattle.ide_text.specs.declared.program.Statement.TheVariants.{Assign, Skip, At, Goto, Branch, Call, Return}
 use Rattle.ide_text.specs.Draft.{globals_of, procedures_of}
-use Rattle.ide_text.specs.FirstFault.{AreTaken, MayEnd, nodes_on}
+use Rattle.ide_text.specs.FirstFault.{AreTaken, nodes_on}
 use Rattle.ide_text.specs.Grammar.{IsLine, IsName, IsStatement}
 use Rattle.ide_text.specs.Lines.{IsWithinLimits, draft_lines, ended_lines, global_lines, open_lines}
-use Rattle.ide_text.specs.Value.{ProcedureValue, ProgramValue, StatementValue, calling, other, draft_value, value_of_procedure, value_of_statement}
+use Rattle.ide_text.specs.Value.{ProcedureValue, ProgramValue, calling, other, draft_value, value_of_procedure, value_of_statement}
 use Rattle.ide_text.proofs.OneProgram.{LineValue, at_global, at_local, at_procedure, at_end, at_statement, line_value, open_apart, reversed, values}
 use Rattle.ide_text.proofs.Shapes as shapes
 use Rattle.ide_text.proofs.Shapes.{Shape, shape, Fits-same, MayEnd-same, MayFollow-same}
@@ -98,7 +98,7 @@ IsLineValue (at_local x) = IsName x
 IsLineValue (at_procedure p parameters) = IsName p × AllByRecursion IsName parameters
 IsLineValue at_end = Unit {0}
 IsLineValue (at_statement (calling x callees arguments)) =
-    IfSome x IsName × (length callees ≡ 1) × AllByRecursion IsName callees × AllByRecursion IsName arguments
+    IfSome x IsName × (1 ≤ length callees) × AllByRecursion IsName callees × AllByRecursion IsName arguments
 IsLineValue (at_statement (other s)) = IsStatement s
 
 line_tells : (l : Line) → (IsLine l → IsLineValue (line_value l)) × (IsLineValue (line_value l) → IsLine l)

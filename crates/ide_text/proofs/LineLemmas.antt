@@ -73,7 +73,7 @@ module _ (globals : List (List ℕ)) (procedures : List Procedure) (q : Procedur
     | Local_again k r ↦ omega arith
     | In_statement m g r ↦
         number_from (variables_in globals q) procedures (take r.place q.statements.items) q.statements.items r.statement 5
-        (λ more. absurd (omega arith)) (λ more. absurd (omega arith)) (λ more. absurd (omega arith)) (λ more. absurd (omega arith)) (λ more. absurd (omega arith)) g r.faulty
+        (λ more. absurd (omega arith)) (λ more. absurd (omega arith)) (λ more. absurd (omega arith)) (λ more. absurd (omega arith)) (λ more. absurd (omega arith)) (λ more. absurd (omega arith)) g r.faulty
   ]
 
   -- the faults stand on the procedure's lines

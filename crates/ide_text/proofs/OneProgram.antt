@@ -1,5 +1,5 @@
 -- A text spells one program at most, up to its value.
-use Rattle.std.proofs.Common.{ℕ, ◌≡◌, ◌==◌, false, cond, List, [], ◌∷◌, ◌++◌, codes, Option, Some, None, length, map, reverse, count_by, ap, sym, refl, ◌∙◌, subst, arith, append_assoc}
+use Rattle.std.proofs.Common.{ℕ, ◌≤◌, ◌≡◌, ◌==◌, false, cond, List, [], ◌∷◌, ◌++◌, codes, Option, Some, None, length, map, reverse, count_by, ap, sym, refl, ◌∙◌, subst, arith, append_assoc}
 use Rattle.std.specs.List.{AllByRecursion}
 use Rattle.std.proofs.lemmas.List.{append-nil, reverse-append}
 use Rattle.std.proofs.lemmas.List.Sums.{sum_by-append, sum_by-cons}
@@ -17,7 +17,7 @@ use Rattle.ide_text.specs.Grammar.{IsLine, IsProcedure, IsProgram, Spells}
 use Rattle.ide_text.specs.Lines.{ended_lines, global_lines, open_lines, draft_lines}
 use Rattle.ide_text.specs.Draft.{globals_of, procedures_of}
 use Rattle.ide_text.specs.Text.{line_text}
-use Rattle.ide_text.specs.Token.{line_tokens, name_tokens}
+use Rattle.ide_text.specs.Token.{bar_tokens, callee_tokens, line_tokens, name_tokens}
 use Rattle.ide_text.specs.Value.{ProcedureValue, ProgramValue, StatementValue, calling, other, draft_value, value_of_procedure, value_of_statement}
 use Rattle.ide_text.proofs.Shapes.{same_line_tokens}
 use Rattle.ide_text.proofs.Texts.{line_lacks, program_text_is}
@@ -64,12 +64,22 @@ expression_in (token.Name y ∷ ts) = after_name y ts
 expression_in (token.Mix ∷ token.Name y ∷ token.Name z ∷ ts) = Mix y z
 expression_in _ = Unknown
 
-abbrev call_in : Option (List ℕ) → List (List ℕ) → StatementValue
-call_in target [] = calling target [] []
-call_in target (callee ∷ arguments) = calling target (callee ∷ []) arguments
+-- the callees that a `|` stands before, and the arguments behind them
+abbrev bars_in : List Token → List (List ℕ)
+bars_in (token.Bar ∷ token.Name x ∷ ts) = x ∷ bars_in ts
+bars_in _ = []
+
+abbrev arguments_in : List Token → List (List ℕ)
+arguments_in (token.Bar ∷ token.Name x ∷ ts) = arguments_in ts
+arguments_in (token.Name x ∷ ts) = x ∷ names_in ts
+arguments_in _ = []
+
+abbrev call_in : Option (List ℕ) → List Token → StatementValue
+call_in target (token.Name callee ∷ ts) = calling target (callee ∷ bars_in ts) (arguments_in ts)
+call_in target _ = calling target [] []
 
 abbrev after_target : List ℕ → List Token → StatementValue
-after_target x (token.Equals ∷ token.Call ∷ ts) = call_in (Some x) (names_in ts)
+after_target x (token.Equals ∷ token.Call ∷ ts) = call_in (Some x) ts
 after_target x (token.Equals ∷ ts) = other (Assign x (expression_in ts))
 after_target x _ = other Skip
 
@@ -81,7 +91,7 @@ token_value (token.Skip ∷ ts) = at_statement (other Skip)
 token_value (token.At ∷ ts) = at_statement (other (At (name_in ts)))
 token_value (token.Goto ∷ ts) = at_statement (other (Goto (name_in ts)))
 token_value (token.Branch ∷ ts) = at_statement (other (Branch (name_in ts)))
-token_value (token.Call ∷ ts) = at_statement (call_in None (names_in ts))
+token_value (token.Call ∷ ts) = at_statement (call_in None ts)
 token_value (token.Return ∷ ts) = at_statement (other (Return (returned_in ts)))
 token_value (token.Name x ∷ ts) = at_statement (after_target x ts)
 token_value _ = at_end
@@ -90,10 +100,21 @@ names_in-tokens : (names : List (List ℕ)) → names_in (name_tokens names) ≡
 names_in-tokens [] = refl
 names_in-tokens (n ∷ names) = ap (λ ns. n ∷ ns) (names_in-tokens names)
 
-call_in-tokens : (target : Option (List ℕ)) (callees arguments : List (List ℕ)) → length callees ≡ 1 → call_in target (names_in (name_tokens callees ++ name_tokens arguments)) ≡ calling target callees arguments
-call_in-tokens target [] arguments one = absurd (omega arith)
-call_in-tokens target (c ∷ []) arguments one = ap (λ ns. calling target (c ∷ []) ns) (names_in-tokens arguments)
-call_in-tokens target (c ∷ d ∷ callees) arguments one = absurd (omega arith)
+bars_in-tokens : (callees arguments : List (List ℕ)) → bars_in (bar_tokens callees ++ name_tokens arguments) ≡ callees
+bars_in-tokens [] [] = refl
+bars_in-tokens [] (a ∷ arguments) = refl
+bars_in-tokens (c ∷ callees) arguments = ap (λ cs. c ∷ cs) (bars_in-tokens callees arguments)
+
+arguments_in-tokens : (callees arguments : List (List ℕ)) → arguments_in (bar_tokens callees ++ name_tokens arguments) ≡ arguments
+arguments_in-tokens [] [] = refl
+arguments_in-tokens [] (a ∷ arguments) = ap (λ ns. a ∷ ns) (names_in-tokens arguments)
+arguments_in-tokens (c ∷ callees) arguments = arguments_in-tokens callees arguments
+
+call_in-tokens : (target : Option (List ℕ)) (callees arguments : List (List ℕ)) → 1 ≤ length callees → call_in target (callee_tokens callees ++ name_tokens arguments) ≡ calling target callees arguments
+call_in-tokens target [] arguments some = absurd (omega arith)
+call_in-tokens target (c ∷ callees) arguments some =
+    ap (λ cs. calling target (c ∷ cs) (arguments_in (bar_tokens callees ++ name_tokens arguments))) (bars_in-tokens callees arguments)
+    ∙ ap (λ ns. calling target (c ∷ callees) ns) (arguments_in-tokens callees arguments)
 
 token_value-line : (l : Line) → IsLine l → token_value (line_tokens l) ≡ line_value l
 token_value-line (Global g) is = refl

@@ -1,5 +1,5 @@
 -- Parsing and printing undo each other.
-use Rattle.std.proofs.Common.{◌≡◌, ℕ, List, refl, subst}
+use Rattle.std.proofs.Common.{◌≡◌, refl}
 use Rattle.ide_wire.specs.declared.refused.Refused.{Refused}
 use Rattle.ide_wire.specs.declared.refused.Refused.TheVariants.{NoMemory, Text}
 use Rattle.ide_text.specs.declared.program.Program.{Program}

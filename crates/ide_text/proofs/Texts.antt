@@ -210,6 +210,7 @@ FirstFault-refused text before rest word after fault.NoSuchVariable taken at lac
 FirstFault-refused text before rest word after fault.NoSuchLabel taken at lacks e w = absurd w.3
 FirstFault-refused text before rest word after fault.NoSuchProcedure taken at lacks e w = absurd w.3
 FirstFault-refused text before rest word after fault.WrongArguments taken at lacks e w = absurd w.3
+FirstFault-refused text before rest word after fault.WrongCallees taken at lacks e w = absurd w.3
 
 pub IsFirstFault-refused : (text : List ℕ) (before : List Line) (rest word after : List ℕ) (line : ℕ) (f : Flaw) → AreTaken before → text ≡ lines_text before ++ rest → Lacks 10 word → rest ≡ word ++ 10 ∷ after →
     line ≡ length before + 1 → IfFaulty f (RefusesLine before word) → IsFirstFault text (refusal_on line f)

@@ -70,6 +70,7 @@ cause text ls fault.NoSuchVariable h = absurd h
 cause text ls fault.NoSuchLabel h = absurd h
 cause text ls fault.NoSuchProcedure h = absurd h
 cause text ls fault.WrongArguments h = absurd h
+cause text ls fault.WrongCallees h = absurd h
 
 -- a text after its next line, and at its end
 after_line : (text : List ℕ) (ls : List Line) (l : Line) (rest : List ℕ) → text ≡ lines_text (l ∷ ls) ++ rest → text ≡ lines_text ls ++ (line_text l ++ 10 ∷ rest)

@@ -12,10 +12,10 @@ use Rattle.ide_text.specs.declared.program.Draft.{Draft}
 use Rattle.ide_text.specs.declared.program.Procedure.{Procedure}
 use Rattle.ide_text.specs.declared.program.Statement.{Statement}
 use Rattle.ide_text.specs.declared.program.Statement.TheVariants.{Assign, Skip, At, Goto, Branch, Call, Return}
-use Rattle.ide_text.specs.NameFault.{IsFirstNameFault, IsWellNamed, NameFault, ProcedureFault, StatementFault, StatementsFault, Global_again, Procedure_again, In_procedure, Parameter_again, Local_again, In_statement, Label_again, No_variable, No_label, No_procedure, Wrong_count, arguments_passed, callees_of, labels_used, line_of_procedure, variables_in, variables_used}
+use Rattle.ide_text.specs.NameFault.{IsFirstNameFault, IsWellNamed, NameFault, ProcedureFault, StatementFault, StatementsFault, Global_again, Procedure_again, In_procedure, Parameter_again, Local_again, In_statement, Label_again, No_variable, No_label, No_procedure, Wrong_count, Wrong_list, AreWrongCallees, arguments_passed, callees_of, labels_used, line_of_procedure, variables_in, variables_used}
 use Rattle.ide_text.specs.Names.{IsRepeated, declares, first_named, is_label, is_named}
 use Rattle.ide_text.specs.Draft.{globals_of, lines_of_procedure, procedures_of}
-use Rattle.ide_text.specs.Text.{draft_text, globals_text, locals_text, names_text, procedure_text, procedures_text, statement_text, statements_text, target_text}
+use Rattle.ide_text.specs.Text.{call_text, draft_text, globals_text, locals_text, names_text, procedure_text, procedures_text, statement_text, statements_text}
 use Rattle.ide_text.specs.Value.{ProcedureValue, ProgramValue, calling, other, draft_value, value_of_procedure, value_of_statement}
 
 -- ---- lists that a function maps to one list
@@ -179,6 +179,7 @@ StatementFault-same variables ps qs procedures before before' ss ts same_before 
       let found = some_same value_of_procedure (first_named ps c) (first_named qs c) p (first_named_same ps qs procedures c) is in
       let many = vec_len_same p.parameters found.0.parameters (parameters_same p found.0 found.2) in
       Wrong_count c found.0 (subst (λ names. Contains names c) (callees_of_same s t e) calls) found.1 (λ right. wrong (many ∙ right ∙ sym (arguments_passed_same s t e)))
+  | Wrong_list wrong ↦ Wrong_list (subst AreWrongCallees (callees_of_same s t e) wrong)
 ]
 
 StatementsFault-same : (variables : List (List ℕ)) (ps qs : List Procedure) → AreSame ps qs → (ss ts : List Statement) → map value_of_statement ss ≡ map value_of_statement ts →
@@ -265,8 +266,8 @@ statement_text_same s t e =
     ap (λ text. text ++ codes "\n")
     (statement_same statement_text
     (λ x c a d b callees arguments.
-    ap (λ names. target_text x ++ codes "call" ++ names_text names ++ names_text a.items) callees
-    ∙ ap (λ names. target_text x ++ codes "call" ++ names_text d.items ++ names_text names) arguments)
+    ap (λ names. call_text x names a.items) callees
+    ∙ ap (λ names. call_text x d.items names) arguments)
     s t e)
 
 abbrev text_by : List ℕ → List (List ℕ) → List (List ℕ) → List ℕ → List ℕ

@@ -7,8 +7,7 @@ use Rattle.std.specs.Int.{IsInRange}
 use Rattle.std.specs.Str.Parse.{AllDigits, digits_value}
 use Rattle.std.proofs.lemmas.Bool.{false≢true}
 use Rattle.std.proofs.lemmas.Bool.Decides.{nat_tests}
-use Rattle.std.proofs.lemmas.List.{append-nil, map-append}
-use Rattle.std.proofs.lemmas.List.Concat.{flat_map-append}
+use Rattle.std.proofs.lemmas.List.{append-nil}
 use Rattle.std.proofs.lemmas.List.Elements.{All-from_recursion}
 use Rattle.std.proofs.lemmas.List.Splits.{slice_split_none, slice_split_at, join_with_byte-slice_split}
 use Rattle.std.proofs.lemmas.Slice.Eq.{bytes_eq-Decides}
@@ -22,13 +21,13 @@ use Rattle.ide_text.specs.declared.program.Statement.TheVariants.{Assign, Skip, 
 use Rattle.ide_text.specs.declared.program.Expression.{Expression}
 use Rattle.ide_text.specs.declared.program.Expression.TheVariants.{Number, Copy, Sum, Difference, Unknown, Mix}
 use Rattle.ide_text.specs.Grammar.{HasNameBytes, IsName, IsNumber, IsExpression, IsStatement, IsLine, begins_name, continues_name}
-use Rattle.ide_text.specs.Text.{line_text, names_text, statement_text, expression_text}
-use Rattle.ide_text.specs.Token.{HasOneCallee, HasOneCalleeOnLine, IsToken, Lacks, Tokenizes, token_text, expression_tokens, name_tokens, statement_tokens, line_tokens}
+use Rattle.ide_text.specs.Text.{line_text, bars_text, callees_text, names_text, statement_text, expression_text}
+use Rattle.ide_text.specs.Token.{HasCallee, HasCalleeOnLine, IsToken, Lacks, Tokenizes, bar_tokens, callee_tokens, token_text, expression_tokens, name_tokens, statement_tokens, line_tokens}
 use Rattle.ide_text.proofs.Numbers.{digits_from_decimal, value_from_decimal, nonempty_decimal}
 
 -- ---- the bytes of tokens
 abbrev pub is_token_byte : ℕ → Bool
-is_token_byte b = continues_name b || (b == 61 || (b == 43 || (b == 45 || b == 63)))
+is_token_byte b = continues_name b || (b == 61 || (b == 43 || (b == 45 || (b == 63 || b == 124))))
 
 pub and_parts : (a b : Bool) → (a && b) ≡ true → (a ≡ true) × (b ≡ true)
 and_parts true b h = (refl, h)
@@ -78,6 +77,7 @@ token_bytes token.Equals is = refl
 token_bytes token.Plus is = refl
 token_bytes token.Minus is = refl
 token_bytes token.Question is = refl
+token_bytes token.Bar is = refl
 token_bytes (token.Name n) is = name_bytes n is.0
 token_bytes (token.Number n) is = digit_bytes (decimal n) (digits_from_decimal n (decimal n) is refl)
 
@@ -130,15 +130,17 @@ join_names : (w : List ℕ) (names : List (List ℕ)) → join_with_byte 32 (w �
 join_names w [] = sym (append-nil w)
 join_names w (n ∷ names) = ap (λ text. w ++ 32 ∷ text) (join_names n names)
 
-name_tokens-append : (xs ys : List (List ℕ)) → name_tokens xs ++ name_tokens ys ≡ name_tokens (xs ++ ys)
-name_tokens-append xs ys = sym (map-append (λ name. token.Name name) xs ys)
+join_bars : (w : List ℕ) (callees arguments : List (List ℕ)) → join_with_byte 32 (w ∷ map token_text (bar_tokens callees ++ name_tokens arguments)) ≡ w ++ bars_text callees ++ names_text arguments
+join_bars w [] arguments = join_names w arguments ∙ ap (λ text. text ++ names_text arguments) (sym (append-nil w))
+join_bars w (c ∷ callees) arguments =
+    ap (λ text. w ++ 32 ∷ 124 ∷ 32 ∷ text) (join_bars c callees arguments)
+    ∙ sym (append_assoc w (codes " | " ++ c ++ bars_text callees) (names_text arguments))
 
-join_call : (w : List ℕ) (callees arguments : List (List ℕ)) → join_with_byte 32 (w ∷ map token_text (name_tokens callees ++ name_tokens arguments)) ≡ w ++ names_text callees ++ names_text arguments
-join_call w callees arguments =
-    ap (λ ts. join_with_byte 32 (w ∷ map token_text ts)) (name_tokens-append callees arguments)
-    ∙ join_names w (callees ++ arguments)
-    ∙ ap (λ text. w ++ text) (flat_map-append (λ name. codes " " ++ name) callees arguments)
-    ∙ sym (append_assoc w (names_text callees) (names_text arguments))
+join_call : (w : List ℕ) (callees arguments : List (List ℕ)) → join_with_byte 32 (w ∷ map token_text (callee_tokens callees ++ name_tokens arguments)) ≡ w ++ callees_text callees ++ names_text arguments
+join_call w [] arguments = join_bars w [] arguments
+join_call w (c ∷ callees) arguments =
+    ap (λ text. w ++ 32 ∷ text) (join_bars c callees arguments)
+    ∙ sym (append_assoc w (codes " " ++ c ++ bars_text callees) (names_text arguments))
 
 assigned : (x : List ℕ) (e : Expression) → tokens_text (token.Name x ∷ token.Equals ∷ expression_tokens e) ≡ x ++ codes " = " ++ expression_text e
 assigned x (Number n) = sym (append_assoc x (codes " = ") (decimal n))
@@ -184,6 +186,22 @@ proper_parts : (ts us : List Token) → AllByRecursion IsToken (ts ++ us) → Al
 proper_parts [] us h = (tt, h)
 proper_parts (t ∷ ts) us h = let parts = proper_parts ts us h.1 in ((h.0, parts.0), parts.1)
 
+bars_proper : (callees : List (List ℕ)) → AllByRecursion IsName callees → AllByRecursion IsToken (bar_tokens callees)
+bars_proper [] h = tt
+bars_proper (c ∷ callees) h = (tt, (h.0, bars_proper callees h.1))
+
+callees_proper : (callees : List (List ℕ)) → AllByRecursion IsName callees → AllByRecursion IsToken (callee_tokens callees)
+callees_proper [] h = tt
+callees_proper (c ∷ callees) h = (h.0, bars_proper callees h.1)
+
+bars_from_proper : (callees : List (List ℕ)) → AllByRecursion IsToken (bar_tokens callees) → AllByRecursion IsName callees
+bars_from_proper [] h = tt
+bars_from_proper (c ∷ callees) h = (h.1.0, bars_from_proper callees h.1.1)
+
+callees_from_proper : (callees : List (List ℕ)) → AllByRecursion IsToken (callee_tokens callees) → AllByRecursion IsName callees
+callees_from_proper [] h = tt
+callees_from_proper (c ∷ callees) h = (h.0, bars_from_proper callees h.1)
+
 expression_proper : (e : Expression) → IsExpression e → AllByRecursion IsToken (expression_tokens e)
 expression_proper (Number n) h = (h, tt)
 expression_proper (Copy y) h = (h, tt)
@@ -200,40 +218,40 @@ expression_from_proper (Difference y n) h = (h.0, h.1.1.0)
 expression_from_proper Unknown h = tt
 expression_from_proper (Mix y z) h = (h.1.0, h.1.1.0)
 
-statement_proper : (s : Statement) → IsStatement s → AllByRecursion IsToken (statement_tokens s) × HasOneCallee s
+statement_proper : (s : Statement) → IsStatement s → AllByRecursion IsToken (statement_tokens s) × HasCallee s
 statement_proper (Assign x e) h = ((h.0, (tt, expression_proper e h.1)), tt)
 statement_proper Skip h = ((tt, tt), tt)
 statement_proper (At l) h = ((tt, (h, tt)), tt)
 statement_proper (Goto l) h = ((tt, (h, tt)), tt)
 statement_proper (Branch l) h = ((tt, (h, tt)), tt)
-statement_proper (Call None callees arguments) h = ((tt, proper_append _ _ (names_proper callees.items h.2) (names_proper arguments.items h.3)), h.1)
-statement_proper (Call (Some x) callees arguments) h = ((h.0, (tt, (tt, proper_append _ _ (names_proper callees.items h.2) (names_proper arguments.items h.3)))), h.1)
+statement_proper (Call None callees arguments) h = ((tt, proper_append _ _ (callees_proper callees.items h.2) (names_proper arguments.items h.3)), h.1)
+statement_proper (Call (Some x) callees arguments) h = ((h.0, (tt, (tt, proper_append _ _ (callees_proper callees.items h.2) (names_proper arguments.items h.3)))), h.1)
 statement_proper (Return None) h = ((tt, tt), tt)
 statement_proper (Return (Some y)) h = ((tt, (h, tt)), tt)
 
-statement_from_proper : (s : Statement) → AllByRecursion IsToken (statement_tokens s) → HasOneCallee s → IsStatement s
+statement_from_proper : (s : Statement) → AllByRecursion IsToken (statement_tokens s) → HasCallee s → IsStatement s
 statement_from_proper (Assign x e) h one = (h.0, expression_from_proper e h.1.1)
 statement_from_proper Skip h one = tt
 statement_from_proper (At l) h one = h.1.0
 statement_from_proper (Goto l) h one = h.1.0
 statement_from_proper (Branch l) h one = h.1.0
 statement_from_proper (Call None callees arguments) h one =
-    let parts = proper_parts (name_tokens callees.items) (name_tokens arguments.items) h.1 in
-    (tt, one, names_from_proper callees.items parts.0, names_from_proper arguments.items parts.1)
+    let parts = proper_parts (callee_tokens callees.items) (name_tokens arguments.items) h.1 in
+    (tt, one, callees_from_proper callees.items parts.0, names_from_proper arguments.items parts.1)
 statement_from_proper (Call (Some x) callees arguments) h one =
-    let parts = proper_parts (name_tokens callees.items) (name_tokens arguments.items) h.1.1.1 in
-    (h.0, one, names_from_proper callees.items parts.0, names_from_proper arguments.items parts.1)
+    let parts = proper_parts (callee_tokens callees.items) (name_tokens arguments.items) h.1.1.1 in
+    (h.0, one, callees_from_proper callees.items parts.0, names_from_proper arguments.items parts.1)
 statement_from_proper (Return None) h one = tt
 statement_from_proper (Return (Some y)) h one = h.1.0
 
-pub line_proper : (l : Line) → IsLine l → AllByRecursion IsToken (line_tokens l) × HasOneCalleeOnLine l
+pub line_proper : (l : Line) → IsLine l → AllByRecursion IsToken (line_tokens l) × HasCalleeOnLine l
 line_proper (Global g) h = ((tt, (h, tt)), tt)
 line_proper (Begin p parameters) h = ((tt, (h.0, names_proper parameters.items h.1)), tt)
 line_proper (Local x) h = ((tt, (h, tt)), tt)
 line_proper End h = ((tt, tt), tt)
 line_proper (Step s) h = statement_proper s h
 
-pub line_from_proper : (l : Line) → AllByRecursion IsToken (line_tokens l) → HasOneCalleeOnLine l → IsLine l
+pub line_from_proper : (l : Line) → AllByRecursion IsToken (line_tokens l) → HasCalleeOnLine l → IsLine l
 line_from_proper (Global g) h one = h.1.0
 line_from_proper (Begin p parameters) h one = (h.1.0, names_from_proper parameters.items h.1.1)
 line_from_proper (Local x) h one = h.1.0
@@ -247,7 +265,7 @@ fixed =
     (codes "global", token.Global) ∷ (codes "proc", token.Proc) ∷ (codes "var", token.Var) ∷ (codes "end", token.End)
     ∷ (codes "skip", token.Skip) ∷ (codes "at", token.At) ∷ (codes "goto", token.Goto) ∷ (codes "branch", token.Branch)
     ∷ (codes "call", token.Call) ∷ (codes "return", token.Return) ∷ (codes "mix", token.Mix)
-    ∷ (codes "=", token.Equals) ∷ (codes "+", token.Plus) ∷ (codes "-", token.Minus) ∷ (codes "?", token.Question) ∷ []
+    ∷ (codes "=", token.Equals) ∷ (codes "+", token.Plus) ∷ (codes "-", token.Minus) ∷ (codes "?", token.Question) ∷ (codes "|", token.Bar) ∷ []
 
 -- the token that a word spells
 abbrev token_at : List ℕ → Token
@@ -271,7 +289,7 @@ begins_other word text test yes_word no_text e = false≢true (sym no_text ∙ a
 digit_unfixed : (word : List ℕ) → is_ascii_digit (get_or word 0 0) ≡ true → AllByRecursion (λ entry. word ≢ entry.0) fixed
 digit_unfixed word d =
     let other : (text : List ℕ) → is_ascii_digit (get_or text 0 0) ≡ false → word ≢ text = λ text. begins_other word text is_ascii_digit d in
-    (other _ refl, (other _ refl, (other _ refl, (other _ refl, (other _ refl, (other _ refl, (other _ refl, (other _ refl, (other _ refl, (other _ refl, (other _ refl, (other _ refl, (other _ refl, (other _ refl, (other _ refl, tt)))))))))))))))
+    (other _ refl, (other _ refl, (other _ refl, (other _ refl, (other _ refl, (other _ refl, (other _ refl, (other _ refl, (other _ refl, (other _ refl, (other _ refl, (other _ refl, (other _ refl, (other _ refl, (other _ refl, (other _ refl, tt))))))))))))))))
 
 name_unfixed : (name : List ℕ) → IsName name → AllByRecursion (λ entry. name ≢ entry.0) fixed
 name_unfixed [] h = absurd h.0
@@ -299,7 +317,7 @@ name_unfixed (b ∷ bs) h =
                         r.1.1.1.1.1.1.1.1.1.0,
                         (
                           r.1.1.1.1.1.1.1.1.1.1.0,
-                          (other _ refl, (other _ refl, (other _ refl, (other _ refl, tt)))),
+                          (other _ refl, (other _ refl, (other _ refl, (other _ refl, (other _ refl, tt))))),
                         ),
                       ),
                     ),
@@ -342,6 +360,7 @@ token_at-token_text token.Equals is = refl
 token_at-token_text token.Plus is = refl
 token_at-token_text token.Minus is = refl
 token_at-token_text token.Question is = refl
+token_at-token_text token.Bar is = refl
 token_at-token_text (token.Name n) is =
     unfixed n (name_unfixed n is) ∙ ap (λ b. cond b (token.Number (digits_value 10 n)) (token.Name n)) (name_starts n is.0)
 token_at-token_text (token.Number n) is =
@@ -383,7 +402,7 @@ pub Tokenizes-line : (l : Line) (text : List ℕ) → IsLine l → line_text l �
 Tokenizes-line l text is e = some_tokens l text (line_proper l is).0 (line_spelled l ∙ e)
 
 -- a line that has the tokens of a text is of the grammar, and is that text
-pub line_from_tokens : (l : Line) (text : List ℕ) (ts : List Token) → Tokenizes text ts → line_tokens l ≡ ts → HasOneCalleeOnLine l → (line_text l ≡ text) × IsLine l
+pub line_from_tokens : (l : Line) (text : List ℕ) (ts : List Token) → Tokenizes text ts → line_tokens l ≡ ts → HasCalleeOnLine l → (line_text l ≡ text) × IsLine l
 line_from_tokens l text ts h e one =
     let proper : AllByRecursion IsToken (line_tokens l) = subst (AllByRecursion IsToken) (sym e) h.proper in
     (sym (line_spelled l) ∙ ap tokens_text e ∙ text_from_tokens text ts h, line_from_proper l proper one)

@@ -1,11 +1,11 @@
 -- The first of some faults of a text.
 use Rattle.std.specs.Prelude.{ℕ, ◌≤◌, Result, Ok, Err}
 use Rattle.ide_wire.specs.declared.refused.Fault.{Fault}
-use Rattle.ide_wire.specs.declared.refused.Fault.TheVariants.{TextTooLong, NoSuchLine, OutOfPlace, TooMany, DeclaredTwice, NoSuchVariable, NoSuchLabel, NoSuchProcedure, WrongArguments}
+use Rattle.ide_wire.specs.declared.refused.Fault.TheVariants.{TextTooLong, NoSuchLine, OutOfPlace, TooMany, DeclaredTwice, NoSuchVariable, NoSuchLabel, NoSuchProcedure, WrongArguments, WrongCallees}
 use Rattle.ide_wire.specs.declared.refused.Refused.{Refused}
 use Rattle.ide_wire.specs.declared.refused.Refused.TheVariants.{NoMemory, Text}
 
--- the number of a fault, F1 to F9
+-- the number of a fault, F1 to F10
 abbrev pub number_of : Fault → ℕ
 number_of TextTooLong = 1
 number_of NoSuchLine = 2
@@ -16,6 +16,7 @@ number_of NoSuchVariable = 6
 number_of NoSuchLabel = 7
 number_of NoSuchProcedure = 8
 number_of WrongArguments = 9
+number_of WrongCallees = 10
 
 -- of these faults the one with the least number
 pub record IsLeast (faults : Fault → Type 0) (fault : Fault) : Type 0 where

@@ -49,7 +49,7 @@ IsExpression (Difference y n) = IsName y × IsNumber n
 IsExpression Unknown = Unit {0}
 IsExpression (Mix y z) = IsName y × IsName z
 
--- a statement of names and numbers, in which a call has exactly one callee
+-- a statement of names and numbers, in which a call has a callee; how many it may have is said of the draft's names
 abbrev pub IsStatement : Statement → Type 0
 IsStatement (Assign x e) = IsName x × IsExpression e
 IsStatement Skip = Unit {0}
@@ -57,7 +57,7 @@ IsStatement (At l) = IsName l
 IsStatement (Goto l) = IsName l
 IsStatement (Branch l) = IsName l
 IsStatement (Call x callees arguments) =
-    IfSome x IsName × (length callees.items ≡ 1) × AllByRecursion IsName callees.items × AllByRecursion IsName arguments.items
+    IfSome x IsName × (1 ≤ length callees.items) × AllByRecursion IsName callees.items × AllByRecursion IsName arguments.items
 IsStatement (Return y) = IfSome y IsName
 
 -- a line of the grammar

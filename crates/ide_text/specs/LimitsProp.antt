@@ -1,6 +1,6 @@
 -- That a draft is within the limits in one way at most, so that a program can keep it.
-use Rattle.std.specs.Prelude.{ℕ, ◌≤◌, ◌≡◌, List, [], ◌∷◌, Option, None, Some, IfSome, length}
-use Rattle.std.specs.Coded.{×_prop, Unit-prop, le_prop, Coded-set, coded_ℕ, coded_bool}
+use Rattle.std.specs.Prelude.{ℕ, ◌≤◌, List, [], ◌∷◌, Option, None, Some, IfSome}
+use Rattle.std.specs.Coded.{×_prop, Unit-prop, le_prop, Coded-set, coded_bool}
 use Rattle.std.specs.List.{AllByRecursion}
 use Rattle.ide_text.specs.declared.line.Line.{Line}
 use Rattle.ide_text.specs.declared.line.Line.TheVariants.{Global, Procedure as Begin, Local, End, Statement as Step}
@@ -10,8 +10,8 @@ use Rattle.ide_text.specs.declared.program.Expression.TheVariants.{Number, Copy,
 use Rattle.ide_text.specs.declared.program.Statement.{Statement}
 use Rattle.ide_text.specs.declared.program.Statement.TheVariants.{Assign, Skip, At, Goto, Branch, Call, Return}
 use Rattle.ide_text.specs.FirstFault.{AreTaken, Fits, MayEnd, MayFollow, StandsAtGlobals, StandsAtVariables, StandsInside, StandsOutside, parameters_on}
-use Rattle.ide_text.specs.Grammar.{HasNameBytes, IsExpression, IsLine, IsName, IsNumber, IsStatement}
-use Rattle.ide_text.specs.Lines.{IsWithinLimits, draft_lines}
+use Rattle.ide_text.specs.Grammar.{HasNameBytes, IsExpression, IsLine, IsName, IsStatement}
+use Rattle.ide_text.specs.Lines.{IsWithinLimits}
 
 ⊥-prop : IsProp ⊥
 ⊥-prop x y = absurd x
@@ -43,9 +43,6 @@ expression-prop (Difference y n) = ×_prop (name-prop y) le_prop
 expression-prop Unknown = Unit-prop
 expression-prop (Mix y z) = ×_prop (name-prop y) (name-prop z)
 
-one-prop : (callees : List (List ℕ)) → IsProp (length callees ≡ 1)
-one-prop callees = hlevel (Coded-set coded_ℕ)
-
 statement-prop : (s : Statement) → IsProp (IsStatement s)
 statement-prop (Assign x e) = ×_prop (name-prop x) (expression-prop e)
 statement-prop Skip = Unit-prop
@@ -54,10 +51,9 @@ statement-prop (Goto l) = name-prop l
 statement-prop (Branch l) = name-prop l
 statement-prop (Call x callees arguments) =
     let target_prop = some_name-prop x in
-    let one_prop = one-prop callees.items in
     let callees_prop = names-prop callees.items in
     let arguments_prop = names-prop arguments.items in
-    hlevel (target_prop, one_prop, callees_prop, arguments_prop)
+    hlevel (target_prop, le_prop, callees_prop, arguments_prop)
 statement-prop (Return y) = some_name-prop y
 
 line-prop : (l : Line) → IsProp (IsLine l)

@@ -1,9 +1,9 @@
--- The faults of a draft's names: one is declared again, or is used and not declared.
-use Rattle.std.specs.Prelude.{ℕ, ◌+◌, ◌≡◌, ◌≢◌, true, false, List, [], ◌∷◌, ◌++◌, None, Some, take, length, slice_get, sum_by, vec_len}
+-- The faults of a draft's names: one is declared again, or is used and not declared, or a call lists what it may not.
+use Rattle.std.specs.Prelude.{ℕ, ◌+◌, ◌<◌, ◌⊎◌, ◌≡◌, ◌≢◌, true, false, List, [], ◌∷◌, ◌++◌, None, Some, take, length, slice_get, sum_by, vec_len}
 use Rattle.std.specs.List.{list_any, Contains}
 use Rattle.std.specs.Option.{option_to_list}
 use Rattle.ide_wire.specs.declared.refused.Fault.{Fault}
-use Rattle.ide_wire.specs.declared.refused.Fault.TheVariants.{DeclaredTwice, NoSuchVariable, NoSuchLabel, NoSuchProcedure, WrongArguments}
+use Rattle.ide_wire.specs.declared.refused.Fault.TheVariants.{DeclaredTwice, NoSuchVariable, NoSuchLabel, NoSuchProcedure, WrongArguments, WrongCallees}
 use Rattle.ide_text.specs.declared.program.Draft.{Draft}
 use Rattle.ide_text.specs.declared.program.Procedure.{Procedure}
 use Rattle.ide_text.specs.declared.program.Expression.{Expression}
@@ -63,6 +63,10 @@ arguments_passed (Goto l) = 0
 arguments_passed (Branch l) = 0
 arguments_passed (Return y) = 0
 
+-- a call may not list these callees: they are more than eight, or one stands among those before it
+abbrev pub AreWrongCallees : List (List ℕ) → Type 0
+AreWrongCallees callees = (8 < length callees) ⊎ ((k : ℕ) × IsRepeated [] callees k)
+
 -- a fault of the statement s: the variables and the procedures that are declared, the statements before s, and all statements of its procedure
 pub data StatementFault (variables : List (List ℕ)) (procedures : List Procedure) (before statements : List Statement) (s : Statement) : Fault → Type 0 where
   -- it declares a label that one before it declares
@@ -75,6 +79,8 @@ pub data StatementFault (variables : List (List ℕ)) (procedures : List Procedu
   No_procedure : (c : List ℕ) → Contains (callees_of s) c → first_named procedures c ≡ None → StatementFault variables procedures before statements s NoSuchProcedure
   -- it calls a procedure, whose first declaration has another count of parameters
   Wrong_count : (c : List ℕ) (q : Procedure) → Contains (callees_of s) c → first_named procedures c ≡ Some q → vec_len q.parameters ≢ arguments_passed s → StatementFault variables procedures before statements s WrongArguments
+  -- it calls procedures that it may not list
+  Wrong_list : AreWrongCallees (callees_of s) → StatementFault variables procedures before statements s WrongCallees
 
 -- a fault of one of the statements, the first of which has that line
 pub record StatementsFault (variables : List (List ℕ)) (procedures : List Procedure) (statements : List Statement) (start line : ℕ) (fault : Fault) : Type 0 where

@@ -17,7 +17,7 @@ pub record IsParsed (text : List ℕ) (p : Program) : Type 0 where
   pub spelled : Spells text p.draft
 
 -- the text has that fault on that line: it is too long; else the least line with a fault of F2 to
--- F4 has it; else, where the text spells a draft, its first fault of F5 to F9 is that
+-- F4 has it; else, where the text spells a draft, its first fault of F5 to F10 is that
 pub data TextFault (text : List ℕ) : ℕ → Fault → Type 0 where
   Too_long : 1048576 < length text → TextFault text 0 TextTooLong
   In_lines : length text ≤ 1048576 → (line : ℕ) (fault : Fault) → FirstFault text line fault → TextFault text line fault

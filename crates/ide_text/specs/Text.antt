@@ -1,5 +1,5 @@
 -- The one text of a draft.
-use Rattle.std.specs.Prelude.{ℕ, List, [], ◌++◌, Option, Some, None, codes, decimal, ◌≡◌}
+use Rattle.std.specs.Prelude.{ℕ, List, [], ◌∷◌, ◌++◌, Option, Some, None, codes, decimal, ◌≡◌}
 use Rattle.std.specs.List.{flat_map}
 use Rattle.ide_text.specs.declared.line.Line.{Line}
 use Rattle.ide_text.specs.declared.line.Line.TheVariants.{Global, Procedure as Begin, Local, End, Statement as Step}
@@ -15,6 +15,15 @@ use Rattle.ide_text.specs.Draft.{globals_of, procedures_of}
 abbrev pub names_text : List (List ℕ) → List ℕ
 names_text names = flat_map (λ name. codes " " ++ name) names
 
+-- callees behind the first, each after ` | `
+abbrev pub bars_text : List (List ℕ) → List ℕ
+bars_text callees = flat_map (λ callee. codes " | " ++ callee) callees
+
+-- callees, parted by ` | `, after a space
+abbrev pub callees_text : List (List ℕ) → List ℕ
+callees_text [] = []
+callees_text (callee ∷ callees) = codes " " ++ callee ++ bars_text callees
+
 -- what an assignment gives
 abbrev pub expression_text : Expression → List ℕ
 expression_text (Number n) = decimal n
@@ -29,6 +38,10 @@ abbrev pub target_text : Option (List ℕ) → List ℕ
 target_text None = []
 target_text (Some x) = x ++ codes " = "
 
+-- a call
+abbrev pub call_text : Option (List ℕ) → List (List ℕ) → List (List ℕ) → List ℕ
+call_text x callees arguments = target_text x ++ codes "call" ++ callees_text callees ++ names_text arguments
+
 -- the value of a return, where it has one
 abbrev pub value_text : Option (List ℕ) → List ℕ
 value_text None = []
@@ -41,7 +54,7 @@ statement_text Skip = codes "skip"
 statement_text (At l) = codes "at " ++ l
 statement_text (Goto l) = codes "goto " ++ l
 statement_text (Branch l) = codes "branch " ++ l
-statement_text (Call x callees arguments) = target_text x ++ codes "call" ++ names_text callees.items ++ names_text arguments.items
+statement_text (Call x callees arguments) = call_text x callees.items arguments.items
 statement_text (Return y) = codes "return" ++ value_text y
 
 -- the lines of the locals

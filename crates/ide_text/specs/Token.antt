@@ -1,5 +1,5 @@
 -- Tokens, and how they are spelled.
-use Rattle.std.specs.Prelude.{ℕ, List, [], ◌∷◌, ◌++◌, Option, Some, None, codes, decimal, map, length, false, ◌≡◌, ◌==◌}
+use Rattle.std.specs.Prelude.{ℕ, List, [], ◌∷◌, ◌++◌, Option, Some, None, codes, decimal, map, length, false, ◌≡◌, ◌==◌, ◌≤◌}
 use Rattle.std.specs.List.{All, AllByRecursion, slice_split}
 use Rattle.ide_text.specs.declared.token.Token.{Token}
 use Rattle.ide_text.specs.declared.token.Token.TheVariants as token
@@ -28,6 +28,7 @@ token_text token.Equals = codes "="
 token_text token.Plus = codes "+"
 token_text token.Minus = codes "-"
 token_text token.Question = codes "?"
+token_text token.Bar = codes "|"
 token_text (token.Name name) = name
 token_text (token.Number n) = decimal n
 
@@ -40,6 +41,16 @@ IsToken _ = Unit {0}
 -- names as tokens
 abbrev pub name_tokens : List (List ℕ) → List Token
 name_tokens names = map (λ name. token.Name name) names
+
+-- the tokens of callees behind the first, each after a `|`
+abbrev pub bar_tokens : List (List ℕ) → List Token
+bar_tokens [] = []
+bar_tokens (callee ∷ callees) = token.Bar ∷ token.Name callee ∷ bar_tokens callees
+
+-- the tokens of callees, parted by `|`
+abbrev pub callee_tokens : List (List ℕ) → List Token
+callee_tokens [] = []
+callee_tokens (callee ∷ callees) = token.Name callee ∷ bar_tokens callees
 
 -- the tokens of what an assignment gives
 abbrev pub expression_tokens : Expression → List Token
@@ -67,7 +78,7 @@ statement_tokens Skip = token.Skip ∷ []
 statement_tokens (At l) = token.At ∷ token.Name l ∷ []
 statement_tokens (Goto l) = token.Goto ∷ token.Name l ∷ []
 statement_tokens (Branch l) = token.Branch ∷ token.Name l ∷ []
-statement_tokens (Call x callees arguments) = target_tokens x ++ token.Call ∷ name_tokens callees.items ++ name_tokens arguments.items
+statement_tokens (Call x callees arguments) = target_tokens x ++ token.Call ∷ callee_tokens callees.items ++ name_tokens arguments.items
 statement_tokens (Return y) = token.Return ∷ value_tokens y
 
 -- the tokens of a line
@@ -78,15 +89,15 @@ line_tokens (Local x) = token.Var ∷ token.Name x ∷ []
 line_tokens End = token.End ∷ []
 line_tokens (Step s) = statement_tokens s
 
--- a call has exactly one callee
-abbrev pub HasOneCallee : Statement → Type 0
-HasOneCallee (Call x callees arguments) = length callees.items ≡ 1
-HasOneCallee _ = Unit {0}
+-- a call has a callee
+abbrev pub HasCallee : Statement → Type 0
+HasCallee (Call x callees arguments) = 1 ≤ length callees.items
+HasCallee _ = Unit {0}
 
 -- the same of a line that is a call
-abbrev pub HasOneCalleeOnLine : Line → Type 0
-HasOneCalleeOnLine (Step s) = HasOneCallee s
-HasOneCalleeOnLine _ = Unit {0}
+abbrev pub HasCalleeOnLine : Line → Type 0
+HasCalleeOnLine (Step s) = HasCallee s
+HasCalleeOnLine _ = Unit {0}
 
 -- a statement that is no assignment and no call
 abbrev pub IsStep : Statement → Type 0

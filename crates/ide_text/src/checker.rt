@@ -17,7 +17,7 @@ use crate::tables::Procedures;
 use ide_wire::{Fault, Refused};
 use std::alloc::Global;
 
-/// Checks the names of a draft. Refused is the first of the faults F5 to F9 that stands on the
+/// Checks the names of a draft. Refused is the first of the faults F5 to F10 that stands on the
 /// least line.
 pub(crate) fn check(alloc: Global, draft: &Draft) -> Result<(), Refused>
     requires { lines_of draft.now + 1 < 2 ^ 32 }

@@ -16,7 +16,7 @@ pub fn spell_one_program()
     ensures { SpellOneProgram }
 {}
 
-/// A text has at most one fault of F1 to F9, on one line.
+/// A text has at most one fault of F1 to F10, on one line.
 pub fn one_fault()
     ensures { HaveOneFault }
 {}

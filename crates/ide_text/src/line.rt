@@ -2,9 +2,9 @@
 ghost use Rattle.std.specs.Prelude.{ℕ, ◌≡◌, ◌≢◌, List, ◌∷◌, ◌++◌, MatchOption, IfSome, IfNone, IfOk, IfErr};
 ghost use Rattle.ide_text.specs.Flaw.{IsNoLine};
 ghost use Rattle.ide_text.specs.Grammar.{IsLine};
-ghost use Rattle.ide_text.specs.Spelled.{Spell, SpellNone};
+ghost use Rattle.ide_text.specs.Spelled.{AreCallees, AreNoCall, Spell, SpellNone};
 ghost use Rattle.ide_text.specs.Text.{line_text};
-ghost use Rattle.ide_text.specs.Token.{HasOneCalleeOnLine, IsStep, Tokenizes, expression_tokens, line_tokens, name_tokens, statement_tokens, target_tokens};
+ghost use Rattle.ide_text.specs.Token.{HasCalleeOnLine, IsStep, Tokenizes, expression_tokens, line_tokens, name_tokens, statement_tokens, target_tokens};
 
 use crate::cut::cut;
 use crate::flaw::Flaw;
@@ -59,8 +59,8 @@ fn split(alloc: Global, text: &[u8]) -> Result<Vec<Token>, Flaw>
 
 /// The line of these tokens.
 fn line_of(alloc: Global, tokens: &[Token]) -> Result<Line, Flaw>
-    ensures found { IfOk result (λ line. (line_tokens line ≡ tokens.now) × HasOneCalleeOnLine line) }
-    ensures none { IfErr result (IsNoLine ((line : Line) → HasOneCalleeOnLine line → line_tokens line ≢ tokens.now)) }
+    ensures found { IfOk result (λ line. (line_tokens line ≡ tokens.now) × HasCalleeOnLine line) }
+    ensures none { IfErr result (IsNoLine ((line : Line) → HasCalleeOnLine line → line_tokens line ≢ tokens.now)) }
 {
     match tokens {
         [Token::Global, Token::Name(name)] => Ok(Line::Global(name.copy())),
@@ -120,17 +120,51 @@ fn call(alloc: Global, target: Option<Name>, called: &[Token]) -> Result<Stateme
     ensures found { IfOk result (Spell (target_tokens target ++ Token.Call ∷ called.now)) }
     ensures none { IfErr result (SpellNone (target_tokens target ++ Token.Call ∷ called.now)) }
 {
-    let [Token::Name(callee), arguments @ ..] = called else {
-        return Err(Flaw::Faulty(Fault::NoSuchLine));
-    };
-    let arguments = names(alloc, arguments)?;
-    let mut callees = Vec::with_capacity(alloc, 1)?;
-    callees.push(callee.copy())?;
+    let (callees, rest) = callees(alloc, called)?;
+    let arguments = names(alloc, rest)?;
     Ok(Statement::Call {
         target,
         callees,
         arguments,
     })
+}
+
+/// The callees in front of these tokens of a call, parted by `|`, and what stands behind them.
+fn callees(alloc: Global, tokens: &[Token]) -> Result<(Vec<Name>, &[Token]), Flaw>
+    ensures found { IfOk result (λ found. AreCallees tokens.now found.0.items found.1.now) }
+    ensures none { IfErr result (IsNoLine (AreNoCall tokens.now)) }
+{
+    let (first, mut rest) = callee(tokens).ok_or(Fault::NoSuchLine)?;
+    let mut callees = Vec::with_capacity(alloc, 1)?;
+    callees.push(first.copy())?;
+    while let Some(after) = behind_bar(rest) {
+        let (next, behind) = callee(after).ok_or(Fault::NoSuchLine)?;
+        callees.push(next.copy())?;
+        rest = behind;
+    }
+    Ok((callees, rest))
+}
+
+/// The callee in front of these tokens, if a name stands there, and what stands behind it.
+fn callee(tokens: &[Token]) -> Option<(&Name, &[Token])>
+    ensures found { IfSome result (λ found. tokens.now ≡ Token.Name found.0.now ∷ found.1.now) }
+    ensures none { IfNone result ((n : List ℕ) (rest : List Token) → tokens.now ≢ Token.Name n ∷ rest) }
+{
+    match tokens {
+        [Token::Name(name), rest @ ..] => Some((name, rest)),
+        _ => None,
+    }
+}
+
+/// What stands behind the `|` in front of these tokens, if one stands there.
+fn behind_bar(tokens: &[Token]) -> Option<&[Token]>
+    ensures found { IfSome result (λ rest. tokens.now ≡ Token.Bar ∷ rest.now) }
+    ensures none { IfNone result ((rest : List Token) → tokens.now ≢ Token.Bar ∷ rest) }
+{
+    match tokens {
+        [Token::Bar, rest @ ..] => Some(rest),
+        _ => None,
+    }
 }
 
 /// The statement of these tokens where it is neither an assignment nor a call.

@@ -25,7 +25,7 @@ pub const MAX_TEXT: usize = 1_048_576;
 ///
 /// Lines count from 1. A text that is too long has its fault on line 0. Refused is otherwise the
 /// first of the faults F2 to F4 on the least line that has one; in a text with none of these the
-/// first of F5 to F9 on the least line that has one. [`Refused::NoMemory`] may be answered for any
+/// first of F5 to F10 on the least line that has one. [`Refused::NoMemory`] may be answered for any
 /// text that is not too long. The time grows with the length of the text.
 pub fn parse(alloc: Global, text: &[u8]) -> Result<Program, Refused>
     ensures too_long { (result ≡ Err (Refused.Text 0 Fault.TextTooLong)) ↔ (1048576 < length text.now) }

@@ -1,6 +1,6 @@
 //! The printer: the one text of a program.
-ghost use Rattle.std.specs.Prelude.{◌≡◌, ◌++◌, OnOk, OnErr, codes, decimal, IsOkUnless};
-ghost use Rattle.ide_text.specs.Text.{Extends, names_text, expression_text, target_text, value_text, statement_text, locals_text, statements_text, procedure_text, globals_text};
+ghost use Rattle.std.specs.Prelude.{◌≡◌, ◌++◌, OnOk, OnErr, decimal, IsOkUnless};
+ghost use Rattle.ide_text.specs.Text.{Extends, bars_text, call_text, callees_text, names_text, expression_text, statement_text, locals_text, statements_text, procedure_text, globals_text};
 ghost use Rattle.ide_text.specs.Program.{text_of};
 
 use crate::name::Name;
@@ -116,15 +116,38 @@ fn append_call(
     arguments: &[Name],
     out: &mut Vec<u8>,
 ) -> Result<(), AllocError>
-    ensures text { OnOk result (out.new.items ≡ out.old.items ++ target_text target.now ++ codes "call" ++ names_text callees.now ++ names_text arguments.now) }
+    ensures text { OnOk result (out.new.items ≡ out.old.items ++ call_text target.now callees.now arguments.now) }
     ensures extends { OnErr result (Extends out.old.items out.new.items) }
 {
     if let Some(target) = target {
         append(b"", target.as_bytes(), b" = ", out)?;
     }
     out.extend_from_slice(b"call")?;
-    append_names(callees, out)?;
+    append_callees(callees, out)?;
     append_names(arguments, out)
+}
+
+/// Appends the callees of a call, parted by `|`.
+fn append_callees(callees: &[Name], out: &mut Vec<u8>) -> Result<(), AllocError>
+    ensures text { OnOk result (out.new.items ≡ out.old.items ++ callees_text callees.now) }
+    ensures extends { OnErr result (Extends out.old.items out.new.items) }
+{
+    let Some((first, others)) = callees.split_first() else {
+        return Ok(());
+    };
+    append(b" ", first.as_bytes(), b"", out)?;
+    append_bars(others, out)
+}
+
+/// Appends callees behind the first, each after a `|`.
+fn append_bars(callees: &[Name], out: &mut Vec<u8>) -> Result<(), AllocError>
+    ensures text { OnOk result (out.new.items ≡ out.old.items ++ bars_text callees.now) }
+    ensures extends { OnErr result (Extends out.old.items out.new.items) }
+{
+    for name in callees {
+        append(b" | ", name.as_bytes(), b"", out)?;
+    }
+    Ok(())
 }
 
 /// Appends what an assignment gives.

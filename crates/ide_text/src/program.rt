@@ -51,7 +51,8 @@ pub enum Statement {
     Goto(Name),
     /// `branch L`
     Branch(Name),
-    /// `call p a b`, or with a target `x = call p a b`. The grammar reads exactly one callee.
+    /// `call p a b`, or with a target `x = call p a b`. It has one to eight callees, each named once
+    /// and parted by `|`: `call p | q a b` calls either of them.
     Call {
         target: Option<Name>,
         callees: Vec<Name>,

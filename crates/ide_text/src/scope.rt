@@ -2,9 +2,9 @@
 ghost use Rattle.std.specs.Prelude.{◌≡◌, ◌++◌, ◌↔◌, List, ℕ, [], take, IsTrue, IfOk, IfNone};
 ghost use Rattle.std.specs.List.{list_all};
 ghost use Rattle.ide_text.specs.declared.program.Statement.TheVariants.{At};
-ghost use Rattle.ide_text.specs.Names.{is_among, is_label, is_procedure, takes, IsFirstRepeated};
+ghost use Rattle.ide_text.specs.Names.{is_among, is_label, is_procedure, takes, IsFirstRepeated, IsRepeated};
 ghost use Rattle.ide_text.specs.First.{LineChecked};
-ghost use Rattle.ide_text.specs.NameFault.{variables_of, variables_used, labels_used, callees_of, arguments_passed};
+ghost use Rattle.ide_text.specs.NameFault.{AreWrongCallees, variables_of, variables_used, labels_used, callees_of, arguments_passed};
 ghost use Rattle.ide_text.specs.Scope.{FaultAt, variables_of_scope};
 
 use crate::name::Name;
@@ -13,6 +13,9 @@ use crate::program::{Expression, Statement};
 use crate::tables::{Labels, Procedures};
 use ide_wire::Fault;
 use std::alloc::{AllocError, Global};
+
+/// The most callees of a call.
+const MAX_CALLEES: usize = 8;
 
 /// What the statements of one procedure may name.
 #[derive(Drop)]
@@ -81,6 +84,9 @@ impl<'t, 'p> Scope<'t, 'p> {
         }
         if !self.counts_arguments(statement) {
             return Err(Fault::WrongArguments);
+        }
+        if lists_wrong_callees(statement) {
+            return Err(Fault::WrongCallees);
         }
         Ok(())
     }
@@ -224,4 +230,35 @@ impl<'t, 'p> Scope<'t, 'p> {
             None => true,
         }
     }
+}
+
+/// Whether the statement calls more than eight procedures, or one twice.
+fn lists_wrong_callees(statement: &Statement) -> bool
+    ensures { IsTrue result ↔ AreWrongCallees (callees_of statement.now) }
+{
+    match statement {
+        Statement::Call { callees, .. } => callees.len() > MAX_CALLEES || repeats_name(callees),
+        _ => false,
+    }
+}
+
+/// Whether one of the names stands among those before it. Only for few names: it compares each pair.
+fn repeats_name(names: &[Name]) -> bool
+    ensures { IsTrue result ↔ (k : ℕ) × IsRepeated [] names.now k }
+{
+    for (place, name) in names.iter().enumerate() {
+        if has_name(&names[..place], name) {
+            return true;
+        }
+    }
+    false
+}
+
+/// Whether the name is one of these.
+fn has_name(names: &[Name], name: &Name) -> bool
+    ensures { result ≡ is_among names.now name.now }
+{
+    names
+        .iter()
+        .any(|other| name.as_bytes() == other.as_bytes())
 }

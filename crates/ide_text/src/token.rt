@@ -28,6 +28,8 @@ pub(crate) enum Token {
     Minus,
     /// `?`
     Question,
+    /// `|`
+    Bar,
     Name(Name),
     Number(u64),
 }
@@ -80,13 +82,14 @@ fn reserved(word: &[u8]) -> Option<Token>
 /// The sign of this byte, if it is one.
 fn sign(byte: u8) -> Option<Token>
     ensures found { IfSome result (λ token. IsToken token × (token_text token ≡ byte ∷ [])) }
-    ensures none { IfNone result ((byte ≢ 61) × (byte ≢ 43) × (byte ≢ 45) × (byte ≢ 63)) }
+    ensures none { IfNone result ((byte ≢ 61) × (byte ≢ 43) × (byte ≢ 45) × (byte ≢ 63) × (byte ≢ 124)) }
 {
     match byte {
         b'=' => Some(Token::Equals),
         b'+' => Some(Token::Plus),
         b'-' => Some(Token::Minus),
         b'?' => Some(Token::Question),
+        b'|' => Some(Token::Bar),
         _ => None,
     }
 }

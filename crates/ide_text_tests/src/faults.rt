@@ -1,6 +1,7 @@
 //! What texts that are no programs are refused for, and the limits of those that are.
 use crate::texts::{is_answered, numbered, repeated};
 use ide_wire::Fault;
+use std::alloc::{AllocError, Global};
 use std::process::Abort;
 use std::test::Fail;
 
@@ -121,6 +122,100 @@ fn finds_wrong_calls(rt: HostRuntime) {
     );
 }
 
+/// Three procedures, `p` and `q` of one parameter and `s` of none, and a line of `main`, which has
+/// the variable `x`: the line is the eighth.
+fn with_call(alloc: Global, line: &str) -> Result<Vec<u8>, AllocError> {
+    let head = "proc p a\nend\nproc q a\nend\nproc s\nend\nproc main x\n";
+    repeated(alloc, head, line, 1, "\nend\n")
+}
+
+/// That the text with that line of `main` is answered so.
+fn expect_call(
+    rt: &(impl Abort + AllocGlobal),
+    line: &str,
+    fault: Option<Fault>,
+) -> Result<(), Fail> {
+    let text = with_call(rt.alloc(), line)?;
+    let expected = fault.map(|fault| (8, fault));
+    assert!(rt;
+        is_answered(rt.alloc(), text.as_slice(), expected),
+        "at {line}"
+    );
+    Ok(())
+}
+
+#[test]
+fn finds_wrong_callees(rt: HostRuntime) -> Result<(), Fail> {
+    expect_call(&rt, "call p | q x", None)?;
+    expect_call(&rt, "x = call q | p x", None)?;
+    expect_call(&rt, "call p | p x", Some(Fault::WrongCallees))?;
+    expect_call(&rt, "x = call p | q | p x", Some(Fault::WrongCallees))?;
+    expect_call(&rt, "call p | t x", Some(Fault::NoSuchProcedure))?;
+    expect_call(&rt, "call t | p x", Some(Fault::NoSuchProcedure))?;
+    expect_call(&rt, "call p | q", Some(Fault::WrongArguments))?;
+    expect_call(&rt, "call p | s x", Some(Fault::WrongArguments))?;
+    expect_call(&rt, "call s | p x", Some(Fault::WrongArguments))
+}
+
+#[test]
+fn finds_the_least_fault_of_a_call(rt: HostRuntime) -> Result<(), Fail> {
+    // Each line has the faults from the one that is found on, and none before it.
+    expect_call(&rt, "call p | t | s | p y", Some(Fault::NoSuchVariable))?;
+    expect_call(&rt, "y = call p | t | s | p x", Some(Fault::NoSuchVariable))?;
+    expect_call(&rt, "call p | t | s | p x", Some(Fault::NoSuchProcedure))?;
+    expect_call(&rt, "call p | t | p x", Some(Fault::NoSuchProcedure))?;
+    expect_call(&rt, "call t | t x", Some(Fault::NoSuchProcedure))?;
+    expect_call(&rt, "call p | s | p x", Some(Fault::WrongArguments))?;
+    expect_call(&rt, "call s | s x", Some(Fault::WrongArguments))?;
+    expect_call(&rt, "call p | q | p x", Some(Fault::WrongCallees))
+}
+
+#[test]
+fn finds_the_least_line_of_wrong_callees(rt: HostRuntime) {
+    let wrong = Fault::WrongCallees;
+    expect_fault(&rt, "proc p\ncall p | p\ncall q\nend\n", 2, wrong);
+    expect_fault(
+        &rt,
+        "proc p\ncall p | p\nproc q\nend\n",
+        3,
+        Fault::OutOfPlace,
+    );
+    expect_fault(
+        &rt,
+        "proc p\ncall q\ncall p | p\nend\n",
+        2,
+        Fault::NoSuchProcedure,
+    );
+    expect_fault(&rt, "proc p\ncall p | p\nend\nproc p\nend\n", 2, wrong);
+}
+
+#[test]
+fn takes_eight_callees_and_no_more(rt: HostRuntime) -> Result<(), Fail> {
+    let head =
+        "proc a\nend\nproc b\nend\nproc c\nend\nproc d\nend\nproc e\nend\nproc f\nend\nproc g\nend\nproc h\nend\nproc i\nend\nproc main\n";
+    let eight = "call a | b | c | d | e | f | g | h";
+    let wrong = Some((20, Fault::WrongCallees));
+    expect_repeated(&rt, head, eight, 1, "\nend\n", None)?;
+    expect_repeated(&rt, head, eight, 1, " | i\nend\n", wrong)?;
+    expect_repeated(
+        &rt,
+        head,
+        "call i",
+        1,
+        " | i | i | i | i | i | i | i | i\nend\n",
+        wrong,
+    )?;
+    // A line of many callees is one of the grammar: its fault is among those of names.
+    expect_repeated(
+        &rt,
+        "proc main\ncall main",
+        " | main",
+        5_000,
+        "\nend\n",
+        Some((2, Fault::WrongCallees)),
+    )
+}
+
 #[test]
 fn finds_the_least_fault(rt: HostRuntime) {
     expect_fault(
@@ -209,6 +304,8 @@ fn refuses_too_many_of_a_kind(rt: HostRuntime) -> Result<(), Fail> {
     expect_repeated(&rt, "proc main\n", "skip\n", 65_535, "end\n", statements)?;
     let calls = Some((32_769, Fault::TooMany));
     expect_repeated(&rt, "proc p\n", "call p\n", 32_768, "end\n", calls)?;
+    // A call has two nodes however many callees it has.
+    expect_repeated(&rt, "proc p\n", "call p | p\n", 32_768, "end\n", calls)?;
     let locals = Some((4_096, Fault::TooMany));
     expect_numbered(&rt, "proc main\n", ("var x", "\n"), 4_095, "end\n", locals)?;
     let globals = Some((4_095, Fault::TooMany));

@@ -1,10 +1,12 @@
 //! Counts, sites and names of the graphs of small programs.
 use crate::graphs::on_graph_of;
-use crate::sites::{Call, expect_call, expect_exit, expect_fork, expect_shared_step, expect_step};
+use crate::sites::{
+    Call, expect_call, expect_calls, expect_exit, expect_fork, expect_shared_step, expect_step,
+};
 use ide_graph::{Effect, Graph};
 use ide_wire::{Fact, Node, Refused};
 use ide_worked::{
-    ADDS_IN_CALLEE, BRANCH, COPIES, EMPTY, NUMBER, PASSES_GLOBAL, RECURSION, STATEMENTS,
+    ADDS_IN_CALLEE, BRANCH, CALLEES, COPIES, EMPTY, NUMBER, PASSES_GLOBAL, RECURSION, STATEMENTS,
     SUM_OR_NUMBER, TWO_CALLS, UNINITIALISED, UNREACHABLE, WRAPPING_SUM,
 };
 use std::process::Abort;
@@ -38,6 +40,7 @@ fn examples_have_their_counts(rt: HostRuntime) -> Result<(), Fail> {
     expect_counts_of(&rt, WRAPPING_SUM, (1, 4, 4, 1))?;
     expect_counts_of(&rt, RECURSION, (2, 12, 3, 2))?;
     expect_counts_of(&rt, ADDS_IN_CALLEE, (2, 12, 4, 1))?;
+    expect_counts_of(&rt, CALLEES, (3, 15, 5, 1))?;
     expect_counts_of(&rt, SUM_OR_NUMBER, (2, 17, 6, 1))
 }
 
@@ -170,6 +173,56 @@ fn expect_both_calls(rt: &impl Abort, graph: &Graph) {
 #[test]
 fn calls_go_to_starts_and_come_back(rt: HostRuntime) -> Result<(), Fail> {
     on_graph_of(rt.alloc(), TWO_CALLS, |graph| expect_both_calls(&rt, graph))
+}
+
+/// That the call of both procedures and that of one of them are the callers at the exits and the calls
+/// at the call nodes, where `main` begins at node 8.
+fn expect_callees(rt: &impl Abort, graph: &Graph) {
+    let first = Call {
+        node: 10,
+        start: 0,
+        passed: Some((2, 2)),
+        back: 11,
+        target: Some(3),
+    };
+    let second = Call { start: 4, ..first };
+    let alone = Call {
+        node: 12,
+        start: 0,
+        passed: Some((2, 2)),
+        back: 13,
+        target: Some(4),
+    };
+    expect_calls(rt, graph, 10, &[first, second]);
+    expect_calls(rt, graph, 12, &[alone]);
+    expect_exit(rt, graph, 3, 0, &[first, alone]);
+    expect_exit(rt, graph, 7, 4, &[second]);
+    expect_exit(rt, graph, 14, 8, &[]);
+}
+
+/// That these are the sites of `CALLEES`.
+fn expect_call_of_both(rt: &impl Abort, graph: &Graph) {
+    expect_counts(rt, graph, (3, 15, 5, 1));
+    expect_step(rt, graph, 1, 2, number(3, 5));
+    expect_step(rt, graph, 5, 6, number(3, 6));
+    expect_step(rt, graph, 9, 10, number(2, 1));
+    expect_step(rt, graph, 11, 12, Effect::Nothing);
+    expect_step(rt, graph, 13, 14, Effect::Nothing);
+    expect_callees(rt, graph);
+}
+
+#[test]
+fn a_call_goes_to_each_callee(rt: HostRuntime) -> Result<(), Fail> {
+    on_graph_of(rt.alloc(), CALLEES, |graph| expect_call_of_both(&rt, graph))
+}
+
+/// The program of `CALLEES` with its callees in the other order.
+const OTHER_ORDER: &str =
+    "proc f p\nvar r\nr = 5\nreturn r\nend\nproc h p\nvar r\nr = 6\nreturn r\nend\nproc main\nvar a\nvar x\nvar y\na = 1\nx = call h | f a\ny = call f a\nend\n";
+
+#[test]
+fn calls_ascend_by_start_whatever_the_order(rt: HostRuntime) -> Result<(), Fail> {
+    on_graph_of(rt.alloc(), OTHER_ORDER, |graph| expect_callees(&rt, graph))
 }
 
 /// That these are the sites of `STATEMENTS` whose statements assign.

@@ -49,5 +49,6 @@ fn faults_are_printed_so(rt: HostRuntime) -> Result<(), Fail> {
     expect_fault_shown(&rt, Fault::NoSuchVariable, "E7 line 3 fault F6")?;
     expect_fault_shown(&rt, Fault::NoSuchLabel, "E7 line 3 fault F7")?;
     expect_fault_shown(&rt, Fault::NoSuchProcedure, "E7 line 3 fault F8")?;
-    expect_fault_shown(&rt, Fault::WrongArguments, "E7 line 3 fault F9")
+    expect_fault_shown(&rt, Fault::WrongArguments, "E7 line 3 fault F9")?;
+    expect_fault_shown(&rt, Fault::WrongCallees, "E7 line 3 fault F10")
 }

@@ -3,7 +3,8 @@ use ide_graph::{Caller, EdgeData, EdgeKind, Effect, Graph, Site};
 use ide_wire::{Fact, Node};
 use std::process::Abort;
 
-/// A call, as its call node and the exit of its callee have to show it.
+/// A call of one callee, as its call node and the exit of that callee have to show it. A call of
+/// several is one of these for each.
 #[derive(Clone, Copy)]
 pub(crate) struct Call {
     pub node: Node,
@@ -44,22 +45,31 @@ impl Call {
         }
     }
 
+    /// Whether these are the call edge and the call-to-return edge of the call.
+    fn has_edges(self, call: &EdgeData, along: &EdgeData) -> bool {
+        self.is_entered_by(call) && self.is_passed_by(along)
+    }
+
     /// Whether the caller is that of the call.
     fn is_of(self, caller: &Caller) -> bool {
         caller.call_node == self.node
             && self.is_entered_by(&caller.call)
             && self.is_left_by(&caller.back)
     }
+}
 
-    /// Whether the site is the call node of the call.
-    fn stands_at(self, site: &Site) -> bool {
-        match site {
-            Site::Call { calls, along } => {
-                let calls = calls.as_slice();
-                calls.len() == 1 && self.is_entered_by(&calls[0]) && self.is_passed_by(along)
-            }
-            _ => false,
+/// Whether the site is the call node of these calls, one for each callee in the order of the edges.
+fn is_call(site: &Site, expected: &[Call]) -> bool {
+    match site {
+        Site::Call { calls, along } => {
+            let calls = calls.as_slice();
+            calls.len() == expected.len()
+                && calls
+                    .iter()
+                    .zip(expected)
+                    .all(|(edge, call)| call.has_edges(edge, along))
         }
+        _ => false,
     }
 }
 
@@ -144,10 +154,14 @@ pub(crate) fn expect_fork(rt: &impl Abort, graph: &Graph, node: Node, first: Nod
     );
 }
 
-/// That the call stands at its node.
+/// That the call stands at its node, and has no other callee.
 pub(crate) fn expect_call(rt: &impl Abort, graph: &Graph, call: Call) {
-    let node = call.node;
-    assert!(rt; call.stands_at(site_at(rt, graph, node)), "at node {node}");
+    expect_calls(rt, graph, call.node, &[call]);
+}
+
+/// That a call stands at the node which is these calls, one for each callee in the order of the edges.
+pub(crate) fn expect_calls(rt: &impl Abort, graph: &Graph, node: Node, calls: &[Call]) {
+    assert!(rt; is_call(site_at(rt, graph, node), calls), "at node {node}");
 }
 
 /// That the node is the exit of the procedure that begins there, with these callers alone.

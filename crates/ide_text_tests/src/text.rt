@@ -73,6 +73,14 @@ fn prints_what_it_parsed(rt: HostRuntime) -> Result<(), Fail> {
         &rt,
         "global g\nglobal h_1\nproc p a b\nskip\na = ?\nb = mix a g\na = b - 0\nreturn\nend\n",
     )?;
+    expect_printed(
+        &rt,
+        "proc f p\nend\nproc h p\nend\nproc k p\nend\nproc main x\ncall f | h x\nx = call k | f | h x\ncall h | f x\nend\n",
+    )?;
+    expect_printed(
+        &rt,
+        "proc a\nend\nproc b\nend\nproc c\nend\nproc d\nend\nproc e\nend\nproc f\nend\nproc g\nend\nproc main\ncall a | b | c | d | e | f | g | main\nend\n",
+    )?;
     expect_printed(&rt, "proc _\nvar a234567890123456789012345678901\nend\n")
 }
 
@@ -111,12 +119,14 @@ fn expect_told(
 
 #[test]
 fn each_byte_tells(rt: HostRuntime) -> Result<(), Fail> {
-    let text = b"global g\nproc f y\nvar x\nbranch b\nx = y + 10\nat b\ng = call f x\nend\n";
+    let text =
+        b"global g\nproc f y\nvar x\nbranch b\nx = y + 10\nat b\ng = call f x\ncall f | h g\nend\nproc h z\nend\n";
     for place in 0..text.len() {
         expect_told(&rt, text, place, b' ')?;
         expect_told(&rt, text, place, b'\n')?;
         expect_told(&rt, text, place, b'0')?;
         expect_told(&rt, text, place, b'g')?;
+        expect_told(&rt, text, place, b'|')?;
     }
     Ok(())
 }
@@ -171,6 +181,33 @@ fn spells_each_statement_in_one_way(rt: HostRuntime) {
     expect_no_such_line(&rt, "global");
     expect_no_such_line(&rt, "global g g");
     expect_no_such_line(&rt, "# comment");
+}
+
+#[test]
+fn spells_each_list_of_callees_in_one_way(rt: HostRuntime) {
+    expect_no_such_line(&rt, "call | p");
+    expect_no_such_line(&rt, "call p |");
+    expect_no_such_line(&rt, "call p | ");
+    expect_no_such_line(&rt, "call |");
+    expect_no_such_line(&rt, "x = call |");
+    expect_no_such_line(&rt, "call p | | q");
+    expect_no_such_line(&rt, "call p || q");
+    expect_no_such_line(&rt, "call p| q");
+    expect_no_such_line(&rt, "call p |q");
+    expect_no_such_line(&rt, "call p|q");
+    expect_no_such_line(&rt, "call p  | q");
+    expect_no_such_line(&rt, "call p |  q");
+    expect_no_such_line(&rt, "call p x | q");
+    expect_no_such_line(&rt, "x = call p | q x | r");
+    expect_no_such_line(&rt, "call p | q x |");
+    expect_no_such_line(&rt, "call p | 5");
+    expect_no_such_line(&rt, "call p | mix");
+    expect_no_such_line(&rt, "| call p");
+    expect_no_such_line(&rt, "x | y = call p");
+    expect_no_such_line(&rt, "x = y | z");
+    expect_no_such_line(&rt, "goto L | M");
+    expect_no_such_line(&rt, "return x | y");
+    expect_no_such_line(&rt, "|");
 }
 
 #[test]

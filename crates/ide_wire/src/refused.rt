@@ -29,6 +29,8 @@ pub enum Fault {
     NoSuchProcedure,
     /// F9: the count of arguments is not that of the parameters.
     WrongArguments,
+    /// F10: a call has more than eight callees, or names one twice.
+    WrongCallees,
 }
 
 impl fmt::Display for Fault {
@@ -43,6 +45,7 @@ impl fmt::Display for Fault {
             Fault::NoSuchLabel => "F7",
             Fault::NoSuchProcedure => "F8",
             Fault::WrongArguments => "F9",
+            Fault::WrongCallees => "F10",
         };
         write!(f, "{name}")
     }

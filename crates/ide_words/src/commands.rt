@@ -85,7 +85,7 @@ fn check<'a>(alloc: Global) -> Result<Command<'a>, Error>
 fn explain<'a>(alloc: Global) -> Result<Command<'a>, Error>
     ensures { IfOk result IsExplain }
 {
-    let name = required(alloc, "NAME", "E1 to E16, or F1 to F9").value_parser(NAMES.as_slice());
+    let name = required(alloc, "NAME", "E1 to E16, or F1 to F10").value_parser(NAMES.as_slice());
     Ok(
         Command::new(alloc, "explain")
             .about("Prints what a refusal or a fault means")

@@ -84,9 +84,9 @@ pub enum Instance {
 pub(crate) static INSTANCES: [&str; 3] = ["uninit", "copy", "shift"];
 
 /// The names of refusals and of faults that can be asked for.
-pub static NAMES: [&str; 25] = [
+pub static NAMES: [&str; 26] = [
     "E1", "E2", "E3", "E4", "E5", "E6", "E7", "E8", "E9", "E10", "E11", "E12", "E13", "E14", "E15",
-    "E16", "F1", "F2", "F3", "F4", "F5", "F6", "F7", "F8", "F9",
+    "E16", "F1", "F2", "F3", "F4", "F5", "F6", "F7", "F8", "F9", "F10",
 ];
 
 impl Instance {

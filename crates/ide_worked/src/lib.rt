@@ -11,6 +11,9 @@ pub const BRANCH: &str =
 pub const BRANCH_OF_TWO: &str =
     "proc main\nvar x\nbranch other\nx = 5\ngoto done\nat other\nx = 6\nat done\nend\n";
 
+pub const CALLEES: &str =
+    "proc f p\nvar r\nr = 5\nreturn r\nend\nproc h p\nvar r\nr = 6\nreturn r\nend\nproc main\nvar a\nvar x\nvar y\na = 1\nx = call f | h a\ny = call f a\nend\n";
+
 pub const COPIES: &str = "proc main\nvar x\nvar y\nx = 5\ny = x\nend\n";
 
 pub const EMPTY: &str = "proc main\nend\n";

@@ -1,14 +1,8 @@
 use Rattle.std.proofs.Common.{◌∙◌, sym}
 use Rattle.std.proofs.lemmas.Result.{err_from_is_err_and, IfOk-weaker, IfErr-weaker}
-use Rattle.ide_text.specs.declared.flaw.Flaw.{Flaw}
-use Rattle.ide_text.specs.declared.flaw.Flaw.TheVariants.{NoMemory, Faulty}
-use Rattle.ide_text.specs.Flaw.{IsNoLine}
+use Rattle.ide_text.proofs.Lines.{no_line_weaker}
 use Rattle.ide_text.proofs.Words.{Tokenizes-line, Tokenizes-one, line_from_tokens, line_proper}
 use Rattle.ide_text.proofs.line.Line.read.Goals as goal
-
-no_line_weaker : (P Q : Type 0) → (P → Q) → (flaw : Flaw) → IsNoLine P flaw → IsNoLine Q flaw
-no_line_weaker P Q f NoMemory h = tt
-no_line_weaker P Q f (Faulty fault) h = (h.0, f h.1)
 
 pub returns-in_err-tokens-clause-none : goal.returns-in_err-tokens-clause-none
 returns-in_err-tokens-clause-none c =

@@ -1,5 +1,5 @@
 use Rattle.std.proofs.Common.{true≢false, ◌∙◌, sym}
-use Rattle.ide_text.proofs.StatementLemmas.{least_label, least_variable, least_unknown_label, least_procedure, least_count, no_fault}
+use Rattle.ide_text.proofs.StatementLemmas.{least_label, least_variable, least_unknown_label, least_procedure, least_count, least_list, no_fault}
 use Rattle.ide_text.proofs.scope.Scope.check.Goals as goal
 
 pub returns-then-repeats_label : goal.returns-then-repeats_label
@@ -21,6 +21,11 @@ pub returns-then-not-counts_arguments : goal.returns-then-not-counts_arguments
 returns-then-not-counts_arguments c =
     least_count _ _ _ _ _ (λ again. true≢false (sym (c.repeats_label.ensures.1 again) ∙ c.if-repeats_label.false)) (sym c.knows_variables.ensures ∙ cc) (sym c.knows_labels.ensures ∙ cc) (sym c.knows_callees.ensures ∙ cc) (sym c.counts_arguments.ensures ∙ cc)
 
+pub returns-then-lists_wrong_callees : goal.returns-then-lists_wrong_callees
+returns-then-lists_wrong_callees c =
+    least_list _ _ _ _ _ (λ again. true≢false (sym (c.repeats_label.ensures.1 again) ∙ c.if-repeats_label.false)) (sym c.knows_variables.ensures ∙ cc) (sym c.knows_labels.ensures ∙ cc) (sym c.knows_callees.ensures ∙ cc) (sym c.counts_arguments.ensures ∙ cc) (c.lists_wrong_callees.ensures.0 c.if-lists_wrong_callees.true)
+
 pub returns : goal.returns
 returns c =
     no_fault _ _ _ _ _ (λ again. true≢false (sym (c.repeats_label.ensures.1 again) ∙ c.if-repeats_label.false)) (sym c.knows_variables.ensures ∙ cc) (sym c.knows_labels.ensures ∙ cc) (sym c.knows_callees.ensures ∙ cc) (sym c.counts_arguments.ensures ∙ cc)
+    (λ wrong. true≢false (sym (c.lists_wrong_callees.ensures.1 wrong) ∙ c.if-lists_wrong_callees.false))
