@@ -10,8 +10,8 @@ use Rattle.std.specs.Option.{option_map}
 use Rattle.std.proofs.lemmas.Map.Keys.{IsDistinct-cons, IsDistinct-head, IsDistinct-tail}
 use Rattle.ide_pages.specs.Pages.{KeepsCells, Numbers, cell_of, entries, number_at}
 use Rattle.ide_wire.specs.declared.key.Key.{Key}
-use Rattle.ide_wire.specs.Key.{same_key, same_key_exact, same_key_refl, same_key_symm}
-use Rattle.ide_tables.specs.Tables.{IsIndexed, behind, place_in, with_entry}
+use Rattle.ide_wire.specs.Key.{node_of, same_key, same_key_exact, same_key_refl, same_key_symm}
+use Rattle.ide_tables.specs.Tables.{IsIndexed, behind, nodes_of, place_in, with_entry}
 
 behind-zero : (p : ℕ) → behind p ≡ 0 → p ≡ 0
 behind-zero zero is = refl
@@ -147,10 +147,33 @@ module _ {F : Type 0} (key : Key) where
             IsDistinct-cons same_key e.0 (keys_of (with_entry es key f)) (apart-put e.0 es f head (same_key_symm e.0 key ∙ other)) (distinct-put es f tail)
       ] refl
 
+  -- the nodes stay where the key has an entry, and else the key's goes last
+  nodes-at : (es : List (Key × F)) (n : ℕ) (f : F) → place_in key es ≡ suc n → nodes_of (with_entry es key f) ≡ nodes_of es
+  nodes-at [] n f is = absurd (omega (arith, is))
+  nodes-at (e ∷ es) n f is =
+      elim (same_key key e.0) as (λ b. cond b 1 (behind (place_in key es)) ≡ suc n → nodes_of (cond b ((e.0, f) ∷ es) (e ∷ with_entry es key f)) ≡ node_of e.0 ∷ nodes_of es) [
+        | true ↦ λ _. refl
+        | false ↦ λ more. ap (λ ns. node_of e.0 ∷ ns) (nodes-at es (place_in key es - 1) f (before-behind (place_in key es) n more))
+      ] is
+    where
+      before-behind : (p n : ℕ) → behind p ≡ suc n → p ≡ suc (p - 1)
+      before-behind zero n more = absurd (omega (arith, more))
+      before-behind (suc p) n more = omega arith
+
+  nodes-last : (es : List (Key × F)) (f : F) → place_in key es ≡ 0 → nodes_of (with_entry es key f) ≡ nodes_of es ++ node_of key ∷ []
+  nodes-last [] f is = refl
+  nodes-last (e ∷ es) f is =
+      elim (same_key key e.0) as (λ b. cond b 1 (behind (place_in key es)) ≡ 0 → nodes_of (cond b ((e.0, f) ∷ es) (e ∷ with_entry es key f)) ≡ node_of e.0 ∷ (nodes_of es ++ node_of key ∷ [])) [
+        | true ↦ λ no. absurd (omega (arith, no))
+        | false ↦ λ none. ap (λ ns. node_of e.0 ∷ ns) (nodes-last es f (behind-zero (place_in key es) none))
+      ] is
+
   -- the places are those of the entries, once one is put in at its place or behind the last
-  pub indexed-at : (places : Numbers) (es : List (Key × F)) (n : ℕ) (f : F) → IsIndexed places es → place_in key es ≡ suc n → IsIndexed places (with_entry es key f)
-  indexed-at places es n f indexed is = record {
+  pub indexed-at : (places : Numbers) (nodes : List ℕ) (es : List (Key × F)) (n : ℕ) (f : F) → IsIndexed places nodes es → place_in key es ≡ suc n
+      → IsIndexed places nodes (with_entry es key f)
+  indexed-at places nodes es n f indexed is = record {
     places_are = λ q. indexed.places_are q ∙ sym (place-put es q f ∙ kept q (same_key key q) refl);
+    nodes_are = indexed.nodes_are ∙ sym (nodes-at es n f is);
     distinct = distinct-put es f indexed.distinct;
   }
     where
@@ -158,9 +181,11 @@ module _ {F : Type 0} (key : Key) where
       kept q true same = ap (λ p. place_then p (length es)) is ∙ sym is ∙ ap (λ k. place_in k es) (same_key_exact key q same)
       kept q false other = refl
 
-  pub indexed-last : (old new : Numbers) (es : List (Key × F)) (f : F) → IsIndexed old es → place_in key es ≡ 0
-      → ((q : Key) → number_at new q ≡ cond (same_key key q) (length es + 1) (number_at old q)) → IsIndexed new (with_entry es key f)
-  indexed-last old new es f indexed is put = record {
+  pub indexed-last : (old new : Numbers) (nodes after : List ℕ) (es : List (Key × F)) (f : F) → IsIndexed old nodes es → place_in key es ≡ 0
+      → after ≡ nodes ++ node_of key ∷ []
+      → ((q : Key) → number_at new q ≡ cond (same_key key q) (length es + 1) (number_at old q)) → IsIndexed new after (with_entry es key f)
+  indexed-last old new nodes after es f indexed is noted put = record {
+    nodes_are = noted ∙ ap (λ ns. ns ++ node_of key ∷ []) indexed.nodes_are ∙ sym (nodes-last es f is);
     places_are = λ q.
         put q
         ∙ ap (λ p. cond (same_key key q) p (number_at old q)) one_more
@@ -190,9 +215,9 @@ module _ {F : Type 0} (key : Key) where
   pub put-before : (es : List (Key × F)) (place : ℕ) (f : F) → place ≡ place_in key es → 0 < place → slice_set es (place - 1) (key, f) ≡ with_entry es key f
   put-before es place f is positive = sym (put-at es (place - 1) f (sym is ∙ place-up place positive))
 
-  pub indexed-before : (places : Numbers) (es : List (Key × F)) (place : ℕ) (f : F) → IsIndexed places es → place ≡ place_in key es → 0 < place
-      → IsIndexed places (with_entry es key f)
-  indexed-before places es place f indexed is positive = indexed-at places es (place - 1) f indexed (sym is ∙ place-up place positive)
+  pub indexed-before : (places : Numbers) (nodes : List ℕ) (es : List (Key × F)) (place : ℕ) (f : F) → IsIndexed places nodes es → place ≡ place_in key es → 0 < place
+      → IsIndexed places nodes (with_entry es key f)
+  indexed-before places nodes es place f indexed is positive = indexed-at places nodes es (place - 1) f indexed (sym is ∙ place-up place positive)
 
 -- what holds of each key holds of that of an entry
 key-at : {F : Type 0} (P : Key → Type 0) (es : List (Key × F)) (i : ℕ) (e : Key × F) → AllByRecursion P (keys_of es) → slice_get es i ≡ Some e → P e.0
@@ -218,8 +243,9 @@ present-at es i None is apart = tt
 present-at es i (Some e) is apart = found-present es i e apart (sym is)
 
 -- the places are those of the entries also where cells were added
-pub indexed-same : {F : Type 0} (old new : Numbers) (es : List (Key × F)) → entries new ≡ entries old → IsIndexed old es → IsIndexed new es
-indexed-same old new es same indexed = record {
+pub indexed-same : {F : Type 0} (old new : Numbers) (nodes : List ℕ) (es : List (Key × F)) → entries new ≡ entries old → IsIndexed old nodes es → IsIndexed new nodes es
+indexed-same old new nodes es same indexed = record {
+  nodes_are = indexed.nodes_are;
   places_are = λ key. ap (λ xs. unwrap_or (lookup (same_key key) xs) 0) same ∙ indexed.places_are key;
   distinct = indexed.distinct;
 }

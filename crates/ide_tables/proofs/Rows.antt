@@ -50,9 +50,9 @@ module _ {F : Type 0} (top : F) (entries : List (Key × F)) where
       ∙ some-in (slice_get entries n) _ (slice_get-get_or entries n (key, top) (stands-at key entries n is))
       ∙ found-at key entries n is
 
-  pub are-partners : (at : ℕ → Key) (places : Numbers) (row : List (ℕ × ℕ)) → IsIndexed places entries → AreRow at places row
+  pub are-partners : (at : ℕ → Key) (places : Numbers) (nodes : List ℕ) (row : List (ℕ × ℕ)) → IsIndexed places nodes entries → AreRow at places row
       → ArePartners at (record { entries = entries }) (map (partner_at top entries) row)
-  are-partners at places row indexed is = record {
+  are-partners at places nodes row indexed is = record {
     ascending = subst (IsStrictlySortedBy nat_cmp) (sym (facts-stay row)) is.ascending;
     within = subst (AllByRecursion (λ d. d < 2 ^ 16)) (sym (facts-stay row)) is.within;
     exact = λ d few.

@@ -1,6 +1,6 @@
 -- What a table says in contracts: the function of each present key.
 use Rattle.std.specs.Global.{Vec}
-use Rattle.std.specs.Prelude.{◌≡◌, ℕ, zero, suc, ◌+◌, ◌-◌, ◌<◌, ◌≤◌, ◌^◌, Bool, length, slice_get, unwrap_or, vec_capacity, vec_len, List, [], ◌∷◌, Option, None, Some, IsSome, if◌then◌else◌}
+use Rattle.std.specs.Prelude.{◌≡◌, ℕ, zero, suc, ◌+◌, ◌-◌, ◌<◌, ◌≤◌, ◌^◌, Bool, length, map, slice_get, unwrap_or, vec_capacity, vec_len, List, [], ◌∷◌, Option, None, Some, IsSome, if◌then◌else◌}
 use Rattle.std.specs.List.{All, AllByRecursion, IsDistinct, list_any}
 use Rattle.std.specs.List.Sorted.{IsStrictlySortedBy}
 use Rattle.std.specs.Map.{lookup, keys_of}
@@ -11,7 +11,7 @@ use Rattle.std.specs.declared.cmp.Ordering.{Ordering}
 use Rattle.ide_lattice.specs.Algebra.{EdgeAlgebra}
 use Rattle.ide_wire.specs.declared.key.Key.{Key}
 use Rattle.ide_wire.specs.declared.key.Key.TheVariants.{Jump, Summary}
-use Rattle.ide_wire.specs.Key.{same_key}
+use Rattle.ide_wire.specs.Key.{node_of, same_key}
 use Rattle.ide_pages.specs.Pages.{Numbers, cell_of, number_at}
 
 -- a table: its present keys with their functions. Their order is the one in which a walk meets them, and means nothing else
@@ -21,6 +21,10 @@ pub record Table (F : Type 0) : Type 0 where
 -- the function of the key, if it is present
 abbrev pub found : {F : Type 0} → Table F → Key → Option F
 found table key = lookup (same_key key) table.entries
+
+-- the node of each entry's key
+abbrev pub nodes_of : {F : Type 0} → List (Key × F) → List ℕ
+nodes_of entries = map (λ entry. node_of entry.0) entries
 
 -- the key's function is f, and every other entry stays
 pub record Sets {F : Type 0} (old new : Table F) (key : Key) (f : F) : Type 0 where
@@ -109,15 +113,17 @@ abbrev pub place_in : {F : Type 0} → Key → List (Key × F) → ℕ
 place_in key [] = 0
 place_in key (e ∷ es) = if same_key key e.0 then 1 else behind (place_in key es)
 
--- the number at each key is the place of its entry, and no two entries are of one key
-pub record IsIndexed {F : Type 0} (places : Numbers) (entries : List (Key × F)) : Type 0 where
+-- the number at each key is the place of its entry, the nodes are those of the entries, and no two entries are of one key
+pub record IsIndexed {F : Type 0} (places : Numbers) (nodes : List ℕ) (entries : List (Key × F)) : Type 0 where
   pub places_are : (key : Key) → number_at places key ≡ place_in key entries
+  pub nodes_are : nodes ≡ nodes_of entries
   pub distinct : IsDistinct same_key (keys_of entries)
 
--- there is room for so many entries more, and a place for each
-pub record MayGrowBy {F : Type 0} (count : ℕ) (entries : Vec (Key × F)) : Type 0 where
+-- there is room for so many entries more and for their nodes, and a place for each
+pub record MayGrowBy {F : Type 0} (count : ℕ) (entries : Vec (Key × F)) (nodes : Vec ℕ) : Type 0 where
   pub free : vec_len entries + count ≤ vec_capacity entries
   pub few : vec_len entries + count < 2 ^ 32
+  pub noted : vec_len nodes + count ≤ vec_capacity nodes
 
 -- each key of the list has a cell
 abbrev pub HaveCells : {F : Type 0} → Numbers → List (Key × F) → Type 0

@@ -11,7 +11,7 @@ ghost use Rattle.ide_tables.specs.Tables.{MayGrowBy, HaveCells, IsIndexed, or_to
 
 use ide_lattice::EdgeFn;
 use ide_pages::Pages;
-use ide_wire::{Fact, Key, Refused};
+use ide_wire::{Fact, Key, Node, Refused};
 use std::alloc::{AllocError, Global};
 
 /// The most entries: the last has this number as its place.
@@ -47,15 +47,18 @@ pub(crate) fn entry_at<F: EdgeFn>(entries: &[(Key, F)], index: usize) -> Option<
     entries.get(index).copied()
 }
 
-/// Makes room for so many entries more.
+/// Makes room for so many entries more, and for their nodes.
 pub(crate) fn reserve<F: EdgeFn>(
     entries: &mut Vec<(Key, F)>,
+    nodes: &mut Vec<Node>,
     additional: usize,
 ) -> Result<(), AllocError>
     ensures same { entries.new.items ≡ entries.old.items }
-    ensures room { OnOk result (MayGrowBy additional entries.new) }
+    ensures nodes { nodes.new.items ≡ nodes.old.items }
+    ensures room { OnOk result (MayGrowBy additional entries.new nodes.new) }
 {
     entries.reserve(additional)?;
+    nodes.reserve(additional)?;
     if entries.len() > MOST_ENTRIES || additional > MOST_ENTRIES - entries.len() {
         return Err(AllocError);
     }
@@ -65,18 +68,19 @@ pub(crate) fn reserve<F: EdgeFn>(
 /// Makes the function that of the key, whose cell this is.
 pub(crate) fn put<F: EdgeFn>(
     entries: &mut Vec<(Key, F)>,
+    nodes: &mut Vec<Node>,
     places: &mut Pages,
     cell: usize,
     key: Key,
     function: F,
 )
     requires cell { cell_of places.old key ≡ Some cell }
-    requires room { MayGrowBy 1 entries.old }
-    requires indexed { IsIndexed places.old entries.old.items }
+    requires room { MayGrowBy 1 entries.old nodes.old }
+    requires indexed { IsIndexed places.old nodes.old.items entries.old.items }
     ensures entries { entries.new.items ≡ with_entry entries.old.items key function }
-    ensures indexed { IsIndexed places.new entries.new.items }
+    ensures indexed { IsIndexed places.new nodes.new.items entries.new.items }
     ensures cells { KeepsCells places.old places.new }
-    ensures room { (n : ℕ) → MayGrowBy (n + 1) entries.old → MayGrowBy n entries.new }
+    ensures room { (n : ℕ) → MayGrowBy (n + 1) entries.old nodes.old → MayGrowBy n entries.new nodes.new }
 {
     let place = places.number_in(cell);
     if place != 0 {
@@ -84,6 +88,7 @@ pub(crate) fn put<F: EdgeFn>(
         return;
     }
     entries.push_reserved((key, function));
+    nodes.push_reserved(key.node());
     places.set(cell, key, entries.len() as u32);
 }
 
@@ -100,16 +105,21 @@ pub(crate) fn make_room<F: EdgeFn>(places: &mut Pages, list: &[(Key, F)]) -> Res
 }
 
 /// Makes the functions those of their keys, one after the other, for which there is room.
-pub(crate) fn put_all<F: EdgeFn>(entries: &mut Vec<(Key, F)>, places: &mut Pages, list: &[(Key, F)])
-    requires room { MayGrowBy (length list.now) entries.old }
+pub(crate) fn put_all<F: EdgeFn>(
+    entries: &mut Vec<(Key, F)>,
+    nodes: &mut Vec<Node>,
+    places: &mut Pages,
+    list: &[(Key, F)],
+)
+    requires room { MayGrowBy (length list.now) entries.old nodes.old }
     requires cells { HaveCells places.old list.now }
-    requires indexed { IsIndexed places.old entries.old.items }
+    requires indexed { IsIndexed places.old nodes.old.items entries.old.items }
     ensures entries { entries.new.items ≡ with_all entries.old.items list.now }
-    ensures indexed { IsIndexed places.new entries.new.items }
+    ensures indexed { IsIndexed places.new nodes.new.items entries.new.items }
 {
     for entry in list {
         let cell = cell_of(places, entry.0);
-        put(entries, places, cell, entry.0, entry.1);
+        put(entries, nodes, places, cell, entry.0, entry.1);
     }
 }
 

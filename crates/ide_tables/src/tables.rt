@@ -6,7 +6,7 @@ ghost use Rattle.ide_wire.specs.declared.refused.Refused.TheVariants.{NoMemory};
 ghost use Rattle.ide_wire.specs.Key.{same_key};
 ghost use Rattle.ide_wire.specs.KeyOrder.{key_cmp};
 ghost use Rattle.ide_tables.specs.Spent.{Spends, spent};
-ghost use Rattle.ide_tables.specs.Tables.{Table, FallsAt, AreJumpsTo, AreKeys, AreSummariesFrom, IsIndexed, found, function_at, is_kept, CountsKey, Sets, SetsAll, Lowers};
+ghost use Rattle.ide_tables.specs.Tables.{Table, FallsAt, AreJumpsTo, AreKeys, AreSummariesFrom, IsIndexed, found, function_at, is_kept, nodes_of, CountsKey, Sets, SetsAll, Lowers};
 
 use crate::entries;
 use ide_lattice::EdgeFn;
@@ -29,6 +29,8 @@ pub enum Change {
 #[derive(Drop)]
 pub struct Tables<F: EdgeFn> {
     entries: Vec<(Key, F)>,
+    /// The node of each entry's key: a walk over some nodes reads these, and the entries there alone.
+    nodes: Vec<Node>,
     /// For each key one more than the index of its entry.
     places: Pages,
 }
@@ -38,7 +40,7 @@ impl<F: EdgeFn> Model for Tables<F> {
 
     ghost view = { λ t. record { entries = t.entries.items } };
 
-    ghost invariant = { λ t. IsIndexed t.places t.entries.items };
+    ghost invariant = { λ t. IsIndexed t.places t.nodes.items t.entries.items };
 }
 
 impl<F: EdgeFn> Tables<F> {
@@ -48,6 +50,7 @@ impl<F: EdgeFn> Tables<F> {
     {
         Tables {
             entries: Vec::new(alloc),
+            nodes: Vec::new(alloc),
             places: Pages::new(alloc),
         }
     }
@@ -85,6 +88,15 @@ impl<F: EdgeFn> Tables<F> {
         ensures present { IfSome result (λ entry. found self.now entry.0 ≡ Some entry.1) }
     {
         entries::entry_at(&self.entries, index)
+    }
+
+    /// The node of the key of each entry, in the order of `entry_at`. So a walk over the entries of
+    /// some nodes reads 4 bytes of each other one.
+    pub fn nodes(&self) -> &[Node]
+        ensures nodes { result.now ≡ nodes_of self.now.entries }
+        ensures distinct { IsDistinct same_key (keys_of self.now.entries) }
+    {
+        &self.nodes
     }
 
     /// The present keys, ascending: jumps before summaries, then by node and facts.
@@ -130,8 +142,13 @@ impl<F: EdgeFn> Tables<F> {
         ensures refused { IsOkUnless result NoMemory }
     {
         let entries = Vec::from_slice(alloc, &self.entries)?;
+        let nodes = Vec::from_slice(alloc, &self.nodes)?;
         let places = self.places.copy(alloc)?;
-        Ok(Tables { entries, places })
+        Ok(Tables {
+            entries,
+            nodes,
+            places,
+        })
     }
 
     /// Meets the key's function with `f`, and says whether that changed it. `NoMemory` leaves the
@@ -153,8 +170,15 @@ impl<F: EdgeFn> Tables<F> {
         if new == old {
             return Ok(Change::Same);
         }
-        entries::reserve(&mut self.entries, 1)?;
-        entries::put(&mut self.entries, &mut self.places, cell, key, new);
+        entries::reserve(&mut self.entries, &mut self.nodes, 1)?;
+        entries::put(
+            &mut self.entries,
+            &mut self.nodes,
+            &mut self.places,
+            cell,
+            key,
+            new,
+        );
         Ok(Change::Lowered)
     }
 
@@ -167,9 +191,16 @@ impl<F: EdgeFn> Tables<F> {
         ensures err { OnErr result (self.new ≡ self.old) }
         ensures refused { IsOkUnless result NoMemory }
     {
-        entries::reserve(&mut self.entries, 1)?;
-        let cell = self.places.make_room(key)?;
-        entries::put(&mut self.entries, &mut self.places, cell, key, f);
+        entries::reserve(&mut self.entries, &mut self.nodes, 1)?;
+        let key_cell = self.places.make_room(key)?;
+        entries::put(
+            &mut self.entries,
+            &mut self.nodes,
+            &mut self.places,
+            key_cell,
+            key,
+            f,
+        );
         Ok(())
     }
 
@@ -180,9 +211,14 @@ impl<F: EdgeFn> Tables<F> {
         ensures err { OnErr result (self.new ≡ self.old) }
         ensures refused { IsOkUnless result NoMemory }
     {
-        entries::reserve(&mut self.entries, entries.len())?;
+        entries::reserve(&mut self.entries, &mut self.nodes, entries.len())?;
         entries::make_room(&mut self.places, entries)?;
-        entries::put_all(&mut self.entries, &mut self.places, entries);
+        entries::put_all(
+            &mut self.entries,
+            &mut self.nodes,
+            &mut self.places,
+            entries,
+        );
         Ok(())
     }
 }

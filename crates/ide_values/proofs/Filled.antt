@@ -15,11 +15,12 @@ use Rattle.ide_lattice.specs.Meets.{meet_of, meet_of-below, below-meet_of, prope
 use Rattle.ide_lattice.specs.Order.{IsBelow, below-refl, below-trans, below-top, below-meet, below-antisym, meet-below-left, meet-below-right}
 use Rattle.ide_wire.specs.declared.key.Key.{Key}
 use Rattle.ide_wire.specs.declared.key.Key.TheVariants.{Jump, Summary}
-use Rattle.ide_wire.specs.Key.{same_key, same_key_laws, same_key_exact}
+use Rattle.ide_wire.specs.Key.{node_of, same_key, same_key_laws, same_key_exact}
 use Rattle.ide_graph.specs.Supergraph.{Supergraph}
-use Rattle.ide_tables.specs.Tables.{Table, found}
+use Rattle.ide_tables.specs.Tables.{Table, found, nodes_of}
 use Rattle.ide_values.specs.Fill.{Fills, FillsFrom, IsFilledAt, IsImage, Meets, lowered, value_from}
 use Rattle.ide_values.specs.Start.{value_before}
+use Rattle.ide_values.proofs.Lowered.{meets_elsewhere}
 use Rattle.ide_values.proofs.Places.{place_within}
 
 module _ {F L : Type 0} (A : LatticeAlgebra L) (laws : IsLattice A) (B : EdgeAlgebra F L) (functions : IsEdgeAlgebra A B)
@@ -169,6 +170,15 @@ module _ {F L : Type 0} (A : LatticeAlgebra L) (B : EdgeAlgebra F L) (graph : Su
         ∙ sym (fold_more (λ v e. lowered A B (value_before A graph starts) n d v e.0 e.1) A.top table.entries i e stands);
   }
 
+  -- an entry at a node that has none of the rows is passed over
+  pub passed_more : (i more : ℕ) (rows : List L) → IsDistinct same_key (keys_of table.entries)
+      → (0 < graph.facts → length rows < (more + 1) * graph.facts)
+      → (e : Key × F) → slice_get table.entries i ≡ Some e → ((first ≤ node_of e.0) × (node_of e.0 ≤ first + more) → ⊥)
+      → IsFilledBy i rows → IsFilledBy (i + 1) rows
+  passed_more i more rows distinct few e stands apart so_far =
+      filled_more i rows rows e stands (lookup_from_place same_key_laws table.entries i e.0 e.1 distinct stands) refl
+      (meets_elsewhere A B graph starts first more e.0 e.1 rows few apart) so_far
+
   -- past the last entry the values are those that follow
   pub all_filled : IsLattice A → IsEdgeAlgebra A B → IsDistinct same_key (keys_of table.entries)
       → (i : ℕ) (rows : List L) → length table.entries ≤ i → IsFilledBy i rows → FillsFrom A B graph table starts first rows
@@ -185,6 +195,17 @@ module _ {F L : Type 0} (A : LatticeAlgebra L) (B : EdgeAlgebra F L) (graph : Su
       → ((k : ℕ) → k < length rows → IsFilledAt A B graph table starts k (get_or rows k A.top)) → Fills A B graph table starts rows
   all_rows rows count each image proper n d h r =
       each (n * graph.facts + d) (omega (arith, count, place_within n d graph.nodes graph.facts h r)) image proper n d h r refl
+
+-- there are as many nodes as entries, and each is that of the entry at its index
+pub node_count : {F : Type 0} (es : List (Key × F)) → length (nodes_of es) ≡ length es
+node_count [] = refl
+node_count (e ∷ es) = ap suc (node_count es)
+
+pub entry_of_node : {F : Type 0} (es : List (Key × F)) (i node d : ℕ) → i < length (nodes_of es) → node ≡ get_or (nodes_of es) i d
+    → (e : Key × F) × (slice_get es i ≡ Some e) × (node ≡ node_of e.0)
+entry_of_node [] i node d within is = absurd (omega (arith, within))
+entry_of_node (e ∷ es) zero node d within is = (e, refl, is)
+entry_of_node (e ∷ es) (suc i) node d within is = entry_of_node es i node d (omega (arith, within)) is
 
 -- where nothing stands, the list has ended
 pub none_past : {X : Type 0} (xs : List X) (i : ℕ) → slice_get xs i ≡ None → length xs ≤ i

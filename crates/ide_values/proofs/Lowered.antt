@@ -1,10 +1,12 @@
 -- Lowering one place of the rows from a node on by what a jump function gives it.
-use Rattle.std.proofs.Common.{◌≡◌, ◌≢◌, ℕ, ◌+◌, ◌*◌, ◌<◌, ◌≤◌, List, length, get_or, ap, sym, subst, ◌∙◌, inl, inr, arith}
-use Rattle.std.proofs.Math.Nat.{add-mul}
-use Rattle.std.proofs.lemmas.Bool.{cases_eq}
+use Rattle.std.proofs.Common.{refl, ◌≡◌, ◌≢◌, ℕ, ◌+◌, ◌*◌, ◌<◌, ◌≤◌, List, length, get_or, ap, sym, subst, ◌∙◌, inl, inr, arith}
+use Rattle.std.proofs.Math.Nat.{add-mul, mul-le-mul_right}
+use Rattle.std.proofs.lemmas.Bool.{cases_eq, cases_lt}
 use Rattle.ide_graph.specs.Supergraph.{Supergraph}
 use Rattle.ide_lattice.specs.Algebra.{LatticeAlgebra, EdgeAlgebra}
-use Rattle.ide_wire.specs.declared.key.Key.TheVariants.{Jump}
+use Rattle.ide_wire.specs.declared.key.Key.{Key}
+use Rattle.ide_wire.specs.declared.key.Key.TheVariants.{Jump, Summary}
+use Rattle.ide_wire.specs.Key.{node_of}
 use Rattle.ide_values.specs.Fill.{Meets}
 use Rattle.ide_values.specs.Start.{value_before}
 use Rattle.ide_values.proofs.Places.{chosen_apart, chosen_same, row_before, same_place}
@@ -22,6 +24,15 @@ module _ {F L : Type 0} (A : LatticeAlgebra L) (B : EdgeAlgebra F L) (graph : Su
       meets_none rows (λ k n d within r at both.
       let before : n < first = omega (arith, less, both.0) in
       omega (arith, row_before n first d k graph.facts r before, at))
+
+  -- and where it ends at a node past their last row
+  pub meets_past : (rows : List L) (more : ℕ) → (0 < graph.facts → length rows < (more + 1) * graph.facts) → first + more < node
+      → Meets A B graph starts first (Jump node from to) f rows rows
+  meets_past rows more few less =
+      meets_none rows (λ k n d within r at both.
+      let past : first + (more + 1) ≤ n = omega (arith, less, both.0) in
+      let count : length rows < (more + 1) * graph.facts = few (omega (arith, r)) in
+      omega (arith, mul-le-mul_right graph.facts past, add-mul first (more + 1) graph.facts, count, within, at))
 
   module _ (row place : ℕ) (sum : node ≡ first + row) (is : place ≡ row * graph.facts + to) where
     -- the place is that of the key's end
@@ -53,3 +64,16 @@ module _ {F L : Type 0} (A : LatticeAlgebra L) (B : EdgeAlgebra F L) (graph : Su
           ∙ sym (chosen_same node n to d _ _ both.0 both.1)
       | inr apart ↦ other k apart ∙ sym (chosen_apart node n to d _ _ (ends_elsewhere k n d at apart))
     ]
+
+-- a key at a node that has none of the rows changes nothing
+pub meets_elsewhere : {F L : Type 0} (A : LatticeAlgebra L) (B : EdgeAlgebra F L) (graph : Supergraph) (starts : List L) (first more : ℕ) (key : Key) (f : F)
+    (rows : List L) → (0 < graph.facts → length rows < (more + 1) * graph.facts) → ((first ≤ node_of key) × (node_of key ≤ first + more) → ⊥)
+    → Meets A B graph starts first key f rows rows
+meets_elsewhere A B graph starts first more (Jump node from to) f rows few apart = elim (cases_lt node first) [
+  | inl before ↦ meets_before A B graph starts first node from to f rows before
+  | inr from_first ↦ elim (cases_lt (first + more) node) [
+    | inl past ↦ meets_past A B graph starts first node from to f rows more few past
+    | inr near ↦ absurd (apart (from_first, near))
+  ]
+]
+meets_elsewhere A B graph starts first more (Summary call from to) f rows few apart = λ _ k n d within h r at. refl

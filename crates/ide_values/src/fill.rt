@@ -1,5 +1,5 @@
 //! The fill: each jump function lowers the value where it ends.
-ghost use Rattle.std.specs.Prelude.{◌≡◌, ◌*◌, IfOk, length};
+ghost use Rattle.std.specs.Prelude.{◌≡◌, ◌+◌, ◌*◌, ◌<◌, ◌≤◌, ◌↔◌, true, IfOk, length};
 ghost use Rattle.ide_values.specs.Fill.{FillsFrom, FillsRows, Meets};
 ghost use Rattle.ide_values.specs.Start.{AreTops};
 
@@ -25,8 +25,8 @@ pub fn fill<F: EdgeFn>(
     Ok(values)
 }
 
-/// Fills rows of tops, of which the first is that of a node. It reads each entry of the tables, and
-/// applies the functions of those that end in the rows.
+/// Fills rows of tops, of which the first is that of a node. Of the entries of the tables it reads
+/// those at the nodes of the rows, and of each other one the node alone.
 pub(crate) fn fill_rows<F: EdgeFn>(
     graph: &Graph,
     tables: &Tables<F>,
@@ -38,11 +38,28 @@ pub(crate) fn fill_rows<F: EdgeFn>(
     ensures count { length rows.new ≡ length rows.old }
     ensures filled { FillsFrom F.L.algebra F.edge graph.now tables.now starts.now first rows.new }
 {
-    for index in 0..tables.key_count() {
-        if let Some(entry) = tables.entry_at(index) {
+    let more = whole_rows(graph, rows.len());
+    for (index, node) in tables.nodes().iter().enumerate() {
+        if is_near(first, more, *node)
+            && let Some(entry) = tables.entry_at(index)
+        {
             lower_by(graph, starts, first, entry.0, entry.1, rows);
         }
     }
+}
+
+/// How many whole rows so many values are.
+fn whole_rows(graph: &Graph, count: usize) -> usize
+    ensures { 0 < graph.now.facts → count < (result + 1) * graph.now.facts }
+{
+    count / graph.fact_count().max(1)
+}
+
+/// Whether a node is the first one, or one of so many more.
+fn is_near(first: Node, more: usize, node: Node) -> bool
+    ensures { result ≡ true ↔ (first ≤ node) × (node ≤ first + more) }
+{
+    first <= node && (node - first) as usize <= more
 }
 
 /// Lowers the value where the key ends, if the rows have it, by what its function makes of the value

@@ -20,7 +20,7 @@ loop-entry-preserved g c =
     let same : length (drop index list) ≡ length (drop (index + 1) list) + 1 = omega (arith, left) in
     let next : drop index list ≡ entry ∷ drop (index + 1) list = drop_more list index entry c.loop-entry-test.true ∙ ap (λ e. e ∷ drop (index + 1) list) (sym c.entry-item.is) in
     record {
-      room = c.put.ensures.room (length (drop (index + 1) list)) (subst (λ n. MayGrowBy n c.loop-entry.entries) same c.loop-entry.invariant.room);
+      room = c.put.ensures.room (length (drop (index + 1) list)) (subst (λ n. MayGrowBy n c.loop-entry.entries c.loop-entry.nodes) same c.loop-entry.invariant.room);
       cells = λ k d less. kept-cell c.loop-entry.places c.put.new.places _ c.put.ensures.cells (c.loop-entry.invariant.cells k d less);
       indexed = c.put.ensures.indexed;
       entries =

@@ -13,4 +13,4 @@ returns-clause-partners g c =
     ∙ ap (map (partner_at top entries)) c.deref-2.ensures.value in
     rw (← c.self.view_is)
     (subst (ArePartners (λ d. Jump c.args.node d c.args.fact) (record { entries = entries })) (sym listed)
-    (are-partners {F = g.row.F.Denot} top entries (λ d. Jump c.args.node d c.args.fact) c.self.inside.places c.in_ok-row.row.items c.self.invariant c.in_ok-row.ensures.row))
+    (are-partners {F = g.row.F.Denot} top entries (λ d. Jump c.args.node d c.args.fact) c.self.inside.places c.self.inside.nodes.items c.in_ok-row.row.items c.self.invariant c.in_ok-row.ensures.row))

@@ -10,7 +10,7 @@ pub returns-clause-lowered : goal.returns-clause-lowered
 returns-clause-lowered g c = λ _.
     let B = g.F.EdgeFn.edge in
     let es = c.self.inside.entries.items in
-    let indexed = indexed-same c.self.inside.places c.make_room.new.self es c.in_ok-cell.ensures.entries c.self.invariant in
+    let indexed = indexed-same c.self.inside.places c.make_room.new.self c.self.inside.nodes.items es c.in_ok-cell.ensures.entries c.self.invariant in
     let place = c.number_in.ensures.same c.args.key c.in_ok-cell.ensures.cell ∙ indexed.places_are c.args.key in
     let old : c.function_in-old.result ≡ function_at B (record { entries = es }) c.args.key =
     read-is (λ o f. f ≡ or_top B o) c.args.key c.deref.result.now es c.number_in.result c.function_in-old.result c.deref.ensures.value place c.function_in-old.ensures in
@@ -24,7 +24,7 @@ pub returns-clause-changes : goal.returns-clause-changes
 returns-clause-changes g c = λ _.
     let B = g.F.EdgeFn.edge in
     let es = c.self.inside.entries.items in
-    let indexed = indexed-same c.self.inside.places c.make_room.new.self es c.in_ok-cell.ensures.entries c.self.invariant in
+    let indexed = indexed-same c.self.inside.places c.make_room.new.self c.self.inside.nodes.items es c.in_ok-cell.ensures.entries c.self.invariant in
     let place = c.number_in.ensures.same c.args.key c.in_ok-cell.ensures.cell ∙ indexed.places_are c.args.key in
     let old : c.function_in-old.result ≡ function_at B (record { entries = es }) c.args.key =
     read-is (λ o f. f ≡ or_top B o) c.args.key c.deref.result.now es c.number_in.result c.function_in-old.result c.deref.ensures.value place c.function_in-old.ensures in
@@ -36,7 +36,7 @@ pub returns-clause-falls : goal.returns-clause-falls
 returns-clause-falls g c = λ _.
     let B = g.F.EdgeFn.edge in
     let es = c.self.inside.entries.items in
-    let indexed = indexed-same c.self.inside.places c.make_room.new.self es c.in_ok-cell.ensures.entries c.self.invariant in
+    let indexed = indexed-same c.self.inside.places c.make_room.new.self c.self.inside.nodes.items es c.in_ok-cell.ensures.entries c.self.invariant in
     let place = c.number_in.ensures.same c.args.key c.in_ok-cell.ensures.cell ∙ indexed.places_are c.args.key in
     let old : c.function_in-old.result ≡ function_at B (record { entries = es }) c.args.key =
     read-is (λ o f. f ≡ or_top B o) c.args.key c.deref.result.now es c.number_in.result c.function_in-old.result c.deref.ensures.value place c.function_in-old.ensures in
@@ -49,7 +49,7 @@ pub returns-clause-spent : goal.returns-clause-spent
 returns-clause-spent g c = λ _.
     let B = g.F.EdgeFn.edge in
     let es = c.self.inside.entries.items in
-    let indexed = indexed-same c.self.inside.places c.make_room.new.self es c.in_ok-cell.ensures.entries c.self.invariant in
+    let indexed = indexed-same c.self.inside.places c.make_room.new.self c.self.inside.nodes.items es c.in_ok-cell.ensures.entries c.self.invariant in
     let place = c.number_in.ensures.same c.args.key c.in_ok-cell.ensures.cell ∙ indexed.places_are c.args.key in
     let old : c.function_in-old.result ≡ function_at B (record { entries = es }) c.args.key =
     read-is (λ o f. f ≡ or_top B o) c.args.key c.deref.result.now es c.number_in.result c.function_in-old.result c.deref.ensures.value place c.function_in-old.ensures in
