@@ -12,6 +12,8 @@ mod version;
 
 pub use journal::Journal;
 pub use opening::tag;
+pub use reading::{are_zeros, number_of, read_version};
 pub use record::RawRecord;
+pub use spelling::padding;
 pub use stage::Phase;
 pub use version::Version;

@@ -22,8 +22,8 @@ pub(crate) struct Loaded {
     pub(crate) gate: u64,
 }
 
-// Whether the bytes are zeros.
-fn are_zeros(bytes: &[u8]) -> bool
+/// Whether the bytes are zeros.
+pub fn are_zeros(bytes: &[u8]) -> bool
     ensures { IsTrue result ↔ EachIndex bytes.now (λ k. slice_index bytes.now k ≡ 0) }
 {
     bytes.iter().all(|byte| *byte == 0)
@@ -37,8 +37,8 @@ fn spells(bytes: &[u8], number: u64) -> bool
     LittleEndian::read_u64(bytes) == number
 }
 
-// The number that the bytes are of.
-fn number_of(bytes: &[u8]) -> u32
+/// The number that four bytes are of, the lowest of them first.
+pub fn number_of(bytes: &[u8]) -> u32
     requires { length bytes.now ≡ 4 }
     ensures { bytes.now ≡ to_le_bytes w32 result }
 {
@@ -128,8 +128,8 @@ fn read_records(alloc: Global, bytes: &[u8]) -> Result<(Vec<RawRecord>, usize), 
     Ok((records, gate))
 }
 
-// The version whose letters these are.
-fn read_version(bytes: &[u8]) -> Option<Version>
+/// The version whose letters these are, all of them.
+pub fn read_version(bytes: &[u8]) -> Option<Version>
     ensures letters { IfSome result (λ version. bytes.now ≡ letters version) }
     ensures none { IfNone result ((version : Version) → bytes.now ≢ letters version) }
 {

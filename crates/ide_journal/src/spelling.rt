@@ -8,9 +8,9 @@ use byteorder::{ByteOrder, LittleEndian};
 use ide_wire::Refused;
 use std::alloc::{AllocError, Global};
 
-// How many zeros fill the last page of a record.
+/// How many zeros fill the last page of a record whose body has so many bytes.
 #[tactic(auto, unfolding(crate::specs::Format::padding))]
-pub(crate) fn padding(count: usize) -> usize
+pub fn padding(count: usize) -> usize
     requires { count ≤ 4194304 }
     ensures value { result ≡ padding count }
     ensures page { result < 4096 }

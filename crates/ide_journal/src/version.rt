@@ -12,7 +12,7 @@ impl Version {
     ghost use Rattle.ide_journal.specs.Format.{letters};
 
     /// The letters that a store of this version begins with.
-    pub(crate) fn letters(self) -> [u8; 8]
+    pub fn letters(self) -> [u8; 8]
         ensures { result ≡ letters self }
     {
         match self {

@@ -45,7 +45,7 @@ length-slot_header told =
       parts,
     )
 
-same_told : (told other : SlotHead) → told.head.version ≡ other.head.version → told.head.tag ≡ other.head.tag → told.generation ≡ other.generation
+pub same_told : (told other : SlotHead) → told.head.version ≡ other.head.version → told.head.tag ≡ other.head.tag → told.generation ≡ other.generation
     → told.base ≡ other.base → told.commands ≡ other.commands → told.parts ≡ other.parts → told ≡ other
 same_told told other version tag generation base commands parts =
     ap (λ (v : Version). record told { head = head_of v told.head.tag }) version

@@ -9,7 +9,7 @@ use Rattle.ide_journal.specs.Format.{Entry}
 use Rattle.ide_journal.specs.declared.stage.Stage.TheVariants.{Idle}
 use Rattle.ide_slots.specs.Sides.{First, IsBehind, IsLesser, IsLesserSlot, Second, Shows, Side, Sides, off, on, two_sides}
 use Rattle.ide_slots.specs.Slot.{HavePages, HoldsSlot, IsClosedSlot, IsFront, NumberedEntry, Slot, records_of, slot_count, slot_head, slot_header}
-use Rattle.ide_slots.specs.Two.{Checkpoint, IsSafeTwo, LeavesTwo, NotBegun, ShowsOne, SlotWriter, StandsTwo, reads_two}
+use Rattle.ide_slots.specs.Two.{Checkpoint, IsSafeTwo, LeavesTwo, NotBegun, SlotWriter, StandsTwo, reads_two}
 use Rattle.ide_slots.specs.TwoCalls.{OpensTwo, StopsInCut, StopsTwo}
 use Rattle.ide_slots.specs.TwoLaws.{FindsSlot, OpeningsFind}
 use Rattle.ide_slots.proofs.Chosen.{one_side, shown}
@@ -136,40 +136,66 @@ both_sides : (side : Side) (left : Sides (List ℕ)) → two_sides side (on side
 both_sides First left = refl
 both_sides Second left = refl
 
+-- something that a crash could leave before shows no slot that this does not
+pub record IsShownBefore (disks : Sides DiskState) (left : Sides (List ℕ)) : Type 0 where
+  pub before : Sides (List ℕ)
+  pub could : LeavesTwo disks before
+  pub shows : (found : Slot) → Shows found before → Shows found left
+
 -- while the chosen slot is cut
-in_cut : (slot : Slot) (next : Option Entry) (checkpoint : Checkpoint) (disks after : Sides DiskState) → IsSafeTwo slot next checkpoint disks
-    → StopsInCut disks after → IsSafeTwo slot next checkpoint after
-in_cut slot next checkpoint disks after safe stops = record {
-  each = λ left leaves.
-      let both = leaves_on stops.side after left leaves in
-      let other = stops.other.leaves (off stops.side left) both.1 in
-      subst (λ (l : Sides (List ℕ)). ShowsOne slot next checkpoint l) (both_sides stops.side left)
-      (elim (stops.current (on stops.side left) both.0) [
-        | inl before ↦ safe.each _ (leaves_two stops.side disks (on stops.side left) (off stops.side left) before other)
-        | inr cut ↦
-            let now = (on stops.side disks).now in
-            let possible = (leaves_on stops.side disks (reads_two disks) safe.possible).0 in
-            let read = subst (λ (xs : List ℕ). CrashLeaves (on stops.side disks) xs) (reads_on stops.side disks) possible in
-            let one = safe.each (two_sides stops.side now (off stops.side left)) (leaves_two stops.side disks now (off stops.side left) read other) in
-            record {
-              found = one.found;
-              may = one.may;
-              shows = shows_too stops.side one.found stops.slot stops.front (off stops.side left) now (on stops.side left) stops.whole stops.closed cut one.shows;
-            }
-      ]);
-  possible = reads_possible stops.side after stops.possible stops.other.possible;
-}
+in_cut : (disks after : Sides DiskState) (left : Sides (List ℕ)) → LeavesTwo disks (reads_two disks) → StopsInCut disks after
+    → LeavesTwo after left → IsShownBefore disks left
+in_cut disks after left read stops leaves =
+    let both = leaves_on stops.side after left leaves in
+    let other = stops.other.leaves (off stops.side left) both.1 in
+    subst (λ (l : Sides (List ℕ)). IsShownBefore disks l) (both_sides stops.side left)
+    (elim (stops.current (on stops.side left) both.0) [
+      | inl before ↦ record {
+        before = two_sides stops.side (on stops.side left) (off stops.side left);
+        could = leaves_two stops.side disks (on stops.side left) (off stops.side left) before other;
+        shows = λ found shows. shows;
+      }
+      | inr cut ↦
+          let now = (on stops.side disks).now in
+          let possible = (leaves_on stops.side disks (reads_two disks) read).0 in
+          let this = subst (λ (xs : List ℕ). CrashLeaves (on stops.side disks) xs) (reads_on stops.side disks) possible in
+          record {
+            before = two_sides stops.side now (off stops.side left);
+            could = leaves_two stops.side disks now (off stops.side left) this other;
+            shows = λ found shows.
+                shows_too stops.side found stops.slot stops.front (off stops.side left) now (on stops.side left) stops.whole stops.closed cut shows;
+          }
+    ])
+
+-- what a crash leaves after an opening that stopped
+pub stopped_shows : (disks after : Sides DiskState) (left : Sides (List ℕ)) → LeavesTwo disks (reads_two disks) → StopsTwo disks after
+    → LeavesTwo after left → IsShownBefore disks left
+stopped_shows disks after left read stops leaves =
+    elim stops [
+      | inl early ↦ record {
+        before = left;
+        could = (early.0.leaves left.a leaves.0, early.1.leaves left.b leaves.1);
+        shows = λ found shows. shows;
+      }
+      | inr late ↦ in_cut disks after left read late leaves
+    ]
+
+pub stopped_possible : (disks after : Sides DiskState) → StopsTwo disks after → LeavesTwo after (reads_two after)
+stopped_possible disks after stops =
+    elim stops [
+      | inl early ↦ (early.0.possible, early.1.possible)
+      | inr late ↦ reads_possible late.side after late.possible late.other.possible
+    ]
 
 stopped : (slot : Slot) (next : Option Entry) (checkpoint : Checkpoint) (disks after : Sides DiskState)
     → IsSafeTwo slot next checkpoint disks → StopsTwo disks after → IsSafeTwo slot next checkpoint after
-stopped slot next checkpoint disks after safe stops =
-    elim stops [
-      | inl early ↦ record {
-        each = λ left leaves. safe.each left (early.0.leaves left.a leaves.0, early.1.leaves left.b leaves.1);
-        possible = (early.0.possible, early.1.possible);
-      }
-      | inr late ↦ in_cut slot next checkpoint disks after safe late
-    ]
+stopped slot next checkpoint disks after safe stops = record {
+  each = λ left leaves.
+      let was = stopped_shows disks after left safe.possible stops leaves in
+      let one = safe.each was.before was.could in
+      record { found = one.found; may = one.may; shows = was.shows one.found one.shows };
+  possible = stopped_possible disks after stops;
+}
 
 pub openings_find : OpeningsFind
 openings_find = record { opened = opened; can_open = can_open; stopped = stopped }

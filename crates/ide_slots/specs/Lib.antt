@@ -1,6 +1,12 @@
+pub mod Current
 pub mod DiskCalls
 pub mod Filling
 pub mod FillingLaws
+pub mod Loading
+pub mod Reading
+pub mod ReadingLaws
+pub mod Records
+pub mod Refusals
 pub mod Rows
 pub mod Sides
 pub mod Slot

@@ -1,11 +1,8 @@
 -- Two sides, and which of two slots is current.
 use Rattle.std.specs.Prelude.{◌≡◌, ◌⊎◌, ℕ, ◌<◌, ◌≤◌, List, length}
+pub use Rattle.ide_slots.specs.declared.side.Side.{Side}
+pub use Rattle.ide_slots.specs.declared.side.Side.TheVariants.{First, Second}
 use Rattle.ide_slots.specs.Slot.{HoldsSlot, IsClosedSlot, IsOpenSlot, Slot, records_of}
-
--- the disks A and B
-pub data Side : Type 0 where
-  First : Side
-  Second : Side
 
 abbrev pub across : Side → Side
 across First = Second

@@ -1,8 +1,9 @@
 -- Laws of slots.
 use Rattle.std.specs.Prelude.{◌≡◌, ◌≢◌, ℕ, ◌<◌, List, length, slice_index}
 use Rattle.ide_journal.specs.Format.{Entry, Head, Holds}
+use Rattle.ide_slots.specs.Current.{HasNoCurrent, IsCurrent}
 use Rattle.ide_slots.specs.Sides.{IsChosen, Shows, Side, Sides}
-use Rattle.ide_slots.specs.Slot.{HoldsSlot, IsClosedSlot, IsOpenSlot, IsSlot, IsValidHead, Slot, SlotHead, first_slot, slot_header}
+use Rattle.ide_slots.specs.Slot.{HoldsSlot, IsClosedSlot, IsOpenSlot, IsSlot, IsValidHead, Slot, SlotHead, first_slot, slot_head, slot_header}
 
 -- first pages that are valid and equal tell the same
 abbrev pub HeadersTellApart : Type 0
@@ -35,3 +36,11 @@ pub record OneSideIsChosen : Type 0 where
   pub one_side : (side other : Side) (left : Sides (List ℕ)) → IsChosen side left → IsChosen other left → side ≡ other
   pub shown : (slot : Slot) (left : Sides (List ℕ)) (shows : Shows slot left) → IsChosen shows.side left
   pub one_slot : (slot other : Slot) (left : Sides (List ℕ)) → Shows slot left → Shows other left → slot ≡ other
+
+-- one slot at most is current, and none where there is a cause for that; and the slot that is shown is
+pub record OneSlotIsCurrent : Type 0 where
+  pub one : (side other : Side) (told other_told : SlotHead) (left : Sides (List ℕ))
+      → IsCurrent side told left → IsCurrent other other_told left → (side ≡ other) × (told ≡ other_told)
+  pub none : (side : Side) (told : SlotHead) (left : Sides (List ℕ)) → HasNoCurrent left → IsCurrent side told left → ⊥
+  pub shown : (slot : Slot) (left : Sides (List ℕ)) (shows : Shows slot left)
+      → IsCurrent shows.side (slot_head slot) left

@@ -1,7 +1,8 @@
 //! Laws of two slots. The functions do nothing: their clauses are the laws.
 ghost use Rattle.ide_slots.specs.FillingLaws.{CheckpointsHaveCalls, FillingsEndWhole, FillingsGoOn, FillingsStayBehind};
+ghost use Rattle.ide_slots.specs.ReadingLaws.{FrontsTellCurrent, PlacesAreExact};
 ghost use Rattle.ide_slots.specs.Rows.{WorkedRow};
-ghost use Rattle.ide_slots.specs.SlotLaws.{GatesTell, HeadersTellApart, HoldsOneSlot, OneSideIsChosen, StoresAreSlots};
+ghost use Rattle.ide_slots.specs.SlotLaws.{GatesTell, HeadersTellApart, HoldsOneSlot, OneSideIsChosen, OneSlotIsCurrent, StoresAreSlots};
 ghost use Rattle.ide_slots.specs.TwoLaws.{CheckpointsKeepStanding, OpeningsFind, RecordsKeepStanding, SidesAreChosen, StandingIsSafe, StoresBegin, WritersGoOn};
 
 /// First pages that are valid and equal tell the same.
@@ -27,6 +28,21 @@ pub fn gates_tell()
 /// An opening takes one side at most: that of the slot that is shown, of which there is one at most.
 pub fn one_side_is_chosen()
     ensures { OneSideIsChosen }
+{}
+
+/// One slot at most is current: where one is shown, that one, and none where there is a cause for that.
+pub fn one_slot_is_current()
+    ensures { OneSlotIsCurrent }
+{}
+
+/// The first 4,097 bytes of each file tell which slot is current, and why none is.
+pub fn fronts_tell_current()
+    ensures { FrontsTellCurrent }
+{}
+
+/// A file that holds a slot lacks no record, and of any other one place at most is told.
+pub fn places_are_exact()
+    ensures { PlacesAreExact }
 {}
 
 /// A checkpoint of r records makes r + 7 calls.

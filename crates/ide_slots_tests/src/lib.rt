@@ -1,0 +1,11 @@
+//! Tests of slots.
+//!
+//! They stand apart from `ide_slots`, since a crate that has tests is proved twice.
+#![tactic(auto)]
+
+#[cfg(test)]
+mod current;
+#[cfg(test)]
+mod heads;
+#[cfg(test)]
+mod reading;
