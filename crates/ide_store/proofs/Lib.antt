@@ -5,6 +5,9 @@ pub mod Known
 pub mod Machine
 pub mod Marks
 pub mod OneDisk
+pub mod TwoDisks
+pub mod TwoDisksBegin
+pub mod TwoDisksPlans
 pub mod Overflow
 pub mod Reached
 pub mod Working

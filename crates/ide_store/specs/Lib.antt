@@ -16,5 +16,7 @@ pub mod Storing
 pub mod Table
 pub mod TableCalls
 pub mod Tally
+pub mod TwoDisks
+pub mod TwoDisksLaws
 pub mod World
 pub mod Writing

@@ -5,6 +5,7 @@ ghost use Rattle.ide_store.specs.Engine.{HalvesOpen};
 ghost use Rattle.ide_store.specs.Opening.{HalvesBegin};
 ghost use Rattle.ide_store.specs.Recovery.{OneDiskAnswers, OneDiskRecovers};
 ghost use Rattle.ide_store.specs.Runs.{EnginesStayOnRuns};
+ghost use Rattle.ide_store.specs.TwoDisksLaws.{CheckpointsCanBePlanned, SlotsGiveBack, TwoDisksBegin, TwoDisksGoOn, TwoDisksKeep, TwoDisksRecover, slots_of};
 ghost use Rattle.ide_store.specs.Writing.{JournalsWriteStores};
 
 use crate::kept::Kept;
@@ -24,6 +25,25 @@ use ide_theory::keys_stand_at_nodes;
 /// those that were done before the last acknowledged record was sealed.
 pub fn every_run_recovers<P: Problem>()
     ensures { OneDiskRecovers P.F.edge P.F.eq (functions_by P.F.proper P.F.form P.F.eq P.F.edge.all_top) }
+{}
+
+/// Two slots on two disks, of the second version, are a store as well: they keep what a store has to; a
+/// new store has no record, and what one disk holds is held beside a closed slot; wherever records are
+/// still to be stored, or a checkpoint is begun, some call can be made; all that stands in a slot gives
+/// back the image of the records, and its commands are theirs; and where there are parts of that image,
+/// a checkpoint over all records can be planned. No code keeps a store so yet.
+pub fn two_disks_are_a_store<P: Problem>()
+    ensures keep { TwoDisksKeep (slots_of ⟦<P as Kept>⟧.analysis) }
+    ensures begin { TwoDisksBegin (slots_of ⟦<P as Kept>⟧.analysis) }
+    ensures go_on { TwoDisksGoOn (slots_of ⟦<P as Kept>⟧.analysis) }
+    ensures give_back { SlotsGiveBack (slots_of ⟦<P as Kept>⟧.analysis) }
+    ensures plan { CheckpointsCanBePlanned (slots_of ⟦<P as Kept>⟧.analysis) }
+{}
+
+/// As [`every_run_recovers`], of a store on two disks, with the beginnings and the calls of checkpoints
+/// among what happens.
+pub fn every_run_recovers_on_two_disks<P: Problem>()
+    ensures { TwoDisksRecover (slots_of ⟦<P as Kept>⟧.analysis) }
 {}
 
 /// Over every list of claims, parts, ends and releases of any hands, loads, roots, batches, disk calls,

@@ -1,0 +1,121 @@
+-- Two slots on two disks as a store: what a slot has of the list of all records.
+use Rattle.std.specs.Prelude.{◌≡◌, ◌≤◌, ◌&&◌, ◌↔◌, ℕ, All, Bool, List, ◌++◌, Some, drop, filter, length, map, nat_le, slice_get, take}
+use Rattle.ide_disk.specs.Disk.{DiskState, settled}
+use Rattle.ide_journal.specs.Format.{Entry, IsEntry}
+use Rattle.ide_slots.specs.Sides.{Shows, Sides}
+use Rattle.ide_slots.specs.Slot.{NumberedEntry, Slot, numbered_from, slot_count}
+use Rattle.ide_slots.specs.Two.{CanBeNext, Checkpoint, LeavesTwo, NotBegun, Planned, SlotWriter, StandsTwo, UnderWay, reads_two}
+use Rattle.ide_slots.specs.TwoCalls.{BeginsCheckpoint, CallsCheckpoint, CallsRecord, EndsCheckpoint, FailsCheckpoint, FailsRecord, OpensTwo, PlansCheckpoint, StopsTwo, StoresRecord}
+use Rattle.ide_store.specs.Store.{Store}
+use Rattle.ide_store.specs.World.{IsFolded, Rules}
+
+-- a load or a root
+abbrev pub is_command : NumberedEntry → Bool
+is_command r = nat_le 1 r.1.0 && nat_le r.1.0 2
+
+-- the commands among the records, under their numbers
+abbrev pub commands_of : List Entry → List NumberedEntry
+commands_of records = filter is_command (numbered_from 0 records)
+
+-- a record without its number
+abbrev pub unnumbered : NumberedEntry → Entry
+unnumbered r = r.1
+
+-- the records give back the same images as the others
+abbrev pub GiveTheSame : {Image Step : Type 0} → Rules Image Step Entry → List Entry → List Entry → Type 0
+GiveTheSame {Image} rules records others = (image : Image) → IsFolded rules records image ↔ IsFolded rules others image
+
+-- a slot has a list of records: the commands of those below its base, the parts that come after these to the image of
+-- all below the base, and the others as they are
+pub record IsListOf {Image Step : Type 0} (rules : Rules Image Step Entry) (records : List Entry) (slot : Slot)
+    : Type 0 where
+  pub within : slot.base ≤ length records
+  pub commands : slot.commands ≡ commands_of (take slot.base records)
+  pub image : GiveTheSame rules (map unnumbered slot.commands ++ slot.parts) (take slot.base records)
+  pub rest : slot.rest ≡ drop slot.base records
+
+-- what is left holds the records: it shows a slot of that tag that has them
+pub record HoldsTwo {Image Step : Type 0} (rules : Rules Image Step Entry) (tag : ℕ) (records : List Entry)
+    (left : Sides (List ℕ)) : Type 0 where
+  pub slot : Slot
+  pub tag_is : slot.head.tag ≡ tag
+  pub shows : Shows slot left
+  pub list : IsListOf rules records slot
+
+-- the slot of a checkpoint has the first of the records, up to its base
+abbrev pub HasPlan : {Image Step : Type 0} → Rules Image Step Entry → List Entry → Checkpoint → Type 0
+HasPlan rules records NotBegun = Unit {0}
+HasPlan rules records (Planned next) = IsListOf rules (take next.base records) next
+HasPlan rules records (UnderWay next fill) = IsListOf rules (take next.base records) next
+
+-- the writer stands with a slot that has the stored records; those that are still to be stored are entries, and the
+-- first of them is the next
+pub record IsLiveTwo {Image Step : Type 0} (rules : Rules Image Step Entry) (tag : ℕ) (records : List Entry)
+    (stored : ℕ) (work : SlotWriter) (disks : Sides DiskState) : Type 0 where
+  pub slot : Slot
+  pub tag_is : slot.head.tag ≡ tag
+  pub list : IsListOf rules (take stored records) slot
+  pub stands : StandsTwo slot (slice_get records stored) work disks
+  pub some : stored ≤ length records
+  pub few : length records ≤ 4294967295
+  pub proper : All IsEntry (drop stored records)
+  pub plan : HasPlan rules records work.checkpoint
+
+-- a slot of as many records as are stored, and the one that is next; a call looks at no more of the slot
+pub record IsNextBehind (records : List Entry) (stored : ℕ) (slot : Slot) (entry : Entry) : Type 0 where
+  pub count : slot_count slot ≡ stored
+  pub next_is : slice_get records stored ≡ Some entry
+
+-- a good call that stores no record: one for the next; or a checkpoint begins its calls; or makes one; or the last one
+pub data CallsTwo (records : List Entry) (stored : ℕ) (work : SlotWriter) (disks : Sides DiskState)
+    (new : SlotWriter) (after : Sides DiskState) : Type 0 where
+  ForRecord : (slot : Slot) (entry : Entry) → IsNextBehind records stored slot entry
+      → CallsRecord slot entry work disks new after → CallsTwo records stored work disks new after
+  BeginsCalls : (slot : Slot) → slot_count slot ≡ stored → BeginsCheckpoint slot work disks new → after ≡ disks
+      → CallsTwo records stored work disks new after
+  InCheckpoint : CallsCheckpoint work disks new after → CallsTwo records stored work disks new after
+  LastInCheckpoint : (next : Slot) → EndsCheckpoint work disks new next after
+      → CallsTwo records stored work disks new after
+
+-- one that stores the next record
+pub record StoresTwo (records : List Entry) (stored : ℕ) (work : SlotWriter) (disks : Sides DiskState)
+    (new : SlotWriter) (after : Sides DiskState) : Type 0 where
+  pub slot : Slot
+  pub entry : Entry
+  pub next : IsNextBehind records stored slot entry
+  pub stores : StoresRecord slot entry work disks new after
+
+-- a failed one, for the next record or of a checkpoint
+pub data FailsTwo (records : List Entry) (stored : ℕ) (work : SlotWriter) (disks after : Sides DiskState) : Type 0 where
+  AtRecord : (slot : Slot) (entry : Entry) → IsNextBehind records stored slot entry
+      → FailsRecord slot entry work disks after → FailsTwo records stored work disks after
+  AtCheckpoint : FailsCheckpoint work disks after → FailsTwo records stored work disks after
+
+-- a checkpoint is planned over all the records: its slot has them, and nothing behind the checkpoint
+pub record BeginsTwo {Image Step : Type 0} (rules : Rules Image Step Entry) (tag : ℕ) (records : List Entry)
+    (work new : SlotWriter) : Type 0 where
+  pub slot : Slot
+  pub tag_is : slot.head.tag ≡ tag
+  pub generation : work.generation ≡ slot.generation
+  pub plans : PlansCheckpoint slot work new
+  pub list : IsListOf rules records plans.next
+
+-- two slots on two disks, made for the instance of that tag, as a store
+abbrev pub two_disks : {Image Step : Type 0} → Rules Image Step Entry → ℕ → Store Entry
+two_disks rules tag = record {
+  Disks = Sides DiskState;
+  Left = Sides (List ℕ);
+  Work = SlotWriter;
+  reads = reads_two;
+  crashed = λ left. record { a = settled left.a; b = settled left.b };
+  Leaves = LeavesTwo;
+  Holds = HoldsTwo rules tag;
+  Fits = λ number entry. CanBeNext number (Some entry);
+  Live = IsLiveTwo rules tag;
+  Calls = CallsTwo;
+  Stores = StoresTwo;
+  Fails = FailsTwo;
+  Begins = BeginsTwo rules tag;
+  Opens = OpensTwo;
+  Stops = StopsTwo;
+}
