@@ -45,6 +45,9 @@ module _ {F : Type 0} (functions : Functions F) where
   abbrev pub member_form : Member F → List ℕ
   member_form member = (to_le_bytes w16 member.0 ++ to_le_bytes w16 member.1) ++ entry_form functions (member.2, member.3)
 
+  abbrev pub members_form : List (Member F) → List ℕ
+  members_form members = flat_map member_form members
+
   abbrev pub is_proper_member : Member F → Bool
   is_proper_member member = (fits 16 member.0 && fits 16 member.1) && is_proper_entry functions (member.2, member.3)
 

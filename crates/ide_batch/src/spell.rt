@@ -2,7 +2,7 @@
 ghost use Rattle.std.specs.Prelude.{◌≡◌, ◌++◌, ◌≤◌, List, length, map, OnOk};
 ghost use Rattle.std.specs.List.{flat_map};
 ghost use Rattle.ide_batch.specs.Grouping.{AppendsGroups, GroupsSpellLists, IsRun, groups_of, kind_at, member_of, run_of, share_place};
-ghost use Rattle.ide_batch.specs.Groups.{group_form, member_form};
+ghost use Rattle.ide_batch.specs.Groups.{group_form, members_form};
 ghost use Rattle.ide_batch.specs.Items.{AreWritten, functions_by};
 
 use crate::coded::Coded;
@@ -78,7 +78,7 @@ fn put_run<F: EdgeFn>(
 
 /// Appends what a group lists of each item.
 fn put_members<F: EdgeFn>(items: &[(Key, F, bool)], out: &mut Vec<u8>) -> Result<(), AllocError>
-    ensures { OnOk result (out.new.items ≡ out.old.items ++ flat_map (member_form (functions_by F.proper F.form F.eq F.edge.all_top)) (map member_of items.now)) }
+    ensures { OnOk result (out.new.items ≡ out.old.items ++ members_form (functions_by F.proper F.form F.eq F.edge.all_top) (map member_of items.now)) }
 {
     for item in items {
         member_of(*item).put(out)?;

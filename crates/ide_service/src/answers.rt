@@ -1,6 +1,7 @@
 //! The answers of the half of a store that works.
-ghost use Rattle.std.specs.Prelude.{◌≡◌, Some, IfErr, IfOk};
+ghost use Rattle.std.specs.Prelude.{◌≡◌, Some, IfErr, IfOk, OnOk};
 ghost use Rattle.ide_service.specs.Served.{AreAnswersOver, IsAnswerRefusal, IsAnswerable};
+ghost use Rattle.ide_values.specs.Refusal.{AreWorkers};
 
 use crate::runs::values_of_runs_are_best;
 use ide_problem::Problem;
@@ -25,6 +26,7 @@ pub fn values_of_table<R: Threads + Sync, P: Problem>(
 where
     P::F: Sync,
     P::L: Send + Sync,
+    ensures workers { OnOk result (AreWorkers workers) }
     ensures best { IfOk result (AreAnswersOver ⟦<P as Kept>⟧.analysis table.now) }
     ensures graph { IfOk result (λ values. table.now.core.graph ≡ Some values.graph) }
     ensures roots { IfOk result (λ values. values.roots ≡ table.now.core.roots) }
