@@ -4,12 +4,9 @@
 //! second of them once more where it is a terminal, and ends with the status that it answers.
 #![tactic(auto)]
 
-mod calls;
-mod counts;
 mod explain;
 mod failure;
 mod run;
-mod status;
 mod stores;
 mod telling;
 mod working;

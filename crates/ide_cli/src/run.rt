@@ -1,21 +1,16 @@
 //! Commands: what each does, and what it prints.
-ghost use Rattle.std.specs.Prelude.{◌≡◌, ◌⊎◌, ◌++◌, ℕ, List, IfErr, IsErr, IsOk, OnOk};
-ghost use Rattle.ide_cli.specs.Counts.{AppendsCounts};
+ghost use Rattle.std.specs.Prelude.{◌≡◌, ◌⊎◌, ◌++◌, ℕ, List, IsErr, IsOk, OnOk};
 ghost use Rattle.ide_cli.specs.Dump.{IsDump};
-ghost use Rattle.ide_text.specs.Parsed.{IsRefusalOf};
 
-use crate::counts::append_counts;
 use crate::explain::meaning_of;
 use crate::failure::{Failure, read_file};
 use crate::stores::{create, obey};
 use clap::error::ErrorKind;
-use ide_graph::Graph;
+use ide_commands::check;
 use ide_instances::{CopyConst, ShiftConst, Uninit};
 use ide_service::solve_shared;
-use ide_text::parse;
 use ide_wire::Refused;
 use ide_words::{Instance, Words, read_words};
-use std::alloc::Global;
 use std::convert::AsStr;
 use std::fs::{File, Files};
 use std::io;
@@ -146,15 +141,4 @@ fn solve_by<R: AllocGlobal + Threads + Sync>(
         Instance::Copy => solve_shared::<R, CopyConst>(rt, alloc, text, &roots, workers, out),
         Instance::Shift => solve_shared::<R, ShiftConst>(rt, alloc, text, &roots, workers, out),
     }
-}
-
-/// Appends the counts of the program that the text spells.
-fn check(alloc: Global, text: &[u8], out: &mut Vec<u8>) -> Result<(), Refused>
-    ensures counts { OnOk result (AppendsCounts text.now out.old.items out.new.items) }
-    ensures refused { IfErr result (IsRefusalOf text.now) }
-{
-    let program = parse(alloc, text)?;
-    let graph = Graph::of(alloc, &program)?;
-    append_counts(&graph, out)?;
-    Ok(())
 }

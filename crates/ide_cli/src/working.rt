@@ -2,9 +2,8 @@
 //!
 //! It is written for each analysis by itself: the kit gives no proof of threads that are sent what rests on a
 //! bound on a type parameter's own type, as that a problem's functions may be sent.
-use crate::calls::end_work;
-use crate::stores::Store;
 use crate::telling::Telling;
+use ide_commands::{Store, end_work};
 use ide_file::FileDisk;
 use ide_service::{Crew, Service, work_together};
 use ide_wire::Refused;

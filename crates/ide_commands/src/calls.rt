@@ -1,7 +1,7 @@
 //! What each command on a store does, over any disk, and what it prints.
 ghost use Rattle.std.specs.Prelude.{◌≡◌, ◌++◌, ℕ, List, OnOk, IfOk};
-ghost use Rattle.ide_cli.specs.Asked.{Answers, AreNow, Dumps, Prints};
-ghost use Rattle.ide_cli.specs.Stored.{StoresText, MakesRoot, PrintsStored, WorksAll, quiet_line, stored_line};
+ghost use Rattle.ide_commands.specs.Asked.{Answers, AreNow, Dumps, Prints};
+ghost use Rattle.ide_commands.specs.Stored.{StoresText, MakesRoot, PrintsQuiet, PrintsStored, WorksAll, stored_line};
 
 use ide_disk::Disk;
 use ide_lattice::Lattice;
@@ -45,12 +45,11 @@ pub(crate) fn root<P: Problem, D: Disk>(
 
 /// Does what the hands left pending, and appends `quiet` once all is stored. Where nothing is pending and all is
 /// stored, as the hands leave it, it makes no disk call.
-pub(crate) fn end_work<P: Problem, D: Disk>(
+pub fn end_work<P: Problem, D: Disk>(
     engine: &mut Engine<P, D>,
     out: &mut Vec<u8>,
 ) -> Result<(), Refused>
-    ensures text { OnOk result (out.new.items ≡ out.old.items ++ quiet_line) }
-    ensures works { OnOk result (WorksAll ⟦<P as Kept>⟧.analysis engine.old engine.new) }
+    ensures { OnOk result (PrintsQuiet (WorksAll ⟦<P as Kept>⟧.analysis engine.old engine.new) out.old out.new) }
 {
     work_alone(engine)?;
     out.extend_from_slice(b"quiet\n")?;

@@ -1,8 +1,8 @@
 use Rattle.std.proofs.Common.{rules, ◌≡◌, ◌∙◌, ℕ, List, ap, length}
 use Rattle.std.specs.Prelude.{is_some}
 use Rattle.ide_text.specs.Program.{value_of}
-use Rattle.ide_cli.proofs.Told.{is_there}
-use Rattle.ide_cli.proofs.status.Status.of.Goals as goal
+use Rattle.ide_commands.proofs.Told.{is_there}
+use Rattle.ide_commands.proofs.status.Status.of.Goals as goal
 
 pub returns : goal.returns
 returns g c =

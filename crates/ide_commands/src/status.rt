@@ -1,6 +1,6 @@
 //! How far a store has come.
 ghost use Rattle.std.specs.Prelude.{◌≡◌, ◌++◌, OnOk, IfOk};
-ghost use Rattle.ide_cli.specs.Status.{IsStatusOf, count_line, program_line, status_lines};
+ghost use Rattle.ide_commands.specs.Status.{IsStatusOf, count_line, program_line, status_lines};
 
 use ide_disk::Disk;
 use ide_problem::Problem;

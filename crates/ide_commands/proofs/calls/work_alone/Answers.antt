@@ -1,7 +1,7 @@
 use Rattle.std.proofs.Common.{ap}
 use Rattle.std.specs.Prelude.{Ok}
-use Rattle.ide_cli.proofs.Told.{seals_rest}
-use Rattle.ide_cli.proofs.calls.work_alone.Goals as goal
+use Rattle.ide_commands.proofs.Told.{seals_rest}
+use Rattle.ide_commands.proofs.calls.work_alone.Goals as goal
 
 pub returns : goal.returns
 returns g c = record {

@@ -23,6 +23,10 @@ quiet_line = codes "quiet\n"
 abbrev pub PrintsStored : (ℕ → Type 0) → (old new : Vec ℕ) → Type 0
 PrintsStored Call old new = (number : ℕ) × Call number × (new.items ≡ old.items ++ stored_line number)
 
+-- the work was done, and the line of a quiet store is printed
+abbrev pub PrintsQuiet : Type 0 → (old new : Vec ℕ) → Type 0
+PrintsQuiet Works old new = Works × (new.items ≡ old.items ++ quiet_line)
+
 -- what changed is sealed, if anything did
 pub data SealsRest {F L : Type 0} (a : Analysis F L) (drained kept : TableData F) : Type 0 where
   seals_nothing : FindsNothing a drained kept → SealsRest a drained kept

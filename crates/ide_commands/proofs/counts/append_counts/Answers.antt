@@ -1,7 +1,7 @@
-use Rattle.std.proofs.Common.{◌≡◌, ℕ, List, ◌++◌, decimal, codes, rules, OnOk}
+use Rattle.std.proofs.Common.{◌≡◌, ◌++◌, decimal, codes, rules, OnOk}
 use Rattle.std.proofs.lemmas.Result.{on_ok_weaker}
-use Rattle.ide_cli.proofs.Appended.{count_appended, four_appended}
-use Rattle.ide_cli.proofs.counts.append_counts.Goals as goal
+use Rattle.ide_commands.proofs.Appended.{count_appended, four_appended}
+use Rattle.ide_commands.proofs.counts.append_counts.Goals as goal
 
 pub returns : goal.returns
 returns c =

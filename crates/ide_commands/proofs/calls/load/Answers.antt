@@ -1,4 +1,4 @@
-use Rattle.ide_cli.proofs.calls.load.Goals as goal
+use Rattle.ide_commands.proofs.calls.load.Goals as goal
 
 pub returns : goal.returns
 returns g c = (

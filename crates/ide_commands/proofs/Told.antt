@@ -11,8 +11,8 @@ use Rattle.ide_tables.specs.Tables.{Table}
 use Rattle.ide_values.specs.Closed.{FollowFrom}
 use Rattle.ide_values.specs.Frozen.{AreBestOf}
 use Rattle.ide_values.specs.Values.{ValuesData}
-use Rattle.ide_cli.specs.Asked.{AreNow}
-use Rattle.ide_cli.specs.Stored.{SealsRest, seals_batch, seals_nothing}
+use Rattle.ide_commands.specs.Asked.{AreNow}
+use Rattle.ide_commands.specs.Stored.{SealsRest, seals_batch, seals_nothing}
 
 module _ {F L : Type 0} (a : Analysis F L) where
   pub seals_rest : (drained kept : TableData F) (sealed : Option Ticket) → (sealed ≡ None → FindsNothing a drained kept)

@@ -1,6 +1,6 @@
 use Rattle.ide_steps.specs.Frozen.{graph_in}
-use Rattle.ide_cli.proofs.Told.{are_now}
-use Rattle.ide_cli.proofs.calls.values_of.Goals as goal
+use Rattle.ide_commands.proofs.Told.{are_now}
+use Rattle.ide_commands.proofs.calls.values_of.Goals as goal
 
 pub returns : goal.returns
 returns g c =

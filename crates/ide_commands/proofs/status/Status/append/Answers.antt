@@ -1,7 +1,7 @@
 use Rattle.std.proofs.Common.{rules, ◌≡◌, ◌++◌, codes}
-use Rattle.ide_cli.specs.Status.{count_line, program_line}
-use Rattle.ide_cli.proofs.Appended.{six_appended}
-use Rattle.ide_cli.proofs.status.Status.append.Goals as goal
+use Rattle.ide_commands.specs.Status.{count_line, program_line}
+use Rattle.ide_commands.proofs.Appended.{six_appended}
+use Rattle.ide_commands.proofs.status.Status.append.Goals as goal
 
 pub returns : goal.returns
 returns c =

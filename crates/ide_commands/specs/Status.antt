@@ -4,7 +4,7 @@ use Rattle.ide_disk.specs.declared.disk.Disk.{Ghosts}
 use Rattle.ide_journal.specs.Stands.{stored_count}
 use Rattle.ide_store.specs.Table.{TableData}
 use Rattle.ide_store.specs.declared.writer.WriterHalf.{WriterHalf}
-use Rattle.ide_cli.specs.declared.status.Status.{Status}
+use Rattle.ide_commands.specs.declared.status.Status.{Status}
 
 -- the counts are those of the store
 pub record IsStatusOf {F D : Type 0} {G : Ghosts D} (table : TableData F) (writer : WriterHalf D G) (status : Status) : Type 0 where

@@ -1,0 +1,6 @@
+pub mod Asked
+pub mod Counts
+pub mod Obeyed
+pub mod Opened
+pub mod Status
+pub mod Stored
