@@ -5,6 +5,8 @@
 //! - `parse FILE`, `graph FILE` and `tabulate FILE` do the same work up to that phase alone, and
 //!   print the procedures, the nodes and facts, and what `solve` prints;
 //! - `print FILE` solves the text and makes the dump of its values, and prints how long that is;
+//! - `fill FILE WORKERS` does so with so many workers, and prints the microseconds of the clock that start values, the
+//!   fill and the dump took;
 //! - `keep FILE` solves as far as `tabulate`, in a store on a disk in memory, and prints how many records
 //!   were stored, how long the disk is, and how many keys and tasks there were;
 //! - `resume FILE` does so, opens the store from its disk and prints the same of it;
@@ -23,6 +25,7 @@
 
 mod batches;
 mod counts;
+mod fills;
 mod phases;
 mod records;
 mod stores;
@@ -30,6 +33,7 @@ mod stores;
 use anyhow::{Context, Result, bail};
 use batches::{Batches, copy_each, read, spell};
 use counts::Counts;
+use fills::{Steps, time_fill};
 use ide_graph::Graph;
 use ide_journal::Version;
 use phases::{count_procedures, graph_of, measure_dump, solve, tabulate};
@@ -43,11 +47,21 @@ use stores::{Amounts, copy_disk, keep, resume, work};
 
 fn main(rt: HostRuntime) -> Result<()> {
     let words: Vec<String> = env::args(&rt)?.collect(rt.alloc())?;
-    if word(words.as_slice(), 1)? == "work" {
-        let amounts = run_workers(&rt, words.as_slice())?;
-        return print_amounts(&rt, amounts);
+    match word(words.as_slice(), 1)? {
+        "work" => print_amounts(&rt, run_workers(&rt, words.as_slice())?),
+        "fill" => print_steps(&rt, run_fill(&rt, words.as_slice())?),
+        _ => run(&rt, words.as_slice()),
     }
-    run(&rt, words.as_slice())
+}
+
+/// Fills the values of a text by as many workers as the words ask for.
+fn run_fill<R: Threads + Clock + Sync + Files + AllocGlobal>(
+    rt: &R,
+    words: &[String],
+) -> Result<Steps> {
+    let text: Vec<u8> = fs::read(rt, word(words, 2)?).context("the text cannot be read")?;
+    let workers = number(word(words, 3)?)?;
+    time_fill(rt, text.as_slice(), workers)
 }
 
 /// Lets as many hands work on a text as the words ask for.
@@ -86,7 +100,7 @@ fn run_phase(rt: &HostRuntime, phase: &str, text: &[u8]) -> Result<()> {
         "resume" => print_amounts(rt, resume(rt.alloc(), text)?),
         "bytes" => print_bytes(rt, copy_disk(rt.alloc(), text)?),
         _ => bail!(
-            "parse, graph, tabulate, solve, print, keep, resume, bytes, work, append, reopen, copy, spell, read or recopy is wanted"
+            "parse, graph, tabulate, solve, print, fill, keep, resume, bytes, work, append, reopen, copy, spell, read or recopy is wanted"
         ),
     }
 }
@@ -161,6 +175,15 @@ fn print_amounts(rt: &HostRuntime, amounts: Amounts) -> Result<()> {
     println!(rt;
         "records {} bytes {} keys {} tasks {}",
         amounts.records, amounts.bytes, amounts.keys, amounts.tasks
+    )?;
+    Ok(())
+}
+
+/// Prints how long the steps of a value phase took.
+fn print_steps(rt: &HostRuntime, steps: Steps) -> Result<()> {
+    println!(rt;
+        "starts {} fill {} dump {} bytes {}",
+        steps.starts, steps.fill, steps.dump, steps.bytes
     )?;
     Ok(())
 }

@@ -37,7 +37,7 @@ pub(crate) fn graph_of(alloc: Global, text: &[u8]) -> Result<Graph>
 }
 
 /// Tabulates the jump functions and summaries of a text's program, with `main` as the root.
-fn drain_core(alloc: Global, text: &[u8]) -> Result<Tabulated>
+pub(crate) fn drain_core(alloc: Global, text: &[u8]) -> Result<Tabulated>
     ensures { IfOk result (λ tabulated. IsRootedAtMain text.now (arc_value tabulated.closed.loaded).graph tabulated.closed.roots.items) }
 {
     let mut core: Core<CopyConst> = Core::new(alloc);
