@@ -35,17 +35,13 @@ use Rattle.ide_store.proofs.Unloaded.{IsStill, base_still, image_still}
 use Rattle.ide_store.specs.Acting.{BeginsAnew, SpellsChanges, SpellsRecord, WaitsFor}
 use Rattle.ide_store.specs.Answers.{GraphBy, frame_by}
 use Rattle.ide_store.specs.Hands.{Batches}
-use Rattle.ide_store.specs.Machine.{Does, ProgramStep, machine}
+use Rattle.ide_store.specs.Machine.{Does}
 use Rattle.ide_store.specs.OneDisk.{one_disk}
-use Rattle.ide_store.specs.Table.{Analysis, HasNothingNew, IsAct, IsReached, KeepsRest, MayDo, StoreWorld, TableData, WorksOn, forms_of, told}
+use Rattle.ide_store.specs.Table.{Analysis, HasNothingNew, IsAct, IsReached, KeepsRest, MayDo, StoreWorld, TableData, WorksOn, forms_of, rules_at, told}
 use Rattle.ide_store.specs.TableCalls.{FindsNothing}
-use Rattle.ide_store.specs.World.{IsFolded, Rules, Sealed, contents}
+use Rattle.ide_store.specs.World.{IsFolded, Sealed, contents}
 
 module _ {F L : Type 0} (a : Analysis F L) where
-  -- the rules of its machine
-  abbrev pub rules_at : Head → Rules (ProgramImage F) (ProgramStep F) Entry
-  rules_at head = machine a.functions a.same (forms_of a) head.version
-
   -- over each graph of its program the image is good
   abbrev IsGoodImage : ProgramImage F → Type 0
   IsGoodImage image = (v : ProgramValue) → image.program ≡ Some v → (by : GraphBy v) → IsGood procedures (frame_by a.lattice a.functions a.targets by) v image
@@ -113,7 +109,7 @@ module _ {F L : Type 0} (a : Analysis F L) where
     now_good : IsGoodImage w.world.image
     now_good =
         good_now a.lattice a.functions a.targets a.same (forms_of a) head.version (one_disk head) knows.is_same
-        (machine_is_exact a.functions a.same (forms_of a) knows.prefix_free head.version) (one_disk_keeps (rules_at head) head) knows.known
+        (machine_is_exact a.functions a.same (forms_of a) knows.prefix_free head.version) (one_disk_keeps (rules_at a head) head) knows.known
         w (reached_whole a knows head w reached).held
 
     -- and so is what the records give back
@@ -121,7 +117,7 @@ module _ {F L : Type 0} (a : Analysis F L) where
     base_good =
         let all = take_all (length w.world.sealed) w.world.sealed (omega arith) in
         (reached_whole a knows head w reached).held.stored (length w.world.sealed) works.base.image
-        (subst (λ (sealed : List (Sealed Entry)). IsFolded (rules_at head) (contents sealed) works.base.image) (sym all) works.base.folded)
+        (subst (λ (sealed : List (Sealed Entry)). IsFolded (rules_at a head) (contents sealed) works.base.image) (sym all) works.base.folded)
 
     -- an absent key was absent, and did not wait
     was_absent : (key : Key) → found table.core.table key ≡ None → told (entry_then table.core key) ≡ told (standing_entry table.core key)
@@ -173,14 +169,14 @@ module _ {F L : Type 0} (a : Analysis F L) where
 
     -- and its record gives back the image
     pub batch_folded : (entry : Entry) → SpellsChanges a table entry
-        → IsFolded (rules_at head) (contents (pushed w.world.sealed entry (length w.world.history))) w.world.image
+        → IsFolded (rules_at a head) (contents (pushed w.world.sealed entry (length w.world.history))) w.world.image
     batch_folded entry spells =
         let does : Does a.functions a.same (forms_of a) head.version entry works.base.image w.world.image = record {
           value = records.Batch spells.items;
           spelled = spelled_at head table (records.Batch spells.items) entry works.version spells.spells;
           leads = sym (lead spells.items works.base.image w.world.image works.base.program works.base.roots (changes_told spells.items spells.changed));
         } in
-        folded_pushed (rules_at head) w.world.sealed entry (length w.world.history) works.base.image w.world.image works.base.folded does
+        folded_pushed (rules_at a head) w.world.sealed entry (length w.world.history) works.base.image w.world.image works.base.folded does
 
   -- where no item changed, entries are as the records give them back
   still_entries : Knows a → (table : TableData F) → IsWholeCore table.core → AreChangedItems table.core []

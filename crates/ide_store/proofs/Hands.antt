@@ -29,8 +29,8 @@ use Rattle.ide_theory.proofs.Laws.Paid.{claims-paid}
 use Rattle.ide_theory.proofs.Laws.Ranks.{lowerings-few}
 use Rattle.ide_theory.proofs.Laws.Reached.{run-on}
 use Rattle.ide_store.specs.Answers.{GraphBy, IsWorkFew, frame_by}
-use Rattle.ide_store.specs.Hands.{Act, Allowed, AreAllowed, Batches, Roots, CanBatch, CanBegin, CanEnd, CanLoad, CanPart, CanRelease, CanClaim, Claims, Ends, EveryRunAnswers, FitsNext, Hands, Happens, IsOfStore, IsSoundWorld, Loads, Parts, ProgramEvent, Releases, absent_from, absent_in, claims_after, idle, next, rules, state_in, tally_after, worked}
-use Rattle.ide_store.specs.Machine.{Does, ProgramStep, machine}
+use Rattle.ide_store.specs.Hands.{Act, Allowed, AreAllowed, Batches, Roots, CanBatch, CanBegin, CanEnd, CanLoad, CanPart, CanRelease, CanClaim, Claims, Ends, EveryRunAnswers, FitsNext, Hands, Happens, IsOfStore, IsSoundWorld, Loads, Parts, ProgramEvent, Releases, absent_from, absent_in, claims_after, idle, next, state_in, tally_after, worked}
+use Rattle.ide_store.specs.Machine.{Does, ProgramStep}
 use Rattle.ide_store.specs.Store.{Store, StoreLaws}
 use Rattle.ide_store.specs.Tally.{state_with}
 use Rattle.ide_store.specs.World.{Acks, AreAlike, AreExact, Begins, Calls, Can, Crashes, Fails, IsFolded, LeadTo, Opens, Rules, Running, Seals, Sealed, Steps, Stops, Stores, after_event, contents, image_after}
@@ -75,11 +75,21 @@ pub record Known {F L : Type 0} (A : LatticeAlgebra L) (B : EdgeAlgebra F L) (ta
   pub keys : {v : ProgramValue} (by : GraphBy v) → (keys : List Key) × (length keys ≡ key_space by.graph)
       × ((s : State F) → Run (frame_by A B targets by) s → (key : Key) (f : F) → s.get key ≡ Some f → IsIn key keys)
 
-module _ {F L : Type 0} (A : LatticeAlgebra L) (B : EdgeAlgebra F L) (targets : Targets F) (same : F → F → Bool) (forms : Functions F) (version : Version)
-    (S : Store Entry) (is_same : IsSame same) (exact : AreExact (machine B same forms version)) (laws : StoreLaws (AreAlike (machine B same forms version)) S)
+-- the machine of an analysis whose records do that
+abbrev pub machine_by : {F L : Type 0} → EdgeAlgebra F L → (F → F → Bool) → (Entry → ProgramImage F → ProgramImage F → Type 0)
+    → Rules (ProgramImage F) (ProgramStep F) Entry
+machine_by functions same Leads = record { empty = loaded None; step = step procedures functions same; Leads = Leads }
+
+module _ {F L : Type 0} {Leads : Entry → ProgramImage F → ProgramImage F → Type 0}
+    (A : LatticeAlgebra L) (B : EdgeAlgebra F L) (targets : Targets F) (same : F → F → Bool) (forms : Functions F) (version : Version)
+    (S : Store Entry) (is_same : IsSame same) (exact : AreExact (machine_by B same Leads)) (laws : StoreLaws (AreAlike (machine_by B same Leads)) S)
     (known : Known A B targets) where
   abbrev acts_by : Rules (ProgramImage F) (ProgramStep F) Entry
-  acts_by = machine B same forms version
+  acts_by = machine_by B same Leads
+
+  -- what a record of a journal does, it does by these rules
+  abbrev pub DoAsRecords : Type 0
+  DoAsRecords = (r : Entry) (before now : ProgramImage F) → Does B same forms version r before now → Leads r before now
 
   -- over each graph of its program the image is good
   abbrev IsGoodImage : ProgramImage F → Type 0
@@ -160,8 +170,8 @@ module _ {F L : Type 0} (A : LatticeAlgebra L) (B : EdgeAlgebra F L) (targets : 
       (base, subst (λ (xs : List (Sealed Entry)). IsFolded acts_by (contents xs) base) (take_all n w.world.sealed (omega arith)) (held.world.marks.images n))
 
   -- ---- hands
-  claims_held : (w : Hands F S) (h : ℕ) (q : Key) (parts : List (Key × F)) → IsWhole w → CanClaim A B targets same forms version S w h q parts
-      → IsWhole (next A B targets same forms version S w (Claims h q parts))
+  claims_held : (w : Hands F S) (h : ℕ) (q : Key) (parts : List (Key × F)) → IsWhole w → CanClaim A B targets same forms version acts_by S w h q parts
+      → IsWhole (next A B targets same forms version acts_by S w (Claims h q parts))
   claims_held w h q parts whole can = record {
     held = record {
       world = whole.held.world;
@@ -175,14 +185,14 @@ module _ {F L : Type 0} (A : LatticeAlgebra L) (B : EdgeAlgebra F L) (targets : 
     noted = whole.noted;
   }
 
-  parts_held : (w : Hands F S) (h : ℕ) (key : Key) (g : F) → IsWhole w → CanPart A B targets same forms version S w h key g
-      → IsWhole (next A B targets same forms version S w (Parts h key g))
+  parts_held : (w : Hands F S) (h : ℕ) (key : Key) (g : F) → IsWhole w → CanPart A B targets same forms version acts_by S w h key g
+      → IsWhole (next A B targets same forms version acts_by S w (Parts h key g))
   parts_held w h key g whole can = record {
     held = record {
       world = kept acts_by exact laws w.world (Steps (Part key g)) whole.held.world can.running;
       stored = whole.held.stored;
       work = λ v is by.
-          subst (λ (s : State F). IsWorkTo (frame_by A B targets by) (tally_after A B targets same forms version S w (Parts h key g)) s) (sym is_one)
+          subst (λ (s : State F). IsWorkTo (frame_by A B targets by) (tally_after A B targets same forms version acts_by S w (Parts h key g)) s) (sym is_one)
           (parted_on (frame_by A B targets by) procedures same is_same w.tally (state_with w.world.image w.claims) h can.claim key g can.rest can.mine can.next
           (whole.held.work v is by));
       begun = λ v is by.
@@ -196,12 +206,12 @@ module _ {F L : Type 0} (A : LatticeAlgebra L) (B : EdgeAlgebra F L) (targets : 
         record { program = noted.program; roots = noted.roots; present = λ k has. still_present (image_state w.world.image) key g k (noted.present k has) };
   }
     where
-      is_one : state_in A B targets same forms version S (next A B targets same forms version S w (Parts h key g))
+      is_one : state_in A B targets same forms version acts_by S (next A B targets same forms version acts_by S w (Parts h key g))
           ≡ part_done (received procedures B same (state_with w.world.image w.claims) key g) h
       is_one = part_is procedures B same w.world.image w.claims h key g
 
-  ends_held : (w : Hands F S) (h : ℕ) (c : Claim F) → IsWhole w → CanEnd A B targets same forms version S w h c
-      → IsWhole (next A B targets same forms version S w (Ends h c))
+  ends_held : (w : Hands F S) (h : ℕ) (c : Claim F) → IsWhole w → CanEnd A B targets same forms version acts_by S w h c
+      → IsWhole (next A B targets same forms version acts_by S w (Ends h c))
   ends_held w h c whole can = record {
     held = record {
       world = kept acts_by exact laws w.world (Steps (Finish c.key c.lowered)) whole.held.world can.running;
@@ -214,8 +224,8 @@ module _ {F L : Type 0} (A : LatticeAlgebra L) (B : EdgeAlgebra F L) (targets : 
         record { program = noted.program; roots = noted.roots; present = noted.present };
   }
 
-  releases_held : (w : Hands F S) (h : ℕ) → IsWhole w → CanRelease A B targets same forms version S w h
-      → IsWhole (next A B targets same forms version S w (Releases h))
+  releases_held : (w : Hands F S) (h : ℕ) → IsWhole w → CanRelease A B targets same forms version acts_by S w h
+      → IsWhole (next A B targets same forms version acts_by S w (Releases h))
   releases_held w h whole can = record {
     held = record {
       world = whole.held.world;
@@ -227,14 +237,14 @@ module _ {F L : Type 0} (A : LatticeAlgebra L) (B : EdgeAlgebra F L) (targets : 
   }
 
   -- ---- a program is loaded
-  loads_held : (w : Hands F S) (v : ProgramValue) (r : Entry) → IsWhole w → CanLoad A B targets same forms version S w v r
-      → IsWhole (next A B targets same forms version S w (Loads v r))
-  loads_held w v r whole can =
+  loads_held : DoAsRecords → (w : Hands F S) (v : ProgramValue) (r : Entry) → IsWhole w → CanLoad A B targets same forms version acts_by S w v r
+      → IsWhole (next A B targets same forms version acts_by S w (Loads v r))
+  loads_held as_records w v r whole can =
       let base = some_base w whole.held in
       let now : Hands F S = record {
         world = after_event acts_by w.world (Steps (Load v));
         claims = λ h. None;
-        tally = tally_after A B targets same forms version S w (Loads v r);
+        tally = tally_after A B targets same forms version acts_by S w (Loads v r);
       } in
       let does : Does B same forms version r base.0 now.world.image = record {
         value = records.Load can.text;
@@ -248,36 +258,37 @@ module _ {F L : Type 0} (A : LatticeAlgebra L) (B : EdgeAlgebra F L) (targets : 
         work = λ u is by. begun_now (frame_by A B targets by) (image_state now.world.image) begins;
         begun = λ u is by name among. elim (not-in-empty among) [ ];
       })
-      (can.running, can.fits, record { base = base.0; folded = base.1; leads = does })
+      (can.running, can.fits, record { base = base.0; folded = base.1; leads = as_records r base.0 now.world.image does })
 
   -- ---- a batch
-  pub batches_held : (w : Hands F S) (r : Entry) → IsWhole w → CanBatch A B targets same forms version S w r
+  pub batches_held : DoAsRecords → (w : Hands F S) (r : Entry) → IsWhole w → CanBatch A B targets same forms version acts_by S w r
       → IsWhole (record w { world = after_event acts_by w.world (Seals r) }) × IsFolded acts_by (contents (after_event acts_by w.world (Seals r)).sealed) w.world.image
-  batches_held w r whole can =
+  batches_held as_records w r whole can =
       let noted = whole.noted can.base can.folded in
       let does : Does B same forms version r can.base w.world.image = record {
         value = records.Batch can.items;
         spelled = can.spelled;
         leads = sym (lead can.items can.base w.world.image noted.program noted.roots can.exact);
       } in (
-        sealed_held w r whole.held (can.running, can.fits, record { base = can.base; folded = can.folded; leads = does }),
-        folded_pushed acts_by w.world.sealed r (length w.world.history) can.base w.world.image can.folded does,
+        sealed_held w r whole.held
+            (can.running, can.fits, record { base = can.base; folded = can.folded; leads = as_records r can.base w.world.image does }),
+        folded_pushed acts_by w.world.sealed r (length w.world.history) can.base w.world.image can.folded (as_records r can.base w.world.image does),
       )
 
   -- ---- a procedure becomes a root, where the records give back the image
-  root_held : (w : Hands F S) (name : List ℕ) (first : Option Entry) (r : Entry) (v : ProgramValue) (start : ℕ) → IsWhole w → w.world.mode ≡ Running
+  root_held : DoAsRecords → (w : Hands F S) (name : List ℕ) (first : Option Entry) (r : Entry) (v : ProgramValue) (start : ℕ) → IsWhole w → w.world.mode ≡ Running
       → IsFolded acts_by (contents w.world.sealed) w.world.image → w.world.image.program ≡ Some v → procedures.start v name ≡ Some start
-      → IsEntryOf forms version (records.Root name) r → FitsNext A B targets same forms version S w.world r
+      → IsEntryOf forms version (records.Root name) r → FitsNext A B targets same forms version acts_by S w.world r
       → IsWhole (record {
         world = after_event acts_by (after_event acts_by w.world (Steps (Root name))) (Seals r);
-        claims = claims_after A B targets same forms version S w (Roots name first r);
-        tally = tally_after A B targets same forms version S w (Roots name first r);
+        claims = claims_after A B targets same forms version acts_by S w (Roots name first r);
+        tally = tally_after A B targets same forms version acts_by S w (Roots name first r);
       })
-  root_held w name first r v start whole running folded is_loaded starts spelled fits =
+  root_held as_records w name first r v start whole running folded is_loaded starts spelled fits =
       let now : Hands F S = record {
         world = after_event acts_by w.world (Steps (Root name));
-        claims = claims_after A B targets same forms version S w (Roots name first r);
-        tally = tally_after A B targets same forms version S w (Roots name first r);
+        claims = claims_after A B targets same forms version acts_by S w (Roots name first r);
+        tally = tally_after A B targets same forms version acts_by S w (Roots name first r);
       } in
       let does : Does B same forms version r w.world.image now.world.image = record { value = records.Root name; spelled = spelled; leads = refl } in
       sealed_held now r
@@ -287,7 +298,7 @@ module _ {F L : Type 0} (A : LatticeAlgebra L) (B : EdgeAlgebra F L) (targets : 
         work = λ u is by. work u is by;
         begun = λ u is by. begun u is by;
       })
-      (running, fits, record { base = w.world.image; folded = folded; leads = does })
+      (running, fits, record { base = w.world.image; folded = folded; leads = as_records r w.world.image now.world.image does })
     where
       s : State F
       s = state_with w.world.image w.claims
@@ -296,21 +307,21 @@ module _ {F L : Type 0} (A : LatticeAlgebra L) (B : EdgeAlgebra F L) (targets : 
       starts_by u is = subst (λ (x : ProgramValue). procedures.start x name ≡ Some start) (some-inj (sym is_loaded ∙ is)) starts
 
       is_one : (u : ProgramValue) → w.world.image.program ≡ Some u → (by : GraphBy u)
-          → state_with (step procedures B same w.world.image (Root name)) (claims_after A B targets same forms version S w (Roots name first r))
+          → state_with (step procedures B same w.world.image (Root name)) (claims_after A B targets same forms version acts_by S w (Roots name first r))
           ≡ seeded_below B s start (procedures.entries u)
       is_one u is by = root_is procedures (frame_by A B targets by) same w.world.image w.claims u name start is (starts_by u is)
 
       absent : (u : ProgramValue) → w.world.image.program ≡ Some u
-          → absent_in A B targets same forms version S w.world.image.program name s ≡ absent_below B s start (procedures.entries u)
+          → absent_in A B targets same forms version acts_by S w.world.image.program name s ≡ absent_below B s start (procedures.entries u)
       absent u is =
-          ap (λ o. absent_in A B targets same forms version S o name s) is
-          ∙ ap (λ o. absent_from A B targets same forms version S u o s) (starts_by u is)
+          ap (λ o. absent_in A B targets same forms version acts_by S o name s) is
+          ∙ ap (λ o. absent_from A B targets same forms version acts_by S u o s) (starts_by u is)
 
       work : (u : ProgramValue) → w.world.image.program ≡ Some u → (by : GraphBy u)
-          → IsWorkTo (frame_by A B targets by) (tally_after A B targets same forms version S w (Roots name first r))
-          (state_with (step procedures B same w.world.image (Root name)) (claims_after A B targets same forms version S w (Roots name first r)))
+          → IsWorkTo (frame_by A B targets by) (tally_after A B targets same forms version acts_by S w (Roots name first r))
+          (state_with (step procedures B same w.world.image (Root name)) (claims_after A B targets same forms version acts_by S w (Roots name first r)))
       work u is by =
-          subst (λ (t : State F). IsWorkTo (frame_by A B targets by) (tally_after A B targets same forms version S w (Roots name first r)) t) (sym (is_one u is by))
+          subst (λ (t : State F). IsWorkTo (frame_by A B targets by) (tally_after A B targets same forms version acts_by S w (Roots name first r)) t) (sym (is_one u is by))
           (subst (λ (n : ℕ). IsWorkTo (frame_by A B targets by) (record w.tally { entries = w.tally.entries + n }) (seeded_below B s start (procedures.entries u))) (sym (absent u is))
           (seeded_on (frame_by A B targets by) w.tally s start (procedures.entries u) (known.starts by name start (starts_by u is)) (known.fits by) (whole.held.work u is by)))
 
@@ -327,9 +338,9 @@ module _ {F L : Type 0} (A : LatticeAlgebra L) (B : EdgeAlgebra F L) (targets : 
           (start_has procedures K u (known.lawful by) t name start (run-on K (known.lawful by) run way.way) (starts_by u is) begins_there
           (λ d less. entered-present K start s (procedures.entries u) d less)))
 
-  begins_held : (w : Hands F S) (name : List ℕ) (first : Option Entry) (r : Entry) → IsWhole w → CanBegin A B targets same forms version S w name first r
-      → IsWhole (next A B targets same forms version S w (Roots name first r))
-  begins_held w name None r whole can =
+  begins_held : DoAsRecords → (w : Hands F S) (name : List ℕ) (first : Option Entry) (r : Entry) → IsWhole w
+      → CanBegin A B targets same forms version acts_by S w name first r → IsWhole (next A B targets same forms version acts_by S w (Roots name first r))
+  begins_held as_records w name None r whole can =
       let noted = whole.noted can.first.base can.first.folded in
       let is : can.first.base ≡ w.world.image = λ i. record {
         program = noted.program i;
@@ -337,17 +348,17 @@ module _ {F L : Type 0} (A : LatticeAlgebra L) (B : EdgeAlgebra F L) (targets : 
         get = λ key. (can.first.entries key i).0;
         pending = λ key. (can.first.entries key i).1;
       } in
-      root_held w name None r can.program can.start whole can.running
+      root_held as_records w name None r can.program can.start whole can.running
       (subst (λ (i : ProgramImage F). IsFolded acts_by (contents w.world.sealed) i) is can.first.folded) can.loaded can.starts can.spelled can.fits
-  begins_held w name (Some batch) r whole can =
-      let before = batches_held w batch whole can.first in
-      root_held (record w { world = after_event acts_by w.world (Seals batch) }) name (Some batch) r can.program can.start before.0 can.running
+  begins_held as_records w name (Some batch) r whole can =
+      let before = batches_held as_records w batch whole can.first in
+      root_held as_records (record w { world = after_event acts_by w.world (Seals batch) }) name (Some batch) r can.program can.start before.0 can.running
       before.1 can.loaded can.starts can.spelled can.fits
 
   -- ---- an opening
   opened_held : (w : Hands F S) (found : List Entry) (image : ProgramImage F) (work : S.Work) (disks : S.Disks) → IsWhole w
       → Can acts_by w.world (Opens found image work disks)
-      → IsWhole (next A B targets same forms version S w (Happens (Opens found image work disks)))
+      → IsWhole (next A B targets same forms version acts_by S w (Happens (Opens found image work disks)))
   opened_held w found image work disks whole can =
       let is = read acts_by exact laws w.world found whole.held.world can.0 in
       let folded = is.image image can.1 in
@@ -395,7 +406,7 @@ module _ {F L : Type 0} (A : LatticeAlgebra L) (B : EdgeAlgebra F L) (targets : 
   }
 
   happens_held : (w : Hands F S) (e : ProgramEvent F S) → IsWhole w → IsOfStore e × Can acts_by w.world e
-      → IsWhole (next A B targets same forms version S w (Happens e))
+      → IsWhole (next A B targets same forms version acts_by S w (Happens e))
   happens_held w (Steps s) whole can = absurd can.0
   happens_held w (Seals r) whole can = absurd can.0
   happens_held w (Begins work) whole can = still_held w (Begins work) whole can.1 refl refl
@@ -408,22 +419,24 @@ module _ {F L : Type 0} (A : LatticeAlgebra L) (B : EdgeAlgebra F L) (targets : 
   happens_held w (Stops disks mode) whole can = still_held w (Stops disks mode) whole can.1 refl refl
 
   -- ---- all acts
-  act_held : (w : Hands F S) (act : Act F S) → IsWhole w → Allowed A B targets same forms version S w act → IsWhole (next A B targets same forms version S w act)
-  act_held w (Claims h q parts) whole can = claims_held w h q parts whole can
-  act_held w (Parts h key g) whole can = parts_held w h key g whole can
-  act_held w (Ends h c) whole can = ends_held w h c whole can
-  act_held w (Releases h) whole can = releases_held w h whole can
-  act_held w (Loads v r) whole can = loads_held w v r whole can
-  act_held w (Roots name first r) whole can = begins_held w name first r whole can
-  act_held w (Batches r) whole can = (batches_held w r whole can).0
-  act_held w (Happens e) whole can = happens_held w e whole can
+  act_held : DoAsRecords → (w : Hands F S) (act : Act F S) → IsWhole w → Allowed A B targets same forms version acts_by S w act
+      → IsWhole (next A B targets same forms version acts_by S w act)
+  act_held as_records w (Claims h q parts) whole can = claims_held w h q parts whole can
+  act_held as_records w (Parts h key g) whole can = parts_held w h key g whole can
+  act_held as_records w (Ends h c) whole can = ends_held w h c whole can
+  act_held as_records w (Releases h) whole can = releases_held w h whole can
+  act_held as_records w (Loads v r) whole can = loads_held as_records w v r whole can
+  act_held as_records w (Roots name first r) whole can = begins_held as_records w name first r whole can
+  act_held as_records w (Batches r) whole can = (batches_held as_records w r whole can).0
+  act_held as_records w (Happens e) whole can = happens_held w e whole can
 
-  pub all_held : (w : Hands F S) (acts : List (Act F S)) → IsWhole w → AreAllowed A B targets same forms version S w acts
-      → IsWhole (worked A B targets same forms version S w acts)
-  all_held w [] whole can = whole
-  all_held w (act ∷ acts) whole can = all_held (next A B targets same forms version S w act) acts (act_held w act whole can.0) can.1
+  pub all_held : DoAsRecords → (w : Hands F S) (acts : List (Act F S)) → IsWhole w → AreAllowed A B targets same forms version acts_by S w acts
+      → IsWhole (worked A B targets same forms version acts_by S w acts)
+  all_held as_records w [] whole can = whole
+  all_held as_records w (act ∷ acts) whole can =
+      all_held as_records (next A B targets same forms version acts_by S w act) acts (act_held as_records w act whole can.0) can.1
 
-  pub idle_held : (work : S.Work) (disks : S.Disks) → S.Live [] 0 work disks → IsWhole (idle A B targets same forms version S work disks)
+  pub idle_held : (work : S.Work) (disks : S.Disks) → S.Live [] 0 work disks → IsWhole (idle A B targets same forms version acts_by S work disks)
   idle_held work disks live = record {
     held = record {
       world = kept_created acts_by exact laws work disks live;
@@ -460,7 +473,7 @@ module _ {F L : Type 0} (A : LatticeAlgebra L) (B : EdgeAlgebra F L) (targets : 
             omega (arith, both, spent, work.lowerings, work.entries, room);
       }
 
-  sound : (w : Hands F S) → IsWhole w → IsSoundWorld A B targets same forms version S w
+  sound : (w : Hands F S) → IsWhole w → IsSoundWorld A B targets same forms version acts_by S w
   sound w whole = record {
     recovers = recoverable acts_by exact laws w.world whole.held.world;
     answers = λ v is by.
@@ -473,7 +486,7 @@ module _ {F L : Type 0} (A : LatticeAlgebra L) (B : EdgeAlgebra F L) (targets : 
     work = few w whole.held;
   }
 
-  pub every_run_answers : EveryRunAnswers A B targets same forms version S
-  every_run_answers work disks live acts can =
-      let begun = idle A B targets same forms version S work disks in
-      sound (worked A B targets same forms version S begun acts) (all_held begun acts (idle_held work disks live) can)
+  pub every_run_answers : DoAsRecords → EveryRunAnswers A B targets same forms version acts_by S
+  every_run_answers as_records work disks live acts can =
+      let begun = idle A B targets same forms version acts_by S work disks in
+      sound (worked A B targets same forms version acts_by S begun acts) (all_held as_records begun acts (idle_held work disks live) can)

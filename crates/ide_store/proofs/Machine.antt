@@ -1,5 +1,5 @@
 -- A journal's record leads from an image to one other at most.
-use Rattle.std.proofs.Common.{◌≡◌, ◌∙◌, ◌⊎◌, ℕ, ◌≤◌, List, [], Bool, inl, inr, refl, ap, sym, subst, arith}
+use Rattle.std.proofs.Common.{◌≡◌, ◌∙◌, ℕ, ◌≤◌, List, [], Bool, inl, inr, refl, ap, sym, subst, arith}
 use Rattle.ide_batch.proofs.Apart.{apart}
 use Rattle.ide_batch.specs.Fold.{RecordLeads, ProgramImage, procedures}
 use Rattle.ide_batch.specs.Items.{Functions}

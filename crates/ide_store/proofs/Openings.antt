@@ -16,11 +16,9 @@ use Rattle.ide_steps.specs.Core.{CoreData}
 use Rattle.ide_steps.specs.State.{claim_of}
 use Rattle.ide_theory.specs.Images.{loaded}
 use Rattle.ide_worklist.specs.Worklist.{IsFree}
-use Rattle.ide_store.specs.Hands.{rules}
 use Rattle.ide_store.specs.Machine.{machine}
-use Rattle.ide_store.specs.OneDisk.{one_disk}
 use Rattle.ide_store.specs.Opening.{HaveFold, BeginsOn, GoesOnFrom, HalvesBegin, half_over}
-use Rattle.ide_store.specs.Table.{Analysis, forms_of}
+use Rattle.ide_store.specs.Table.{Analysis, forms_of, rules_at}
 use Rattle.ide_store.specs.World.{IsFolded, LeadTo, contents}
 use Rattle.ide_store.proofs.Machine.{machine_is_exact}
 use Rattle.ide_store.proofs.OneDisk.{one_disk_keeps}
@@ -66,7 +64,7 @@ module _ {F L : Type 0} (a : Analysis F L) (knows : Knows a) where
   -- what the records fold to is the image of a core to which they were applied
   found_image : (old new : CoreData F) (head : Head) (found : List Entry) (image : ProgramImage F) → HasImage (loaded None) old
       → LeadOver (forms_of a) head.version a.functions a.same found old new
-      → IsFolded (rules a.lattice a.functions a.targets a.same (forms_of a) head.version (one_disk head)) found image → HasImage image new
+      → IsFolded (rules_at a head) found image → HasImage image new
   found_image old new head found image has over folded =
       let by = machine a.functions a.same (forms_of a) head.version in
       let now = over.leads (loaded None) has in

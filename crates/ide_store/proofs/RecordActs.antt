@@ -21,7 +21,7 @@ use Rattle.ide_text.specs.declared.program.Program.{Program}
 use Rattle.ide_theory.specs.Images.{Load, Root, entered, loaded, seeded_below, step}
 use Rattle.ide_theory.specs.State.{State}
 use Rattle.ide_store.proofs.BatchActs.{batch_folded, can_batch, counts_more, entries_anew, finds_nothing, fits_next, has_anew}
-use Rattle.ide_store.proofs.BatchActs.{rules_at, seals_batch, spelled_at, waits_more}
+use Rattle.ide_store.proofs.BatchActs.{seals_batch, spelled_at, waits_more}
 use Rattle.ide_store.proofs.Marks.{folded_pushed, pushed}
 use Rattle.ide_store.proofs.Reached.{Knows, reached_whole}
 use Rattle.ide_store.proofs.Said.{graph_said}
@@ -31,7 +31,7 @@ use Rattle.ide_store.specs.Answers.{GraphBy, frame_by}
 use Rattle.ide_store.specs.Hands.{Batches, CanGoFirst, FitsNext, Loads, Roots, sealing_first}
 use Rattle.ide_store.specs.Machine.{Does}
 use Rattle.ide_store.specs.OneDisk.{one_disk}
-use Rattle.ide_store.specs.Table.{Analysis, IsAct, MayDo, StoreWorld, TableData, WorksOn, after_act, forms_of}
+use Rattle.ide_store.specs.Table.{Analysis, IsAct, MayDo, StoreWorld, TableData, WorksOn, after_act, forms_of, rules_at}
 use Rattle.ide_store.specs.TableCalls.{behind_first}
 use Rattle.ide_store.specs.Tally.{state_with}
 use Rattle.ide_store.specs.World.{IsFolded, after_all, contents}
@@ -138,8 +138,8 @@ module _ {F L : Type 0} (a : Analysis F L) where
 
     -- it may become one, where what changed is sealed first, if anything did
     can_begin : (first : Option Entry) (entry : Entry) → SpellsRecord a old (records.Root name) entry
-        → CanGoFirst a.lattice a.functions a.targets a.same (forms_of a) head.version (one_disk head) w first
-        → FitsNext a.lattice a.functions a.targets a.same (forms_of a) head.version (one_disk head)
+        → CanGoFirst a.lattice a.functions a.targets a.same (forms_of a) head.version (rules_at a head) (one_disk head) w first
+        → FitsNext a.lattice a.functions a.targets a.same (forms_of a) head.version (rules_at a head) (one_disk head)
         (after_all (rules_at a head) w.world (sealing_first first [])) entry
         → MayDo a head w (Roots name first entry)
     can_begin first entry spells goes fits = record {

@@ -22,7 +22,7 @@ use Rattle.ide_store.specs.Hands.{Batches, Claims, Ends, Happens, IsSoundWorld, 
 use Rattle.ide_store.specs.OneDisk.{IsLive, Writer, one_disk}
 use Rattle.ide_store.specs.Recovery.{OneDiskAnswers}
 use Rattle.ide_store.specs.Runs.{AreOnRun, AreOnRunUnlessFailed, EnginesStayOnRuns, IsBestImage, IsImageOfRun, IsLeftByRun, IsOfTable}
-use Rattle.ide_store.specs.Table.{Analysis, AreActs, IsAct, IsReached, MayDoAll, StoreAct, StoreWorld, TableData, after_act, after_acts, forms_of, new_store}
+use Rattle.ide_store.specs.Table.{Analysis, AreActs, IsAct, IsReached, MayDoAll, StoreAct, StoreWorld, TableData, after_act, after_acts, forms_of, new_store, rules_at}
 use Rattle.ide_store.specs.World.{Closed as Shut, Crashes, Fails, Opens, Stops}
 use Rattle.ide_store.specs.Writing.{work_of}
 use Rattle.ide_store.specs.declared.writer.WriterHalf.{WriterHalf}
@@ -158,9 +158,10 @@ module _ {F L : Type 0} (a : Analysis F L) {D : Type 0} {G : Ghosts D} where
 module _ {F L : Type 0} (a : Analysis F L) (answers : OneDiskAnswers a.lattice a.functions a.targets a.same a.proper a.form) where
   -- what is so of every run is so of the world
   sound : (head : Head) (w : StoreWorld a head) → IsReached a head w
-      → IsSoundWorld a.lattice a.functions a.targets a.same (forms_of a) head.version (one_disk head) w
+      → IsSoundWorld a.lattice a.functions a.targets a.same (forms_of a) head.version (rules_at a head) (one_disk head) w
   sound head w reached =
-      subst (λ (u : StoreWorld a head). IsSoundWorld a.lattice a.functions a.targets a.same (forms_of a) head.version (one_disk head) u) reached.is
+      subst (λ (u : StoreWorld a head). IsSoundWorld a.lattice a.functions a.targets a.same (forms_of a) head.version (rules_at a head) (one_disk head) u)
+      reached.is
       (answers head reached.work reached.disk reached.live reached.acts reached.can)
 
   -- so the frozen image of a run answers with best values

@@ -16,10 +16,10 @@ use Rattle.ide_store.proofs.Marks.{mark_at, take_more}
 use Rattle.ide_store.proofs.OneDisk.{one_disk_keeps}
 use Rattle.ide_store.proofs.Reached.{Knows, reached_whole}
 use Rattle.ide_store.proofs.World.{IsKept, one_image}
-use Rattle.ide_store.specs.Hands.{Batches, Claims, Ends, Happens, Loads, Parts, ProgramEvent, Releases, Roots, IsOfStore, idle}
+use Rattle.ide_store.specs.Hands.{Batches, Claims, Ends, Happens, Loads, Parts, ProgramEvent, Releases, Roots, IsOfStore}
 use Rattle.ide_store.specs.Machine.{ProgramStep, machine}
 use Rattle.ide_store.specs.OneDisk.{one_disk}
-use Rattle.ide_store.specs.Table.{Analysis, IsReached, MayDo, MayDoAll, StoreAct, StoreWorld, after_act, after_acts, forms_of}
+use Rattle.ide_store.specs.Table.{Analysis, IsReached, MayDo, MayDoAll, StoreAct, StoreWorld, after_act, after_acts, forms_of, new_store}
 use Rattle.ide_store.specs.World.{Acks, Begins, Calls, Crashes, Fails, IsFolded, Opens, Rules, Running, Seals, Steps, Stops, Stores, contents, image_after}
 
 -- with no program no key waits
@@ -133,7 +133,7 @@ module _ {F L : Type 0} (a : Analysis F L) (head : Head) where
         let exact = machine_is_exact a.functions a.same (forms_of a) knows.prefix_free head.version in
         let next : IsWholeIn (after_act a head w act) =
         all_held a.lattice a.functions a.targets a.same (forms_of a) head.version (one_disk head) knows.is_same exact (one_disk_keeps acts_by head)
-        knows.known w (act ∷ []) whole (can.0, tt) in
+        knows.known (λ r before now does. does) w (act ∷ []) whole (can.0, tt) in
         acts_still (after_act a head w act) acts next (act_still w act whole.held.world still can.0) can.1
 
     -- of no step
@@ -145,7 +145,7 @@ module _ {F L : Type 0} (a : Analysis F L) (head : Head) where
     reached_still : (w : StoreWorld a head) → IsReached a head w → IsStillIn w
     reached_still w reached =
         let exact = machine_is_exact a.functions a.same (forms_of a) knows.prefix_free head.version in
-        let begun = idle a.lattice a.functions a.targets a.same (forms_of a) head.version (one_disk head) reached.work reached.disk in
+        let begun = new_store a head reached.work reached.disk in
         let whole : IsWholeIn begun =
         idle_held a.lattice a.functions a.targets a.same (forms_of a) head.version (one_disk head) knows.is_same exact (one_disk_keeps acts_by head)
         knows.known reached.work reached.disk reached.live in

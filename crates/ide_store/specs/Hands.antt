@@ -17,7 +17,7 @@ use Rattle.ide_theory.specs.Run.{ArePartsOf}
 use Rattle.ide_theory.specs.State.{Claim, State, finished, new_claim, part_done, with_claim}
 use Rattle.ide_wire.specs.declared.key.Key.{Key}
 use Rattle.ide_store.specs.Answers.{AnswersBest, GraphBy, IsWorkFew, frame_by}
-use Rattle.ide_store.specs.Machine.{ProgramStep, machine}
+use Rattle.ide_store.specs.Machine.{ProgramStep}
 use Rattle.ide_store.specs.Store.{Store}
 use Rattle.ide_store.specs.Tally.{Tally, nothing_since, state_with}
 use Rattle.ide_store.specs.World.{Can, Event, IsFolded, IsRecoverable, Opens, Rules, Running, Seals, Steps, World, after_all, contents, created}
@@ -68,11 +68,9 @@ events_of (Roots name first r) = sealing_first first (Steps (Root name) ∷ Seal
 events_of (Batches r) = Seals r ∷ []
 events_of (Happens e) = e ∷ []
 
+-- over a store of that version, whose records do what the rules say
 module _ {F L : Type 0} (A : LatticeAlgebra L) (B : EdgeAlgebra F L) (targets : Targets F) (same : F → F → Bool)
-    (forms : Functions F) (version : Version) (S : Store Entry) where
-  abbrev pub rules : Rules (ProgramImage F) (ProgramStep F) Entry
-  rules = machine B same forms version
-
+    (forms : Functions F) (version : Version) (rules : Rules (ProgramImage F) (ProgramStep F) Entry) (S : Store Entry) where
   -- the image and the claims as a state of the tabulation
   abbrev pub state_in : Hands F S → State F
   state_in w = state_with w.world.image w.claims

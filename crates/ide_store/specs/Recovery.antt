@@ -16,5 +16,6 @@ OneDiskRecovers functions same forms = (head : Head) → EveryRunRecovers (one_d
 
 -- of whatever version, for whatever instance, and with functions of these forms
 abbrev pub OneDiskAnswers : {F L : Type 0} → LatticeAlgebra L → EdgeAlgebra F L → Targets F → (F → F → Bool) → (F → Bool) → (F → List ℕ) → Type 0
-OneDiskAnswers A B targets same proper form =
-    (head : Head) → EveryRunAnswers A B targets same (functions_by proper form same B.all_top) head.version (one_disk head)
+OneDiskAnswers {F} A B targets same proper form =
+    let forms : Functions F = functions_by proper form same B.all_top in
+    (head : Head) → EveryRunAnswers A B targets same forms head.version (machine B same forms head.version) (one_disk head)

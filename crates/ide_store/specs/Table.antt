@@ -15,9 +15,10 @@ use Rattle.ide_steps.specs.State as core
 use Rattle.ide_steps.specs.declared.changes.Entry.{Entry as Noted}
 use Rattle.ide_theory.specs.State.{State}
 use Rattle.ide_wire.specs.declared.key.Key.{Key}
-use Rattle.ide_store.specs.Hands.{Act, Allowed, AreAllowed, Hands, IsCaughtUp, idle, next, rules, worked}
+use Rattle.ide_store.specs.Hands.{Act, Allowed, AreAllowed, Hands, IsCaughtUp, idle, next, worked}
+use Rattle.ide_store.specs.Machine.{ProgramStep, machine}
 use Rattle.ide_store.specs.OneDisk.{IsLive, Writer, one_disk}
-use Rattle.ide_store.specs.World.{IsFolded, Running, contents}
+use Rattle.ide_store.specs.World.{IsFolded, Rules, Running, contents}
 use Rattle.ide_disk.specs.Disk.{DiskState}
 
 -- an analysis, as contracts see it: its lattice and its functions, what its flow does, and how functions are told apart
@@ -81,22 +82,26 @@ module _ {F L : Type 0} (a : Analysis F L) (head : Head) where
   abbrev pub StoreAct : Type 0
   StoreAct = Act F (one_disk head)
 
+  -- what its records do
+  abbrev pub rules_at : Rules (ProgramImage F) (ProgramStep F) Entry
+  rules_at = machine a.functions a.same (forms_of a) head.version
+
   -- the act may be done, and the world after it
   abbrev pub MayDo : StoreWorld → StoreAct → Type 0
-  MayDo w act = Allowed a.lattice a.functions a.targets a.same (forms_of a) head.version (one_disk head) w act
+  MayDo w act = Allowed a.lattice a.functions a.targets a.same (forms_of a) head.version rules_at (one_disk head) w act
 
   abbrev pub after_act : StoreWorld → StoreAct → StoreWorld
-  after_act w act = next a.lattice a.functions a.targets a.same (forms_of a) head.version (one_disk head) w act
+  after_act w act = next a.lattice a.functions a.targets a.same (forms_of a) head.version rules_at (one_disk head) w act
 
   abbrev pub MayDoAll : StoreWorld → List StoreAct → Type 0
-  MayDoAll w acts = AreAllowed a.lattice a.functions a.targets a.same (forms_of a) head.version (one_disk head) w acts
+  MayDoAll w acts = AreAllowed a.lattice a.functions a.targets a.same (forms_of a) head.version rules_at (one_disk head) w acts
 
   abbrev pub after_acts : StoreWorld → List StoreAct → StoreWorld
-  after_acts w acts = worked a.lattice a.functions a.targets a.same (forms_of a) head.version (one_disk head) w acts
+  after_acts w acts = worked a.lattice a.functions a.targets a.same (forms_of a) head.version rules_at (one_disk head) w acts
 
   -- a store that was just created, with no hand at work
   abbrev pub new_store : Writer → DiskState → StoreWorld
-  new_store work disk = idle a.lattice a.functions a.targets a.same (forms_of a) head.version (one_disk head) work disk
+  new_store work disk = idle a.lattice a.functions a.targets a.same (forms_of a) head.version rules_at (one_disk head) work disk
 
   -- acts that could be done one after the other led to the world from a new store
   pub record IsReached (w : StoreWorld) : Type 0 where
@@ -111,14 +116,14 @@ module _ {F L : Type 0} (a : Analysis F L) (head : Head) where
   -- when changes were last asked for
   pub record IsBase (w : StoreWorld) (core : CoreData F) : Type 0 where
     pub image : ProgramImage F
-    pub folded : IsFolded (rules a.lattice a.functions a.targets a.same (forms_of a) head.version (one_disk head)) (contents w.world.sealed) image
+    pub folded : IsFolded rules_at (contents w.world.sealed) image
     pub program : image.program ≡ w.world.image.program
     pub roots : image.roots ≡ w.world.image.roots
     pub entries : (key : Key) → image_entry image key ≡ told (entry_then core key)
 
   -- nothing changed since the last record
   abbrev pub HasNothingNew : StoreWorld → Type 0
-  HasNothingNew w = IsCaughtUp a.lattice a.functions a.targets a.same (forms_of a) head.version (one_disk head) w
+  HasNothingNew w = IsCaughtUp a.lattice a.functions a.targets a.same (forms_of a) head.version rules_at (one_disk head) w
 
   -- the half works on the world: its core has the image and the claims, it knows what changed since the last record, and
   -- of the sealed records these were handed over to the writer, and the others wait

@@ -5,7 +5,7 @@ ghost use Rattle.ide_store.specs.Engine.{HalvesOpen};
 ghost use Rattle.ide_store.specs.Opening.{HalvesBegin};
 ghost use Rattle.ide_store.specs.Recovery.{OneDiskAnswers, OneDiskRecovers};
 ghost use Rattle.ide_store.specs.Runs.{EnginesStayOnRuns};
-ghost use Rattle.ide_store.specs.TwoDisksLaws.{CheckpointsCanBePlanned, SlotsGiveBack, TwoDisksBegin, TwoDisksGoOn, TwoDisksKeep, TwoDisksRecover, slots_of};
+ghost use Rattle.ide_store.specs.TwoDisksLaws.{CheckpointsCanBePlanned, SlotsGiveBack, TwoDisksAnswers, TwoDisksBegin, TwoDisksGoOn, TwoDisksKeep, TwoDisksRecover, slots_of};
 ghost use Rattle.ide_store.specs.Writing.{JournalsWriteStores};
 
 use crate::kept::Kept;
@@ -54,6 +54,19 @@ pub fn every_run_recovers_on_two_disks<P: Problem>()
 /// entries of roots, lowerings and entries by the ranks that the keys of the graph can lose.
 pub fn every_run_answers<P: Problem>()
     ensures { OneDiskAnswers P.L.algebra P.F.edge P.targets P.F.eq P.F.proper P.F.form }
+{
+    ends_of_programs_are_nodes();
+    graphs_of_programs_are_closed();
+    sites_of_programs_are_joined();
+    keys_stand_at_nodes::<P>();
+}
+
+/// As [`every_run_answers`], of a store on two disks, whose slots are of the second version, with the
+/// beginnings and the calls of checkpoints among what happens: over each checkpoint, each crash and each
+/// opening the values that follow stay the best ones, and the bounds of the work are the same. No code
+/// keeps a store so yet.
+pub fn every_run_answers_on_two_disks<P: Problem>()
+    ensures { TwoDisksAnswers ⟦<P as Kept>⟧.analysis }
 {
     ends_of_programs_are_nodes();
     graphs_of_programs_are_closed();

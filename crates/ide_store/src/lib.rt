@@ -26,9 +26,9 @@ mod writer;
 pub use engine::Engine;
 pub use kept::Kept;
 pub use laws::{
-    calls_are_acts, engines_stay_on_runs, every_run_answers, every_run_recovers,
-    every_run_recovers_on_two_disks, halves_begin, halves_open, journals_write_stores,
-    two_disks_are_a_store,
+    calls_are_acts, engines_stay_on_runs, every_run_answers, every_run_answers_on_two_disks,
+    every_run_recovers, every_run_recovers_on_two_disks, halves_begin, halves_open,
+    journals_write_stores, two_disks_are_a_store,
 };
 pub use outbox::Ticket;
 pub use table::TableHalf;

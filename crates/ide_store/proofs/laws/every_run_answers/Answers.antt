@@ -19,3 +19,4 @@ returns g c = λ head.
     (machine_is_exact B same forms g.met.P.F.Wire.prefix_free head.version) (one_disk_keeps (machine B same forms head.version) head)
     (known c.graphs_of_programs_are_closed.ensures c.sites_of_programs_are_joined.ensures A B targets
     g.met.P.L.Lattice.lawful g.met.P.F.EdgeFn.lawful g.met.P.Problem.lawful c.ends_of_programs_are_nodes.ensures c.keys_stand_at_nodes.ensures)
+    (λ r before now does. does)
