@@ -21,7 +21,7 @@ mod together;
 pub use answers::values_of_table;
 pub use hands::{Ended, Gate, Hands, Open, Point, hand_loop};
 pub use progress::Progress;
-pub use runs::{every_run, values_of_runs_are_best};
+pub use runs::{every_run, every_run_on_two_disks, values_of_runs_are_best};
 pub use service::Service;
 pub use solver::{solve, solve_shared, values_of, values_shared};
 pub use together::{Crew, Team, work_together};

@@ -1,6 +1,7 @@
 //! What is so of every run that is kept in a store.
 ghost use Rattle.ide_service.specs.Served.{ValuesOfRunsAreBest};
 ghost use Rattle.ide_store.specs.Recovery.{OneDiskAnswers};
+ghost use Rattle.ide_store.specs.TwoDisksLaws.{TwoDisksAnswers};
 
 use ide_graph::{
     ends_of_programs_are_nodes, exits_of_programs_are_owned,
@@ -9,7 +10,7 @@ use ide_graph::{
 };
 use ide_problem::Problem;
 use ide_steps::tasks_owe_their_parts;
-use ide_store::{Kept, every_run_answers};
+use ide_store::{Kept, every_run_answers, every_run_answers_on_two_disks};
 use ide_theory::{graphs_are_supergraphs, keys_stand_at_nodes};
 
 /// Over every list of worker steps, seals, disk calls, commands, crashes and openings that can happen one
@@ -32,6 +33,20 @@ pub fn every_run<P: Problem>()
     ensures { OneDiskAnswers P.L.algebra P.F.edge P.targets P.F.eq P.F.proper P.F.form }
 {
     every_run_answers::<P>();
+}
+
+/// Over every list of worker steps, seals, disk calls, checkpoints, commands, crashes and openings that can
+/// happen one after the other from a new store on two disks, whose slots are of the second version, with
+/// any number of hands, checkpoints begun and their calls made at any time between, and a crash between
+/// any two calls, within a disk call, within a checkpoint or within an opening, with any bytes that the
+/// disks may then leave: all that [`every_run`] says of one disk, in the same words (1 to 5).
+///
+/// It does nothing: its clause is the law, of the definitions alone. No code keeps such a store yet: an
+/// [`ide_store::Engine`] has one disk.
+pub fn every_run_on_two_disks<P: Problem>()
+    ensures { TwoDisksAnswers ⟦<P as Kept>⟧.analysis }
+{
+    every_run_answers_on_two_disks::<P>();
 }
 
 /// Where an image that a run of a store came to is frozen, values that are best over it are the best ones
