@@ -6,7 +6,7 @@ use crate::phases::{Tabulated, drain_core};
 use anyhow::Result;
 use ide_instances::CopyConst;
 use ide_values::{FillGate, ValuePhase, Values};
-use std::sync::atomic::{AtomicU64, Ordering};
+use std::sync::atomic::{AtomicBool, AtomicU64, Ordering};
 use std::thread::Threads;
 use std::time::{Clock, Instant};
 
@@ -19,17 +19,18 @@ pub(crate) struct Steps {
     pub(crate) bytes: usize,
 }
 
-/// Notes when the first worker of a fill begins: start values are found until then.
+/// Notes when a worker of a fill first begins: start values are found until then.
 #[derive(Drop)]
 struct Stopwatch<'a, R> {
     rt: &'a R,
     since: Instant,
+    is_begun: AtomicBool,
     begun: AtomicU64,
 }
 
 impl<'a, R: Clock> FillGate for Stopwatch<'a, R> {
-    fn begin(&self, worker: usize) {
-        if worker == 0 {
+    fn begin(&self, _worker: usize) {
+        if !self.is_begun.swap(true, Ordering::SeqCst) {
             self.begun.store(self.micros(), Ordering::SeqCst);
         }
     }
@@ -57,6 +58,7 @@ pub(crate) fn time_fill<R: Threads + Clock + Sync + AllocGlobal>(
     let watch = Stopwatch {
         rt,
         since: Instant::now(rt)?,
+        is_begun: AtomicBool::new(false),
         begun: AtomicU64::new(0),
     };
     let values: Values<CopyConst> = closed.values_with(rt, rt.alloc(), workers, &watch)?;
