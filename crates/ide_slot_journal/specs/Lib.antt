@@ -1,0 +1,5 @@
+pub mod Moments
+pub mod OneDisk
+pub mod Records
+pub mod Stages
+pub mod Stands

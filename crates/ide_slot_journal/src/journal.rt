@@ -1,0 +1,177 @@
+//! A list of records on two disks.
+ghost use Rattle.std.specs.Prelude.{◌≡◌, ◌↔◌, ◌+◌, ◌<◌, ◌≤◌, length, IsTrue, OnOk, OnErr, IfOk, IfErr, Err};
+ghost use Rattle.ide_journal.specs.Format.{IsEntry};
+ghost use Rattle.ide_slots.specs.TwoCalls.{record_call};
+ghost use Rattle.ide_slot_journal.specs.OneDisk.{MakesDiskCall};
+ghost use Rattle.ide_slot_journal.specs.Stages.{phase_from};
+
+use crate::calls::{sync, write};
+use crate::filler::Filler;
+use crate::spelling::spell;
+use crate::stage::RecordStage;
+use ide_disk::{DeviceFault, Disk};
+use ide_journal::{Phase, RawRecord, Version};
+use ide_slots::Side;
+use ide_wire::Refused;
+
+/// A list of records on two disks, of which one is current. One more record may be under way; it is
+/// stored after four disk calls.
+#[derive(Drop)]
+pub struct SlotJournal<D: Disk> {
+    /// The disk of the current slot, and the other.
+    current: D,
+    other: D,
+    /// Which of A and B the current one is.
+    side: Side,
+    version: Version,
+    tag: u8,
+    /// The generation of the current slot.
+    generation: u32,
+    /// Where the closed gate behind the stored records stands.
+    gate: u64,
+    /// The same, or, once the next record is written, where the gate behind it stands.
+    end: u64,
+    /// How many records are stored, those below the checkpoint too.
+    count: u64,
+    /// The same, or one more where there is a next record.
+    next: u64,
+    stage: RecordStage,
+    /// What stands behind the gate of the next record, with a closed gate.
+    tail: Vec<u8>,
+    /// What fills the other slot.
+    filler: Filler,
+    ghost behind: { 4096 ≤ gate },
+    ghost forward: { gate ≤ end },
+    ghost inside: { end < D.size current },
+    ghost numbered: { next ≤ 4294967295 },
+    ghost page: { 4097 ≤ filler.at },
+    ghost reached: { filler.at ≤ D.size other },
+}
+
+impl<D: Disk> SlotJournal<D> {
+    ghost use Rattle.ide_disk.specs.OneCall.{MakesCall};
+    ghost use Rattle.ide_journal.specs.Lists.{entry_of};
+    ghost use Rattle.ide_journal.specs.Phases.{stage_after};
+    ghost use Rattle.ide_slot_journal.specs.Records.{HasBegun, IsRecordRefusal, KeepsOther, KeepsRecord, LeavesWithNext, MakesRecordStep, PutsNext, PutsNone, ReachesPhase};
+    ghost use Rattle.ide_slot_journal.specs.Stands.{AreHonest, HasFailed, IsIdle, IsTurn, stored_count};
+
+    /// Whether there is no next record, and no disk call failed.
+    pub fn is_idle(&self) -> bool
+        ensures { IsTrue result ↔ IsIdle self.now }
+    {
+        self.stage == RecordStage::Idle
+    }
+
+    /// How many records are stored, those below the checkpoint too.
+    pub fn count(&self) -> u64
+        ensures { result ≡ stored_count self.now }
+    {
+        self.count
+    }
+
+    /// Puts a record behind those stored as the next one. It makes all the room that storing it takes,
+    /// and no disk call.
+    ///
+    /// Refusal: `NoMemory`, and there is no next record still.
+    pub fn begin(&mut self, raw: &RawRecord) -> Result<(), Refused>
+        requires idle { IsIdle self.old }
+        requires room { stored_count self.old < 4294967295 }
+        requires proper { IsEntry (entry_of raw.now) }
+        ensures next { OnOk result (PutsNext (entry_of raw.now) self.old self.new) }
+        ensures none { OnErr result (PutsNone self.old self.new) }
+        ensures busy { OnOk result (self.new.stage ≡ RecordStage.Waits) }
+        ensures idle { OnErr result (IsIdle self.new) }
+        ensures refused { IfErr result (λ refused. refused ≡ Refused.NoMemory) }
+        ensures begun { HasBegun self.old self.new }
+        ensures other { KeepsOther self.old self.new }
+    {
+        spell(&mut self.tail, self.count, raw, 0)?;
+        self.next = self.count + 1;
+        self.stage = RecordStage::Waits;
+        Ok(())
+    }
+
+    /// Makes the next disk call for the next record, on the current disk. After the fourth it is stored.
+    ///
+    /// Refusals: `Disk`, where the call failed; `Failed`, where one failed before.
+    #[tactic(auto, using(crate::specs::Records::record_device, crate::specs::Records::record_after_failure))]
+    pub fn advance(&mut self) -> Result<Phase, Refused>
+        requires busy { IsIdle self.old → ⊥ }
+        requires turn { IsTurn self.old }
+        ensures steps { AreHonest self.old → MakesRecordStep self.old self.new result }
+        ensures any_moment { AreHonest self.old → LeavesWithNext self.old self.new }
+        ensures honest { AreHonest self.old → AreHonest self.new }
+        ensures phase { IfOk result (λ phase. ReachesPhase phase self.old self.new) }
+        ensures call { (HasFailed self.old → ⊥) → MakesCall D.Disk result self.old.current self.new.current }
+        ensures other { KeepsOther self.old self.new }
+        ensures failed { HasFailed self.old ↔ (result ≡ Err Refused.Failed) }
+        ensures same { HasFailed self.old → KeepsRecord self.old self.new }
+        ensures refused { IfErr result (IsRecordRefusal self.old self.new) }
+    {
+        if self.stage == RecordStage::Failed {
+            return Err(Refused::Failed);
+        }
+        match call_record(&mut self.current, self.stage, self.gate, &self.tail) {
+            Ok(()) => Ok(self.reach_phase()),
+            Err(_) => {
+                self.stage = RecordStage::Failed;
+                Err(Refused::Disk)
+            }
+        }
+    }
+
+    // Moves on after a good call for the next record, to the phase that it answers.
+    fn reach_phase(&mut self) -> Phase
+        requires busy { IsIdle self.old → ⊥ }
+        requires whole { HasFailed self.old → ⊥ }
+        requires room { self.old.stage ≡ RecordStage.Waits → self.old.gate + 1 + length self.old.tail.items ≤ D.size self.old.current }
+        ensures phase { ReachesPhase result self.old self.new }
+        ensures current { self.new.current ≡ self.old.current }
+        ensures other { KeepsOther self.old self.new }
+    {
+        match self.stage {
+            RecordStage::Waits => {
+                self.end = self.gate + self.tail.len() as u64;
+                self.stage = RecordStage::Written;
+                Phase::Written
+            }
+            RecordStage::Written => {
+                self.stage = RecordStage::BodySynced;
+                Phase::BodySynced
+            }
+            RecordStage::BodySynced => {
+                self.stage = RecordStage::GateWritten;
+                Phase::GateWritten
+            }
+            RecordStage::GateWritten => {
+                self.gate = self.end;
+                self.count = self.next;
+                self.stage = RecordStage::Idle;
+                Phase::Stored
+            }
+            RecordStage::Idle | RecordStage::Failed => unreachable!(),
+        }
+    }
+}
+
+// Makes the disk call of the stage: what stands behind the gate is written, synced, the gate opened, synced.
+fn call_record<D: Disk>(
+    disk: &mut D,
+    stage: RecordStage,
+    gate: u64,
+    tail: &[u8],
+) -> Result<(), DeviceFault>
+    requires inside { gate < D.size disk.old }
+    requires busy { stage ≡ RecordStage.Idle → ⊥ }
+    requires whole { stage ≡ RecordStage.Failed → ⊥ }
+    ensures call { MakesDiskCall D.Disk (record_call (phase_from stage) gate tail.now) result disk.old disk.new }
+    ensures grows { D.size disk.old ≤ D.size disk.new }
+    ensures room { stage ≡ RecordStage.Waits → OnOk result (gate + 1 + length tail.now ≤ D.size disk.new) }
+{
+    match stage {
+        RecordStage::Waits => write(disk, gate + 1, tail),
+        RecordStage::BodySynced => write(disk, gate, &[1]),
+        RecordStage::Written | RecordStage::GateWritten => sync(disk),
+        RecordStage::Idle | RecordStage::Failed => unreachable!(),
+    }
+}
