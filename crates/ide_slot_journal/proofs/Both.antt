@@ -5,7 +5,7 @@ use Rattle.ide_disk.specs.Disk.{CrashLeaves, DiskState}
 use Rattle.ide_disk.specs.Time.{Elapses}
 use Rattle.ide_disk.specs.declared.disk.Disk.{Ghosts}
 use Rattle.ide_slots.specs.DiskCalls.{DiskCall, FailsSo, LeavesWithin, after_disk_call}
-use Rattle.ide_slots.specs.Sides.{Sides, off, on, two_sides}
+use Rattle.ide_slots.specs.Sides.{Sides, across, off, on, two_sides}
 use Rattle.ide_slots.specs.declared.side.Side.{Side}
 use Rattle.ide_slots.specs.declared.side.Side.TheVariants.{First, Second}
 use Rattle.ide_slot_journal.specs.OneDisk.{MakesDiskCall}
@@ -72,3 +72,45 @@ pub since_current : {D : Type 0} (G : Ghosts D) (side : Side) (call : DiskCall) 
 since_current G side call old new other left only_now other_now time leaves a b =
     let both = since_two G side old new other other left a b in
     within_two side call (G.state old) (G.state other) left (since_call G call old new (on side left) only_now time leaves both.0) (other_now (off side left) both.1)
+
+-- the other disk after a good call
+pub called_other : (side : Side) (call : DiskCall) (x y y' : DiskState) → y' ≡ after_disk_call call y
+    → two_sides side x y' ≡ two_sides side (on side (two_sides side x y)) (after_disk_call call (off side (two_sides side x y)))
+called_other First call x y y' is = ap (λ (d : DiskState). two_sides First x d) is
+called_other Second call x y y' is = ap (λ (d : DiskState). two_sides Second x d) is
+
+-- and after a failed one
+pub failed_other : (side : Side) (call : DiskCall) (x y y' : DiskState) → FailsSo call y y'
+    → FailsSo call (off side (two_sides side x y)) (off side (two_sides side x y'))
+failed_other First call x y y' fails = fails
+failed_other Second call x y y' fails = fails
+
+pub same_other : (side : Side) (x y y' : DiskState) → on side (two_sides side x y') ≡ on side (two_sides side x y)
+same_other First x y y' = refl
+same_other Second x y y' = refl
+
+-- the sides are turned over
+pub turned_two : {X : Type 0} (side : Side) (x y : X) → two_sides (across side) y x ≡ two_sides side x y
+turned_two First x y = refl
+turned_two Second x y = refl
+
+-- what a crash leaves of both since a call of the other disk began
+pub record LeavesInOther (side : Side) (call : DiskCall) (disks : Sides DiskState) (left : Sides (List ℕ)) : Type 0 where
+  pub within : LeavesWithin call (off side disks) (off side left)
+  pub current : CrashLeaves (on side disks) (on side left)
+
+within_other : (side : Side) (call : DiskCall) (x y : DiskState) (left : Sides (List ℕ)) → LeavesWithin call y (off side left)
+    → CrashLeaves x (on side left) → LeavesInOther side call (two_sides side x y) left
+within_other First call x y left within current = record { within = within; current = current }
+within_other Second call x y left within current = record { within = within; current = current }
+
+pub since_other : {D : Type 0} (G : Ghosts D) (side : Side) (call : DiskCall) (current old new : D) (left : Sides (List ℕ))
+    → ((bytes : List ℕ) → G.left_since current (G.moment current) bytes → CrashLeaves (G.state current) bytes)
+    → ((bytes : List ℕ) → G.left_since old (G.moment old) bytes → CrashLeaves (G.state old) bytes)
+    → Elapses G.moment G.left_since G.state old new → FailsSo call (G.state old) (G.state new)
+    → G.left_since (two_sides side current new).a (G.moment (two_sides side current old).a) left.a
+    → G.left_since (two_sides side current new).b (G.moment (two_sides side current old).b) left.b
+    → LeavesInOther side call (two_sides side (G.state current) (G.state old)) left
+since_other G side call current old new left current_now only_now time leaves a b =
+    let both = since_two G side current current old new left a b in
+    within_other side call (G.state current) (G.state old) left (since_call G call old new (off side left) only_now time leaves both.1) (current_now (on side left) both.0)

@@ -1,2 +1,4 @@
 pub mod Both
+pub mod Checkpoints
+pub mod Fillings
 pub mod Records

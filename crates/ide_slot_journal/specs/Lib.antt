@@ -1,3 +1,5 @@
+pub mod Checkpoints
+pub mod Fillers
 pub mod Moments
 pub mod OneDisk
 pub mod Records

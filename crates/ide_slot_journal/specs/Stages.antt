@@ -1,9 +1,10 @@
 -- How far the next record is, and the filling of the other slot.
-use Rattle.std.specs.Prelude.{ℕ, ◌<◌, ◌≤◌, Bool, List}
+use Rattle.std.specs.Prelude.{ℕ, ◌+◌, ◌<◌, ◌≤◌, Bool, true, false, List, [], ◌∷◌, length}
 use Rattle.ide_journal.specs.declared.stage.Phase.{Phase}
 use Rattle.ide_journal.specs.declared.stage.Phase.TheVariants as phases
 use Rattle.ide_journal.specs.declared.stage.Stage.{Stage}
 use Rattle.ide_journal.specs.declared.stage.Stage.TheVariants as stages
+use Rattle.ide_slots.specs.DiskCalls.{Cuts, DiskCall, Syncs, Writes}
 use Rattle.ide_slots.specs.Filling.{Closes, Filling, Fills, Heads, Lasts, OpensGate, Settles, Trims}
 use Rattle.ide_slots.specs.Slot.{Slot}
 use Rattle.ide_slots.specs.Two.{Checkpoint, NotBegun, Planned, UnderWay}
@@ -94,3 +95,61 @@ IsFillingAt fills.Heads base count = Unit {0}
 IsFillingAt fills.Fills base count = Unit {0}
 IsFillingAt fills.OpensGate base count = Unit {0}
 IsFillingAt fills.Lasts base count = Unit {0}
+
+-- where the next record of a checkpoint goes while none is written; and behind the first gate anyway
+abbrev pub first_place : FillStage → ℕ → ℕ
+first_place fills.Rests at = at
+first_place fills.Waits at = at
+first_place fills.Settles at = at
+first_place fills.Trims at = at
+first_place fills.Heads at = at
+first_place fills.Fills at = 4097
+first_place fills.OpensGate at = 4097
+first_place fills.Lasts at = 4097
+
+-- the disk call of a stage, with the first page and what is still to be written
+abbrev pub call_at : FillStage → (closed : Bool) (at : ℕ) (page : List ℕ) (todo : List (List ℕ)) → DiskCall
+call_at fills.Rests closed at page todo = Syncs
+call_at fills.Waits true at page todo = Cuts 4097
+call_at fills.Waits false at page todo = Writes 4096 (0 ∷ [])
+call_at fills.Settles closed at page todo = Syncs
+call_at fills.Trims closed at page todo = Cuts 4097
+call_at fills.Heads closed at page todo = Writes 0 page
+call_at fills.Fills closed at page [] = Syncs
+call_at fills.Fills closed at page (chunk ∷ todo) = Writes at chunk
+call_at fills.OpensGate closed at page todo = Writes 4096 (1 ∷ [])
+call_at fills.Lasts closed at page todo = Syncs
+
+-- the stage after it, and what is still to be written then, and where
+abbrev pub fill_stage_after : FillStage → List (List ℕ) → FillStage
+fill_stage_after fills.Rests todo = fills.Rests
+fill_stage_after fills.Waits todo = fills.Settles
+fill_stage_after fills.Settles todo = fills.Trims
+fill_stage_after fills.Trims todo = fills.Heads
+fill_stage_after fills.Heads todo = fills.Fills
+fill_stage_after fills.Fills [] = fills.OpensGate
+fill_stage_after fills.Fills (chunk ∷ todo) = fills.Fills
+fill_stage_after fills.OpensGate todo = fills.Lasts
+fill_stage_after fills.Lasts todo = fills.Lasts
+
+abbrev pub todo_after : FillStage → List (List ℕ) → List (List ℕ)
+todo_after fills.Rests todo = todo
+todo_after fills.Waits todo = todo
+todo_after fills.Settles todo = todo
+todo_after fills.Trims todo = todo
+todo_after fills.Heads todo = todo
+todo_after fills.Fills [] = []
+todo_after fills.Fills (chunk ∷ todo) = todo
+todo_after fills.OpensGate todo = todo
+todo_after fills.Lasts todo = todo
+
+abbrev pub place_after : FillStage → ℕ → List (List ℕ) → ℕ
+place_after fills.Rests at todo = at
+place_after fills.Waits at todo = at
+place_after fills.Settles at todo = at
+place_after fills.Trims at todo = at
+place_after fills.Heads at todo = at
+place_after fills.Fills at [] = at
+place_after fills.Fills at (chunk ∷ todo) = at + length chunk
+place_after fills.OpensGate at todo = at
+place_after fills.Lasts at todo = at

@@ -52,23 +52,23 @@ HasNext number None journal = (journal.stage ≡ Idle) × (journal.next ≡ numb
 HasNext number (Some entry) journal =
     (journal.stage ≢ Idle) × (journal.next ≡ number + 1) × (journal.tail.items ≡ with_gate 0 (number, entry))
 
--- the bytes of the slot that are still to be written
-abbrev pub HasTodo : FillStage → Slot → Filler → Type 0
-HasTodo fills.Rests other filler = Unit {0}
-HasTodo fills.Waits other filler = (todo_of filler ≡ chunks (records_of other)) × (filler.at ≡ 4097)
-HasTodo fills.Settles other filler = (todo_of filler ≡ chunks (records_of other)) × (filler.at ≡ 4097)
-HasTodo fills.Trims other filler = (todo_of filler ≡ chunks (records_of other)) × (filler.at ≡ 4097)
-HasTodo fills.Heads other filler = (todo_of filler ≡ chunks (records_of other)) × (filler.at ≡ 4097)
-HasTodo fills.Fills other filler = Unit {0}
-HasTodo fills.OpensGate other filler = filler.at ≡ 4097 + length (filled_by other)
-HasTodo fills.Lasts other filler = filler.at ≡ 4097 + length (filled_by other)
+-- the bytes of the slot that are still to be written, and where
+abbrev pub HasTodo : FillStage → Slot → ℕ → List (List ℕ) → Type 0
+HasTodo fills.Rests other at todo = Unit {0}
+HasTodo fills.Waits other at todo = (todo ≡ chunks (records_of other)) × (at ≡ 4097)
+HasTodo fills.Settles other at todo = (todo ≡ chunks (records_of other)) × (at ≡ 4097)
+HasTodo fills.Trims other at todo = (todo ≡ chunks (records_of other)) × (at ≡ 4097)
+HasTodo fills.Heads other at todo = (todo ≡ chunks (records_of other)) × (at ≡ 4097)
+HasTodo fills.Fills other at todo = Unit {0}
+HasTodo fills.OpensGate other at todo = at ≡ 4097 + length (filled_by other)
+HasTodo fills.Lasts other at todo = at ≡ 4097 + length (filled_by other)
 
 -- a checkpoint, if there is one, is that with this slot
 pub record FillsWith (other : Slot) (filler : Filler) : Type 0 where
   pub generation : filler.generation ≡ other.generation
   pub base : filler.base ≡ other.base
   pub page : filler.page.items ≡ slot_header (slot_head other)
-  pub todo : HasTodo filler.stage other filler
+  pub todo : HasTodo filler.stage other filler.at (todo_of filler)
 
 -- whether the first gate of the other slot is closed is known, while no checkpoint makes its calls
 abbrev pub KnowsClosed : FillStage → Bool → List ℕ → Type 0

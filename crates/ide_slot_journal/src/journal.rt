@@ -1,18 +1,19 @@
 //! A list of records on two disks.
-ghost use Rattle.std.specs.Prelude.{◌≡◌, ◌↔◌, ◌+◌, ◌<◌, ◌≤◌, length, IsTrue, OnOk, OnErr, IfOk, IfErr, Err};
+ghost use Rattle.std.specs.Prelude.{◌≡◌, ◌↔◌, ◌+◌, ◌<◌, ◌≤◌, length, IsTrue, OnOk, OnErr, IfOk, IfErr, Err, Ok};
 ghost use Rattle.ide_journal.specs.Format.{IsEntry};
 ghost use Rattle.ide_slots.specs.TwoCalls.{record_call};
 ghost use Rattle.ide_slot_journal.specs.OneDisk.{MakesDiskCall};
-ghost use Rattle.ide_slot_journal.specs.Stages.{phase_from};
+ghost use Rattle.ide_slot_journal.specs.Stages.{first_place, phase_from};
 
 use crate::calls::{sync, write};
 use crate::filler::Filler;
 use crate::spelling::spell;
-use crate::stage::RecordStage;
+use crate::stage::{FillStage, RecordStage};
 use ide_disk::{DeviceFault, Disk};
 use ide_journal::{Phase, RawRecord, Version};
 use ide_slots::Side;
 use ide_wire::Refused;
+use std::mem;
 
 /// A list of records on two disks, of which one is current. One more record may be under way; it is
 /// stored after four disk calls.
@@ -45,6 +46,7 @@ pub struct SlotJournal<D: Disk> {
     ghost inside: { end < D.size current },
     ghost numbered: { next ≤ 4294967295 },
     ghost page: { 4097 ≤ filler.at },
+    ghost placed: { first_place filler.stage filler.at ≡ 4097 },
     ghost reached: { filler.at ≤ D.size other },
 }
 
@@ -52,8 +54,10 @@ impl<D: Disk> SlotJournal<D> {
     ghost use Rattle.ide_disk.specs.OneCall.{MakesCall};
     ghost use Rattle.ide_journal.specs.Lists.{entry_of};
     ghost use Rattle.ide_journal.specs.Phases.{stage_after};
+    ghost use Rattle.ide_slot_journal.specs.Checkpoints.{FillsOrTurns, IsCheckpointRefusal, KeepsNext, LeavesWithOther, MakesCheckpointStep, TurnsOver, called_disk, still_disk};
+    ghost use Rattle.ide_slot_journal.specs.Fillers.{next_place};
     ghost use Rattle.ide_slot_journal.specs.Records.{HasBegun, IsRecordRefusal, KeepsOther, KeepsRecord, LeavesWithNext, MakesRecordStep, PutsNext, PutsNone, ReachesPhase};
-    ghost use Rattle.ide_slot_journal.specs.Stands.{AreHonest, HasFailed, IsIdle, IsTurn, stored_count};
+    ghost use Rattle.ide_slot_journal.specs.Stands.{AreHonest, HasFailed, IsFilling, IsIdle, IsTurn, stored_count};
 
     /// Whether there is no next record, and no disk call failed.
     pub fn is_idle(&self) -> bool
@@ -118,6 +122,72 @@ impl<D: Disk> SlotJournal<D> {
                 Err(Refused::Disk)
             }
         }
+    }
+
+    /// Makes the next disk call of the checkpoint, on the other disk. After the last one, which answers true,
+    /// its slot is current.
+    ///
+    /// Refusals: `Disk`, where the call failed; `Failed`, where one failed before.
+    #[tactic(auto, using(crate::specs::Checkpoints::checkpoint_device, crate::specs::Checkpoints::checkpoint_after_failure))]
+    pub fn advance_checkpoint(&mut self) -> Result<bool, Refused>
+        requires turn { IsFilling self.old }
+        ensures steps { AreHonest self.old → MakesCheckpointStep self.old self.new result }
+        ensures any_moment { AreHonest self.old → LeavesWithOther self.old self.new }
+        ensures honest { AreHonest self.old → AreHonest self.new }
+        ensures moves { IfOk result (FillsOrTurns self.old self.new) }
+        ensures call { (HasFailed self.old → ⊥) → MakesCall D.Disk result self.old.other (called_disk self.new result) }
+        ensures still { still_disk self.new result ≡ self.old.current }
+        ensures next { KeepsNext self.old self.new }
+        ensures failed { HasFailed self.old ↔ (result ≡ Err Refused.Failed) }
+        ensures same { HasFailed self.old → KeepsRecord self.old self.new × KeepsOther self.old self.new }
+        ensures refused { IfErr result (IsCheckpointRefusal self.old self.new) }
+    {
+        if self.stage == RecordStage::Failed {
+            return Err(Refused::Failed);
+        }
+        match self.filler.call(&mut self.other) {
+            Ok(()) => Ok(self.fill_on()),
+            Err(_) => {
+                self.stage = RecordStage::Failed;
+                Err(Refused::Disk)
+            }
+        }
+    }
+
+    // Moves on after a good call of the checkpoint, and answers whether its slot is current.
+    fn fill_on(&mut self) -> bool
+        requires begun { self.old.filler.stage ≡ FillStage.Rests → ⊥ }
+        requires room { next_place self.old.filler ≤ D.size self.old.other }
+        ensures moves { FillsOrTurns self.old self.new result }
+        ensures called { called_disk self.new (Ok result) ≡ self.old.other }
+        ensures still { still_disk self.new (Ok result) ≡ self.old.current }
+        ensures next { KeepsNext self.old self.new }
+    {
+        if self.filler.stage == FillStage::Lasts {
+            self.turn_over();
+            return true;
+        }
+        self.filler.move_on();
+        false
+    }
+
+    // The other slot becomes the current one.
+    fn turn_over(&mut self)
+        requires { self.old.filler.stage ≡ FillStage.Lasts }
+        ensures turned { TurnsOver self.old self.new }
+        ensures current { self.new.current ≡ self.old.other }
+        ensures next { KeepsNext self.old self.new }
+    {
+        mem::swap(&mut self.current, &mut self.other);
+        self.side = match self.side {
+            Side::First => Side::Second,
+            Side::Second => Side::First,
+        };
+        self.version = Version::Two;
+        self.generation = self.filler.generation;
+        self.gate = self.filler.at - 1;
+        self.end = self.gate;
+        self.filler.rest();
     }
 
     // Moves on after a good call for the next record, to the phase that it answers.
