@@ -103,7 +103,7 @@ call_is_fill slot next other old stands turn =
     call_fills old.filler.stage old.filler.closed old.filler.at old.filler.page.items (todo_of old.filler) other some (stands.fills_with some).page
 
 -- the next record is the same
-same_next : {D : Type 0} {G : Ghosts D} (number : ℕ) (next : Option Entry) (old new : SlotJournal D G) → new.stage ≡ old.stage → new.next ≡ old.next
+pub same_next : {D : Type 0} {G : Ghosts D} (number : ℕ) (next : Option Entry) (old new : SlotJournal D G) → new.stage ≡ old.stage → new.next ≡ old.next
     → new.tail.items ≡ old.tail.items → HasNext number next old → HasNext number next new
 same_next number None old new stage next_is tail has = (stage ∙ has.0, next_is ∙ has.1)
 same_next number (Some entry) old new stage next_is tail has = (λ idle. has.0 (sym stage ∙ idle), next_is ∙ has.1, tail ∙ has.2)

@@ -2,6 +2,8 @@ pub mod Checkpoints
 pub mod Fillers
 pub mod Moments
 pub mod OneDisk
+pub mod Planning
+pub mod Plans
 pub mod Records
 pub mod Stages
 pub mod Stands

@@ -42,6 +42,9 @@ writer_of other journal = record {
 abbrev pub sides_of : {D : Type 0} {G : Ghosts D} → SlotJournal D G → Sides D
 sides_of journal = two_sides journal.side journal.current journal.other
 
+abbrev pub pair_of : {D : Type 0} → Sides D → D × D
+pair_of sides = (sides.a, sides.b)
+
 -- what each of them holds
 abbrev pub disks_of : {D : Type 0} {G : Ghosts D} → SlotJournal D G → Sides DiskState
 disks_of {G = G} journal = two_sides journal.side (G.state journal.current) (G.state journal.other)
@@ -101,6 +104,10 @@ IsIdle journal = journal.stage ≡ Idle
 -- a disk call failed
 abbrev pub HasFailed : {D : Type 0} {G : Ghosts D} → SlotJournal D G → Type 0
 HasFailed journal = journal.stage ≡ Failed
+
+-- a checkpoint is planned, or makes its calls
+abbrev pub IsCheckpointing : {D : Type 0} {G : Ghosts D} → SlotJournal D G → Type 0
+IsCheckpointing journal = journal.filler.stage ≢ fills.Rests
 
 -- it is the turn of records, and of a checkpoint
 abbrev pub IsTurn : {D : Type 0} {G : Ghosts D} → SlotJournal D G → Type 0

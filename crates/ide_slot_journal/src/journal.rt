@@ -1,18 +1,22 @@
 //! A list of records on two disks.
 ghost use Rattle.std.specs.Prelude.{◌≡◌, ◌↔◌, ◌+◌, ◌<◌, ◌≤◌, length, IsTrue, OnOk, OnErr, IfOk, IfErr, Err, Ok};
 ghost use Rattle.ide_journal.specs.Format.{IsEntry};
+ghost use Rattle.ide_slots.specs.Records.{all_numbered};
+ghost use Rattle.ide_slots.specs.Two.{IsUpTo};
 ghost use Rattle.ide_slots.specs.TwoCalls.{record_call};
 ghost use Rattle.ide_slot_journal.specs.OneDisk.{MakesDiskCall};
-ghost use Rattle.ide_slot_journal.specs.Stages.{first_place, phase_from};
+ghost use Rattle.ide_slot_journal.specs.Stages.{first_place, phase_from, stage_of};
 
 use crate::calls::{sync, write};
 use crate::filler::Filler;
+use crate::planning::spell_checkpoint;
 use crate::spelling::spell;
 use crate::stage::{FillStage, RecordStage};
 use ide_disk::{DeviceFault, Disk};
 use ide_journal::{Phase, RawRecord, Version};
-use ide_slots::Side;
+use ide_slots::{NumberedRecord, Side, SlotHead};
 use ide_wire::Refused;
+use std::alloc::Global;
 use std::mem;
 
 /// A list of records on two disks, of which one is current. One more record may be under way; it is
@@ -52,12 +56,14 @@ pub struct SlotJournal<D: Disk> {
 
 impl<D: Disk> SlotJournal<D> {
     ghost use Rattle.ide_disk.specs.OneCall.{MakesCall};
-    ghost use Rattle.ide_journal.specs.Lists.{entry_of};
+    ghost use Rattle.ide_journal.specs.Lists.{entries_of, entry_of};
     ghost use Rattle.ide_journal.specs.Phases.{stage_after};
     ghost use Rattle.ide_slot_journal.specs.Checkpoints.{FillsOrTurns, IsCheckpointRefusal, KeepsNext, LeavesWithOther, MakesCheckpointStep, TurnsOver, called_disk, still_disk};
     ghost use Rattle.ide_slot_journal.specs.Fillers.{next_place};
+    ghost use Rattle.ide_slot_journal.specs.Planning.{MakeUpCheckpoint, checkpoint_slot};
+    ghost use Rattle.ide_slot_journal.specs.Plans.{IsPlanRefusal, KeepsSides, Plans};
     ghost use Rattle.ide_slot_journal.specs.Records.{HasBegun, IsRecordRefusal, KeepsOther, KeepsRecord, LeavesWithNext, MakesRecordStep, PutsNext, PutsNone, ReachesPhase};
-    ghost use Rattle.ide_slot_journal.specs.Stands.{AreHonest, HasFailed, IsFilling, IsIdle, IsTurn, stored_count};
+    ghost use Rattle.ide_slot_journal.specs.Stands.{AreHonest, HasFailed, IsCheckpointing, IsFilling, IsIdle, IsTurn, pair_of, sides_of, stored_count};
 
     /// Whether there is no next record, and no disk call failed.
     pub fn is_idle(&self) -> bool
@@ -71,6 +77,67 @@ impl<D: Disk> SlotJournal<D> {
         ensures { result ≡ stored_count self.now }
     {
         self.count
+    }
+
+    /// The version of the current slot.
+    pub fn version(&self) -> Version
+        ensures { result ≡ self.now.version }
+    {
+        self.version
+    }
+
+    /// The generation of the current slot.
+    pub fn generation(&self) -> u32
+        ensures { result ≡ self.now.generation }
+    {
+        self.generation
+    }
+
+    /// Whether a checkpoint is planned, or makes its calls.
+    pub fn is_checkpointing(&self) -> bool
+        ensures { IsTrue result ↔ IsCheckpointing self.now }
+    {
+        self.filler.stage != FillStage::Rests
+    }
+
+    /// Whether a call for the next record can be made: no checkpoint makes its calls, and none waits for
+    /// the records that are stored.
+    pub fn is_records_turn(&self) -> bool
+        ensures { IsTrue result ↔ IsTurn self.now }
+    {
+        match self.filler.stage {
+            FillStage::Rests => true,
+            FillStage::Waits => self.count < u64::from(self.filler.base),
+            _ => false,
+        }
+    }
+
+    /// Whether a call of a checkpoint can be made: one is planned, and the records below its base are
+    /// stored.
+    pub fn is_checkpoints_turn(&self) -> bool
+        ensures { IsTrue result ↔ IsFilling self.now }
+    {
+        match self.filler.stage {
+            FillStage::Rests => false,
+            FillStage::Waits => u64::from(self.filler.base) <= self.count,
+            _ => true,
+        }
+    }
+
+    /// The disks A and B, as the journal leaves them.
+    pub fn into_disks(self) -> (D, D)
+        ensures { result ≡ pair_of (sides_of self) }
+    {
+        let SlotJournal {
+            current,
+            other,
+            side,
+            ..
+        } = self;
+        match side {
+            Side::First => (current, other),
+            Side::Second => (other, current),
+        }
     }
 
     /// Puts a record behind those stored as the next one. It makes all the room that storing it takes,
@@ -122,6 +189,46 @@ impl<D: Disk> SlotJournal<D> {
                 Err(Refused::Disk)
             }
         }
+    }
+
+    /// Plans a checkpoint that stands for the records below the base: these commands, under their old
+    /// numbers, and these parts of an image. It makes all the room that the checkpoint takes, and no disk
+    /// call; its calls come once the records below the base are stored.
+    ///
+    /// Refusals: `NoMemory`; `Failed`, where a disk call failed before. Nothing is changed then.
+    #[tactic(auto, using(crate::specs::Plans::plan_memory, crate::specs::Plans::plan_after_failure))]
+    pub fn plan(
+        &mut self,
+        alloc: Global,
+        base: u32,
+        commands: &[NumberedRecord],
+        parts: &[RawRecord],
+    ) -> Result<(), Refused>
+        requires none { IsCheckpointing self.old → ⊥ }
+        requires generation { self.old.generation < 4294967295 }
+        requires up_to { IsUpTo (stored_count self.old) base (stage_of self.old.stage) }
+        requires proper { MakeUpCheckpoint base (all_numbered commands.now) (entries_of parts.now) }
+        ensures planned { OnOk result (Plans (checkpoint_slot self.old.tag (self.old.generation + 1) base (all_numbered commands.now) (entries_of parts.now)) self.old self.new) }
+        ensures waits { OnOk result (self.new.filler.stage ≡ FillStage.Waits) }
+        ensures none { OnErr result (self.new.filler ≡ self.old.filler) }
+        ensures record { KeepsRecord self.old self.new }
+        ensures sides { KeepsSides self.old self.new }
+        ensures failed { HasFailed self.old → result ≡ Err Refused.Failed }
+        ensures refused { IfErr result (IsPlanRefusal self.old) }
+    {
+        if self.stage == RecordStage::Failed {
+            return Err(Refused::Failed);
+        }
+        let head = SlotHead {
+            version: Version::Two,
+            tag: self.tag,
+            generation: self.generation + 1,
+            base,
+            commands: commands.len() as u32,
+            parts: parts.len() as u32,
+        };
+        self.filler = spell_checkpoint(alloc, head, self.filler.closed, commands, parts)?;
+        Ok(())
     }
 
     /// Makes the next disk call of the checkpoint, on the other disk. After the last one, which answers true,

@@ -1,0 +1,54 @@
+-- The bytes of a checkpoint.
+use Rattle.std.specs.Prelude.{◌≡◌, ℕ, ◌<◌, ◌≤◌, All, Bool, List, [], ◌++◌, length, map}
+use Rattle.std.specs.Global.{Vec}
+use Rattle.ide_journal.specs.Format.{Entry, head_of}
+use Rattle.ide_journal.specs.Lists.{entries_of}
+use Rattle.ide_journal.specs.declared.record.RawRecord.{RawRecord}
+use Rattle.ide_journal.specs.declared.version.Version.TheVariants.{Two}
+use Rattle.ide_slots.specs.Filling.{chunks}
+use Rattle.ide_slots.specs.Records.{all_numbered}
+use Rattle.ide_slots.specs.Slot.{AreCommands, IsPartEntry, NumberedEntry, Slot, SlotHead, numbered_from, slot_header}
+use Rattle.ide_slots.specs.declared.record.NumberedRecord.{NumberedRecord}
+use Rattle.ide_slot_journal.specs.declared.filler.Filler.{Filler}
+use Rattle.ide_slot_journal.specs.declared.stage.FillStage.TheVariants.{Waits}
+
+abbrev pub bytes_of : List (Vec ℕ) → List (List ℕ)
+bytes_of todo = map (λ (chunk : Vec ℕ). chunk.items) todo
+
+-- the body of a record is within the limit
+abbrev pub HasShortBody : RawRecord → Type 0
+HasShortBody raw = length raw.body.items ≤ 4194304
+
+abbrev pub HasShortRecord : NumberedRecord → Type 0
+HasShortRecord found = HasShortBody found.raw
+
+-- commands and parts that may be a checkpoint with that base
+pub record MakeUpCheckpoint (base : ℕ) (records : List NumberedEntry) (images : List Entry) : Type 0 where
+  pub low : base ≤ 4294967295
+  pub some : 0 < length records
+  pub few_commands : length records ≤ 4294967295
+  pub few_parts : length images ≤ 4294967295
+  pub commands : AreCommands 0 base records
+  pub parts : All IsPartEntry images
+
+-- the slot of that checkpoint
+abbrev pub checkpoint_slot : (tag generation base : ℕ) → List NumberedEntry → List Entry → Slot
+checkpoint_slot tag generation base commands parts = record {
+  head = head_of Two tag;
+  generation = generation;
+  base = base;
+  commands = commands;
+  parts = parts;
+  rest = [];
+}
+
+-- what fills the other slot with the first page that tells this, and these records
+pub record IsSpelledFrom (told : SlotHead) (closed : Bool) (commands : List NumberedRecord) (parts : List RawRecord)
+    (filler : Filler) : Type 0 where
+  pub stage : filler.stage ≡ Waits
+  pub closed_is : filler.closed ≡ closed
+  pub generation : filler.generation ≡ told.generation
+  pub base : filler.base ≡ told.base
+  pub page : filler.page.items ≡ slot_header told
+  pub todo : bytes_of filler.todo.items ≡ chunks (all_numbered commands ++ numbered_from 0 (entries_of parts))
+  pub at : filler.at ≡ 4097

@@ -1,0 +1,33 @@
+-- What planning a checkpoint does, whatever slot is current.
+use Rattle.std.specs.Prelude.{◌≡◌, Option}
+use Rattle.ide_disk.specs.declared.disk.Disk.{Ghosts}
+use Rattle.ide_journal.specs.Format.{Entry}
+use Rattle.ide_slots.specs.Slot.{Slot}
+use Rattle.ide_slots.specs.TwoCalls.{PlansCheckpoint}
+use Rattle.ide_wire.specs.declared.refused.Refused.{Refused}
+use Rattle.ide_wire.specs.declared.refused.Refused.TheVariants as refusals
+use Rattle.ide_slot_journal.specs.Stands.{HasFailed, StandsOn, writer_of}
+use Rattle.ide_slot_journal.specs.declared.journal.SlotJournal.{SlotJournal}
+
+-- wherever the journal stands, a checkpoint with that slot is planned
+pub record PlansOn {D : Type 0} {G : Ghosts D} (planned : Slot) (old new : SlotJournal D G) (slot : Slot) (any : Slot)
+    (next : Option Entry) : Type 0 where
+  pub plans : PlansCheckpoint slot (writer_of any old) (writer_of planned new)
+  pub stands : StandsOn slot next planned new
+
+abbrev pub Plans : {D : Type 0} {G : Ghosts D} → (planned : Slot) (old new : SlotJournal D G) → Type 0
+Plans planned old new = (slot : Slot) (next : Option Entry) (any : Slot) → StandsOn slot next any old
+    → PlansOn planned old new slot any next
+
+-- no plan changes these
+pub record KeepsSides {D : Type 0} {G : Ghosts D} (old new : SlotJournal D G) : Type 0 where
+  pub side : new.side ≡ old.side
+  pub generation : new.generation ≡ old.generation
+  pub version : new.version ≡ old.version
+  pub tag : new.tag ≡ old.tag
+  pub other : new.other ≡ old.other
+
+-- why none is planned: want of memory, or a disk call that failed before
+pub data IsPlanRefusal {D : Type 0} {G : Ghosts D} (old : SlotJournal D G) : Refused → Type 0 where
+  plan_memory : IsPlanRefusal old refusals.NoMemory
+  plan_after_failure : HasFailed old → IsPlanRefusal old refusals.Failed
