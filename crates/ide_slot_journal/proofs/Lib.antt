@@ -4,3 +4,4 @@ pub mod Chunks
 pub mod Fillings
 pub mod Records
 pub mod Plans
+pub mod Making

@@ -1,5 +1,6 @@
 pub mod Checkpoints
 pub mod Fillers
+pub mod Making
 pub mod Moments
 pub mod OneDisk
 pub mod Planning

@@ -6,6 +6,7 @@ ghost use Rattle.ide_slot_journal.specs.Stages.{first_place};
 use crate::calls::{cut, sync, write};
 use crate::stage::FillStage;
 use ide_disk::{DeviceFault, Disk};
+use std::alloc::Global;
 use std::collections::VecDeque;
 
 /// What fills the other slot, and how far that is.
@@ -28,6 +29,23 @@ pub(crate) struct Filler {
 
 impl Filler {
     ghost use Rattle.ide_slot_journal.specs.Fillers.{HasMovedOn, call_of, next_place};
+
+    /// There is no checkpoint. Tells whether the first gate of the other slot is closed.
+    pub(crate) fn new(alloc: Global, closed: bool) -> Self
+        ensures rests { result.stage ≡ FillStage.Rests }
+        ensures closed { result.closed ≡ closed }
+        ensures place { result.at ≡ 4097 }
+    {
+        Filler {
+            stage: FillStage::Rests,
+            closed,
+            generation: 0,
+            base: 0,
+            page: Vec::new(alloc),
+            todo: VecDeque::new(alloc),
+            at: 4097,
+        }
+    }
 
     /// Makes its next disk call, on the other disk.
     pub(crate) fn call<D: Disk>(&self, disk: &mut D) -> Result<(), DeviceFault>

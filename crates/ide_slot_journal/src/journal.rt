@@ -1,16 +1,16 @@
 //! A list of records on two disks.
 ghost use Rattle.std.specs.Prelude.{◌≡◌, ◌↔◌, ◌+◌, ◌<◌, ◌≤◌, length, IsTrue, OnOk, OnErr, IfOk, IfErr, Err, Ok};
-ghost use Rattle.ide_journal.specs.Format.{IsEntry};
+ghost use Rattle.ide_journal.specs.Format.{IsEntry, head_of};
 ghost use Rattle.ide_slots.specs.Records.{all_numbered};
 ghost use Rattle.ide_slots.specs.Two.{IsUpTo};
 ghost use Rattle.ide_slots.specs.TwoCalls.{record_call};
 ghost use Rattle.ide_slot_journal.specs.OneDisk.{MakesDiskCall};
 ghost use Rattle.ide_slot_journal.specs.Stages.{first_place, phase_from, stage_of};
 
-use crate::calls::{sync, write};
+use crate::calls::{rewrite, sync, write};
 use crate::filler::Filler;
 use crate::planning::spell_checkpoint;
-use crate::spelling::spell;
+use crate::spelling::{spell, spell_first};
 use crate::stage::{FillStage, RecordStage};
 use ide_disk::{DeviceFault, Disk};
 use ide_journal::{Phase, RawRecord, Version};
@@ -60,10 +60,54 @@ impl<D: Disk> SlotJournal<D> {
     ghost use Rattle.ide_journal.specs.Phases.{stage_after};
     ghost use Rattle.ide_slot_journal.specs.Checkpoints.{FillsOrTurns, IsCheckpointRefusal, KeepsNext, LeavesWithOther, MakesCheckpointStep, TurnsOver, called_disk, still_disk};
     ghost use Rattle.ide_slot_journal.specs.Fillers.{next_place};
+    ghost use Rattle.ide_slot_journal.specs.Making.{FailsNever, IsMakingRefusal, StandsEmpty};
     ghost use Rattle.ide_slot_journal.specs.Planning.{MakeUpCheckpoint, checkpoint_slot};
     ghost use Rattle.ide_slot_journal.specs.Plans.{IsPlanRefusal, KeepsSides, Plans};
     ghost use Rattle.ide_slot_journal.specs.Records.{HasBegun, IsRecordRefusal, KeepsOther, KeepsRecord, LeavesWithNext, MakesRecordStep, PutsNext, PutsNone, ReachesPhase};
     ghost use Rattle.ide_slot_journal.specs.Stands.{AreHonest, HasFailed, IsCheckpointing, IsFilling, IsIdle, IsTurn, pair_of, sides_of, stored_count};
+
+    /// Makes a store with no record on the disks A and B, whatever they held: both slots are of generation
+    /// 0 and closed, and A is current.
+    ///
+    /// Refusals: `NoMemory`; `Disk`, where a call of a disk failed. The disks come back.
+    #[tactic(auto, using(crate::specs::Making::making_memory, crate::specs::Making::making_first, crate::specs::Making::making_second))]
+    pub fn create(alloc: Global, mut a: D, mut b: D, tag: u8) -> Result<Self, (Refused, D, D)>
+        requires { 0 < tag }
+        ensures stands { D.honest a → D.honest b → IfOk result (StandsEmpty (head_of Version.Two tag)) }
+        ensures honest { D.honest a → D.honest b → IfOk result AreHonest }
+        ensures idle { IfOk result IsIdle }
+        ensures rests { IfOk result (λ journal. journal.filler.stage ≡ FillStage.Rests) }
+        ensures failures { IfOk result (λ journal. FailsNever D.Disk a b journal) }
+
+        // The disks come back, as they were where memory was refused, and else one of them with one failure more.
+        ensures refused { IfErr result (λ all. IsMakingRefusal D.Disk a b all.1 all.2 all.0) }
+    {
+        let page = match spell_first(alloc, Version::Two, tag) {
+            Ok(page) => page,
+            Err(_) => return Err((Refused::NoMemory, a, b)),
+        };
+        let Ok(()) = rewrite(&mut a, &page) else {
+            return Err((Refused::Disk, a, b));
+        };
+        let Ok(()) = rewrite(&mut b, &page) else {
+            return Err((Refused::Disk, a, b));
+        };
+        Ok(SlotJournal {
+            current: a,
+            other: b,
+            side: Side::First,
+            version: Version::Two,
+            tag,
+            generation: 0,
+            gate: 4096,
+            end: 4096,
+            count: 0,
+            next: 0,
+            stage: RecordStage::Idle,
+            tail: Vec::new(alloc),
+            filler: Filler::new(alloc, true),
+        })
+    }
 
     /// Whether there is no next record, and no disk call failed.
     pub fn is_idle(&self) -> bool
