@@ -5,3 +5,5 @@ pub mod Fillings
 pub mod Records
 pub mod Plans
 pub mod Making
+pub mod Openings
+pub mod Opened

@@ -3,6 +3,8 @@ pub mod Fillers
 pub mod Making
 pub mod Moments
 pub mod OneDisk
+pub mod Opened
+pub mod Opening
 pub mod Planning
 pub mod Plans
 pub mod Records

@@ -1,5 +1,6 @@
 //! A list of records on two disks.
 ghost use Rattle.std.specs.Prelude.{◌≡◌, ◌↔◌, ◌+◌, ◌<◌, ◌≤◌, length, IsTrue, OnOk, OnErr, IfOk, IfErr, Err, Ok};
+ghost use Rattle.ide_disk.specs.Disk.{settled};
 ghost use Rattle.ide_journal.specs.Format.{IsEntry, head_of};
 ghost use Rattle.ide_slots.specs.Records.{all_numbered};
 ghost use Rattle.ide_slots.specs.Two.{IsUpTo};
@@ -9,12 +10,13 @@ ghost use Rattle.ide_slot_journal.specs.Stages.{first_place, phase_from, stage_o
 
 use crate::calls::{rewrite, sync, write};
 use crate::filler::Filler;
+use crate::opening::{choose, count_of, recover};
 use crate::planning::spell_checkpoint;
 use crate::spelling::{spell, spell_first};
 use crate::stage::{FillStage, RecordStage};
 use ide_disk::{DeviceFault, Disk};
 use ide_journal::{Phase, RawRecord, Version};
-use ide_slots::{NumberedRecord, Side, SlotHead};
+use ide_slots::{LoadedSlot, NumberedRecord, Side, SlotHead};
 use ide_wire::Refused;
 use std::alloc::Global;
 use std::mem;
@@ -61,6 +63,10 @@ impl<D: Disk> SlotJournal<D> {
     ghost use Rattle.ide_slot_journal.specs.Checkpoints.{FillsOrTurns, IsCheckpointRefusal, KeepsNext, LeavesWithOther, MakesCheckpointStep, TurnsOver, called_disk, still_disk};
     ghost use Rattle.ide_slot_journal.specs.Fillers.{next_place};
     ghost use Rattle.ide_slot_journal.specs.Making.{FailsNever, IsMakingRefusal, StandsEmpty};
+    ghost use Rattle.ide_journal.specs.Moments.{LeavesOnly};
+    ghost use Rattle.ide_slot_journal.specs.Opened.{CountsFailures, FailsOnlyIn, IsFresh, IsOpeningRefusal, OpensOn, ResumesSlot, StopsAnywhere, disk_sides, sides_left, states_of};
+    ghost use Rattle.ide_slot_journal.specs.Opening.{LeftOrCut, RefusesRead, now_of};
+    ghost use Rattle.ide_slots.specs.Sides.{off, on};
     ghost use Rattle.ide_slot_journal.specs.Planning.{MakeUpCheckpoint, checkpoint_slot};
     ghost use Rattle.ide_slot_journal.specs.Plans.{IsPlanRefusal, KeepsSides, Plans};
     ghost use Rattle.ide_slot_journal.specs.Records.{HasBegun, IsRecordRefusal, KeepsOther, KeepsRecord, LeavesWithNext, MakesRecordStep, PutsNext, PutsNone, ReachesPhase};
@@ -80,6 +86,7 @@ impl<D: Disk> SlotJournal<D> {
         ensures failures { IfOk result (λ journal. FailsNever D.Disk a b journal) }
 
         // The disks come back, as they were where memory was refused, and else one of them with one failure more.
+        ensures back { D.honest a → D.honest b → IfErr result (λ all. D.honest all.1 × D.honest all.2) }
         ensures refused { IfErr result (λ all. IsMakingRefusal D.Disk a b all.1 all.2 all.0) }
     {
         let page = match spell_first(alloc, Version::Two, tag) {
@@ -107,6 +114,86 @@ impl<D: Disk> SlotJournal<D> {
             tail: Vec::new(alloc),
             filler: Filler::new(alloc, true),
         })
+    }
+
+    /// Opens the store with that tag that the disks A and B hold, and gives the records of its current slot:
+    /// the commands of its checkpoint under their old numbers, its parts, numbered from 0 on, and the records
+    /// behind it. What stands behind the closed gate of that slot is cut off, and both disks are synced.
+    ///
+    /// Refusals: `Disk`, where a call of a disk failed; `NotAStore`, `WrongInstance`, where no slot is
+    /// current, or one with another tag; `Damaged`, with the place of the first record of the current slot
+    /// that is missing or not whole; `NoMemory`. The disks come back.
+    pub fn open(
+        alloc: Global,
+        mut a: D,
+        mut b: D,
+        tag: u8,
+    ) -> Result<(Self, Vec<NumberedRecord>), (Refused, D, D)>
+        ensures opened { D.honest a → D.honest b → IfOk result (λ pair. OpensOn tag (states_of D.Disk a b) pair.0 pair.1.items) }
+        ensures idle { IfOk result (λ pair. IsIdle pair.0) }
+        ensures rests { IfOk result (λ pair. pair.0.filler.stage ≡ FillStage.Rests) }
+        ensures first_honest { D.honest a → D.honest b → D.honest (sides_left result).a }
+        ensures second_honest { D.honest a → D.honest b → D.honest (sides_left result).b }
+
+        // What a crash at any moment leaves of both is something that an opening may have stopped with.
+        ensures any_moment { D.honest a → D.honest b → StopsAnywhere D.Disk (disk_sides a b) (sides_left result) (states_of D.Disk a b) }
+        ensures failures { CountsFailures a b result }
+        ensures refused { D.honest a → D.honest b → IfErr result (λ all. IsOpeningRefusal tag (now_of D.Disk a b) all.0) }
+    {
+        match choose(&mut a, &mut b, tag) {
+            Ok((Side::First, closed)) => Self::resume(alloc, Side::First, a, b, closed),
+            Ok((Side::Second, closed)) => Self::resume(alloc, Side::Second, b, a, closed),
+            Err(refused) => Err((refused, a, b)),
+        }
+    }
+
+    // Goes on with the slot on the current disk, beside the other, whose first gate is closed or open.
+    fn resume(
+        alloc: Global,
+        side: Side,
+        mut current: D,
+        other: D,
+        closed: bool,
+    ) -> Result<(Self, Vec<NumberedRecord>), (Refused, D, D)>
+        requires { 4097 ≤ D.size other }
+        ensures resumes { D.honest current → D.state current ≡ settled (D.state current).now → IfOk result (λ pair. ResumesSlot current pair.0 pair.1.items) }
+        ensures fresh { IfOk result (λ pair. IsFresh side closed other pair.0) }
+        ensures other { off side (sides_left result) ≡ other }
+        ensures honest { D.honest current → D.honest (on side (sides_left result)) }
+        ensures any_moment { D.honest current → D.state current ≡ settled (D.state current).now → LeavesOnly D.Disk current (on side (sides_left result)) (LeftOrCut (D.state current)) }
+        ensures failures { FailsOnlyIn side current result }
+        ensures refused { D.honest current → IfErr result (λ all. RefusesRead (D.state current).now all.0) }
+    {
+        match recover(alloc, &mut current) {
+            Ok(slot) => {
+                let count = count_of(&slot);
+                let LoadedSlot {
+                    head,
+                    records,
+                    gate,
+                } = slot;
+                let journal = SlotJournal {
+                    current,
+                    other,
+                    side,
+                    version: head.version,
+                    tag: head.tag,
+                    generation: head.generation,
+                    gate,
+                    end: gate,
+                    count,
+                    next: count,
+                    stage: RecordStage::Idle,
+                    tail: Vec::new(alloc),
+                    filler: Filler::new(alloc, closed),
+                };
+                Ok((journal, records))
+            }
+            Err(refused) => match side {
+                Side::First => Err((refused, current, other)),
+                Side::Second => Err((refused, other, current)),
+            },
+        }
     }
 
     /// Whether there is no next record, and no disk call failed.

@@ -8,6 +8,7 @@
 mod calls;
 mod filler;
 mod journal;
+mod opening;
 mod planning;
 mod spelling;
 mod stage;

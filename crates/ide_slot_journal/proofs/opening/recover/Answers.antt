@@ -1,0 +1,21 @@
+use Rattle.ide_slot_journal.specs.Opening.{read_device}
+use Rattle.ide_slot_journal.proofs.Openings.{recovered, recovers}
+use Rattle.ide_slot_journal.proofs.opening.recover.Goals as goal
+
+pub returns-in-Ok-repair-clause-recovered : goal.returns-in-Ok-repair-clause-recovered
+returns-in-Ok-repair-clause-recovered g c honest is =
+    recovered g.D.Disk c.args.disk.now c.load.new.disk c.repair.new.disk c.in-Ok.slot (c.in-Ok.ensures.read honest) is (c.load.ensures.same.state honest)
+    (c.in-Ok-repair.ensures.bytes (c.load.ensures.same.honest honest))
+
+pub returns-in-Ok-repair-clause-any_moment : goal.returns-in-Ok-repair-clause-any_moment
+returns-in-Ok-repair-clause-any_moment g c honest is =
+    recovers g.D.Disk c.args.disk.now c.load.new.disk c.repair.new.disk c.in-Ok.slot (c.in-Ok.ensures.read honest) is (c.load.ensures.same.state honest)
+    (c.load.ensures.same.any_moment honest) (c.repair.ensures.any_moment (c.load.ensures.same.honest honest))
+
+pub returns-in-Err-repair-clause-any_moment : goal.returns-in-Err-repair-clause-any_moment
+returns-in-Err-repair-clause-any_moment g c honest is =
+    recovers g.D.Disk c.args.disk.now c.load.new.disk c.repair.new.disk c.in-Ok.slot (c.in-Ok.ensures.read honest) is (c.load.ensures.same.state honest)
+    (c.load.ensures.same.any_moment honest) (c.repair.ensures.any_moment (c.load.ensures.same.honest honest))
+
+pub returns-in-Err-repair-clause-refused : goal.returns-in-Err-repair-clause-refused
+returns-in-Err-repair-clause-refused g c honest told begins = read_device

@@ -1,0 +1,85 @@
+-- What an opening of two disks finds and leaves.
+use Rattle.std.specs.Prelude.{◌≡◌, ◌⊎◌, ℕ, ◌<◌, ◌≤◌, Bool, List, [], ◌∷◌, ◌++◌, length, take, Result, Err, OnOk}
+use Rattle.ide_disk.specs.Disk.{CrashLeaves, DiskState, settled}
+use Rattle.ide_disk.specs.OneCall.{FailsOnce}
+use Rattle.ide_disk.specs.declared.disk.Disk.{Ghosts}
+use Rattle.ide_journal.specs.Bytes.{IsBefore}
+use Rattle.ide_slots.specs.Current.{IsCurrent}
+use Rattle.ide_slots.specs.Loading.{ClosesIn, HasRecords, slot_of}
+use Rattle.ide_slots.specs.Reading.{Tells}
+use Rattle.ide_slots.specs.Refusals.{IsChoiceRefusal, IsSlotRefusal}
+use Rattle.ide_slots.specs.Sides.{Sides, off}
+use Rattle.ide_slots.specs.Slot.{HoldsSlot, IsFront, IsSlot, Slot, SlotHead}
+use Rattle.ide_slots.specs.TwoCalls.{TellsClosed}
+use Rattle.ide_slots.specs.declared.reading.LoadedSlot.{LoadedSlot}
+use Rattle.ide_slots.specs.declared.side.Side.{Side}
+use Rattle.ide_wire.specs.declared.refused.Refused.{Refused}
+use Rattle.ide_wire.specs.declared.refused.Refused.TheVariants as refusals
+
+-- why the beginning of a disk is not read: a call of the disk failed, or its file is too short for a slot
+pub data IsLookRefusal (bytes : List ℕ) : Refused → Type 0 where
+  look_device : IsLookRefusal bytes refusals.Disk
+  look_short : length bytes ≤ 4096 → IsLookRefusal bytes refusals.NotAStore
+
+-- the slot on that side is the current one, with that tag, and this tells whether the first gate of the other is closed
+pub record IsChosenWith (tag : ℕ) (left : Sides (List ℕ)) (side : Side) (closed : Bool) : Type 0 where
+  pub told : SlotHead
+  pub current : IsCurrent side told left
+  pub tag_is : told.head.tag ≡ tag
+  pub tells : TellsClosed closed (off side left)
+
+-- why none is chosen: a call of a disk failed, or none is current with that tag
+pub data IsChoosingRefusal (tag : ℕ) (left : Sides (List ℕ)) : Refused → Type 0 where
+  choosing_device : IsChoosingRefusal tag left refusals.Disk
+  choosing_slot : {refused : Refused} → IsChoiceRefusal tag left refused → IsChoosingRefusal tag left refused
+
+-- what each of two disks gives a read
+abbrev pub now_of : {D : Type 0} → Ghosts D → D → D → Sides (List ℕ)
+now_of G a b = record { a = (G.state a).now; b = (G.state b).now }
+
+-- no call of either failed at Ok, and one of one of them did where the refusal is the disk's
+pub record CountsFaultsOfTwo {D T : Type 0} (G : Ghosts D) (result : Result T Refused) (a b new_a new_b : D) : Type 0 where
+  pub ok : OnOk result ((G.failures new_a ≡ G.failures a) × (G.failures new_b ≡ G.failures b))
+  pub fault : result ≡ Err refusals.Disk → FailsOnce G a new_a ⊎ FailsOnce G b new_b
+
+-- a slot that was read is whole, whatever the disk
+pub record IsWholeSlot (loaded : LoadedSlot) : Type 0 where
+  pub records : HasRecords loaded
+  pub proper : IsSlot (slot_of loaded)
+  pub behind : 4096 ≤ loaded.gate
+
+-- these bytes hold it
+pub record IsReadFrom (bytes : List ℕ) (loaded : LoadedSlot) : Type 0 where
+  pub held : HoldsSlot (slot_of loaded) bytes
+  pub closes : ClosesIn bytes loaded
+
+-- why a slot whose first page tells that is not read: a call of the disk failed, or what its file has
+pub data IsReadRefusal (told : SlotHead) (bytes : List ℕ) : Refused → Type 0 where
+  read_device : IsReadRefusal told bytes refusals.Disk
+  read_file : {refused : Refused} → IsSlotRefusal told bytes refused → IsReadRefusal told bytes refused
+
+-- a file with a first page that tells this, and its first gate
+pub record BeginsWith (told : SlotHead) (bytes : List ℕ) : Type 0 where
+  pub tells : Tells told bytes
+  pub long : 4096 < length bytes
+
+-- wherever a file begins so, this is why it is not read
+abbrev pub RefusesRead : List ℕ → Refused → Type 0
+RefusesRead bytes refused = (told : SlotHead) → BeginsWith told bytes → IsReadRefusal told bytes refused
+
+-- the same slot, cut behind its closed gate, or not yet
+pub record IsCutSlot (bytes left : List ℕ) : Type 0 where
+  pub slot : Slot
+  pub front : List ℕ
+  pub whole : IsFront slot front
+  pub was : IsBefore front bytes
+  pub is : IsBefore front left
+
+-- what a crash of the disk may have left, or the slot that a read gives
+abbrev pub LeftOrCut : DiskState → List ℕ → Type 0
+LeftOrCut disk left = CrashLeaves disk left ⊎ IsCutSlot disk.now left
+
+-- the slot that was read was on the one disk, and is all that the other has
+pub record IsRecoveredSlot {D : Type 0} (G : Ghosts D) (old new : D) (loaded : LoadedSlot) : Type 0 where
+  pub read : IsReadFrom (G.state old).now loaded
+  pub after : G.state new ≡ settled (take loaded.gate (G.state old).now ++ 0 ∷ [])
