@@ -25,7 +25,7 @@ use Rattle.ide_slot_journal.specs.Checkpoints.{BeginsIfWaiting, CheckpointStep, 
 use Rattle.ide_slot_journal.specs.Fillers.{HasMovedOn, call_of}
 use Rattle.ide_slot_journal.specs.Moments.{LeavesOnlyTwo}
 use Rattle.ide_slot_journal.specs.Stages.{IsFillingAt, checkpoint_at, fill_stage_after, filling_at, place_after, stage_of}
-use Rattle.ide_slot_journal.specs.Stands.{FillsWith, HasNext, HasTodo, IsFilling, KnowsClosed, StandsOn, checkpoint_of, disks_of, filling_of, sides_of, todo_of, writer_of}
+use Rattle.ide_slot_journal.specs.Stands.{FillsWith, HasSpelledNext, HasTodo, IsFilling, KnowsClosed, StandsOn, checkpoint_of, disks_of, filling_of, sides_of, todo_of, slot_writer}
 use Rattle.ide_slot_journal.specs.declared.filler.Filler.{Filler}
 use Rattle.ide_slot_journal.specs.declared.journal.SlotJournal.{SlotJournal}
 use Rattle.ide_slot_journal.specs.declared.stage.FillStage.{FillStage}
@@ -71,7 +71,7 @@ begins {D} {G} slot next other old stands turn waits =
       stored = all_stored (slot_count slot) other.base (stage_of old.stage) beside.1.up_to (omega (arith, due, base, count));
       closed = filler.closed;
       tells = subst (λ (d : DiskState). TellsClosed filler.closed d.now) (sym (off_two old.side (G.state old.current) (G.state old.other))) tells;
-      work_is = ap (λ (f : Filling). record (writer_of other old) { checkpoint = UnderWay other f }) fill;
+      work_is = ap (λ (f : Filling). record (slot_writer other old) { checkpoint = UnderWay other f }) fill;
     }
 
 -- the writer stands with the checkpoint that makes its calls
@@ -81,19 +81,19 @@ filling_stands : {D : Type 0} {G : Ghosts D} (slot : Slot) (next : Option Entry)
 filling_stands slot next other old fills.Rests is stands turn =
     absurd (some_checkpoint old.filler.stage old.filler.base old.count turn is)
 filling_stands slot next other old fills.Waits is stands turn =
-    checkpoints_keep_standing.begun slot next (writer_of other old) (filling_writer other old) (disks_of old) stands.two (begins slot next other old stands turn is)
+    checkpoints_keep_standing.begun slot next (slot_writer other old) (filling_writer other old) (disks_of old) stands.two (begins slot next other old stands turn is)
 filling_stands slot next other old fills.Settles is stands turn =
-    subst (λ (s : FillStage). StandsTwo slot next (record (writer_of other old) { checkpoint = checkpoint_at s other (filling_of old.filler) }) (disks_of old)) is stands.two
+    subst (λ (s : FillStage). StandsTwo slot next (record (slot_writer other old) { checkpoint = checkpoint_at s other (filling_of old.filler) }) (disks_of old)) is stands.two
 filling_stands slot next other old fills.Trims is stands turn =
-    subst (λ (s : FillStage). StandsTwo slot next (record (writer_of other old) { checkpoint = checkpoint_at s other (filling_of old.filler) }) (disks_of old)) is stands.two
+    subst (λ (s : FillStage). StandsTwo slot next (record (slot_writer other old) { checkpoint = checkpoint_at s other (filling_of old.filler) }) (disks_of old)) is stands.two
 filling_stands slot next other old fills.Heads is stands turn =
-    subst (λ (s : FillStage). StandsTwo slot next (record (writer_of other old) { checkpoint = checkpoint_at s other (filling_of old.filler) }) (disks_of old)) is stands.two
+    subst (λ (s : FillStage). StandsTwo slot next (record (slot_writer other old) { checkpoint = checkpoint_at s other (filling_of old.filler) }) (disks_of old)) is stands.two
 filling_stands slot next other old fills.Fills is stands turn =
-    subst (λ (s : FillStage). StandsTwo slot next (record (writer_of other old) { checkpoint = checkpoint_at s other (filling_of old.filler) }) (disks_of old)) is stands.two
+    subst (λ (s : FillStage). StandsTwo slot next (record (slot_writer other old) { checkpoint = checkpoint_at s other (filling_of old.filler) }) (disks_of old)) is stands.two
 filling_stands slot next other old fills.OpensGate is stands turn =
-    subst (λ (s : FillStage). StandsTwo slot next (record (writer_of other old) { checkpoint = checkpoint_at s other (filling_of old.filler) }) (disks_of old)) is stands.two
+    subst (λ (s : FillStage). StandsTwo slot next (record (slot_writer other old) { checkpoint = checkpoint_at s other (filling_of old.filler) }) (disks_of old)) is stands.two
 filling_stands slot next other old fills.Lasts is stands turn =
-    subst (λ (s : FillStage). StandsTwo slot next (record (writer_of other old) { checkpoint = checkpoint_at s other (filling_of old.filler) }) (disks_of old)) is stands.two
+    subst (λ (s : FillStage). StandsTwo slot next (record (slot_writer other old) { checkpoint = checkpoint_at s other (filling_of old.filler) }) (disks_of old)) is stands.two
 
 -- the call that is made is that of the filling
 call_is_fill : {D : Type 0} {G : Ghosts D} (slot : Slot) (next : Option Entry) (other : Slot) (old : SlotJournal D G) → StandsOn slot next other old
@@ -104,7 +104,7 @@ call_is_fill slot next other old stands turn =
 
 -- the next record is the same
 pub same_next : {D : Type 0} {G : Ghosts D} (number : ℕ) (next : Option Entry) (old new : SlotJournal D G) → new.stage ≡ old.stage → new.next ≡ old.next
-    → new.tail.items ≡ old.tail.items → HasNext number next old → HasNext number next new
+    → new.tail.items ≡ old.tail.items → HasSpelledNext number next old → HasSpelledNext number next new
 same_next number None old new stage next_is tail has = (stage ∙ has.0, next_is ∙ has.1)
 same_next number (Some entry) old new stage next_is tail has = (λ idle. has.0 (sym stage ∙ idle), next_is ∙ has.1, tail ∙ has.2)
 
@@ -125,7 +125,7 @@ filled_step {D} {G} slot next other old new turn moves keeps good stands =
     let checkpoint : checkpoint_of other new.filler ≡ UnderWay other (fill_next other fill) =
     (λ i. checkpoint_at (m.stage i) other (filling_at (m.stage i) (m.closed i) (m.place i) (m.todo i)))
     ∙ next_filling filler.stage filler.closed filler.at (todo_of filler) other some more with.todo in
-    let work : writer_of other new ≡ record (filling_writer other old) { checkpoint = UnderWay other (fill_next other fill) } =
+    let work : slot_writer other new ≡ record (filling_writer other old) { checkpoint = UnderWay other (fill_next other fill) } =
     λ i. record {
       side = moves.side i;
       generation = moves.generation i;
@@ -135,7 +135,7 @@ filled_step {D} {G} slot next other old new turn moves keeps good stands =
     } in
     let here : disks_of new ≡ two_sides old.side (G.state old.current) (G.state new.other) =
     λ i. two_sides (moves.side i) (G.state (moves.current i)) (G.state new.other) in
-    let calls : CallsCheckpoint (filling_writer other old) (disks_of old) (writer_of other new) (disks_of new) = record {
+    let calls : CallsCheckpoint (filling_writer other old) (disks_of old) (slot_writer other new) (disks_of new) = record {
       next = other;
       fill = fill;
       under_way = refl;
@@ -145,7 +145,7 @@ filled_step {D} {G} slot next other old new turn moves keeps good stands =
           (good ∙ ap (λ (call : DiskCall). after_disk_call call (G.state old.other)) (call_is_fill slot next other old stands turn));
     } in
     checkpoint_called calls (record {
-      two = checkpoints_keep_standing.called slot next (filling_writer other old) (writer_of other new) (disks_of old) (disks_of new) two calls;
+      two = checkpoints_keep_standing.called slot next (filling_writer other old) (slot_writer other new) (disks_of old) (disks_of new) two calls;
       version = moves.version ∙ stands.version;
       tag = keeps.tag ∙ stands.tag;
       count = keeps.count ∙ stands.count;
@@ -186,12 +186,12 @@ turned_step {D} {G} slot next other old new turn turns keeps good stands =
     let idle : stage_of new.stage ≡ journal.Idle = ap stage_of turns.stage ∙ made.idle in
     let generation : new.generation ≡ other.generation = turns.generation ∙ with.generation in
     let checkpoint : checkpoint_of other new.filler ≡ NotBegun = ap (λ (s : FillStage). checkpoint_at s other (filling_of new.filler)) turns.rests in
-    let work : writer_of other new ≡ turned_to (filling_writer other old) other =
+    let work : slot_writer other new ≡ turned_to (filling_writer other old) other =
     λ i. record { side = turns.side i; generation = generation i; gate = gate i; stage = idle i; checkpoint = checkpoint i } in
     let here : disks_of new ≡ two_sides (across old.side) (G.state new.current) (G.state old.current) =
     λ i. two_sides (turns.side i) (G.state new.current) (G.state (turns.other i)) in
     let call : call_of filler ≡ Syncs = call_is_fill slot next other old stands turn ∙ ap (λ (f : Filling). fill_call other f) fill in
-    let ends : EndsCheckpoint (filling_writer other old) (disks_of old) (writer_of other new) other (disks_of new) = record {
+    let ends : EndsCheckpoint (filling_writer other old) (disks_of old) (slot_writer other new) other (disks_of new) = record {
       under_way = ap (λ (f : Filling). UnderWay other f) fill;
       work_is = work;
       disks_are = here ∙ turned_two old.side (G.state old.current) (G.state new.current)
@@ -207,11 +207,11 @@ turned_step {D} {G} slot next other old new turn turns keeps good stands =
     let opened = open_held slot (two.front ++ 0 ∷ []) some_before (held_before slot two.front (two.front ++ 0 ∷ []) two.whole (record { rest = []; split = refl })) in
     let other_is : G.state new.other ≡ settled (two.front ++ 0 ∷ []) = ap G.state turns.other ∙ current in
     checkpoint_ended ends (record {
-      two = checkpoints_keep_standing.ended slot other next (filling_writer other old) (writer_of other new) (disks_of old) (disks_of new) two ends;
+      two = checkpoints_keep_standing.ended slot other next (filling_writer other old) (slot_writer other new) (disks_of old) (disks_of new) two ends;
       version = turns.version ∙ sym (ap (λ (h : Head). h.version) follows.head);
       tag = keeps.tag ∙ stands.tag ∙ sym (ap (λ (h : Head). h.tag) follows.head);
       count = keeps.count ∙ stands.count ∙ count;
-      has_next = subst (λ (n : ℕ). HasNext n next new) count
+      has_next = subst (λ (n : ℕ). HasSpelledNext n next new) count
           (same_next (slot_count slot) next old new turns.stage keeps.next (ap (λ (v : Vec ℕ). v.items) keeps.tail) stands.has_next);
       end = subst (λ (s : Stage). EndsAt s new.end (new.gate + length new.tail.items)) (sym idle) tt;
       fills_with = λ some_still. absurd (some_still turns.rests);

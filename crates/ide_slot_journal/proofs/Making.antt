@@ -14,7 +14,7 @@ use Rattle.ide_slots.specs.declared.side.Side.{Side}
 use Rattle.ide_slots.specs.declared.side.Side.TheVariants.{First}
 use Rattle.ide_slots.proofs.Begins.{stores_begin}
 use Rattle.ide_slot_journal.specs.Stages.{checkpoint_at, stage_of}
-use Rattle.ide_slot_journal.specs.Stands.{KnowsClosed, StandsOn, disks_of, filling_of, writer_of}
+use Rattle.ide_slot_journal.specs.Stands.{KnowsClosed, StandsOn, disks_of, filling_of, slot_writer}
 use Rattle.ide_slot_journal.specs.declared.journal.SlotJournal.{SlotJournal}
 use Rattle.ide_slot_journal.specs.declared.stage.FillStage.{FillStage}
 use Rattle.ide_slot_journal.specs.declared.stage.FillStage.TheVariants.{Rests}
@@ -39,7 +39,7 @@ pub stands_made : {D : Type 0} {G : Ghosts D} (head : Head) (other : Slot) (jour
     → journal.version ≡ head.version → journal.tag ≡ head.tag
     → journal.filler.stage ≡ Rests → journal.filler.closed ≡ true → StandsOn (first_slot head []) None other journal
 stands_made {D} {G} head other journal some first second side generation gate count next stage version tag rests closed =
-    let work : first_writer 4096 ≡ writer_of other journal = λ i. record {
+    let work : first_writer 4096 ≡ slot_writer other journal = λ i. record {
       side = sym side i;
       generation = sym generation i;
       gate = sym gate i;

@@ -28,7 +28,7 @@ use Rattle.ide_slot_journal.specs.Moments.{LeavesOnlyTwo}
 use Rattle.ide_slot_journal.specs.Opened.{IsFresh, IsOpeningRefusal, OpensOn, ResumesSlot, opening_choice, opening_device, opening_slot, settled_both}
 use Rattle.ide_slot_journal.specs.Opening.{IsChoosingRefusal, IsChosenWith, IsCutSlot, IsReadRefusal, IsRecoveredSlot, IsWholeSlot, LeftOrCut, RefusesRead, choosing_device, choosing_slot, read_device, read_file}
 use Rattle.ide_slot_journal.specs.Stages.{checkpoint_at, stage_of}
-use Rattle.ide_slot_journal.specs.Stands.{KnowsClosed, disks_of, filling_of, writer_of}
+use Rattle.ide_slot_journal.specs.Stands.{KnowsClosed, disks_of, filling_of, slot_writer}
 use Rattle.ide_slot_journal.specs.declared.journal.SlotJournal.{SlotJournal}
 use Rattle.ide_slot_journal.specs.declared.stage.FillStage.{FillStage}
 use Rattle.ide_slot_journal.specs.declared.stage.RecordStage.{RecordStage}
@@ -90,7 +90,7 @@ opens_on {D} {G} side tag current other current' other' closed journal found cho
     (subst (λ (l : Sides (List ℕ)). IsChosen side l) (sym (reads_by side x y)) chosen.current.chosen) in
     let before : IsBefore r.front (on journal.side disks).now =
     subst (λ (d : DiskState). IsBefore r.front d.now) (sym here) (subst (λ (xs : List ℕ). IsBefore r.front xs) now r.was) in
-    let opens : (any : Slot) → OpensTwo disks (writer_of any journal) (disks_of journal) = λ any. record {
+    let opens : (any : Slot) → OpensTwo disks (slot_writer any journal) (disks_of journal) = λ any. record {
       slot = r.slot;
       front = r.front;
       whole = r.whole;
@@ -113,7 +113,7 @@ opens_on {D} {G} side tag current other current' other' closed journal found cho
       opens = opens;
       is = λ any. refl;
       stands = λ shows any. record {
-        two = (openings_find.opened r.slot disks shows (writer_of any journal) (disks_of journal) (opens any)).stands None tt;
+        two = (openings_find.opened r.slot disks shows (slot_writer any journal) (disks_of journal) (opens any)).stands None tt;
         version = r.version;
         tag = r.tag;
         count = r.count;

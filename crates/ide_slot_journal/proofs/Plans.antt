@@ -23,7 +23,7 @@ use Rattle.ide_slot_journal.specs.Planning.{IsSpelledFrom, MakeUpCheckpoint, che
 use Rattle.ide_slot_journal.specs.Plans.{KeepsSides, Plans}
 use Rattle.ide_slot_journal.specs.Records.{KeepsRecord}
 use Rattle.ide_slot_journal.specs.Stages.{checkpoint_at, stage_of}
-use Rattle.ide_slot_journal.specs.Stands.{HasTodo, IsCheckpointing, KnowsClosed, checkpoint_of, disks_of, filling_of, todo_of, writer_of}
+use Rattle.ide_slot_journal.specs.Stands.{HasTodo, IsCheckpointing, KnowsClosed, checkpoint_of, disks_of, filling_of, todo_of, slot_writer}
 use Rattle.ide_slot_journal.specs.declared.journal.SlotJournal.{SlotJournal}
 use Rattle.ide_slot_journal.specs.declared.stage.FillStage.{FillStage}
 use Rattle.ide_slot_journal.specs.declared.stage.FillStage.TheVariants as fills
@@ -99,7 +99,7 @@ plan_stands {D} {G} base commands parts told old new none low up_to proper told_
     (ap (λ (n : ℕ). n + 1) stands.two.generation) (omega (arith, low)) proper in
     let checkpoint : checkpoint_of planned new.filler ≡ Planned planned =
     ap (λ (s : FillStage). checkpoint_at s planned (filling_of new.filler)) spelled.stage in
-    let plans : PlansCheckpoint slot (writer_of any old) (writer_of planned new) = record {
+    let plans : PlansCheckpoint slot (slot_writer any old) (slot_writer planned new) = record {
       next = planned;
       none = ap (λ (s : FillStage). checkpoint_at s any (filling_of old.filler)) rest;
       planned = record {
@@ -118,8 +118,8 @@ plan_stands {D} {G} base commands parts told old new none low up_to proper told_
     record {
       plans = plans;
       stands = record {
-        two = subst (λ (d : Sides DiskState). StandsTwo slot next (writer_of planned new) d) disks
-            (checkpoints_keep_standing.planned slot next (writer_of any old) (writer_of planned new) (disks_of old) stands.two plans);
+        two = subst (λ (d : Sides DiskState). StandsTwo slot next (slot_writer planned new) d) disks
+            (checkpoints_keep_standing.planned slot next (slot_writer any old) (slot_writer planned new) (disks_of old) stands.two plans);
         version = sides.version ∙ stands.version;
         tag = sides.tag ∙ stands.tag;
         count = keeps.count ∙ stands.count;

@@ -23,7 +23,7 @@ use Rattle.ide_wire.specs.declared.refused.Refused.TheVariants as refusals
 use Rattle.ide_slot_journal.specs.Moments.{LeavesOnlyTwo}
 use Rattle.ide_slot_journal.specs.Records.{KeepsOther, ReachesPhase, RecordStep, record_called, record_failed, record_stored}
 use Rattle.ide_slot_journal.specs.Stages.{IsTurnAt, checkpoint_at, once_stored, phase_from, record_stage, stage_of}
-use Rattle.ide_slot_journal.specs.Stands.{FillsWith, IsTurn, KnowsClosed, StandsOn, checkpoint_of, disks_of, sides_of, writer_of}
+use Rattle.ide_slot_journal.specs.Stands.{FillsWith, IsTurn, KnowsClosed, StandsOn, checkpoint_of, disks_of, sides_of, slot_writer}
 use Rattle.ide_slot_journal.specs.declared.filler.Filler.{Filler}
 use Rattle.ide_slot_journal.specs.declared.journal.SlotJournal.{SlotJournal}
 use Rattle.ide_slot_journal.specs.declared.stage.FillStage.{FillStage}
@@ -53,7 +53,7 @@ ready_from stages.Failed busy whole = absurd (whole refl)
 
 -- the call of its stage is due
 due : {D : Type 0} {G : Ghosts D} (slot : Slot) (entry : Entry) (other : Slot) (old : SlotJournal D G) → StandsOn slot (Some entry) other old
-    → old.stage ≢ stages.Failed → IsTurn old → IsDue slot (writer_of other old) (phase_from old.stage)
+    → old.stage ≢ stages.Failed → IsTurn old → IsDue slot (slot_writer other old) (phase_from old.stage)
 due slot entry other old stands whole turn = record {
   turn = turn_at old.filler.stage other _ old.filler.base old.count (slot_count slot) stands.count (λ some. (stands.fills_with some).base) turn;
   ready = ready_from old.stage stands.has_next.0 whole;
@@ -61,18 +61,18 @@ due slot entry other old stands whole turn = record {
 
 -- the call that is made is the one that is due
 due_is : {D : Type 0} {G : Ghosts D} (slot : Slot) (entry : Entry) (other : Slot) (old : SlotJournal D G) → StandsOn slot (Some entry) other old
-    → (phase : Phase) → record_call phase old.gate old.tail.items ≡ due_call slot entry (writer_of other old) phase
+    → (phase : Phase) → record_call phase old.gate old.tail.items ≡ due_call slot entry (slot_writer other old) phase
 due_is slot entry other old stands phase = ap (λ (tail : List ℕ). record_call phase old.gate tail) stands.has_next.2
 
 -- both disks after a good call
 disks_are : {D : Type 0} {G : Ghosts D} (slot : Slot) (entry : Entry) (other : Slot) (old new : SlotJournal D G) (phase : Phase)
     → StandsOn slot (Some entry) other old → KeepsOther old new
     → G.state new.current ≡ after_disk_call (record_call phase old.gate old.tail.items) (G.state old.current)
-    → disks_of new ≡ on_current (writer_of other old) (due_call slot entry (writer_of other old) phase) (disks_of old)
+    → disks_of new ≡ on_current (slot_writer other old) (due_call slot entry (slot_writer other old) phase) (disks_of old)
 disks_are {D} {G} slot entry other old new phase stands keeps good =
     let here : disks_of new ≡ two_sides old.side (G.state new.current) (G.state old.other) =
     λ i. two_sides (keeps.side i) (G.state new.current) (G.state (keeps.other i)) in
-    here ∙ called_two old.side (due_call slot entry (writer_of other old) phase) (G.state old.current) (G.state new.current) (G.state old.other)
+    here ∙ called_two old.side (due_call slot entry (slot_writer other old) phase) (G.state old.current) (G.state new.current) (G.state old.other)
     (good ∙ ap (λ (call : DiskCall). after_disk_call call (G.state old.current)) (due_is slot entry other old stands phase))
 
 before_stored : (phase : Phase) → phase ≢ phases.Stored → (before after : ℕ) → once_stored phase before after ≡ before
@@ -95,7 +95,7 @@ busy_still phases.Stored more = absurd (more refl)
 
 -- a call that does not store the record
 called : {D : Type 0} {G : Ghosts D} (slot : Slot) (entry : Entry) (other : Slot) (old new : SlotJournal D G) (phase : Phase)
-    → StandsOn slot (Some entry) other old → IsDue slot (writer_of other old) phase → phase ≢ phases.Stored
+    → StandsOn slot (Some entry) other old → IsDue slot (slot_writer other old) phase → phase ≢ phases.Stored
     → ReachesPhase phase old new → KeepsOther old new
     → G.state new.current ≡ after_disk_call (record_call phase old.gate old.tail.items) (G.state old.current)
     → EndsAt (stage_of new.stage) new.end (new.gate + length new.tail.items)
@@ -103,7 +103,7 @@ called : {D : Type 0} {G : Ghosts D} (slot : Slot) (entry : Entry) (other : Slot
 called {D} {G} slot entry other old new phase stands is_due more reaches keeps good end =
     let gate : new.gate ≡ old.gate = reaches.gate ∙ before_stored phase more old.gate old.end in
     let stage : stage_of new.stage ≡ stage_after phase = ap stage_of reaches.stage ∙ stage_is phase in
-    let work : writer_of other new ≡ record (writer_of other old) { stage = stage_after phase } =
+    let work : slot_writer other new ≡ record (slot_writer other old) { stage = stage_after phase } =
     λ i. record {
       side = keeps.side i;
       generation = keeps.generation i;
@@ -111,7 +111,7 @@ called {D} {G} slot entry other old new phase stands is_due more reaches keeps g
       stage = stage i;
       checkpoint = checkpoint_of other (keeps.filler i);
     } in
-    let calls : CallsRecord slot entry (writer_of other old) (disks_of old) (writer_of other new) (disks_of new) = record {
+    let calls : CallsRecord slot entry (slot_writer other old) (disks_of old) (slot_writer other new) (disks_of new) = record {
       phase = phase;
       due = is_due;
       more = more;
@@ -119,7 +119,7 @@ called {D} {G} slot entry other old new phase stands is_due more reaches keeps g
       disks_are = disks_are slot entry other old new phase stands keeps good;
     } in
     record_called calls (record {
-      two = records_keep_standing.called slot entry (writer_of other old) (writer_of other new) (disks_of old) (disks_of new) stands.two calls;
+      two = records_keep_standing.called slot entry (slot_writer other old) (slot_writer other new) (disks_of old) (disks_of new) stands.two calls;
       version = keeps.version ∙ stands.version;
       tag = keeps.tag ∙ stands.tag;
       count = reaches.count ∙ before_stored phase more old.count old.next ∙ stands.count;
@@ -136,7 +136,7 @@ called {D} {G} slot entry other old new phase stands is_due more reaches keeps g
 
 -- the call that stores it
 stored : {D : Type 0} {G : Ghosts D} (slot : Slot) (entry : Entry) (other : Slot) (old new : SlotJournal D G)
-    → StandsOn slot (Some entry) other old → IsDue slot (writer_of other old) phases.Stored
+    → StandsOn slot (Some entry) other old → IsDue slot (slot_writer other old) phases.Stored
     → ReachesPhase phases.Stored old new → KeepsOther old new
     → G.state new.current ≡ after_disk_call (record_call phases.Stored old.gate old.tail.items) (G.state old.current)
     → old.end ≡ old.gate + length old.tail.items
@@ -144,7 +144,7 @@ stored : {D : Type 0} {G : Ghosts D} (slot : Slot) (entry : Entry) (other : Slot
 stored {D} {G} slot entry other old new stands is_due reaches keeps good end =
     let gate : new.gate ≡ old.gate + length (with_gate 0 (slot_count slot, entry)) =
     reaches.gate ∙ end ∙ ap (λ (tail : List ℕ). old.gate + length tail) stands.has_next.2 in
-    let work : writer_of other new ≡ record (writer_of other old) {
+    let work : slot_writer other new ≡ record (slot_writer other old) {
       stage = journal.Idle;
       gate = old.gate + length (with_gate 0 (slot_count slot, entry));
     } =
@@ -155,7 +155,7 @@ stored {D} {G} slot entry other old new stands is_due reaches keeps good end =
       stage = stage_of (reaches.stage i);
       checkpoint = checkpoint_of other (keeps.filler i);
     } in
-    let stores : StoresRecord slot entry (writer_of other old) (disks_of old) (writer_of other new) (disks_of new) = record {
+    let stores : StoresRecord slot entry (slot_writer other old) (disks_of old) (slot_writer other new) (disks_of new) = record {
       due = is_due;
       work_is = work;
       disks_are = disks_are slot entry other old new phases.Stored stands keeps good;
@@ -163,7 +163,7 @@ stored {D} {G} slot entry other old new stands is_due reaches keeps good end =
     let count : new.count ≡ slot_count (with_more slot entry) =
     omega (arith, reaches.count, stands.has_next.1, length-append slot.rest (entry ∷ [])) in
     record_stored stores (record {
-      two = records_keep_standing.stored slot entry None (writer_of other old) (writer_of other new) (disks_of old) (disks_of new) stands.two stores tt;
+      two = records_keep_standing.stored slot entry None (slot_writer other old) (slot_writer other new) (disks_of old) (disks_of new) stands.two stores tt;
       version = keeps.version ∙ stands.version;
       tag = keeps.tag ∙ stands.tag;
       count = count;
@@ -182,7 +182,7 @@ end_at old stage is end = subst (λ (s : RecordStage). EndsAt (stage_of s) old.e
 
 good_from : {D : Type 0} {G : Ghosts D} (slot : Slot) (entry : Entry) (other : Slot) (old new : SlotJournal D G) (stage : RecordStage)
     → old.stage ≡ stage → stage ≢ stages.Failed
-    → StandsOn slot (Some entry) other old → IsDue slot (writer_of other old) (phase_from stage)
+    → StandsOn slot (Some entry) other old → IsDue slot (slot_writer other old) (phase_from stage)
     → ReachesPhase (phase_from stage) old new → KeepsOther old new
     → G.state new.current ≡ after_disk_call (record_call (phase_from stage) old.gate old.tail.items) (G.state old.current)
     → RecordStep slot entry other old new (Ok (phase_from stage))
@@ -220,10 +220,10 @@ pub failed_step : {D : Type 0} {G : Ghosts D} (slot : Slot) (entry : Entry) (oth
     → FailsSo (record_call (phase_from old.stage) old.gate old.tail.items) (G.state old.current) (G.state new.current)
     → StandsOn slot (Some entry) other old → RecordStep slot entry other old new (Err refusals.Disk)
 failed_step {D} {G} slot entry other old new whole turn side same fails stands =
-    let call : DiskCall = due_call slot entry (writer_of other old) (phase_from old.stage) in
+    let call : DiskCall = due_call slot entry (slot_writer other old) (phase_from old.stage) in
     let here : two_sides old.side (G.state new.current) (G.state old.other) ≡ disks_of new =
     λ i. two_sides (sym side i) (G.state new.current) (G.state (sym same i)) in
-    record_failed (subst (λ (disks : Sides DiskState). FailsRecord slot entry (writer_of other old) (disks_of old) disks) here (record {
+    record_failed (subst (λ (disks : Sides DiskState). FailsRecord slot entry (slot_writer other old) (disks_of old) disks) here (record {
       phase = phase_from old.stage;
       due = due slot entry other old stands whole turn;
       fails = failed_two old.side call (G.state old.current) (G.state new.current) (G.state old.other)
@@ -241,13 +241,13 @@ pub left_in_step : {D : Type 0} {G : Ghosts D} (slot : Slot) (entry : Entry) (ot
     → StandsOn slot (Some entry) other old
     → LeavesOnlyTwo G (sides_of old) (two_sides side current beside) (ShowsOne slot (Some entry) (checkpoint_of other old.filler))
 left_in_step {D} {G} slot entry other old side current beside whole turn same_side same only_now other_now time fails stands left a b =
-    let call : DiskCall = due_call slot entry (writer_of other old) (phase_from old.stage) in
+    let call : DiskCall = due_call slot entry (slot_writer other old) (phase_from old.stage) in
     let here : two_sides side current beside ≡ two_sides old.side current old.other = λ i. two_sides (same_side i) current (same i) in
     let since = since_current G old.side call old.current current old.other left only_now other_now time
     (subst (λ (c : DiskCall). FailsSo c (G.state old.current) (G.state current)) (due_is slot entry other old stands (phase_from old.stage)) fails)
     (subst (λ (s : Sides D). G.left_since s.a (G.moment (sides_of old).a) left.a) here a)
     (subst (λ (s : Sides D). G.left_since s.b (G.moment (sides_of old).b) left.b) here b) in
-    records_keep_standing.within slot entry (writer_of other old) (disks_of old) left stands.two (record {
+    records_keep_standing.within slot entry (slot_writer other old) (disks_of old) left stands.two (record {
       phase = phase_from old.stage;
       due = due slot entry other old stands whole turn;
       within = since.within;

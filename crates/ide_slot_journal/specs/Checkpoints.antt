@@ -12,25 +12,25 @@ use Rattle.ide_wire.specs.declared.refused.Refused.{Refused}
 use Rattle.ide_wire.specs.declared.refused.Refused.TheVariants as refusals
 use Rattle.ide_slot_journal.specs.Fillers.{HasMovedOn}
 use Rattle.ide_slot_journal.specs.Moments.{LeavesOnlyTwo}
-use Rattle.ide_slot_journal.specs.Stands.{HasFailed, StandsOn, disks_of, filling_of, sides_of, writer_of}
+use Rattle.ide_slot_journal.specs.Stands.{HasFaulted, StandsOn, disks_of, filling_of, sides_of, slot_writer}
 use Rattle.ide_slot_journal.specs.declared.journal.SlotJournal.{SlotJournal}
 use Rattle.ide_slot_journal.specs.declared.stage.FillStage.TheVariants as fills
 
 -- the journal as a writer whose checkpoint has begun its calls
 abbrev pub filling_writer : {D : Type 0} {G : Ghosts D} → Slot → SlotJournal D G → SlotWriter
-filling_writer other journal = record (writer_of other journal) { checkpoint = UnderWay other (filling_of journal.filler) }
+filling_writer other journal = record (slot_writer other journal) { checkpoint = UnderWay other (filling_of journal.filler) }
 
 -- a checkpoint that waits begins them now
 abbrev pub BeginsIfWaiting : {D : Type 0} {G : Ghosts D} → Slot → Slot → SlotJournal D G → Type 0
 BeginsIfWaiting slot other journal = journal.filler.stage ≡ fills.Waits
-    → BeginsCheckpoint slot (writer_of other journal) (disks_of journal) (filling_writer other journal)
+    → BeginsCheckpoint slot (slot_writer other journal) (disks_of journal) (filling_writer other journal)
 
 -- a call of a checkpoint: it goes on, or its slot is current (true), or it fails
 pub data CheckpointStep {D : Type 0} {G : Ghosts D} (slot : Slot) (next : Option Entry) (other : Slot) (old new : SlotJournal D G)
     : Result Bool Refused → Type 0 where
-  checkpoint_called : CallsCheckpoint (filling_writer other old) (disks_of old) (writer_of other new) (disks_of new)
+  checkpoint_called : CallsCheckpoint (filling_writer other old) (disks_of old) (slot_writer other new) (disks_of new)
       → StandsOn slot next other new → CheckpointStep slot next other old new (Ok false)
-  checkpoint_ended : EndsCheckpoint (filling_writer other old) (disks_of old) (writer_of other new) other (disks_of new)
+  checkpoint_ended : EndsCheckpoint (filling_writer other old) (disks_of old) (slot_writer other new) other (disks_of new)
       → StandsOn other next other new → CheckpointStep slot next other old new (Ok true)
   checkpoint_failed : FailsCheckpoint (filling_writer other old) (disks_of old) (disks_of new)
       → CheckpointStep slot next other old new (Err refusals.Disk)
@@ -95,6 +95,6 @@ still_disk new (Err refused) = new.current
 
 -- why a checkpoint does not go on: its disk call failed, or one had failed before
 pub data IsCheckpointRefusal {D : Type 0} {G : Ghosts D} (old new : SlotJournal D G) : Refused → Type 0 where
-  checkpoint_device : HasFailed new → FailsOnce G old.other new.other → new.filler ≡ old.filler
+  checkpoint_device : HasFaulted new → FailsOnce G old.other new.other → new.filler ≡ old.filler
       → IsCheckpointRefusal old new refusals.Disk
-  checkpoint_after_failure : HasFailed old → IsCheckpointRefusal old new refusals.Failed
+  checkpoint_after_failure : HasFaulted old → IsCheckpointRefusal old new refusals.Failed

@@ -1,5 +1,6 @@
 -- What an opening of two disks gives.
 use Rattle.std.specs.Prelude.{◌≡◌, ◌⊎◌, ℕ, Bool, List, [], ◌∷◌, ◌++◌, None, Result, Ok, Err, length}
+use Rattle.std.specs.Global.{Vec}
 use Rattle.ide_disk.specs.Disk.{DiskState, settled}
 use Rattle.ide_disk.specs.OneCall.{FailsOnce}
 use Rattle.ide_disk.specs.declared.disk.Disk.{Ghosts}
@@ -16,7 +17,7 @@ use Rattle.ide_slots.specs.declared.side.Side.{Side}
 use Rattle.ide_wire.specs.declared.refused.Refused.{Refused}
 use Rattle.ide_wire.specs.declared.refused.Refused.TheVariants as refusals
 use Rattle.ide_slot_journal.specs.Moments.{LeavesOnlyTwo}
-use Rattle.ide_slot_journal.specs.Stands.{StandsOn, disks_of, sides_of, writer_of}
+use Rattle.ide_slot_journal.specs.Stands.{StandsOn, disks_of, sides_of, slot_writer}
 use Rattle.ide_slot_journal.specs.declared.journal.SlotJournal.{SlotJournal}
 use Rattle.ide_slot_journal.specs.declared.stage.FillStage.TheVariants.{Rests}
 use Rattle.ide_slot_journal.specs.declared.stage.RecordStage.TheVariants.{Idle}
@@ -70,17 +71,20 @@ pub record OpensOn {D : Type 0} {G : Ghosts D} (tag : ℕ) (disks : Sides DiskSt
   pub records : records_of slot ≡ all_numbered found
   pub held : HoldsSlot slot (on journal.side disks).now
   pub tag_is : slot.head.tag ≡ tag
-  pub opens : (other : Slot) → OpensTwo disks (writer_of other journal) (disks_of journal)
+  pub opens : (other : Slot) → OpensTwo disks (slot_writer other journal) (disks_of journal)
   pub is : (other : Slot) → (opens other).slot ≡ slot
   pub stands : Shows slot (reads_two disks) → (other : Slot) → StandsOn slot None other journal
+
+abbrev pub OpensBoth : {D : Type 0} {G : Ghosts D} → (tag : ℕ) (a b : D) → SlotJournal D G × Vec NumberedRecord → Type 0
+OpensBoth {G = G} tag a b pair = OpensOn tag (states_of G a b) pair.0 pair.1.items
 
 -- two disks that hold just these bytes
 abbrev pub settled_both : Sides (List ℕ) → Sides DiskState
 settled_both left = record { a = settled left.a; b = settled left.b }
 
--- whatever a crash leaves, an opening of these disks may have stopped with
-abbrev pub StopsAnywhere : {D : Type 0} → Ghosts D → (old new : Sides D) → Sides DiskState → Type 0
-StopsAnywhere G old new disks = LeavesOnlyTwo G old new (λ left. StopsTwo disks (settled_both left))
+-- whatever a crash at any moment leaves, an opening of these disks may have stopped with
+abbrev pub StopsAnywhere : {D : Type 0} → Ghosts D → D → D → Sides D → Type 0
+StopsAnywhere G a b after = LeavesOnlyTwo G (disk_sides a b) after (λ left. StopsTwo (states_of G a b) (settled_both left))
 
 -- why no store is opened: a call of a disk failed, no slot is current with that tag, or the current one is not read
 pub data IsOpeningRefusal (tag : ℕ) (left : Sides (List ℕ)) : Refused → Type 0 where

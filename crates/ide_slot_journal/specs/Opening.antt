@@ -4,6 +4,7 @@ use Rattle.ide_disk.specs.Disk.{CrashLeaves, DiskState, settled}
 use Rattle.ide_disk.specs.OneCall.{FailsOnce}
 use Rattle.ide_disk.specs.declared.disk.Disk.{Ghosts}
 use Rattle.ide_journal.specs.Bytes.{IsBefore}
+use Rattle.ide_journal.specs.Moments.{LeavesOnly}
 use Rattle.ide_slots.specs.Current.{IsCurrent}
 use Rattle.ide_slots.specs.Loading.{ClosesIn, HasRecords, slot_of}
 use Rattle.ide_slots.specs.Reading.{Tells}
@@ -78,6 +79,14 @@ pub record IsCutSlot (bytes left : List ℕ) : Type 0 where
 -- what a crash of the disk may have left, or the slot that a read gives
 abbrev pub LeftOrCut : DiskState → List ℕ → Type 0
 LeftOrCut disk left = CrashLeaves disk left ⊎ IsCutSlot disk.now left
+
+-- all that a read gives is on the disk
+abbrev pub IsAllSynced : {D : Type 0} → Ghosts D → D → Type 0
+IsAllSynced G disk = G.state disk ≡ settled (G.state disk).now
+
+-- a crash at any moment leaves no more than that
+abbrev pub LeavesCut : {D : Type 0} → Ghosts D → D → D → Type 0
+LeavesCut G old new = LeavesOnly G old new (LeftOrCut (G.state old))
 
 -- the slot that was read was on the one disk, and is all that the other has
 pub record IsRecoveredSlot {D : Type 0} (G : Ghosts D) (old new : D) (loaded : LoadedSlot) : Type 0 where

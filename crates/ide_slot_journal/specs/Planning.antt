@@ -15,6 +15,14 @@ use Rattle.ide_slot_journal.specs.declared.stage.FillStage.TheVariants.{Waits}
 abbrev pub bytes_of : List (Vec ℕ) → List (List ℕ)
 bytes_of todo = map (λ (chunk : Vec ℕ). chunk.items) todo
 
+-- these are spelled behind the others
+abbrev pub HasMore : List (List ℕ) → (old new : List (Vec ℕ)) → Type 0
+HasMore more old new = bytes_of new ≡ bytes_of old ++ more
+
+-- parts are numbered from 0 on
+abbrev pub numbered_parts : List RawRecord → List NumberedEntry
+numbered_parts parts = numbered_from 0 (entries_of parts)
+
 -- the body of a record is within the limit
 abbrev pub HasShortBody : RawRecord → Type 0
 HasShortBody raw = length raw.body.items ≤ 4194304

@@ -1,18 +1,28 @@
 -- What planning a checkpoint does, whatever slot is current.
-use Rattle.std.specs.Prelude.{◌≡◌, Option}
+use Rattle.std.specs.Prelude.{◌≡◌, ℕ, ◌+◌, List, Option}
 use Rattle.ide_disk.specs.declared.disk.Disk.{Ghosts}
 use Rattle.ide_journal.specs.Format.{Entry}
+use Rattle.ide_journal.specs.Lists.{entries_of}
+use Rattle.ide_journal.specs.declared.record.RawRecord.{RawRecord}
+use Rattle.ide_slots.specs.Records.{all_numbered}
 use Rattle.ide_slots.specs.Slot.{Slot}
 use Rattle.ide_slots.specs.TwoCalls.{PlansCheckpoint}
+use Rattle.ide_slots.specs.declared.record.NumberedRecord.{NumberedRecord}
 use Rattle.ide_wire.specs.declared.refused.Refused.{Refused}
 use Rattle.ide_wire.specs.declared.refused.Refused.TheVariants as refusals
-use Rattle.ide_slot_journal.specs.Stands.{HasFailed, StandsOn, writer_of}
+use Rattle.ide_slot_journal.specs.Planning.{checkpoint_slot}
+use Rattle.ide_slot_journal.specs.Stands.{HasFaulted, StandsOn, slot_writer}
 use Rattle.ide_slot_journal.specs.declared.journal.SlotJournal.{SlotJournal}
+
+-- the slot of a checkpoint with that base, and these commands and parts
+abbrev pub planned_slot : {D : Type 0} {G : Ghosts D} → SlotJournal D G → (base : ℕ) → List NumberedRecord → List RawRecord → Slot
+planned_slot journal base commands parts =
+    checkpoint_slot journal.tag (journal.generation + 1) base (all_numbered commands) (entries_of parts)
 
 -- wherever the journal stands, a checkpoint with that slot is planned
 pub record PlansOn {D : Type 0} {G : Ghosts D} (planned : Slot) (old new : SlotJournal D G) (slot : Slot) (any : Slot)
     (next : Option Entry) : Type 0 where
-  pub plans : PlansCheckpoint slot (writer_of any old) (writer_of planned new)
+  pub plans : PlansCheckpoint slot (slot_writer any old) (slot_writer planned new)
   pub stands : StandsOn slot next planned new
 
 abbrev pub Plans : {D : Type 0} {G : Ghosts D} → (planned : Slot) (old new : SlotJournal D G) → Type 0
@@ -30,4 +40,4 @@ pub record KeepsSides {D : Type 0} {G : Ghosts D} (old new : SlotJournal D G) : 
 -- why none is planned: want of memory, or a disk call that failed before
 pub data IsPlanRefusal {D : Type 0} {G : Ghosts D} (old : SlotJournal D G) : Refused → Type 0 where
   plan_memory : IsPlanRefusal old refusals.NoMemory
-  plan_after_failure : HasFailed old → IsPlanRefusal old refusals.Failed
+  plan_after_failure : HasFaulted old → IsPlanRefusal old refusals.Failed

@@ -12,7 +12,7 @@ use Rattle.ide_wire.specs.declared.refused.Refused.{Refused}
 use Rattle.ide_wire.specs.declared.refused.Refused.TheVariants as refusals
 use Rattle.ide_slot_journal.specs.Moments.{LeavesOnlyTwo}
 use Rattle.ide_slot_journal.specs.Stages.{once_stored, once_written, phase_from, record_stage}
-use Rattle.ide_slot_journal.specs.Stands.{HasFailed, StandsOn, checkpoint_of, disks_of, sides_of, writer_of}
+use Rattle.ide_slot_journal.specs.Stands.{HasFaulted, StandsOn, checkpoint_of, disks_of, sides_of, slot_writer}
 use Rattle.ide_slot_journal.specs.declared.journal.SlotJournal.{SlotJournal}
 
 -- no call for a record changes these
@@ -45,7 +45,7 @@ pub record KeepsRecord {D : Type 0} {G : Ghosts D} (old new : SlotJournal D G) :
   pub tail : new.tail ≡ old.tail
 
 -- a record is the next one, and no disk is touched
-pub record HasBegun {D : Type 0} {G : Ghosts D} (old new : SlotJournal D G) : Type 0 where
+pub record TouchesNoDisk {D : Type 0} {G : Ghosts D} (old new : SlotJournal D G) : Type 0 where
   pub current : new.current ≡ old.current
   pub gate : new.gate ≡ old.gate
   pub count : new.count ≡ old.count
@@ -61,11 +61,11 @@ PutsNone old new = (slot other : Slot) → StandsOn slot None other old → Stan
 -- a call for the next record: it goes on to the phase that is answered, is stored, or fails
 pub data RecordStep {D : Type 0} {G : Ghosts D} (slot : Slot) (entry : Entry) (other : Slot) (old new : SlotJournal D G)
     : Result Phase Refused → Type 0 where
-  record_called : (calls : CallsRecord slot entry (writer_of other old) (disks_of old) (writer_of other new) (disks_of new))
+  record_called : (calls : CallsRecord slot entry (slot_writer other old) (disks_of old) (slot_writer other new) (disks_of new))
       → StandsOn slot (Some entry) other new → RecordStep slot entry other old new (Ok calls.phase)
-  record_stored : StoresRecord slot entry (writer_of other old) (disks_of old) (writer_of other new) (disks_of new)
+  record_stored : StoresRecord slot entry (slot_writer other old) (disks_of old) (slot_writer other new) (disks_of new)
       → StandsOn (with_more slot entry) None other new → RecordStep slot entry other old new (Ok phases.Stored)
-  record_failed : FailsRecord slot entry (writer_of other old) (disks_of old) (disks_of new)
+  record_failed : FailsRecord slot entry (slot_writer other old) (disks_of old) (disks_of new)
       → RecordStep slot entry other old new (Err refusals.Disk)
 
 -- wherever the journal stands with a next record, it is such a call
@@ -80,5 +80,5 @@ LeavesWithNext {G = G} old new = (slot : Slot) (entry : Entry) (other : Slot) �
 
 -- why a record does not go on: its disk call failed, or one had failed before
 pub data IsRecordRefusal {D : Type 0} {G : Ghosts D} (old new : SlotJournal D G) : Refused → Type 0 where
-  record_device : HasFailed new → FailsOnce G old.current new.current → IsRecordRefusal old new refusals.Disk
-  record_after_failure : HasFailed old → IsRecordRefusal old new refusals.Failed
+  record_device : HasFaulted new → FailsOnce G old.current new.current → IsRecordRefusal old new refusals.Disk
+  record_after_failure : HasFaulted old → IsRecordRefusal old new refusals.Failed

@@ -29,8 +29,8 @@ abbrev pub checkpoint_of : Slot → Filler → Checkpoint
 checkpoint_of other filler = checkpoint_at filler.stage other (filling_of filler)
 
 -- the journal as a writer, with that slot for its checkpoint
-abbrev pub writer_of : {D : Type 0} {G : Ghosts D} → Slot → SlotJournal D G → SlotWriter
-writer_of other journal = record {
+abbrev pub slot_writer : {D : Type 0} {G : Ghosts D} → Slot → SlotJournal D G → SlotWriter
+slot_writer other journal = record {
   side = journal.side;
   generation = journal.generation;
   gate = journal.gate;
@@ -50,9 +50,9 @@ abbrev pub disks_of : {D : Type 0} {G : Ghosts D} → SlotJournal D G → Sides 
 disks_of {G = G} journal = two_sides journal.side (G.state journal.current) (G.state journal.other)
 
 -- the next record under that number, if there is one, is spelled
-abbrev pub HasNext : {D : Type 0} {G : Ghosts D} → ℕ → Option Entry → SlotJournal D G → Type 0
-HasNext number None journal = (journal.stage ≡ Idle) × (journal.next ≡ number)
-HasNext number (Some entry) journal =
+abbrev pub HasSpelledNext : {D : Type 0} {G : Ghosts D} → ℕ → Option Entry → SlotJournal D G → Type 0
+HasSpelledNext number None journal = (journal.stage ≡ Idle) × (journal.next ≡ number)
+HasSpelledNext number (Some entry) journal =
     (journal.stage ≢ Idle) × (journal.next ≡ number + 1) × (journal.tail.items ≡ with_gate 0 (number, entry))
 
 -- the bytes of the slot that are still to be written, and where
@@ -88,22 +88,22 @@ KnowsClosed fills.Lasts closed bytes = Unit {0}
 -- if any
 pub record StandsOn {D : Type 0} {G : Ghosts D} (slot : Slot) (next : Option Entry) (other : Slot)
     (journal : SlotJournal D G) : Type 0 where
-  pub two : StandsTwo slot next (writer_of other journal) (disks_of journal)
+  pub two : StandsTwo slot next (slot_writer other journal) (disks_of journal)
   pub version : journal.version ≡ slot.head.version
   pub tag : journal.tag ≡ slot.head.tag
   pub count : journal.count ≡ slot_count slot
-  pub has_next : HasNext (slot_count slot) next journal
+  pub has_next : HasSpelledNext (slot_count slot) next journal
   pub end : EndsAt (stage_of journal.stage) journal.end (journal.gate + length journal.tail.items)
   pub fills_with : journal.filler.stage ≢ fills.Rests → FillsWith other journal.filler
   pub knows_closed : KnowsClosed journal.filler.stage journal.filler.closed (G.state journal.other).now
 
 -- there is no next record
-abbrev pub IsIdle : {D : Type 0} {G : Ghosts D} → SlotJournal D G → Type 0
-IsIdle journal = journal.stage ≡ Idle
+abbrev pub HasNoNext : {D : Type 0} {G : Ghosts D} → SlotJournal D G → Type 0
+HasNoNext journal = journal.stage ≡ Idle
 
 -- a disk call failed
-abbrev pub HasFailed : {D : Type 0} {G : Ghosts D} → SlotJournal D G → Type 0
-HasFailed journal = journal.stage ≡ Failed
+abbrev pub HasFaulted : {D : Type 0} {G : Ghosts D} → SlotJournal D G → Type 0
+HasFaulted journal = journal.stage ≡ Failed
 
 -- a checkpoint is planned, or makes its calls
 abbrev pub IsCheckpointing : {D : Type 0} {G : Ghosts D} → SlotJournal D G → Type 0
@@ -117,8 +117,8 @@ abbrev pub IsFilling : {D : Type 0} {G : Ghosts D} → SlotJournal D G → Type 
 IsFilling journal = IsFillingAt journal.filler.stage journal.filler.base journal.count
 
 -- how many records are stored
-abbrev pub stored_count : {D : Type 0} {G : Ghosts D} → SlotJournal D G → ℕ
-stored_count journal = journal.count
+abbrev pub records_stored : {D : Type 0} {G : Ghosts D} → SlotJournal D G → ℕ
+records_stored journal = journal.count
 
 -- both disks are honest
 abbrev pub AreHonest : {D : Type 0} {G : Ghosts D} → SlotJournal D G → Type 0

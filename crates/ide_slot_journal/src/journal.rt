@@ -1,6 +1,5 @@
 //! A list of records on two disks.
 ghost use Rattle.std.specs.Prelude.{◌≡◌, ◌↔◌, ◌+◌, ◌<◌, ◌≤◌, length, IsTrue, OnOk, OnErr, IfOk, IfErr, Err, Ok};
-ghost use Rattle.ide_disk.specs.Disk.{settled};
 ghost use Rattle.ide_journal.specs.Format.{IsEntry, head_of};
 ghost use Rattle.ide_slots.specs.Records.{all_numbered};
 ghost use Rattle.ide_slots.specs.Two.{IsUpTo};
@@ -63,14 +62,13 @@ impl<D: Disk> SlotJournal<D> {
     ghost use Rattle.ide_slot_journal.specs.Checkpoints.{FillsOrTurns, IsCheckpointRefusal, KeepsNext, LeavesWithOther, MakesCheckpointStep, TurnsOver, called_disk, still_disk};
     ghost use Rattle.ide_slot_journal.specs.Fillers.{next_place};
     ghost use Rattle.ide_slot_journal.specs.Making.{FailsNever, IsMakingRefusal, StandsEmpty};
-    ghost use Rattle.ide_journal.specs.Moments.{LeavesOnly};
-    ghost use Rattle.ide_slot_journal.specs.Opened.{CountsFailures, FailsOnlyIn, IsFresh, IsOpeningRefusal, OpensOn, ResumesSlot, StopsAnywhere, disk_sides, sides_left, states_of};
-    ghost use Rattle.ide_slot_journal.specs.Opening.{LeftOrCut, RefusesRead, now_of};
+    ghost use Rattle.ide_slot_journal.specs.Opened.{CountsFailures, FailsOnlyIn, IsFresh, IsOpeningRefusal, OpensBoth, ResumesSlot, StopsAnywhere, sides_left};
+    ghost use Rattle.ide_slot_journal.specs.Opening.{IsAllSynced, LeavesCut, RefusesRead, now_of};
     ghost use Rattle.ide_slots.specs.Sides.{off, on};
-    ghost use Rattle.ide_slot_journal.specs.Planning.{MakeUpCheckpoint, checkpoint_slot};
-    ghost use Rattle.ide_slot_journal.specs.Plans.{IsPlanRefusal, KeepsSides, Plans};
-    ghost use Rattle.ide_slot_journal.specs.Records.{HasBegun, IsRecordRefusal, KeepsOther, KeepsRecord, LeavesWithNext, MakesRecordStep, PutsNext, PutsNone, ReachesPhase};
-    ghost use Rattle.ide_slot_journal.specs.Stands.{AreHonest, HasFailed, IsCheckpointing, IsFilling, IsIdle, IsTurn, pair_of, sides_of, stored_count};
+    ghost use Rattle.ide_slot_journal.specs.Planning.{MakeUpCheckpoint};
+    ghost use Rattle.ide_slot_journal.specs.Plans.{IsPlanRefusal, KeepsSides, Plans, planned_slot};
+    ghost use Rattle.ide_slot_journal.specs.Records.{TouchesNoDisk, IsRecordRefusal, KeepsOther, KeepsRecord, LeavesWithNext, MakesRecordStep, PutsNext, PutsNone, ReachesPhase};
+    ghost use Rattle.ide_slot_journal.specs.Stands.{AreHonest, HasFaulted, IsCheckpointing, IsFilling, HasNoNext, IsTurn, pair_of, sides_of, records_stored};
 
     /// Makes a store with no record on the disks A and B, whatever they held: both slots are of generation
     /// 0 and closed, and A is current.
@@ -81,7 +79,7 @@ impl<D: Disk> SlotJournal<D> {
         requires { 0 < tag }
         ensures stands { D.honest a → D.honest b → IfOk result (StandsEmpty (head_of Version.Two tag)) }
         ensures honest { D.honest a → D.honest b → IfOk result AreHonest }
-        ensures idle { IfOk result IsIdle }
+        ensures idle { IfOk result HasNoNext }
         ensures rests { IfOk result (λ journal. journal.filler.stage ≡ FillStage.Rests) }
         ensures failures { IfOk result (λ journal. FailsNever D.Disk a b journal) }
 
@@ -129,14 +127,14 @@ impl<D: Disk> SlotJournal<D> {
         mut b: D,
         tag: u8,
     ) -> Result<(Self, Vec<NumberedRecord>), (Refused, D, D)>
-        ensures opened { D.honest a → D.honest b → IfOk result (λ pair. OpensOn tag (states_of D.Disk a b) pair.0 pair.1.items) }
-        ensures idle { IfOk result (λ pair. IsIdle pair.0) }
+        ensures opened { D.honest a → D.honest b → IfOk result (OpensBoth tag a b) }
+        ensures idle { IfOk result (λ pair. HasNoNext pair.0) }
         ensures rests { IfOk result (λ pair. pair.0.filler.stage ≡ FillStage.Rests) }
         ensures first_honest { D.honest a → D.honest b → D.honest (sides_left result).a }
         ensures second_honest { D.honest a → D.honest b → D.honest (sides_left result).b }
 
         // What a crash at any moment leaves of both is something that an opening may have stopped with.
-        ensures any_moment { D.honest a → D.honest b → StopsAnywhere D.Disk (disk_sides a b) (sides_left result) (states_of D.Disk a b) }
+        ensures any_moment { D.honest a → D.honest b → StopsAnywhere D.Disk a b (sides_left result) }
         ensures failures { CountsFailures a b result }
         ensures refused { D.honest a → D.honest b → IfErr result (λ all. IsOpeningRefusal tag (now_of D.Disk a b) all.0) }
     {
@@ -156,11 +154,11 @@ impl<D: Disk> SlotJournal<D> {
         closed: bool,
     ) -> Result<(Self, Vec<NumberedRecord>), (Refused, D, D)>
         requires { 4097 ≤ D.size other }
-        ensures resumes { D.honest current → D.state current ≡ settled (D.state current).now → IfOk result (λ pair. ResumesSlot current pair.0 pair.1.items) }
+        ensures resumes { D.honest current → IsAllSynced D.Disk current → IfOk result (λ pair. ResumesSlot current pair.0 pair.1.items) }
         ensures fresh { IfOk result (λ pair. IsFresh side closed other pair.0) }
         ensures other { off side (sides_left result) ≡ other }
         ensures honest { D.honest current → D.honest (on side (sides_left result)) }
-        ensures any_moment { D.honest current → D.state current ≡ settled (D.state current).now → LeavesOnly D.Disk current (on side (sides_left result)) (LeftOrCut (D.state current)) }
+        ensures any_moment { D.honest current → IsAllSynced D.Disk current → LeavesCut D.Disk current (on side (sides_left result)) }
         ensures failures { FailsOnlyIn side current result }
         ensures refused { D.honest current → IfErr result (λ all. RefusesRead (D.state current).now all.0) }
     {
@@ -198,14 +196,14 @@ impl<D: Disk> SlotJournal<D> {
 
     /// Whether there is no next record, and no disk call failed.
     pub fn is_idle(&self) -> bool
-        ensures { IsTrue result ↔ IsIdle self.now }
+        ensures { IsTrue result ↔ HasNoNext self.now }
     {
         self.stage == RecordStage::Idle
     }
 
     /// How many records are stored, those below the checkpoint too.
     pub fn count(&self) -> u64
-        ensures { result ≡ stored_count self.now }
+        ensures { result ≡ records_stored self.now }
     {
         self.count
     }
@@ -276,15 +274,15 @@ impl<D: Disk> SlotJournal<D> {
     ///
     /// Refusal: `NoMemory`, and there is no next record still.
     pub fn begin(&mut self, raw: &RawRecord) -> Result<(), Refused>
-        requires idle { IsIdle self.old }
-        requires room { stored_count self.old < 4294967295 }
+        requires idle { HasNoNext self.old }
+        requires room { records_stored self.old < 4294967295 }
         requires proper { IsEntry (entry_of raw.now) }
         ensures next { OnOk result (PutsNext (entry_of raw.now) self.old self.new) }
         ensures none { OnErr result (PutsNone self.old self.new) }
         ensures busy { OnOk result (self.new.stage ≡ RecordStage.Waits) }
-        ensures idle { OnErr result (IsIdle self.new) }
+        ensures idle { OnErr result (HasNoNext self.new) }
         ensures refused { IfErr result (λ refused. refused ≡ Refused.NoMemory) }
-        ensures begun { HasBegun self.old self.new }
+        ensures begun { TouchesNoDisk self.old self.new }
         ensures other { KeepsOther self.old self.new }
     {
         spell(&mut self.tail, self.count, raw, 0)?;
@@ -298,16 +296,16 @@ impl<D: Disk> SlotJournal<D> {
     /// Refusals: `Disk`, where the call failed; `Failed`, where one failed before.
     #[tactic(auto, using(crate::specs::Records::record_device, crate::specs::Records::record_after_failure))]
     pub fn advance(&mut self) -> Result<Phase, Refused>
-        requires busy { IsIdle self.old → ⊥ }
+        requires busy { HasNoNext self.old → ⊥ }
         requires turn { IsTurn self.old }
         ensures steps { AreHonest self.old → MakesRecordStep self.old self.new result }
         ensures any_moment { AreHonest self.old → LeavesWithNext self.old self.new }
         ensures honest { AreHonest self.old → AreHonest self.new }
         ensures phase { IfOk result (λ phase. ReachesPhase phase self.old self.new) }
-        ensures call { (HasFailed self.old → ⊥) → MakesCall D.Disk result self.old.current self.new.current }
+        ensures call { (HasFaulted self.old → ⊥) → MakesCall D.Disk result self.old.current self.new.current }
         ensures other { KeepsOther self.old self.new }
-        ensures failed { HasFailed self.old ↔ (result ≡ Err Refused.Failed) }
-        ensures same { HasFailed self.old → KeepsRecord self.old self.new }
+        ensures failed { HasFaulted self.old ↔ (result ≡ Err Refused.Failed) }
+        ensures same { HasFaulted self.old → KeepsRecord self.old self.new }
         ensures refused { IfErr result (IsRecordRefusal self.old self.new) }
     {
         if self.stage == RecordStage::Failed {
@@ -337,14 +335,14 @@ impl<D: Disk> SlotJournal<D> {
     ) -> Result<(), Refused>
         requires none { IsCheckpointing self.old → ⊥ }
         requires generation { self.old.generation < 4294967295 }
-        requires up_to { IsUpTo (stored_count self.old) base (stage_of self.old.stage) }
+        requires up_to { IsUpTo (records_stored self.old) base (stage_of self.old.stage) }
         requires proper { MakeUpCheckpoint base (all_numbered commands.now) (entries_of parts.now) }
-        ensures planned { OnOk result (Plans (checkpoint_slot self.old.tag (self.old.generation + 1) base (all_numbered commands.now) (entries_of parts.now)) self.old self.new) }
+        ensures planned { OnOk result (Plans (planned_slot self.old base commands.now parts.now) self.old self.new) }
         ensures waits { OnOk result (self.new.filler.stage ≡ FillStage.Waits) }
         ensures none { OnErr result (self.new.filler ≡ self.old.filler) }
         ensures record { KeepsRecord self.old self.new }
         ensures sides { KeepsSides self.old self.new }
-        ensures failed { HasFailed self.old → result ≡ Err Refused.Failed }
+        ensures failed { HasFaulted self.old → result ≡ Err Refused.Failed }
         ensures refused { IfErr result (IsPlanRefusal self.old) }
     {
         if self.stage == RecordStage::Failed {
@@ -373,11 +371,11 @@ impl<D: Disk> SlotJournal<D> {
         ensures any_moment { AreHonest self.old → LeavesWithOther self.old self.new }
         ensures honest { AreHonest self.old → AreHonest self.new }
         ensures moves { IfOk result (FillsOrTurns self.old self.new) }
-        ensures call { (HasFailed self.old → ⊥) → MakesCall D.Disk result self.old.other (called_disk self.new result) }
+        ensures call { (HasFaulted self.old → ⊥) → MakesCall D.Disk result self.old.other (called_disk self.new result) }
         ensures still { still_disk self.new result ≡ self.old.current }
         ensures next { KeepsNext self.old self.new }
-        ensures failed { HasFailed self.old ↔ (result ≡ Err Refused.Failed) }
-        ensures same { HasFailed self.old → KeepsRecord self.old self.new × KeepsOther self.old self.new }
+        ensures failed { HasFaulted self.old ↔ (result ≡ Err Refused.Failed) }
+        ensures same { HasFaulted self.old → KeepsRecord self.old self.new × KeepsOther self.old self.new }
         ensures refused { IfErr result (IsCheckpointRefusal self.old self.new) }
     {
         if self.stage == RecordStage::Failed {
@@ -430,8 +428,8 @@ impl<D: Disk> SlotJournal<D> {
 
     // Moves on after a good call for the next record, to the phase that it answers.
     fn reach_phase(&mut self) -> Phase
-        requires busy { IsIdle self.old → ⊥ }
-        requires whole { HasFailed self.old → ⊥ }
+        requires busy { HasNoNext self.old → ⊥ }
+        requires whole { HasFaulted self.old → ⊥ }
         requires room { self.old.stage ≡ RecordStage.Waits → self.old.gate + 1 + length self.old.tail.items ≤ D.size self.old.current }
         ensures phase { ReachesPhase result self.old self.new }
         ensures current { self.new.current ≡ self.old.current }

@@ -2,12 +2,12 @@
 ghost use Rattle.std.specs.Prelude.{◌≡◌, ◌⊎◌, ◌+◌, ◌<◌, ◌≤◌, length, take, OnOk, IfOk, IfErr};
 ghost use Rattle.ide_disk.specs.Disk.{CrashLeaves, settled};
 ghost use Rattle.ide_disk.specs.Time.{failures_after};
-ghost use Rattle.ide_journal.specs.Moments.{LeavesNoMore, LeavesOnly, OnlyLooks};
+ghost use Rattle.ide_journal.specs.Moments.{LeavesNoMore, OnlyLooks};
 ghost use Rattle.ide_journal.specs.Opening.{CutsBehind, LeavesFront};
 ghost use Rattle.ide_journal.specs.Refusals.{CountsFaults, RunsOn};
 ghost use Rattle.ide_slots.specs.Loading.{slot_of};
 ghost use Rattle.ide_slots.specs.Slot.{slot_count};
-ghost use Rattle.ide_slot_journal.specs.Opening.{CountsFaultsOfTwo, IsChoosingRefusal, IsChosenWith, IsLookRefusal, IsReadFrom, IsRecoveredSlot, IsWholeSlot, LeftOrCut, RefusesRead, now_of};
+ghost use Rattle.ide_slot_journal.specs.Opening.{CountsFaultsOfTwo, IsAllSynced, IsChoosingRefusal, IsChosenWith, IsLookRefusal, IsReadFrom, IsRecoveredSlot, IsWholeSlot, LeavesCut, RefusesRead, now_of};
 
 use ide_disk::{DeviceFault, Disk};
 use ide_slots::{LoadedSlot, Side, choose_slot, read_head, read_slot};
@@ -132,9 +132,9 @@ fn load<D: Disk>(alloc: Global, disk: &mut D) -> Result<LoadedSlot, Refused>
 pub(crate) fn recover<D: Disk>(alloc: Global, disk: &mut D) -> Result<LoadedSlot, Refused>
     ensures whole { IfOk result IsWholeSlot }
     ensures inside { IfOk result (λ slot. slot.gate < D.size disk.new) }
-    ensures recovered { D.honest disk.old → D.state disk.old ≡ settled (D.state disk.old).now → IfOk result (IsRecoveredSlot D.Disk disk.old disk.new) }
+    ensures recovered { D.honest disk.old → IsAllSynced D.Disk disk.old → IfOk result (IsRecoveredSlot D.Disk disk.old disk.new) }
     ensures honest { D.honest disk.old → D.honest disk.new }
-    ensures any_moment { D.honest disk.old → D.state disk.old ≡ settled (D.state disk.old).now → LeavesOnly D.Disk disk.old disk.new (LeftOrCut (D.state disk.old)) }
+    ensures any_moment { D.honest disk.old → IsAllSynced D.Disk disk.old → LeavesCut D.Disk disk.old disk.new }
     ensures failures { CountsFaults D.Disk result disk.old disk.new }
     ensures refused { D.honest disk.old → IfErr result (RefusesRead (D.state disk.old).now) }
 {
