@@ -11,13 +11,17 @@ use std::process::Abort;
 use std::test::Fail;
 
 /// A new disk.
-fn disk(alloc: Global) -> Result<MemDisk, Fail> {
+pub(crate) fn disk(alloc: Global) -> Result<MemDisk, Fail> {
     let disk = MemDisk::new(alloc, 30000, 60000)?;
     Ok(disk)
 }
 
 /// A new store with tag 1.
-fn create(alloc: Global, a: MemDisk, b: MemDisk) -> Result<SlotJournal<MemDisk>, Refused> {
+pub(crate) fn create(
+    alloc: Global,
+    a: MemDisk,
+    b: MemDisk,
+) -> Result<SlotJournal<MemDisk>, Refused> {
     match SlotJournal::create(alloc, a, b, 1) {
         Ok(journal) => Ok(journal),
         Err((refused, _, _)) => Err(refused),
@@ -25,7 +29,7 @@ fn create(alloc: Global, a: MemDisk, b: MemDisk) -> Result<SlotJournal<MemDisk>,
 }
 
 /// A record.
-fn record(alloc: Global, kind: u8, body: &[u8]) -> Result<RawRecord, Fail>
+pub(crate) fn record(alloc: Global, kind: u8, body: &[u8]) -> Result<RawRecord, Fail>
     ensures kind { IfOk result (λ raw. raw.kind ≡ kind) }
     ensures body { IfOk result (λ raw. raw.body.items ≡ body.now) }
 {
@@ -58,7 +62,10 @@ fn store(
 }
 
 /// A checkpoint of three records, with two commands and one part, is planned.
-fn plan(rt: &(impl Abort + AllocGlobal), journal: &mut SlotJournal<MemDisk>) -> Result<(), Fail> {
+pub(crate) fn plan(
+    rt: &(impl Abort + AllocGlobal),
+    journal: &mut SlotJournal<MemDisk>,
+) -> Result<(), Fail> {
     let alloc = rt.alloc();
     assert!(rt; journal.is_idle());
     assert!(rt; journal.count() == 3);

@@ -5,3 +5,5 @@
 
 #[cfg(test)]
 mod journal;
+#[cfg(test)]
+mod stops;
