@@ -1,0 +1,84 @@
+use Rattle.std.proofs.Common.{arith, sym, ap, ◌∙◌, ◌≡◌, ◌<◌, ◌+◌, ◌-◌, refl, length, get_or, vec_len}
+use Rattle.std.specs.Prelude.{slice_index}
+use Rattle.std.proofs.lemmas.List.{get_or_default}
+use Rattle.ide_image.specs.Queue.{is_held, is_pending_mark, is_waiting, one_if}
+use Rattle.ide_image.proofs.Stack.{last-there, off-counts, off-says, off-stacked}
+use Rattle.ide_image.proofs.queue.take_off.Goals as goal
+
+pub swap_remove-requires : goal.swap_remove-requires
+swap_remove-requires c =
+    let within = c.requires.stacked.within c.args.position c.args.slot c.requires.at in
+    omega (arith, within, c.args.stack.now.ok)
+
+pub index_mut-requires : goal.index_mut-requires
+index_mut-requires c =
+    let stack = c.args.stack.now.items in
+    let within = c.requires.stacked.within c.args.position c.args.slot c.requires.at in
+    let end : c.len.result - 1 ≡ length stack - 1 = omega (arith, c.len.ensures, c.args.stack.now.ok) in
+    let less : length stack - 1 < length stack = omega (arith, within) in
+    let tops = c.index-last.ensures ∙ ap (λ k. get_or stack k c.index-last.result.now) end ∙ get_or_default stack (length stack - 1) c.index-last.result.now 0 less in
+    let there = last-there c.args.marks.now.items stack c.args.slot c.args.position c.index-last.result.now c.args.mark c.requires.at c.requires.stacked tops in
+    omega (arith, there, c.args.marks.now.ok)
+
+pub returns-clause-stacked : goal.returns-clause-stacked
+returns-clause-stacked c =
+    let stack = c.args.stack.now.items in
+    let within = c.requires.stacked.within c.args.position c.args.slot c.requires.at in
+    let end : c.len.result - 1 ≡ length stack - 1 = omega (arith, c.len.ensures, c.args.stack.now.ok) in
+    let less : length stack - 1 < length stack = omega (arith, within) in
+    let tops = c.index-last.ensures ∙ ap (λ k. get_or stack k c.index-last.result.now) end ∙ get_or_default stack (length stack - 1) c.index-last.result.now 0 less in
+    let long : length c.swap_remove.new.self.items + 1 ≡ length stack = omega (arith, c.swap_remove.ensures.len, c.args.stack.now.ok, c.swap_remove.new.self.ok) in
+    let same : vec_len c.args.stack.now ≡ length stack = omega (arith, c.args.stack.now.ok) in
+    off-stacked c.args.marks.now.items stack c.args.slot c.args.position c.index-last.result.now c.args.mark c.requires.at c.requires.stacked tops
+    c.swap_remove.new.self.items c.requires.off long
+    (λ more. c.swap_remove.ensures.by_index.0 0 (omega (arith, more, same)) ∙ ap (λ k. slice_index stack (k - 1)) same)
+    (λ n ne more. c.swap_remove.ensures.by_index.1 n 0 ne (omega (arith, more, same)))
+
+pub returns-clause-pending : goal.returns-clause-pending
+returns-clause-pending c =
+    let stack = c.args.stack.now.items in
+    let within = c.requires.stacked.within c.args.position c.args.slot c.requires.at in
+    let end : c.len.result - 1 ≡ length stack - 1 = omega (arith, c.len.ensures, c.args.stack.now.ok) in
+    let less : length stack - 1 < length stack = omega (arith, within) in
+    let tops = c.index-last.ensures ∙ ap (λ k. get_or stack k c.index-last.result.now) end ∙ get_or_default stack (length stack - 1) c.index-last.result.now 0 less in
+    off-says c.args.marks.now.items stack c.args.slot c.args.position c.index-last.result.now c.args.mark c.requires.at c.requires.stacked tops is_pending_mark refl
+
+pub returns-clause-held : goal.returns-clause-held
+returns-clause-held c =
+    let stack = c.args.stack.now.items in
+    let within = c.requires.stacked.within c.args.position c.args.slot c.requires.at in
+    let end : c.len.result - 1 ≡ length stack - 1 = omega (arith, c.len.ensures, c.args.stack.now.ok) in
+    let less : length stack - 1 < length stack = omega (arith, within) in
+    let tops = c.index-last.ensures ∙ ap (λ k. get_or stack k c.index-last.result.now) end ∙ get_or_default stack (length stack - 1) c.index-last.result.now 0 less in
+    off-says c.args.marks.now.items stack c.args.slot c.args.position c.index-last.result.now c.args.mark c.requires.at c.requires.stacked tops is_held refl
+
+pub returns-clause-pending_count : goal.returns-clause-pending_count
+returns-clause-pending_count c =
+    let stack = c.args.stack.now.items in
+    let within = c.requires.stacked.within c.args.position c.args.slot c.requires.at in
+    let end : c.len.result - 1 ≡ length stack - 1 = omega (arith, c.len.ensures, c.args.stack.now.ok) in
+    let less : length stack - 1 < length stack = omega (arith, within) in
+    let tops = c.index-last.ensures ∙ ap (λ k. get_or stack k c.index-last.result.now) end ∙ get_or_default stack (length stack - 1) c.index-last.result.now 0 less in
+    off-counts c.args.marks.now.items stack c.args.slot c.args.position c.index-last.result.now c.args.mark c.requires.at c.requires.stacked tops (λ m. one_if (is_pending_mark m)) refl
+
+pub returns-clause-waiting : goal.returns-clause-waiting
+returns-clause-waiting c =
+    let stack = c.args.stack.now.items in
+    let within = c.requires.stacked.within c.args.position c.args.slot c.requires.at in
+    let end : c.len.result - 1 ≡ length stack - 1 = omega (arith, c.len.ensures, c.args.stack.now.ok) in
+    let less : length stack - 1 < length stack = omega (arith, within) in
+    let tops = c.index-last.ensures ∙ ap (λ k. get_or stack k c.index-last.result.now) end ∙ get_or_default stack (length stack - 1) c.index-last.result.now 0 less in
+    let counts = off-counts c.args.marks.now.items stack c.args.slot c.args.position c.index-last.result.now c.args.mark c.requires.at c.requires.stacked tops (λ m. one_if (is_waiting m)) refl in
+    let off : one_if (is_waiting c.args.mark) ≡ 0 = ap one_if c.requires.off in
+    let long : length c.swap_remove.new.self.items + 1 ≡ length stack = omega (arith, c.swap_remove.ensures.len, c.args.stack.now.ok, c.swap_remove.new.self.ok) in
+    omega (arith, counts, off, long, c.requires.counted)
+
+pub returns-clause-held_count : goal.returns-clause-held_count
+returns-clause-held_count c =
+    let stack = c.args.stack.now.items in
+    let within = c.requires.stacked.within c.args.position c.args.slot c.requires.at in
+    let end : c.len.result - 1 ≡ length stack - 1 = omega (arith, c.len.ensures, c.args.stack.now.ok) in
+    let less : length stack - 1 < length stack = omega (arith, within) in
+    let tops = c.index-last.ensures ∙ ap (λ k. get_or stack k c.index-last.result.now) end ∙ get_or_default stack (length stack - 1) c.index-last.result.now 0 less in
+    let counts = off-counts c.args.marks.now.items stack c.args.slot c.args.position c.index-last.result.now c.args.mark c.requires.at c.requires.stacked tops (λ m. one_if (is_held m)) refl in
+    omega (arith, counts)

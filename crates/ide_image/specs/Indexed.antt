@@ -1,0 +1,37 @@
+-- What contracts say of entries in the order in which their keys came, and of where each stands.
+use Rattle.std.specs.Prelude.{◌≡◌, ℕ, ◌+◌, ◌-◌, ◌<◌, ◌≤◌, ◌^◌, length, min, Some}
+use Rattle.std.specs.List.{IsDistinct}
+use Rattle.std.specs.Map.{keys_of}
+use Rattle.ide_pages.specs.Pages.{Numbers, cell_of}
+use Rattle.ide_tables.specs.Tables.{Table, place_in}
+use Rattle.ide_wire.specs.Key.{same_key}
+use Rattle.ide_wire.specs.declared.key.Key.{Key}
+
+-- the entries as a table, the cells of the keys, and for how many more entries there is room
+pub record Indexed (F : Type 0) : Type 0 where
+  pub table : Table F
+  pub places : Numbers
+  pub room : ℕ
+
+-- how many more there is room for, in two columns of these lengths and capacities
+abbrev pub room_of : (len capacity node_len node_capacity : ℕ) → ℕ
+room_of len capacity node_len node_capacity = min (capacity - len) (node_capacity - node_len)
+
+module _ {F : Type 0} where
+  -- one more than the index of the key's entry: 0, if it has none
+  abbrev pub place_of : Indexed F → Key → ℕ
+  place_of indexed key = place_in key indexed.table.entries
+
+  -- no two entries are of one key
+  abbrev pub HasDistinctKeys : Indexed F → Type 0
+  HasDistinctKeys indexed = IsDistinct same_key (keys_of indexed.table.entries)
+
+  -- there is room for so many more entries
+  pub record MayTake (count : ℕ) (indexed : Indexed F) : Type 0 where
+    pub free : count ≤ indexed.room
+    pub few : length indexed.table.entries + count < 2 ^ 32
+
+  -- the cell is the key's, and the place is that of its entry
+  pub record IsSpot (indexed : Indexed F) (key : Key) (cell place : ℕ) : Type 0 where
+    pub has_cell : cell_of indexed.places key ≡ Some cell
+    pub stands : place ≡ place_of indexed key

@@ -1,0 +1,4 @@
+pub mod Changes
+pub mod Indexed
+pub mod Notes
+pub mod Queue

@@ -1,0 +1,238 @@
+//! Entries in the order in which their keys came, and where each stands.
+ghost use Rattle.std.specs.Prelude.{◌≡◌, ◌≢◌, ℕ, ◌+◌, ◌-◌, ◌<◌, ◌≤◌, ◌^◌, ◌↔◌, [], None, Some, length, map, slice_get, IfOk, IfSome, IfNone, OnOk, OnErr, IsOkUnless, vec_capacity, vec_len};
+ghost use Rattle.std.specs.List.{IsDistinct};
+ghost use Rattle.std.specs.Map.{keys_of, lookup};
+ghost use Rattle.ide_pages.specs.Pages.{KeepsCells, cell_of};
+ghost use Rattle.ide_wire.specs.declared.key.Key.{Key};
+ghost use Rattle.ide_wire.specs.declared.refused.Refused.TheVariants.{NoMemory};
+ghost use Rattle.ide_wire.specs.Key.{same_key};
+ghost use Rattle.ide_wire.specs.KeyOrder.{key_cmp};
+ghost use Rattle.ide_tables.specs.Tables.{AreJumpsTo, AreKeys, AreSummariesFrom, HaveCells, IsIndexed, found, nodes_of, or_top, partner_at, place_in, with_entry};
+ghost use Rattle.ide_image.specs.Indexed.{HasDistinctKeys, IsSpot, MayTake, place_of};
+
+use ide_lattice::EdgeFn;
+use ide_pages::Pages;
+use ide_wire::{Fact, Key, Node, Refused};
+use std::alloc::{AllocError, Global};
+use std::marker::Model;
+
+/// The most entries: the last has this number as its place.
+const MOST_ENTRIES: usize = 4_294_967_295;
+
+/// A finite map from keys to functions, where the function of each present key has an index that
+/// stays.
+#[derive(Drop)]
+pub(crate) struct Indexed<F: EdgeFn> {
+    entries: Vec<(Key, F)>,
+    /// The node of each entry's key: a walk over some nodes reads these, and the entries there alone.
+    nodes: Vec<Node>,
+    /// For each key one more than the index of its entry.
+    places: Pages,
+}
+
+/// Where a key stands: its cell, and one more than the index of its entry, or 0 where it has none.
+#[derive(Clone, Copy, Debug)]
+pub(crate) struct Spot {
+    pub(crate) cell: usize,
+    pub(crate) place: u32,
+}
+
+impl<F: EdgeFn> Model for Indexed<F> {
+    ghost use Rattle.std.specs.Prelude.{vec_capacity, vec_len};
+    ghost use Rattle.ide_tables.specs.Tables.{IsIndexed};
+    ghost use Rattle.ide_image.specs.Indexed.{Indexed, room_of};
+
+    ghost Value = { Indexed F };
+
+    ghost view = { λ t. record { table = record { entries = t.entries.items }; places = t.places; room = room_of (vec_len t.entries) (vec_capacity t.entries) (vec_len t.nodes) (vec_capacity t.nodes) } };
+
+    ghost invariant = { λ t. IsIndexed t.places t.nodes.items t.entries.items };
+}
+
+impl<F: EdgeFn> Indexed<F> {
+    /// A map with no present key. It allocates nothing.
+    pub(crate) fn new(alloc: Global) -> Self
+        ensures entries { result.table.entries ≡ [] }
+    {
+        Indexed {
+            entries: Vec::new(alloc),
+            nodes: Vec::new(alloc),
+            places: Pages::new(alloc),
+        }
+    }
+
+    /// One more than the index of the key's entry, or 0 where it has none. One look-up.
+    pub(crate) fn place(&self, key: Key) -> u32
+        ensures place { result ≡ place_of self.now key }
+        ensures within { result ≤ length self.now.table.entries }
+        ensures absent { result ≡ 0 → found self.now.table key ≡ None }
+    {
+        self.places.number(key)
+    }
+
+    /// The function of the entry at a place, if it is one. No look-up.
+    pub(crate) fn function_at(&self, place: u32) -> Option<F>
+        ensures { (key : Key) → place ≡ place_of self.now key → result ≡ found self.now.table key }
+    {
+        if place == 0 {
+            return None;
+        }
+        match entry_at(&self.entries, place as usize - 1) {
+            Some(entry) => Some(entry.1),
+            None => None,
+        }
+    }
+
+    /// How many keys are present.
+    pub(crate) fn len(&self) -> usize
+        ensures count { result ≡ length self.now.table.entries }
+        ensures distinct { HasDistinctKeys self.now }
+    {
+        self.entries.len()
+    }
+
+    /// The entry at an index.
+    pub(crate) fn entry_at(&self, index: usize) -> Option<(Key, F)>
+        ensures entry { result ≡ slice_get self.now.table.entries index }
+        ensures end { (result ≡ None) ↔ (length self.now.table.entries ≤ index) }
+        ensures present { IfSome result (λ entry. found self.now.table entry.0 ≡ Some entry.1) }
+        ensures place { IfSome result (λ entry. place_of self.now entry.0 ≡ index + 1) }
+    {
+        entry_at(&self.entries, index)
+    }
+
+    /// The node of each entry's key, in the order of the entries.
+    pub(crate) fn nodes(&self) -> &[Node]
+        ensures nodes { result.now ≡ nodes_of self.now.table.entries }
+        ensures distinct { HasDistinctKeys self.now }
+    {
+        &self.nodes
+    }
+
+    /// The present keys, ascending.
+    pub(crate) fn keys(&self, alloc: Global) -> Result<Vec<Key>, Refused>
+        ensures keys { IfOk result (λ keys. AreKeys key_cmp self.now.table keys.items) }
+        ensures refused { IsOkUnless result NoMemory }
+    {
+        let mut keys = keys_of(alloc, &self.entries)?;
+        keys.sort_unstable();
+        Ok(keys)
+    }
+
+    /// The jumps at the node to the fact. It takes a look-up for each.
+    pub(crate) fn jumps_at(
+        &self,
+        alloc: Global,
+        node: Node,
+        fact: Fact,
+    ) -> Result<Vec<(Fact, F)>, Refused>
+        ensures partners { IfOk result (λ list. AreJumpsTo node fact self.now.table list.items) }
+        ensures refused { IsOkUnless result NoMemory }
+    {
+        let row = self.places.jumps_to(alloc, node, fact)?;
+        let partners = partners_of(alloc, &self.entries, &row)?;
+        Ok(partners)
+    }
+
+    /// The summaries at the call node from the fact. It takes a look-up for each.
+    pub(crate) fn summaries_at(
+        &self,
+        alloc: Global,
+        call: Node,
+        fact: Fact,
+    ) -> Result<Vec<(Fact, F)>, Refused>
+        ensures partners { IfOk result (λ list. AreSummariesFrom call fact self.now.table list.items) }
+        ensures refused { IsOkUnless result NoMemory }
+    {
+        let row = self.places.summaries_from(alloc, call, fact)?;
+        let partners = partners_of(alloc, &self.entries, &row)?;
+        Ok(partners)
+    }
+
+    /// Where the key stands, for which there is a cell then. One look-up.
+    pub(crate) fn spot(&mut self, key: Key) -> Result<Spot, Refused>
+        ensures spot { IfOk result (λ spot. IsSpot self.new key spot.cell spot.place) }
+        ensures table { self.new.table ≡ self.old.table }
+        ensures room { self.new.room ≡ self.old.room }
+        ensures cells { KeepsCells self.old.places self.new.places }
+        ensures refused { IsOkUnless result NoMemory }
+    {
+        let cell = self.places.make_room(key)?;
+        let place = self.places.number_in(cell);
+        Ok(Spot { cell, place })
+    }
+
+    /// Makes room for so many more entries.
+    pub(crate) fn reserve(&mut self, additional: usize) -> Result<(), AllocError>
+        ensures table { self.new.table ≡ self.old.table }
+        ensures places { self.new.places ≡ self.old.places }
+        ensures room { OnOk result (MayTake additional self.new) }
+    {
+        self.entries.reserve(additional)?;
+        self.nodes.reserve(additional)?;
+        if self.entries.len() > MOST_ENTRIES || additional > MOST_ENTRIES - self.entries.len() {
+            return Err(AllocError);
+        }
+        Ok(())
+    }
+
+    /// Makes the function that of the key, which stands there, and answers the index of its entry. No
+    /// look-up.
+    pub(crate) fn put(&mut self, spot: Spot, key: Key, function: F) -> usize
+        requires spot { IsSpot self.old key spot.cell spot.place }
+        requires room { MayTake 1 self.old }
+        ensures entries { self.new.table.entries ≡ with_entry self.old.table.entries key function }
+        ensures index { result + 1 ≡ place_in key (with_entry self.old.table.entries key function) }
+        ensures distinct { HasDistinctKeys self.old }
+        ensures cells { KeepsCells self.old.places self.new.places }
+        ensures room { (n : ℕ) → MayTake (n + 1) self.old → MayTake n self.new }
+    {
+        if spot.place != 0 {
+            let index = spot.place as usize - 1;
+            self.entries[index] = (key, function);
+            return index;
+        }
+        let index = self.entries.len();
+        self.entries.push_reserved((key, function));
+        self.nodes.push_reserved(key.node());
+        self.places.set(spot.cell, key, self.entries.len() as u32);
+        index
+    }
+}
+
+/// The entry at an index.
+fn entry_at<F: EdgeFn>(entries: &[(Key, F)], index: usize) -> Option<(Key, F)>
+    ensures { result ≡ slice_get entries.now index }
+{
+    entries.get(index).copied()
+}
+
+/// The keys, in the order of the entries.
+fn keys_of<F: EdgeFn>(alloc: Global, entries: &[(Key, F)]) -> Result<Vec<Key>, AllocError>
+    ensures { IfOk result (λ keys. keys.items ≡ keys_of entries.now) }
+{
+    entries.iter().map(|entry| entry.0).collect(alloc)
+}
+
+/// The facts of a row, each with the function at its place.
+fn partners_of<F: EdgeFn>(
+    alloc: Global,
+    entries: &[(Key, F)],
+    row: &[(Fact, u32)],
+) -> Result<Vec<(Fact, F)>, AllocError>
+    ensures { IfOk result (λ partners. partners.items ≡ map (partner_at F.edge.all_top entries.now) row.now) }
+{
+    row.iter()
+        .map(|listed| partner_at(entries, *listed))
+        .collect(alloc)
+}
+
+/// A fact of a row with the function at its place.
+fn partner_at<F: EdgeFn>(entries: &[(Key, F)], listed: (Fact, u32)) -> (Fact, F)
+    ensures { result ≡ partner_at F.edge.all_top entries.now listed }
+{
+    match entry_at(entries, (listed.1 as usize).saturating_sub(1)) {
+        Some(entry) => (listed.0, entry.1),
+        None => (listed.0, F::all_top()),
+    }
+}

@@ -1,0 +1,10 @@
+//! What an image has at each key: its function, whether it is pending, the claim of a hand on it, and
+//! the entry that it had when changes were last asked for.
+#![tactic(auto)]
+
+mod changes;
+mod entry;
+mod indexed;
+mod queue;
+
+pub use entry::Entry;
