@@ -1,2 +1,5 @@
+pub mod Agree
+pub mod Before
+pub mod Marked
 pub mod Spots
 pub mod Stack

@@ -9,10 +9,16 @@ use Rattle.ide_wire.specs.declared.key.Key.{Key}
 use Rattle.ide_wire.specs.Key.{same_key, same_key_refl, same_key_symm}
 use Rattle.ide_tables.specs.Tables.{behind, place_in, with_entry}
 use Rattle.ide_tables.proofs.Places.{place-put, place_then}
+use Rattle.ide_tables.proofs.Falls.{count-with}
+use Rattle.std.specs.Option.{is_some}
 
 behind-few : (p count : ℕ) → p ≤ count → behind p ≤ suc count
 behind-few zero count few = omega arith
 behind-few (suc p) count few = omega (arith, few)
+
+no-more : (b : Bool) → cond b 0 1 ≤ 1
+no-more true = omega arith
+no-more false = omega arith
 
 module _ {F : Type 0} where
   -- no key stands behind the last entry
@@ -58,3 +64,13 @@ module _ {F : Type 0} where
   spot-last key es f is =
       let up : length es + 1 ≡ suc (length es) = omega arith in
       up ∙ sym (place-put key es key f ∙ ap (λ b. cond b (place_then (place_in key es) (length es)) (place_in key es)) (same_key_refl key) ∙ ap (λ p. place_then p (length es)) is)
+
+  -- one entry more at most
+  pub put-few : (key : Key) (es : List (Key × F)) (f : F) → length (with_entry es key f) ≤ length es + 1
+  put-few key es f = let count = count-with key f es in omega (arith, count, no-more (is_some (lookup (same_key key) es)))
+
+  pub slot-few : (key : Key) (es : List (Key × F)) (f : F) (slot : ℕ) → slot + 1 ≡ place_in key (with_entry es key f) → slot < length es + 1
+  slot-few key es f slot is =
+      let few = place-few key (with_entry es key f) in
+      let one = put-few key es f in
+      omega (arith, is, few, one)

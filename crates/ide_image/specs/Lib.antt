@@ -1,4 +1,5 @@
 pub mod Changes
+pub mod Entries
 pub mod Indexed
 pub mod Notes
 pub mod Queue

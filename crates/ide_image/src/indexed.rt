@@ -7,7 +7,7 @@ ghost use Rattle.ide_wire.specs.declared.key.Key.{Key};
 ghost use Rattle.ide_wire.specs.declared.refused.Refused.TheVariants.{NoMemory};
 ghost use Rattle.ide_wire.specs.Key.{same_key};
 ghost use Rattle.ide_wire.specs.KeyOrder.{key_cmp};
-ghost use Rattle.ide_tables.specs.Tables.{AreJumpsTo, AreKeys, AreSummariesFrom, HaveCells, IsIndexed, found, nodes_of, or_top, partner_at, place_in, with_entry};
+ghost use Rattle.ide_tables.specs.Tables.{AreJumpsTo, AreKeys, AreSummariesFrom, HaveCells, IsIndexed, found, function_at, nodes_of, or_top, partner_at, place_in, with_entry};
 ghost use Rattle.ide_image.specs.Indexed.{HasDistinctKeys, IsSpot, MayTake, place_of};
 
 use ide_lattice::EdgeFn;
@@ -80,6 +80,16 @@ impl<F: EdgeFn> Indexed<F> {
         match entry_at(&self.entries, place as usize - 1) {
             Some(entry) => Some(entry.1),
             None => None,
+        }
+    }
+
+    /// The same, where no entry stands for the function that always gives top.
+    pub(crate) fn function_in(&self, place: u32) -> F
+        ensures { (key : Key) → place ≡ place_of self.now key → result ≡ function_at F.edge self.now.table key }
+    {
+        match self.function_at(place) {
+            Some(function) => function,
+            None => F::all_top(),
         }
     }
 

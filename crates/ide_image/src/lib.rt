@@ -3,8 +3,12 @@
 #![tactic(auto)]
 
 mod changes;
+mod claims;
+mod entries;
 mod entry;
 mod indexed;
+mod parts;
 mod queue;
 
+pub use entries::Entries;
 pub use entry::Entry;

@@ -145,6 +145,21 @@ impl Queue {
         }
     }
 
+    /// Makes the slot, which no hand has claimed, pending or settled.
+    pub(crate) fn set_pending(&mut self, slot: usize, pending: bool)
+        requires there { slot < length self.old.list }
+        requires room { 0 < self.old.spare }
+        requires free { held_at self.old.list slot ≡ false }
+        ensures pending { SetsMark slot pending (pending_at self.old.list) (pending_at self.new.list) }
+        ensures held { SameMarks (held_at self.old.list) (held_at self.new.list) }
+    {
+        if pending {
+            self.push(slot);
+        } else {
+            self.settle(slot);
+        }
+    }
+
     /// Gives the slot, which waits, to a hand.
     pub(crate) fn hold(&mut self, slot: usize)
         requires waits { waiting_at self.old.list slot ≡ true }

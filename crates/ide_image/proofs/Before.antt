@@ -1,0 +1,197 @@
+-- What an image says once its parts grew, once a key was entered, and what a slot that waits says.
+use Rattle.std.proofs.Common.{◌≡◌, ℕ, zero, suc, ◌+◌, ◌<◌, ◌≤◌, refl, sym, ap, ◌∙◌, arith, List, [], ◌∷◌, length, Option, None, Some, Bool, true, false, cond}
+use Rattle.std.specs.Prelude.{◌&&◌, ◌||◌, ◌↔◌, nat_eq, not, unwrap_or}
+use Rattle.std.specs.Option.{is_some, option_map}
+use Rattle.std.proofs.lemmas.Bool.{eqb-true}
+use Rattle.std.specs.List.{list_any}
+use Rattle.ide_lattice.specs.Algebra.{EdgeAlgebra}
+use Rattle.ide_wire.specs.declared.key.Key.{Key}
+use Rattle.ide_wire.specs.Key.{same_key}
+use Rattle.ide_tables.specs.Tables.{Table, found, function_at, is_kept, lowered_by, place_in, with_entry}
+use Rattle.ide_worklist.specs.declared.claim.Claim.{Claim}
+use Rattle.ide_worklist.specs.Worklist.{ends, ends_key, is_claim_of, put_hand, with_done}
+use Rattle.ide_image.specs.declared.entry.Entry.{Entry}
+use Rattle.ide_image.specs.declared.queue.Mark.{Mark}
+use Rattle.ide_image.specs.declared.queue.Mark.TheVariants.{Settled, Waiting, Held}
+use Rattle.ide_image.specs.Changes.{Changes}
+use Rattle.ide_image.specs.Entries.{AreEntries, SameParts, at_place, entry_by, keys_where, pending_of}
+use Rattle.ide_image.specs.Indexed.{Indexed, place_of}
+use Rattle.ide_image.specs.Notes.{ended_key, noted, with_note}
+use Rattle.ide_image.specs.Queue.{Marks, held_at, is_held, is_pending_mark, is_waiting, mark_in, one_if, pending_at, pending_count, waiting_at}
+use Rattle.ide_image.proofs.Agree.{claim-done, is-pending, pending-long}
+use Rattle.ide_image.proofs.Marked.{at-same}
+use Rattle.ide_image.proofs.Stack.{pending-there}
+use Rattle.std.proofs.lemmas.Option.{same_Some}
+
+-- a place that is marked is of a slot
+pub at-some : (mark : ℕ → Bool) (place : ℕ) → at_place mark place ≡ true → 1 ≤ place
+at-some mark zero is = absurd (cc (is))
+at-some mark (suc n) is = omega arith
+
+-- a slot that waits is pending, and no hand has claimed it
+waiting-open : (m : Mark) → is_waiting m ≡ true → (is_pending_mark m ≡ true) × (is_held m ≡ false)
+waiting-open Settled is = absurd (cc (is))
+waiting-open (Waiting n) is = (refl, refl)
+waiting-open Held is = absurd (cc (is))
+
+pub waiting-is : (marks : List Mark) (slot : ℕ) → waiting_at marks slot ≡ true → (pending_at marks slot ≡ true) × (held_at marks slot ≡ false)
+waiting-is marks slot is = waiting-open (mark_in marks slot) is
+
+-- and a pending slot that does not wait is claimed
+open-held : (m : Mark) → is_waiting m ≡ false → is_pending_mark m ≡ true → is_held m ≡ true
+open-held Settled is also = absurd (cc (also))
+open-held (Waiting n) is also = absurd (cc (is))
+open-held Held is also = refl
+
+pub held-is : (marks : List Mark) (slot : ℕ) → waiting_at marks slot ≡ false → pending_at marks slot ≡ true → held_at marks slot ≡ true
+held-is marks slot = open-held (mark_in marks slot)
+
+pub waits-is : (m : Mark) → is_pending_mark m ≡ true → is_held m ≡ false → is_waiting m ≡ true
+waits-is Settled is free = absurd (cc (is))
+waits-is (Waiting n) is free = refl
+waits-is Held is free = absurd (cc (free))
+
+-- a slot that a hand has claimed is pending
+held-open : (m : Mark) → is_held m ≡ true → is_pending_mark m ≡ true
+held-open Settled is = absurd (cc (is))
+held-open (Waiting n) is = refl
+held-open Held is = refl
+
+pub held-there : (marks : List Mark) (slot : ℕ) → held_at marks slot ≡ true → slot < length marks
+held-there marks slot is = pending-there marks slot (held-open (mark_in marks slot) is)
+
+pub at-open : (marks : List Mark) (place : ℕ) → at_place (held_at marks) place ≡ true → at_place (pending_at marks) place ≡ true
+at-open marks zero is = is
+at-open marks (suc n) is = held-open (mark_in marks n) is
+
+-- the claim whose end takes the key out
+pub ended-claim : {T : Type 0} (o : Option (Claim T)) (key : Key) → ended_key o ≡ Some key → (c : Claim T) × (o ≡ Some c) × (c.key ≡ key) × (c.lowered ≡ false)
+ended-claim {T} None key is = absurd (cc (is))
+ended-claim {T} (Some c) key is =
+    elim c.lowered as (λ b. c.lowered ≡ b → cond b None (Some c.key) ≡ Some key → (d : Claim T) × (Some c ≡ Some d) × (d.key ≡ key) × (d.lowered ≡ false)) [
+      | true ↦ λ low no. absurd (cc (no))
+      | false ↦ λ high same. (c, refl, same_Some c.key key same, high)
+    ] refl is
+
+-- a claim whose end takes no key out
+pub kept-claim : {T : Type 0} (o : Option (Claim T)) (q : Key) → ended_key o ≡ None → ends o q ≡ false
+kept-claim None q is = refl
+kept-claim (Some c) q is =
+    elim c.lowered as (λ b. cond b None (Some c.key) ≡ None → (not b && same_key c.key q) ≡ false) [
+      | true ↦ λ _. refl
+      | false ↦ λ no. absurd (cc (no))
+    ] is
+
+pub kept-key : {T : Type 0} (o : Option (Claim T)) → ended_key o ≡ None → ends_key o ≡ false
+kept-key None is = refl
+kept-key (Some c) is =
+    elim c.lowered as (λ b. cond b None (Some c.key) ≡ None → not b ≡ false) [
+      | true ↦ λ _. refl
+      | false ↦ λ no. absurd (cc (no))
+    ] is
+
+pub ended-ends : {T : Type 0} (o : Option (Claim T)) (key q : Key) → ended_key o ≡ Some key → ends o q ≡ same_key key q
+ended-ends o key q is =
+    let claim = ended-claim o key is in
+    ap (λ c. ends c q) claim.1 ∙ ap (λ b. not b && same_key claim.0.key q) claim.3 ∙ ap (λ k. same_key k q) claim.2
+
+pub ended-out : {T : Type 0} (o : Option (Claim T)) (key : Key) → ended_key o ≡ Some key → ends_key o ≡ true
+ended-out o key is =
+    let claim = ended-claim o key is in
+    ap ends_key claim.1 ∙ ap not claim.3
+
+pub not-cond : (a b : Bool) → cond a false b ≡ (not a && b)
+not-cond true b = refl
+not-cond false b = refl
+
+-- a place whose slot is held, where each pending one is
+pub at-held : (marks : List Mark) (place : ℕ) → ((n : ℕ) → waiting_at marks n ≡ false) → at_place (pending_at marks) place ≡ true → at_place (held_at marks) place ≡ true
+at-held marks zero none is = is
+at-held marks (suc n) none is = held-is marks n (none n) is
+
+count-one : (a b : ℕ) (there : Bool) → a + one_if there ≡ b + 1 → a ≡ b + cond there 0 1
+count-one a b true is = omega (arith, is)
+count-one a b false is = omega (arith, is)
+
+-- a list is empty where it has no length
+pub quiet : {X : Type 0} (xs : List X) (n : ℕ) → n ≡ length xs → (n ≡ 0) ↔ (xs ≡ [])
+quiet [] n is = (λ _. refl, λ _. is)
+quiet (x ∷ xs) n is = (λ zero. absurd (omega (arith, is, zero)), λ none. absurd (cc (none)))
+
+-- what is put in a hand's place where nothing was, and nothing is, changes nothing
+pub put-none : {T : Type 0} (claims : ℕ → Option (Claim T)) (hand : ℕ) → claims hand ≡ None → (h : ℕ) → claims h ≡ put_hand claims hand None h
+put-none claims hand none h = by-case (nat_eq hand h) refl
+  where
+    by-case : (b : Bool) → nat_eq hand h ≡ b → claims h ≡ cond b None (claims h)
+    by-case true same = ap claims (sym (eqb-true hand h same)) ∙ none
+    by-case false other = refl
+
+-- a claim whose parts are counted is of the key that it was of
+pub claim-put-done : {T : Type 0} (claims : ℕ → Option (Claim T)) (hand count h : ℕ) (q : Key)
+    → is_claim_of q (put_hand claims hand (with_done count (claims hand)) h) ≡ is_claim_of q (claims h)
+claim-put-done claims hand count h q =
+    elim (nat_eq hand h) as (λ b. nat_eq hand h ≡ b → is_claim_of q (cond b (with_done count (claims hand)) (claims h)) ≡ is_claim_of q (claims h)) [
+      | true ↦ λ same. claim-done count q (claims hand) ∙ ap (λ j. is_claim_of q (claims j)) (eqb-true hand h same)
+      | false ↦ λ other. refl
+    ] refl
+
+-- notes that begin anew hold nothing
+pub anew-empty : {F : Type 0} (list : Option (List (Key × Entry F))) → unwrap_or {T = List (Key × Entry F)} (option_map (λ _. []) list) [] ≡ []
+anew-empty None = refl
+anew-empty (Some list) = refl
+
+pub anew-none : {F : Type 0} (list : Option (List (Key × Entry F))) (key : Key) → is_some (noted {F = F} (option_map (λ _. []) list) key) ≡ false
+anew-none None key = refl
+anew-none (Some list) key = refl
+
+-- whether the meet of what stands is kept
+pub kept-is : {F L : Type 0} (B : EdgeAlgebra F L) (eq : F → F → Bool) (table : Table F) (key : Key) (f old new : F) (b : Bool)
+    → old ≡ function_at B table key → new ≡ B.meet old f → eq new old ≡ b → is_kept eq B table key f ≡ b
+kept-is B eq table key f old new b stands met same =
+    let is : new ≡ lowered_by B table key f = met ∙ ap (λ g. B.meet g f) stands in
+    sym (ap (λ g. eq g old) is ∙ ap (eq (lowered_by B table key f)) stands) ∙ same
+
+module _ {F T : Type 0} (indexed grown : Indexed F) (marks more : Marks) (claims : List (Option (Claim T))) (changes ready : Changes F) (w : AreEntries indexed marks claims changes) (same : SameParts indexed grown marks more changes ready) where
+  pub pending-before : (q : Key) → pending_of grown more q ≡ list_any (same_key q) (keys_where (pending_at marks.list) indexed.table.entries)
+  pending-before q =
+      at-same (pending_at marks.list) (pending_at more.list) (place_of grown q) same.pending
+      ∙ ap (λ (t : Table F). at_place (pending_at marks.list) (place_in q t.entries)) same.table
+      ∙ sym (is-pending indexed marks claims changes w q)
+
+  pub entry-before : (key : Key) → entry_by grown more key ≡ record { function = found indexed.table key; pending = list_any (same_key key) (keys_where (pending_at marks.list) indexed.table.entries) }
+  entry-before key =
+      let function : found grown.table key ≡ found indexed.table key = ap (λ (t : Table F). found t key) same.table in
+      let pending = pending-before key in
+      cc (function, pending)
+
+  pub note-before : (key : Key) (list : Option (List (Key × Entry F))) → list ≡ with_note ready.list key (entry_by grown more key)
+      → list ≡ with_note changes.list key (record { function = found indexed.table key; pending = list_any (same_key key) (keys_where (pending_at marks.list) indexed.table.entries) })
+  note-before key list is = is ∙ ap (λ l. with_note l key (entry_by grown more key)) same.list ∙ ap (with_note changes.list key) (entry-before key)
+
+  pub entries-before : (key : Key) (f : F) (es : List (Key × F)) → es ≡ with_entry grown.table.entries key f → es ≡ with_entry indexed.table.entries key f
+  entries-before key f es is = is ∙ ap (λ (t : Table F). with_entry t.entries key f) same.table
+
+  module _ (after : Indexed F) (marks_after : Marks) (claims_after : List (Option (Claim T))) (changes_after : Changes F) (key : Key) (v : AreEntries after marks_after claims_after changes_after) where
+    pub pending-then : ((q : Key) → pending_of after marks_after q ≡ (same_key key q || pending_of grown more q))
+        → (q : Key) → list_any (same_key q) (keys_where (pending_at marks_after.list) after.table.entries)
+        ≡ (same_key key q || list_any (same_key q) (keys_where (pending_at marks.list) indexed.table.entries))
+    pending-then entered q =
+        is-pending after marks_after claims_after changes_after v q ∙ entered q ∙ ap (λ b. same_key key q || b) (pending-before q)
+
+    pub pending-set : (b : Bool) → ((q : Key) → pending_of after marks_after q ≡ cond (same_key key q) b (pending_of grown more q))
+        → (q : Key) → list_any (same_key q) (keys_where (pending_at marks_after.list) after.table.entries)
+        ≡ cond (same_key key q) b (list_any (same_key q) (keys_where (pending_at marks.list) indexed.table.entries))
+    pending-set b set q =
+        is-pending after marks_after claims_after changes_after v q ∙ set q ∙ ap (cond (same_key key q) b) (pending-before q)
+
+    pub count-then : pending_count more.list ≡ pending_count marks.list
+        → pending_count marks_after.list + one_if (pending_of grown more key) ≡ pending_count more.list + 1
+        → length (keys_where (pending_at marks_after.list) after.table.entries)
+        ≡ length (keys_where (pending_at marks.list) indexed.table.entries) + cond (list_any (same_key key) (keys_where (pending_at marks.list) indexed.table.entries)) 0 1
+    count-then still counted =
+        let here : one_if (pending_of grown more key) ≡ one_if (list_any (same_key key) (keys_where (pending_at marks.list) indexed.table.entries)) = ap one_if (pending-before key) in
+        let first = pending-long indexed marks claims changes w in
+        let last = pending-long after marks_after claims_after changes_after v in
+        count-one (length (keys_where (pending_at marks_after.list) after.table.entries)) (length (keys_where (pending_at marks.list) indexed.table.entries))
+        (list_any (same_key key) (keys_where (pending_at marks.list) indexed.table.entries))
+        (omega (arith, here, first, last, still, counted))

@@ -1,0 +1,160 @@
+-- The keys of the slots that are marked: which these are, how many, and what a mark or an entry more changes.
+use Rattle.std.proofs.Common.{◌≡◌, ℕ, zero, suc, ◌+◌, ◌<◌, ◌≤◌, refl, sym, ap, subst, ◌∙◌, arith, List, [], ◌∷◌, length, Option, None, Some, Bool, true, false, cond, ⊎_elim}
+use Rattle.std.specs.Prelude.{◌≢◌, ◌||◌, nat_eq}
+use Rattle.std.specs.List.{AllByRecursion, IsDistinct, list_any}
+use Rattle.std.specs.Map.{keys_of}
+use Rattle.std.proofs.lemmas.Bool.{cases_Bool, cases_eq, both_ways, eq-eqb, eqb-true, ne_eqb}
+use Rattle.std.proofs.lemmas.Map.Keys.{IsDistinct-head, IsDistinct-tail}
+use Rattle.std.proofs.lemmas.List.Sums.{sum_by-cons}
+use Rattle.ide_wire.specs.declared.key.Key.{Key}
+use Rattle.ide_wire.specs.Key.{same_key, same_key_exact, same_key_refl, same_key_symm}
+use Rattle.ide_tables.specs.Tables.{behind, place_in, with_entry}
+use Rattle.ide_tables.proofs.Places.{place-put, place_then}
+use Rattle.ide_tables.proofs.Falls.{count-with}
+use Rattle.ide_image.specs.declared.queue.Mark.{Mark}
+use Rattle.ide_image.specs.declared.queue.Mark.TheVariants.{Settled, Waiting, Held}
+use Rattle.ide_image.specs.Entries.{Covers, at_place, keys_where}
+use Rattle.ide_image.specs.Queue.{SetsMark, is_pending_mark, mark_in, one_if, pending_at, pending_count}
+use Rattle.ide_image.proofs.Spots.{place-few}
+
+-- what is behind a first entry
+pub at-behind : (mark : ℕ → Bool) (place : ℕ) → at_place mark (behind place) ≡ at_place (λ n. mark (suc n)) place
+at-behind mark zero = refl
+at-behind mark (suc n) = refl
+
+pub at-same : (mark after : ℕ → Bool) (place : ℕ) → ((n : ℕ) → after n ≡ mark n) → at_place after place ≡ at_place mark place
+at-same mark after zero same = refl
+at-same mark after (suc n) same = same n
+
+at-first : (mark : ℕ → Bool) (here : Bool) (place : ℕ) → at_place mark (cond here 1 (behind place)) ≡ cond here (mark 0) (at_place (λ n. mark (suc n)) place)
+at-first mark true place = refl
+at-first mark false place = at-behind mark place
+
+-- as many as there are marks
+none-pending : (marks : List Mark) → ((n : ℕ) → pending_at marks n ≡ false) → pending_count marks ≡ 0
+none-pending [] none = omega arith
+none-pending (m ∷ ms) none =
+    let here : one_if (is_pending_mark m) ≡ 0 = ap one_if (none 0) in
+    let rest = none-pending ms (λ n. none (suc n)) in
+    omega (arith, here, rest, sum_by-cons (λ m. one_if (is_pending_mark m)) m ms)
+
+long-step : (b : Bool) (key : Key) (ks : List Key) → length (cond b (key ∷ ks) ks) ≡ one_if b + length ks
+long-step true key ks = omega arith
+long-step false key ks = omega arith
+
+pub covers-same : (count : ℕ) (mark after : ℕ → Bool) → ((n : ℕ) → after n ≡ mark n) → Covers count mark → Covers count after
+covers-same count mark after same covered n more = same n ∙ covered n more
+
+not-first : (p : ℕ) → behind p ≡ 1 → ⊥
+not-first zero one = omega (arith, one)
+not-first (suc p) one = omega (arith, one)
+
+up : (p n : ℕ) → behind p ≡ suc (suc n) → p ≡ suc n
+up zero n more = absurd (omega (arith, more))
+up (suc p) n more = omega (arith, more)
+
+deeper : {X : Type 0} (p r n : ℕ) → behind p ≡ suc n → behind r ≡ suc n → ((k : ℕ) → p ≡ suc k → r ≡ suc k → X) → X
+deeper p r zero first later rest = absurd (not-first p first)
+deeper p r (suc n) first later rest = rest n (up p n first) (up r n later)
+
+one-step : {F : Type 0} (key q : Key) (e : Key × F) (p r n : ℕ) (own also : Bool) → same_key key e.0 ≡ own → same_key q e.0 ≡ also
+    → cond own 1 (behind p) ≡ suc n → cond also 1 (behind r) ≡ suc n → ((k : ℕ) → p ≡ suc k → r ≡ suc k → key ≡ q) → key ≡ q
+one-step key q e p r n true true a b first later rest = same_key_exact key e.0 a ∙ sym (same_key_exact q e.0 b)
+one-step key q e p r n true false a b first later rest = absurd (not-first r (later ∙ sym first))
+one-step key q e p r n false true a b first later rest = absurd (not-first p (first ∙ sym later))
+one-step key q e p r n false false a b first later rest = deeper p r n first later rest
+
+module _ {F : Type 0} where
+  -- marks that read as others do give the same keys
+  pub keys-same : (mark after : ℕ → Bool) (es : List (Key × F)) → ((n : ℕ) → after n ≡ mark n) → keys_where after es ≡ keys_where mark es
+  keys-same mark after [] same = refl
+  keys-same mark after (e ∷ es) same =
+      ap (λ b. cond b (e.0 ∷ keys_where (λ n. after (suc n)) es) (keys_where (λ n. after (suc n)) es)) (same 0)
+      ∙ ap (λ ks. cond (mark 0) (e.0 ∷ ks) ks) (keys-same (λ n. mark (suc n)) (λ n. after (suc n)) es (λ n. same (suc n)))
+
+  -- a key that no entry is of stands nowhere
+  nowhere : (q : Key) (x : Key) (es : List (Key × F)) → same_key q x ≡ true → AllByRecursion (λ y. same_key x y ≡ false) (keys_of es) → place_in q es ≡ 0
+  nowhere q x [] same apart = refl
+  nowhere q x (e ∷ es) same apart =
+      ap (λ b. cond b 1 (behind (place_in q es))) (ap (λ k. same_key k e.0) (same_key_exact q x same) ∙ apart.0)
+      ∙ ap behind (nowhere q x es same apart.1)
+
+  any-step : (q : Key) (e : Key × F) (ks : List Key) (first here : Bool) (place : ℕ) (rest : ℕ → Bool) → same_key q e.0 ≡ here
+      → (here ≡ true → place ≡ 0) → list_any (same_key q) ks ≡ at_place rest place
+      → list_any (same_key q) (cond first (e.0 ∷ ks) ks) ≡ cond here first (at_place rest place)
+  any-step q e ks true true place rest is none same = ap (λ b. b || list_any (same_key q) ks) is
+  any-step q e ks false true place rest is none same = same ∙ ap (at_place rest) (none refl)
+  any-step q e ks true false place rest is none same = ap (λ b. b || list_any (same_key q) ks) is ∙ same
+  any-step q e ks false false place rest is none same = same
+
+  -- a key is among them exactly where its slot is marked
+  pub any-where : (mark : ℕ → Bool) (es : List (Key × F)) (q : Key) → IsDistinct same_key (keys_of es)
+      → list_any (same_key q) (keys_where mark es) ≡ at_place mark (place_in q es)
+  any-where mark [] q apart = refl
+  any-where mark (e ∷ es) q apart =
+      any-step q e (keys_where (λ n. mark (suc n)) es) (mark 0) (same_key q e.0) (place_in q es) (λ n. mark (suc n)) refl
+      (λ same. nowhere q e.0 es same (IsDistinct-head same_key e.0 (keys_of es) apart))
+      (any-where (λ n. mark (suc n)) es q (IsDistinct-tail same_key e.0 (keys_of es) apart))
+      ∙ sym (at-first mark (same_key q e.0) (place_in q es))
+
+  -- there are as many as marks
+  pub count-where : (es : List (Key × F)) (marks : List Mark) → Covers (length es) (pending_at marks) → length (keys_where (pending_at marks) es) ≡ pending_count marks
+  count-where [] marks covered = sym (none-pending marks (λ n. covered n (omega arith)))
+  count-where (e ∷ es) [] covered = count-where es [] (λ n more. refl)
+  count-where (e ∷ es) (m ∷ ms) covered =
+      let rest = count-where es ms (λ n more. covered (suc n) (omega (arith, more))) in
+      let here = long-step (is_pending_mark m) e.0 (keys_where (pending_at ms) es) in
+      omega (arith, rest, here, sum_by-cons (λ m. one_if (is_pending_mark m)) m ms)
+
+  -- keys that stand at one place are one
+  pub one-place : (key q : Key) (es : List (Key × F)) (n : ℕ) → place_in key es ≡ suc n → place_in q es ≡ suc n → key ≡ q
+  one-place key q [] n here there = absurd (omega (arith, here))
+  one-place key q (e ∷ es) n here there = one-step key q e (place_in key es) (place_in q es) n (same_key key e.0) (same_key q e.0) refl refl here there (λ k. one-place key q es k)
+
+  -- what a mark at the key's slot says of each key
+  pub at-set : (key : Key) (es : List (Key × F)) (index : ℕ) (b : Bool) (mark after : ℕ → Bool) → index + 1 ≡ place_in key es → SetsMark index b mark after
+      → (q : Key) → at_place after (place_in q es) ≡ cond (same_key key q) b (at_place mark (place_in q es))
+  at-set key es index b mark after stands sets q =
+      elim (same_key key q) as (λ own. same_key key q ≡ own → at_place after (place_in q es) ≡ cond own b (at_place mark (place_in q es))) [
+        | true ↦ λ same.
+            ap (λ k. at_place after (place_in k es)) (sym (same_key_exact key q same)) ∙ ap (at_place after) here
+            ∙ sets index ∙ ap (λ t. cond t b (mark index)) (eq-eqb index index refl)
+        | false ↦ λ other. elsewhere (place_in q es) refl other
+      ] refl
+    where
+      here : place_in key es ≡ suc index
+      here = sym stands ∙ omega arith
+
+      elsewhere : (place : ℕ) → place_in q es ≡ place → same_key key q ≡ false → at_place after place ≡ at_place mark place
+      elsewhere zero is other = refl
+      elsewhere (suc n) is other =
+          sets n ∙ ap (λ t. cond t b (mark n))
+          (ne_eqb index n
+          (λ e. both_ways (same_key key q) other (ap (same_key key) (sym (one-place key q es index here (is ∙ ap suc (sym e)))) ∙ same_key_refl key)))
+
+  -- an entry that is put in changes no mark
+  pub at-put : (key : Key) (es : List (Key × F)) (f : F) (mark : ℕ → Bool) → Covers (length es) mark
+      → (q : Key) → at_place mark (place_in q (with_entry es key f)) ≡ at_place mark (place_in q es)
+  at-put key es f mark covered q =
+      ap (at_place mark) (place-put key es q f)
+      ∙ elim (same_key key q) as (λ own. same_key key q ≡ own → at_place mark (cond own (place_then (place_in key es) (length es)) (place_in q es)) ≡ at_place mark (place_in q es)) [
+        | true ↦ λ same. then (place_in key es) ∙ ap (λ k. at_place mark (place_in k es)) (same_key_exact key q same)
+        | false ↦ λ other. refl
+      ] refl
+    where
+      then : (place : ℕ) → at_place mark (place_then place (length es)) ≡ at_place mark place
+      then zero = covered (length es) (omega arith)
+      then (suc n) = refl
+
+  pub longer-put : (key : Key) (es : List (Key × F)) (f : F) → length es ≤ length (with_entry es key f)
+  longer-put key es f = let count = count-with key f es in omega (arith, count)
+
+  pub covers-put : (key : Key) (es : List (Key × F)) (f : F) (mark : ℕ → Bool) → Covers (length es) mark → Covers (length (with_entry es key f)) mark
+  covers-put key es f mark covered n more = let longer = longer-put key es f in covered n (omega (arith, more, longer))
+
+  -- a mark at the key's slot is of no slot behind the last
+  pub covers-set : (key : Key) (es : List (Key × F)) (index : ℕ) (b : Bool) (mark after : ℕ → Bool) → index + 1 ≡ place_in key es → SetsMark index b mark after
+      → Covers (length es) mark → Covers (length es) after
+  covers-set key es index b mark after stands sets covered n more =
+      let few = place-few key es in
+      sets n ∙ ap (λ t. cond t b (mark n)) (ne_eqb index n (omega (arith, stands, few, more))) ∙ covered n more
