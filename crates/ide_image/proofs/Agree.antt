@@ -1,5 +1,5 @@
 -- Each step keeps what the parts of an image agree on.
-use Rattle.std.proofs.Common.{◌≡◌, ℕ, zero, suc, ◌+◌, ◌<◌, ◌≤◌, ◌++◌, refl, sym, ap, subst, ◌∙◌, arith, List, [], ◌∷◌, length, Option, None, Some, Bool, true, false, cond, ⊎_elim}
+use Rattle.std.proofs.Common.{◌≡◌, ℕ, zero, suc, ◌+◌, ◌≤◌, ◌++◌, refl, sym, ap, subst, ◌∙◌, arith, List, [], ◌∷◌, length, Option, None, Some, Bool, true, false, cond, ⊎_elim}
 use Rattle.std.specs.Prelude.{◌||◌, nat_eq, unwrap_or}
 use Rattle.std.specs.List.{IsDistinct, list_any}
 use Rattle.std.specs.Map.{keys_of, lookup}
@@ -484,3 +484,13 @@ module _ {F T : Type 0} where
     listed = λ key. at-none (noted_at after) (place_of indexed key) unnoted ∙ sym (ap (λ list. is_some (noted list key)) empty);
     once = subst (λ list. IsDistinct same_key (keys_of (unwrap_or list []))) (sym empty) tt;
   }
+
+  -- places that hold no claim are as good as none
+  pub whole-free : (indexed : Indexed F) (marks : Marks) (claims : List (Option (Claim T))) (changes : Changes F) (left : List (Option (Claim T)))
+      → left ≡ [] → ((h : ℕ) → claim_in claims h ≡ None) → AreEntries indexed marks claims changes → AreEntries indexed marks left changes
+  whole-free indexed marks claims changes left none free w =
+      let gone : (h : ℕ) → claim_in left h ≡ None = λ h. ap (λ cs. claim_in cs h) none in
+      whole-claims indexed marks claims left changes
+      (λ h q. ap (is_claim_of q) (gone h ∙ sym (free h)))
+      (λ h c is. absurd (cc (sym (gone h) ∙ is)))
+      w

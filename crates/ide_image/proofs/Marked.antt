@@ -1,20 +1,19 @@
 -- The keys of the slots that are marked: which these are, how many, and what a mark or an entry more changes.
-use Rattle.std.proofs.Common.{◌≡◌, ℕ, zero, suc, ◌+◌, ◌<◌, ◌≤◌, refl, sym, ap, subst, ◌∙◌, arith, List, [], ◌∷◌, length, Option, None, Some, Bool, true, false, cond, ⊎_elim}
-use Rattle.std.specs.Prelude.{◌≢◌, ◌||◌, nat_eq}
+use Rattle.std.proofs.Common.{◌≡◌, ℕ, zero, suc, ◌+◌, ◌≤◌, refl, sym, ap, ◌∙◌, arith, List, [], ◌∷◌, length, Bool, true, false, cond}
+use Rattle.std.specs.Prelude.{◌||◌}
 use Rattle.std.specs.List.{AllByRecursion, IsDistinct, list_any}
 use Rattle.std.specs.Map.{keys_of}
-use Rattle.std.proofs.lemmas.Bool.{cases_Bool, cases_eq, both_ways, eq-eqb, eqb-true, ne_eqb}
+use Rattle.std.proofs.lemmas.Bool.{both_ways, eq-eqb, ne_eqb}
 use Rattle.std.proofs.lemmas.Map.Keys.{IsDistinct-head, IsDistinct-tail}
 use Rattle.std.proofs.lemmas.List.Sums.{sum_by-cons}
 use Rattle.ide_wire.specs.declared.key.Key.{Key}
-use Rattle.ide_wire.specs.Key.{same_key, same_key_exact, same_key_refl, same_key_symm}
+use Rattle.ide_wire.specs.Key.{same_key, same_key_exact, same_key_refl}
 use Rattle.ide_tables.specs.Tables.{behind, place_in, with_entry}
 use Rattle.ide_tables.proofs.Places.{place-put, place_then}
 use Rattle.ide_tables.proofs.Falls.{count-with}
 use Rattle.ide_image.specs.declared.queue.Mark.{Mark}
-use Rattle.ide_image.specs.declared.queue.Mark.TheVariants.{Settled, Waiting, Held}
 use Rattle.ide_image.specs.Entries.{Covers, at_place, keys_where}
-use Rattle.ide_image.specs.Queue.{SetsMark, is_pending_mark, mark_in, one_if, pending_at, pending_count}
+use Rattle.ide_image.specs.Queue.{SetsMark, is_pending_mark, one_if, pending_at, pending_count}
 use Rattle.ide_image.proofs.Spots.{place-few}
 
 -- what is behind a first entry

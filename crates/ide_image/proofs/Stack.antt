@@ -1,5 +1,5 @@
 -- A slot that is put on the stack of those that wait, and one that is taken off it.
-use Rattle.std.proofs.Common.{◌≡◌, ℕ, zero, suc, ◌+◌, ◌-◌, ◌<◌, ◌≤◌, refl, sym, ap, subst, ◌∙◌, arith, List, [], ◌∷◌, ◌++◌, get_or, length, length-set, Bool, true, false, cond, ◌⊎◌, inl, inr, ⊎_elim}
+use Rattle.std.proofs.Common.{◌≡◌, ℕ, zero, suc, ◌+◌, ◌-◌, ◌<◌, ◌≤◌, sym, ap, subst, ◌∙◌, arith, List, [], ◌∷◌, get_or, length, length-set, Bool, true, false, cond, ⊎_elim}
 use Rattle.std.specs.Prelude.{◌≢◌, nat_eq, slice_index, slice_set}
 use Rattle.std.specs.List.{sum_by}
 use Rattle.std.proofs.lemmas.Bool.{cases_eq, eq-eqb, ne_eqb}
@@ -133,9 +133,14 @@ kinds-step Held = omega arith
 pub kinds : (marks : List Mark) → pending_count marks ≡ waiting_count marks + held_count marks
 kinds [] = omega arith
 kinds (m ∷ ms) =
-    omega
-    (arith, kinds ms, kinds-step m, sum_by-cons (λ m. one_if (is_pending_mark m)) m ms, sum_by-cons (λ m. one_if (is_waiting m)) m ms,
-    sum_by-cons (λ m. one_if (is_held m)) m ms)
+    omega (
+      arith,
+      kinds ms,
+      kinds-step m,
+      sum_by-cons (λ m. one_if (is_pending_mark m)) m ms,
+      sum_by-cons (λ m. one_if (is_waiting m)) m ms,
+      sum_by-cons (λ m. one_if (is_held m)) m ms,
+    )
 
 pub held-some : (marks : List Mark) (slot : ℕ) → is_held (mark_in marks slot) ≡ true → 1 ≤ held_count marks
 held-some [] slot is = absurd (cc (is))

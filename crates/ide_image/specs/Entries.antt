@@ -1,18 +1,18 @@
 -- What contracts say of an image at each key: its table, its pending keys with the claims, and the notes of what changed.
-use Rattle.std.specs.Prelude.{◌≡◌, ℕ, zero, suc, ◌+◌, ◌<◌, ◌≤◌, ◌^◌, ◌||◌, Bool, true, false, List, [], ◌∷◌, Option, Some, None, length, unwrap_or, if◌then◌else◌}
+use Rattle.std.specs.Prelude.{◌≡◌, ℕ, zero, suc, ◌+◌, ◌≤◌, ◌||◌, Bool, true, false, List, [], ◌∷◌, Option, Some, None, length, unwrap_or, if◌then◌else◌}
 use Rattle.std.specs.List.{IsDistinct, list_any}
 use Rattle.std.specs.Map.{keys_of}
 use Rattle.std.specs.Option.{is_some}
 use Rattle.ide_pages.specs.Pages.{KeepsCells}
-use Rattle.ide_tables.specs.Tables.{Table, found, place_in}
+use Rattle.ide_tables.specs.Tables.{Table, found}
 use Rattle.ide_wire.specs.Key.{same_key}
 use Rattle.ide_wire.specs.declared.key.Key.{Key}
-use Rattle.ide_worklist.specs.Worklist.{AreHeld, Pile, claim_at, claim_in, is_claim_of, is_pending}
+use Rattle.ide_worklist.specs.Worklist.{AreHeld, Pile, claim_in, is_claim_of}
 use Rattle.ide_worklist.specs.declared.claim.Claim.{Claim}
 use Rattle.ide_image.specs.Changes.{Changes, MayNote, noted_at}
 use Rattle.ide_image.specs.Indexed.{Indexed, MayTake, place_of}
 use Rattle.ide_image.specs.Notes.{entry_at, noted}
-use Rattle.ide_image.specs.Queue.{Marks, SameMarks, SetsMark, held_at, pending_at, pending_count}
+use Rattle.ide_image.specs.Queue.{Marks, SameMarks, SetsMark, held_at, pending_at}
 use Rattle.ide_image.specs.declared.entry.Entry.{Entry}
 
 -- the tables; the pending keys with the claims; and, if somebody asked for changes, for each key that changed since, the entry

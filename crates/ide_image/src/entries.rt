@@ -10,16 +10,15 @@ ghost use Rattle.ide_wire.specs.declared.refused.Refused.TheVariants.{NoMemory};
 ghost use Rattle.ide_wire.specs.Key.{same_key};
 ghost use Rattle.ide_wire.specs.KeyOrder.{key_cmp};
 ghost use Rattle.ide_worklist.specs.declared.claim.Claim.{Claim};
-ghost use Rattle.ide_worklist.specs.Worklist.{PutsClaim, IsWorklist, begun, claim_at, ends, ends_key, is_claimed, is_pending, marked, with_done};
+ghost use Rattle.ide_worklist.specs.Worklist.{PutsClaim, IsFree, IsWorklist, begun, claim_at, ends, ends_key, is_claimed, is_pending, marked, with_done};
 ghost use Rattle.ide_image.specs.Entries.{entry_of, marked_all};
 ghost use Rattle.ide_image.specs.Notes.{ended_key, entry_at, noted, noted_after, noted_count, with_change, with_note};
 
 use crate::changes::Changes;
-use crate::claims;
 use crate::entry::Entry;
 use crate::indexed::Indexed;
-use crate::parts;
 use crate::queue::Queue;
+use crate::{claims, parts};
 use ide_lattice::EdgeFn;
 use ide_tables::Change;
 use ide_wire::{Fact, Key, Node, Refused};
@@ -252,8 +251,8 @@ impl<F: EdgeFn, T: Drop> Entries<F, T> {
         Ok(Change::Lowered)
     }
 
-    /// Gives the hand a claim on the key, at once if it is the one that `unclaimed` answers. `NoMemory`
-    /// leaves all as it was, and drops the task.
+    /// Gives the hand a claim on the key. `NoMemory` leaves all as it was, and drops the task. One
+    /// look-up.
     pub fn take(&mut self, hand: usize, key: Key, task: T) -> Result<(), Refused>
         requires hand_in { hand < 64 }
         requires free { claim_at self.old.pile hand ≡ None }
@@ -301,6 +300,34 @@ impl<F: EdgeFn, T: Drop> Entries<F, T> {
         let slot = self.indexed.place(key) as usize - 1;
         self.queue.release(slot);
         claims::take_claim(&mut self.claims, hand)
+    }
+
+    /// Takes every claim away, and answers how many there were. Their keys stay pending. It takes no
+    /// memory.
+    pub fn release_all(&mut self) -> usize
+        ensures count { result ≡ length (filter is_some self.old.pile.claims) }
+        ensures claims { self.new.pile.claims ≡ [] }
+        ensures table { self.new.table ≡ self.old.table }
+        ensures pending { self.new.pile.pending ≡ self.old.pile.pending }
+        ensures changes { self.new.changes ≡ self.old.changes }
+    {
+        let count = claims::claim_count(&self.claims);
+        self.release_each();
+        self.claims.clear();
+        count
+    }
+
+    /// Takes the claim of each hand away, which leaves its place.
+    fn release_each(&mut self)
+        ensures free { IsFree self.new.pile }
+        ensures table { self.new.table ≡ self.old.table }
+        ensures pending { self.new.pile.pending ≡ self.old.pile.pending }
+        ensures changes { self.new.changes ≡ self.old.changes }
+    {
+        let hands = self.claims.len();
+        for hand in 0..hands {
+            let _ = self.release(hand);
+        }
     }
 
     /// Ends the hand's claim, and returns it. Its key is no longer pending, unless it was lowered since
@@ -352,6 +379,35 @@ impl<F: EdgeFn, T: Drop> Entries<F, T> {
             f,
         );
         self.queue.set_pending(slot, pending);
+        Ok(())
+    }
+
+    /// Makes the functions those of their keys, one after the other, and these keys pending. A claim of one
+    /// of them is marked as lowered, and their entries of before are noted where changes are noted. All
+    /// of them, or, where memory is wanting (`NoMemory`), none. Two look-ups for each.
+    pub fn set_all(&mut self, list: &[(Key, F)]) -> Result<(), Refused>
+        ensures sets { OnOk result (SetsAll self.old.table self.new.table list.now) }
+        ensures pending { OnOk result ((q : Key) → is_pending self.new.pile q ≡ (list_any (same_key q) (keys_of list.now) || is_pending self.old.pile q)) }
+        ensures claims { OnOk result ((h : ℕ) → claim_at self.new.pile h ≡ marked_all (keys_of list.now) (claim_at self.old.pile h)) }
+        ensures noting { is_some self.new.changes ≡ is_some self.old.changes }
+        ensures noted { OnOk result ((q : Key) → noted self.new.changes q ≡ noted_after self.old.changes (list_any (same_key q) (keys_of list.now)) (entry_of self.old q) q) }
+        ensures err { OnErr result (self.new ≡ self.old) }
+        ensures refused { IsOkUnless result NoMemory }
+    {
+        parts::make_room(
+            &mut self.indexed,
+            &mut self.queue,
+            &mut self.changes,
+            list.len(),
+        )?;
+        self.indexed.make_cells(list)?;
+        parts::enter_all(
+            &mut self.indexed,
+            &mut self.queue,
+            &mut self.claims,
+            &mut self.changes,
+            list,
+        );
         Ok(())
     }
 

@@ -1,5 +1,5 @@
 //! Entries in the order in which their keys came, and where each stands.
-ghost use Rattle.std.specs.Prelude.{◌≡◌, ◌≢◌, ℕ, ◌+◌, ◌-◌, ◌<◌, ◌≤◌, ◌^◌, ◌↔◌, [], None, Some, length, map, slice_get, IfOk, IfSome, IfNone, OnOk, OnErr, IsOkUnless, vec_capacity, vec_len};
+ghost use Rattle.std.specs.Prelude.{◌≡◌, ◌≢◌, ℕ, ◌+◌, ◌-◌, ◌<◌, ◌≤◌, ◌^◌, ◌↔◌, [], None, Some, length, map, slice_get, IfOk, IfSome, IfNone, OnOk, OnErr, IsOkUnless, IsSome, vec_capacity, vec_len};
 ghost use Rattle.std.specs.List.{IsDistinct};
 ghost use Rattle.std.specs.Map.{keys_of, lookup};
 ghost use Rattle.ide_pages.specs.Pages.{KeepsCells, cell_of};
@@ -170,6 +170,34 @@ impl<F: EdgeFn> Indexed<F> {
         let cell = self.places.make_room(key)?;
         let place = self.places.number_in(cell);
         Ok(Spot { cell, place })
+    }
+
+    /// Where the key stands, which has a cell. One look-up.
+    pub(crate) fn spot_of(&self, key: Key) -> Spot
+        requires cell { IsSome (cell_of self.now.places key) }
+        ensures { IsSpot self.now key result.cell result.place }
+    {
+        match self.places.cell(key) {
+            Some(cell) => Spot {
+                cell,
+                place: self.places.number_in(cell),
+            },
+            None => unreachable!(),
+        }
+    }
+
+    /// Makes a cell for the key of each of the entries.
+    pub(crate) fn make_cells(&mut self, list: &[(Key, F)]) -> Result<(), Refused>
+        ensures table { self.new.table ≡ self.old.table }
+        ensures room { self.new.room ≡ self.old.room }
+        ensures cells { KeepsCells self.old.places self.new.places }
+        ensures made { OnOk result (HaveCells self.new.places list.now) }
+        ensures refused { IsOkUnless result NoMemory }
+    {
+        for entry in list {
+            let _ = self.spot(entry.0)?;
+        }
+        Ok(())
     }
 
     /// Makes room for so many more entries.

@@ -1,16 +1,18 @@
 //! Steps of the parts that an image is made of, after which they agree again.
 ghost use Rattle.std.specs.Prelude.{◌≡◌, ℕ, ◌+◌, ◌||◌, None, false, true, length, IsOk, OnOk, OnErr, IsOkUnless};
+ghost use Rattle.std.specs.List.{list_any};
+ghost use Rattle.std.specs.Map.{keys_of};
 ghost use Rattle.std.specs.Option.{is_some};
 ghost use Rattle.ide_pages.specs.Pages.{KeepsCells};
-ghost use Rattle.ide_tables.specs.Tables.{found, with_entry};
+ghost use Rattle.ide_tables.specs.Tables.{HaveCells, found, with_all, with_entry};
 ghost use Rattle.ide_wire.specs.declared.key.Key.{Key};
 ghost use Rattle.ide_wire.specs.declared.refused.Refused.TheVariants.{NoMemory};
 ghost use Rattle.ide_wire.specs.Key.{same_key};
 ghost use Rattle.ide_worklist.specs.Worklist.{claim_in, is_claim_of, marked};
 ghost use Rattle.ide_image.specs.Changes.{MayNote, noted_at};
-ghost use Rattle.ide_image.specs.Entries.{AreEntries, Covers, HasRoom, SameParts, at_place, entry_by, held_of, pending_of, SetsAt};
+ghost use Rattle.ide_image.specs.Entries.{AreEntries, Covers, HasRoom, SameParts, at_place, entry_by, held_of, marked_all, pending_of, SetsAt};
 ghost use Rattle.ide_image.specs.Indexed.{IsSpot, MayTake, place_of};
-ghost use Rattle.ide_image.specs.Notes.{noted, with_note};
+ghost use Rattle.ide_image.specs.Notes.{noted, noted_after, with_note};
 ghost use Rattle.ide_image.specs.Queue.{SetsMark, held_at, one_if, pending_at, pending_count};
 
 use crate::changes::Changes;
@@ -154,4 +156,28 @@ pub(crate) fn enter<F: EdgeFn, T: Drop>(
     let slot = put_noted(indexed, queue, changes, spot, key, function);
     queue.push(slot);
     mark_held(claims, queue.is_held(slot), key);
+}
+
+/// Enters the keys of the entries with their functions, one after the other, for which there is room.
+pub(crate) fn enter_all<F: EdgeFn, T: Drop>(
+    indexed: &mut Indexed<F>,
+    queue: &mut Queue,
+    claims: &mut Vec<Option<Claim<T>>>,
+    changes: &mut Changes<F>,
+    list: &[(Key, F)],
+)
+    requires room { HasRoom (length list.now) indexed.old queue.old changes.old }
+    requires cells { HaveCells indexed.old.places list.now }
+    requires whole { AreEntries indexed.old queue.old claims.old.items changes.old }
+    ensures whole { AreEntries indexed.new queue.new claims.new.items changes.new }
+    ensures entries { indexed.new.table.entries ≡ with_all indexed.old.table.entries list.now }
+    ensures pending { (q : Key) → pending_of indexed.new queue.new q ≡ (list_any (same_key q) (keys_of list.now) || pending_of indexed.old queue.old q) }
+    ensures claims { (h : ℕ) → claim_in claims.new.items h ≡ marked_all (keys_of list.now) (claim_in claims.old.items h) }
+    ensures noting { is_some changes.new.list ≡ is_some changes.old.list }
+    ensures notes { (q : Key) → noted changes.new.list q ≡ noted_after changes.old.list (list_any (same_key q) (keys_of list.now)) (entry_by indexed.old queue.old q) q }
+{
+    for entry in list {
+        let spot = indexed.spot_of(entry.0);
+        enter(indexed, queue, claims, changes, spot, entry.0, entry.1);
+    }
 }

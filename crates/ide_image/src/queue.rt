@@ -136,7 +136,13 @@ impl Queue {
         match self.marks[slot] {
             Mark::Settled => {}
             Mark::Waiting(position) => {
-                take_off(&mut self.marks, &mut self.stack, slot, position, Mark::Settled);
+                take_off(
+                    &mut self.marks,
+                    &mut self.stack,
+                    slot,
+                    position,
+                    Mark::Settled,
+                );
             }
             Mark::Held => {
                 self.held -= 1;

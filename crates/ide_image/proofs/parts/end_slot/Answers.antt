@@ -3,9 +3,8 @@ use Rattle.std.specs.Option.{is_some}
 use Rattle.std.specs.Prelude.{nat_eq}
 use Rattle.ide_tables.specs.Tables.{found}
 use Rattle.ide_image.specs.Changes.{noted_at}
-use Rattle.ide_image.specs.Entries.{entry_by}
 use Rattle.ide_image.specs.Indexed.{place_of}
-use Rattle.ide_image.specs.Notes.{noted, with_note}
+use Rattle.ide_image.specs.Notes.{noted}
 use Rattle.ide_image.specs.Queue.{SetsMark, held_at, one_if, pending_at}
 use Rattle.ide_image.proofs.Agree.{at-index}
 use Rattle.ide_image.proofs.Before.{at-open, at-some, held-there}

@@ -1,6 +1,5 @@
-use Rattle.std.proofs.Common.{◌≡◌, ℕ, ◌+◌, ◌≤◌, arith, ap, cond, refl, sym, subst, ◌∙◌, length, true, false, ⊎_elim}
+use Rattle.std.proofs.Common.{◌≡◌, ◌+◌, arith, ap, cond, sym, ◌∙◌, length, true, ⊎_elim}
 use Rattle.std.proofs.lemmas.Bool.{both_ways, cases_Bool}
-use Rattle.ide_wire.specs.declared.key.Key.{Key}
 use Rattle.ide_wire.specs.Key.{same_key}
 use Rattle.ide_tables.specs.Tables.{place_in, with_entry}
 use Rattle.ide_worklist.specs.Worklist.{claim_in, is_claim_of}
@@ -30,10 +29,10 @@ mark_held-requires g c =
     c.put_noted-slot.ensures.slot c.push.ensures.pending c.push.ensures.held noted in
     let here = at-index (held_at c.push.new.self.list) (place_of after c.args.key) c.put_noted-slot.result c.put_noted-slot.ensures.slot in
     λ h off.
-        ⊎_elim
-        (λ is. absurd (both_ways (held_of after c.push.new.self c.args.key) (here ∙ sym c.is_held.ensures ∙ off) (pushed.marked h c.args.key is)))
-        (λ no. no)
-        (cases_Bool (is_claim_of c.args.key (claim_in c.args.claims.now.items h)))
+    ⊎_elim
+    (λ is. absurd (both_ways (held_of after c.push.new.self c.args.key) (here ∙ sym c.is_held.ensures ∙ off) (pushed.marked h c.args.key is)))
+    (λ no. no)
+    (cases_Bool (is_claim_of c.args.key (claim_in c.args.claims.now.items h)))
 
 pub returns-clause-whole : goal.returns-clause-whole
 returns-clause-whole g c =

@@ -1,4 +1,4 @@
-use Rattle.std.proofs.Common.{arith, sym, ap, subst, ◌∙◌, ◌≡◌, ◌++◌, [], ◌∷◌, length, length-append}
+use Rattle.std.proofs.Common.{arith, sym, subst, ◌≡◌, ◌++◌, [], ◌∷◌, length, length-append}
 use Rattle.std.specs.Prelude.{slice_index, slice_set}
 use Rattle.std.proofs.Math.ListN.{get_or-append}
 use Rattle.std.proofs.Math.Seq.{get_or-append_seam}

@@ -1,4 +1,4 @@
-use Rattle.std.proofs.Common.{◌≡◌, ◌<◌, ◌≤◌, ap, refl, subst, sym, ◌∙◌, arith}
+use Rattle.std.proofs.Common.{◌≡◌, ◌<◌, ◌≤◌, ap, subst, sym, ◌∙◌, arith}
 use Rattle.ide_tables.specs.Spent.{spent}
 use Rattle.ide_tables.specs.Tables.{Table, found, function_at, with_entry}
 use Rattle.ide_tables.proofs.Falls.{lowers, spent-lower, spent-with}

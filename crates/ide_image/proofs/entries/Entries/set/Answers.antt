@@ -1,6 +1,6 @@
-use Rattle.std.proofs.Common.{◌≡◌, ap, cond, length, sym, ◌∙◌, arith}
+use Rattle.std.proofs.Common.{ap, cond, sym, ◌∙◌, arith}
 use Rattle.ide_wire.specs.Key.{same_key}
-use Rattle.ide_tables.specs.Tables.{place_in, with_entry}
+use Rattle.ide_tables.specs.Tables.{place_in}
 use Rattle.ide_tables.proofs.Falls.{count-with, spent-with}
 use Rattle.ide_tables.proofs.Sets.{sets-with}
 use Rattle.ide_image.specs.Entries.{at_place}

@@ -1,6 +1,5 @@
 use Rattle.std.proofs.Common.{◌≡◌, ◌+◌, ◌-◌, false, ap, refl, sym, ◌∙◌, arith}
-use Rattle.ide_worklist.specs.Worklist.{claim_in, is_claim_of}
-use Rattle.ide_image.specs.Entries.{at_place}
+use Rattle.ide_worklist.specs.Worklist.{is_claim_of}
 use Rattle.ide_image.specs.Indexed.{place_of}
 use Rattle.ide_image.specs.Queue.{held_at, mark_in, pending_at}
 use Rattle.ide_image.proofs.Agree.{at-index, is-pending, unclaimed-free, whole-claims, whole-taken}

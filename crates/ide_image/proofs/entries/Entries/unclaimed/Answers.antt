@@ -1,4 +1,4 @@
-use Rattle.std.proofs.Common.{◌≡◌, arith, sym, ap, ◌∙◌}
+use Rattle.std.proofs.Common.{sym, ◌∙◌}
 use Rattle.ide_image.specs.Indexed.{place_of}
 use Rattle.ide_image.specs.Queue.{held_at, pending_at}
 use Rattle.ide_worklist.proofs.Held.{apart_at}

@@ -1,4 +1,4 @@
-use Rattle.std.proofs.Common.{arith, ap, ◌∙◌}
+use Rattle.std.proofs.Common.{arith}
 use Rattle.ide_image.proofs.Stack.{kinds}
 use Rattle.ide_image.proofs.queue.Queue.pending_count.Goals as goal
 
