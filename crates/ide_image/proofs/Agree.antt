@@ -14,11 +14,11 @@ use Rattle.ide_worklist.specs.declared.claim.Claim.{Claim}
 use Rattle.ide_worklist.specs.Worklist.{AreHeld, claim_in, is_claim_of, marked, put_hand, with_done}
 use Rattle.ide_worklist.proofs.Held.{IsOf, claimed_at, held_claimed, held_same}
 use Rattle.ide_image.specs.declared.entry.Entry.{Entry}
-use Rattle.ide_image.specs.Changes.{Changes, noted_at}
-use Rattle.ide_image.specs.Entries.{AreEntries, Covers, SameParts, at_place, held_of, image_of, keys_where, pending_of}
-use Rattle.ide_image.specs.Indexed.{Indexed, IsSpot, place_of}
+use Rattle.ide_image.specs.ChangeLog.{ChangeLog, noted_at}
+use Rattle.ide_image.specs.KeyedImage.{AreParts, Covers, SameParts, marked_at, held_by_slot, image_by, keys_where, pending_by_slot}
+use Rattle.ide_image.specs.Indexed.{Indexed, IsSpot, place_of_key}
 use Rattle.ide_image.specs.Notes.{noted, with_note}
-use Rattle.ide_image.specs.Queue.{Marks, SameMarks, SetsMark, held_at, is_held, is_pending_mark, mark_in, pending_at, pending_count}
+use Rattle.ide_image.specs.Queue.{SlotMarks, SameMarks, SetsMark, held_at, is_held, is_pending_mark, mark_in, pending_at, pending_count}
 use Rattle.ide_image.specs.declared.queue.Mark.{Mark}
 use Rattle.ide_image.specs.declared.queue.Mark.TheVariants.{Settled, Waiting, Held}
 use Rattle.ide_image.proofs.Marked.{any-where, at-put, at-same, at-set, count-where, covers-put, covers-same, covers-set, keys-same}
@@ -29,7 +29,7 @@ unheld-mark Settled is = refl
 unheld-mark (Waiting n) is = absurd (cc (is))
 unheld-mark Held is = absurd (cc (is))
 
-pub unheld : (marks : Marks) (n : ℕ) → pending_at marks.list n ≡ false → held_at marks.list n ≡ false
+pub unheld : (marks : SlotMarks) (n : ℕ) → pending_at marks.list n ≡ false → held_at marks.list n ≡ false
 unheld marks n is = unheld-mark (mark_in marks.list n) is
 
 module _ {F : Type 0} where
@@ -129,36 +129,36 @@ any-at q (x ∷ xs) (suc h) is = ap (λ b. is_claim_of q x || b) (any-at q xs h 
 
 module _ {F T : Type 0} where
   -- the parts grew, and read as they did
-  pub whole-same : (indexed after : Indexed F) (marks marks_after : Marks) (claims : List (Option (Claim T))) (changes changes_after : Changes F)
-      → SameParts indexed after marks marks_after changes changes_after → AreEntries indexed marks claims changes → AreEntries after marks_after claims changes_after
+  pub whole-same : (indexed after : Indexed F) (marks marks_after : SlotMarks) (claims : List (Option (Claim T))) (changes changes_after : ChangeLog F)
+      → SameParts indexed after marks marks_after changes changes_after → AreParts indexed marks claims changes → AreParts after marks_after claims changes_after
   whole-same indexed after marks marks_after claims changes changes_after same w =
       let entries : after.table.entries ≡ indexed.table.entries = ap (λ t. t.entries) same.table in
       let count : length after.table.entries ≡ length indexed.table.entries = ap length entries in
-      let pending : (q : Key) → pending_of after marks_after q ≡ pending_of indexed marks q =
-      λ q. at-same (pending_at marks.list) (pending_at marks_after.list) (place_of after q) same.pending ∙ ap (λ es. at_place (pending_at marks.list) (place_in q es)) entries in
-      let held : (q : Key) → held_of after marks_after q ≡ held_of indexed marks q =
-      λ q. at-same (held_at marks.list) (held_at marks_after.list) (place_of after q) same.held ∙ ap (λ es. at_place (held_at marks.list) (place_in q es)) entries in
+      let pending : (q : Key) → pending_by_slot after marks_after q ≡ pending_by_slot indexed marks q =
+      λ q. at-same (pending_at marks.list) (pending_at marks_after.list) (place_of_key after q) same.pending ∙ ap (λ es. marked_at (pending_at marks.list) (place_in q es)) entries in
+      let held : (q : Key) → held_by_slot after marks_after q ≡ held_by_slot indexed marks q =
+      λ q. at-same (held_at marks.list) (held_at marks_after.list) (place_of_key after q) same.held ∙ ap (λ es. marked_at (held_at marks.list) (place_in q es)) entries in
       record {
         distinct = subst (λ es. IsDistinct same_key (keys_of es)) (sym entries) w.distinct;
         covered = λ n more. same.pending n ∙ w.covered n (subst (λ k. k ≤ n) count more);
         unnoted = λ n more. same.noted n ∙ w.unnoted n (subst (λ k. k ≤ n) count more);
         taken = λ key is. w.taken key (sym (held key) ∙ is);
         marked = λ h key is. held key ∙ w.marked h key is;
-        held = held_same (pending_of indexed marks) (pending_of after marks_after) (λ h. claim_in claims h) (λ h. claim_in claims h)
+        held = held_same (pending_by_slot indexed marks) (pending_by_slot after marks_after) (λ h. claim_in claims h) (λ h. claim_in claims h)
             (λ q is. pending q ∙ is) (λ h c is. (c, is, refl)) w.held;
         listed = λ key.
-            at-same (noted_at changes) (noted_at changes_after) (place_of after key) same.noted
-            ∙ ap (λ es. at_place (noted_at changes) (place_in key es)) entries ∙ w.listed key ∙ ap (λ list. is_some (noted list key)) (sym same.list);
+            at-same (noted_at changes) (noted_at changes_after) (place_of_key after key) same.noted
+            ∙ ap (λ es. marked_at (noted_at changes) (place_in key es)) entries ∙ w.listed key ∙ ap (λ list. is_some (noted list key)) (sym same.list);
         once = subst (λ list. IsDistinct same_key (keys_of (unwrap_or list []))) (sym same.list) w.once;
       }
 
   -- an entry is put in
-  pub whole-put : (indexed after : Indexed F) (marks : Marks) (claims : List (Option (Claim T))) (changes : Changes F) (key : Key) (f : F)
-      → after.table.entries ≡ with_entry indexed.table.entries key f → AreEntries indexed marks claims changes → AreEntries after marks claims changes
+  pub whole-put : (indexed after : Indexed F) (marks : SlotMarks) (claims : List (Option (Claim T))) (changes : ChangeLog F) (key : Key) (f : F)
+      → after.table.entries ≡ with_entry indexed.table.entries key f → AreParts indexed marks claims changes → AreParts after marks claims changes
   whole-put indexed after marks claims changes key f is w =
       let es = indexed.table.entries in
-      let at : (mark : ℕ → Bool) → Covers (length es) mark → (q : Key) → at_place mark (place_of after q) ≡ at_place mark (place_of indexed q) =
-      λ mark covered q. ap (λ xs. at_place mark (place_in q xs)) is ∙ at-put key es f mark covered q in
+      let at : (mark : ℕ → Bool) → Covers (length es) mark → (q : Key) → marked_at mark (place_of_key after q) ≡ marked_at mark (place_of_key indexed q) =
+      λ mark covered q. ap (λ xs. marked_at mark (place_in q xs)) is ∙ at-put key es f mark covered q in
       let covers : (mark : ℕ → Bool) → Covers (length es) mark → Covers (length after.table.entries) mark =
       λ mark covered. subst (λ (xs : List (Key × F)). Covers (length xs) mark) (sym is) (covers-put key es f mark covered) in
       let held_covered : Covers (length es) (held_at marks.list) = λ n more. unheld marks n (w.covered n more) in
@@ -168,16 +168,16 @@ module _ {F T : Type 0} where
         unnoted = covers (noted_at changes) w.unnoted;
         taken = λ q held. w.taken q (sym (at (held_at marks.list) held_covered q) ∙ held);
         marked = λ h q claimed. at (held_at marks.list) held_covered q ∙ w.marked h q claimed;
-        held = held_same (pending_of indexed marks) (pending_of after marks) (λ h. claim_in claims h) (λ h. claim_in claims h)
+        held = held_same (pending_by_slot indexed marks) (pending_by_slot after marks) (λ h. claim_in claims h) (λ h. claim_in claims h)
             (λ q pends. at (pending_at marks.list) w.covered q ∙ pends) (λ h c there. (c, there, refl)) w.held;
         listed = λ q. at (noted_at changes) w.unnoted q ∙ w.listed q;
         once = w.once;
       }
 
   -- the key's entry of before is noted
-  pub whole-noted : (indexed : Indexed F) (marks : Marks) (claims : List (Option (Claim T))) (changes after : Changes F) (key : Key) (entry : Entry F) (index : ℕ)
-      → index + 1 ≡ place_of indexed key → SetsMark index (is_some changes.list) (noted_at changes) (noted_at after) → after.list ≡ with_note changes.list key entry
-      → AreEntries indexed marks claims changes → AreEntries indexed marks claims after
+  pub whole-noted : (indexed : Indexed F) (marks : SlotMarks) (claims : List (Option (Claim T))) (changes after : ChangeLog F) (key : Key) (entry : Entry F) (index : ℕ)
+      → index + 1 ≡ place_of_key indexed key → SetsMark index (is_some changes.list) (noted_at changes) (noted_at after) → after.list ≡ with_note changes.list key entry
+      → AreParts indexed marks claims changes → AreParts indexed marks claims after
   whole-noted indexed marks claims changes after key entry index stands sets notes w = record {
     distinct = w.distinct;
     covered = w.covered;
@@ -193,19 +193,19 @@ module _ {F T : Type 0} where
   }
 
   -- the key is pending
-  pub whole-pushed : (indexed : Indexed F) (marks after : Marks) (claims : List (Option (Claim T))) (changes : Changes F) (key : Key) (index : ℕ)
-      → index + 1 ≡ place_of indexed key → SetsMark index true (pending_at marks.list) (pending_at after.list) → SameMarks (held_at marks.list) (held_at after.list)
-      → AreEntries indexed marks claims changes → AreEntries indexed after claims changes
+  pub whole-pushed : (indexed : Indexed F) (marks after : SlotMarks) (claims : List (Option (Claim T))) (changes : ChangeLog F) (key : Key) (index : ℕ)
+      → index + 1 ≡ place_of_key indexed key → SetsMark index true (pending_at marks.list) (pending_at after.list) → SameMarks (held_at marks.list) (held_at after.list)
+      → AreParts indexed marks claims changes → AreParts indexed after claims changes
   whole-pushed indexed marks after claims changes key index stands sets same w =
-      let held : (q : Key) → held_of indexed after q ≡ held_of indexed marks q = λ q. at-same (held_at marks.list) (held_at after.list) (place_of indexed q) same in
+      let held : (q : Key) → held_by_slot indexed after q ≡ held_by_slot indexed marks q = λ q. at-same (held_at marks.list) (held_at after.list) (place_of_key indexed q) same in
       record {
         distinct = w.distinct;
         covered = covers-set key indexed.table.entries index true (pending_at marks.list) (pending_at after.list) stands sets w.covered;
         unnoted = w.unnoted;
         taken = λ q is. w.taken q (sym (held q) ∙ is);
         marked = λ h q is. held q ∙ w.marked h q is;
-        held = held_same (pending_of indexed marks) (pending_of indexed after) (λ h. claim_in claims h) (λ h. claim_in claims h)
-            (λ q is. at-set key indexed.table.entries index true (pending_at marks.list) (pending_at after.list) stands sets q ∙ kept (same_key key q) (pending_of indexed marks q) is)
+        held = held_same (pending_by_slot indexed marks) (pending_by_slot indexed after) (λ h. claim_in claims h) (λ h. claim_in claims h)
+            (λ q is. at-set key indexed.table.entries index true (pending_at marks.list) (pending_at after.list) stands sets q ∙ kept (same_key key q) (pending_by_slot indexed marks q) is)
             (λ h c is. (c, is, refl)) w.held;
         listed = w.listed;
         once = w.once;
@@ -216,13 +216,13 @@ module _ {F T : Type 0} where
       kept false b is = is
 
   -- the key, which no hand has claimed, is made pending or not
-  pub whole-settled : (indexed : Indexed F) (marks after : Marks) (claims : List (Option (Claim T))) (changes : Changes F) (key : Key) (index : ℕ) (b : Bool)
-      → index + 1 ≡ place_of indexed key → held_of indexed marks key ≡ false
+  pub whole-settled : (indexed : Indexed F) (marks after : SlotMarks) (claims : List (Option (Claim T))) (changes : ChangeLog F) (key : Key) (index : ℕ) (b : Bool)
+      → index + 1 ≡ place_of_key indexed key → held_by_slot indexed marks key ≡ false
       → SetsMark index b (pending_at marks.list) (pending_at after.list) → SameMarks (held_at marks.list) (held_at after.list)
-      → AreEntries indexed marks claims changes → AreEntries indexed after claims changes
+      → AreParts indexed marks claims changes → AreParts indexed after claims changes
   whole-settled indexed marks after claims changes key index b stands free pends same w =
-      let held : (q : Key) → held_of indexed after q ≡ held_of indexed marks q =
-      λ q. at-same (held_at marks.list) (held_at after.list) (place_of indexed q) same in
+      let held : (q : Key) → held_by_slot indexed after q ≡ held_by_slot indexed marks q =
+      λ q. at-same (held_at marks.list) (held_at after.list) (place_of_key indexed q) same in
       record {
         distinct = w.distinct;
         covered = covers-set key indexed.table.entries index b (pending_at marks.list) (pending_at after.list) stands pends w.covered;
@@ -232,7 +232,7 @@ module _ {F T : Type 0} where
         held = record {
           held = λ h c is.
               at-set key indexed.table.entries index b (pending_at marks.list) (pending_at after.list) stands pends c.key
-              ∙ ap (λ own. cond own b (pending_of indexed marks c.key)) (other h c is) ∙ w.held.held h c is;
+              ∙ ap (λ own. cond own b (pending_by_slot indexed marks c.key)) (other h c is) ∙ w.held.held h c is;
           apart = w.held.apart;
         };
         listed = w.listed;
@@ -242,33 +242,33 @@ module _ {F T : Type 0} where
       other : (h : ℕ) (c : Claim T) → claim_in claims h ≡ Some c → same_key key c.key ≡ false
       other h c is =
           ⊎_elim
-          (λ one. absurd (both_ways (held_of indexed marks key) free
-          (ap (held_of indexed marks) (same_key_exact key c.key one) ∙ w.marked h c.key (ap (is_claim_of c.key) is ∙ same_key_refl c.key))))
+          (λ one. absurd (both_ways (held_by_slot indexed marks key) free
+          (ap (held_by_slot indexed marks) (same_key_exact key c.key one) ∙ w.marked h c.key (ap (is_claim_of c.key) is ∙ same_key_refl c.key))))
           (λ no. no)
           (cases_Bool (same_key key c.key))
 
   -- claims that are of the keys that they were of
-  pub whole-claims : (indexed : Indexed F) (marks : Marks) (claims after : List (Option (Claim T))) (changes : Changes F)
+  pub whole-claims : (indexed : Indexed F) (marks : SlotMarks) (claims after : List (Option (Claim T))) (changes : ChangeLog F)
       → ((h : ℕ) (q : Key) → is_claim_of q (claim_in after h) ≡ is_claim_of q (claim_in claims h))
       → ((h : ℕ) (c : Claim T) → claim_in after h ≡ Some c → IsOf (claim_in claims h) c)
-      → AreEntries indexed marks claims changes → AreEntries indexed marks after changes
+      → AreParts indexed marks claims changes → AreParts indexed marks after changes
   whole-claims indexed marks claims after changes same of w = record {
     distinct = w.distinct;
     covered = w.covered;
     unnoted = w.unnoted;
     taken = λ q is. let at = w.taken q is in (at.0, same at.0 q ∙ at.1);
     marked = λ h q is. w.marked h q (sym (same h q) ∙ is);
-    held = held_same (pending_of indexed marks) (pending_of indexed marks) (λ h. claim_in claims h) (λ h. claim_in after h) (λ q is. is) of w.held;
+    held = held_same (pending_by_slot indexed marks) (pending_by_slot indexed marks) (λ h. claim_in claims h) (λ h. claim_in after h) (λ q is. is) of w.held;
     listed = w.listed;
     once = w.once;
   }
 
   -- the hand's claim is gone, and its key is pending or not
-  pub whole-gone : (indexed : Indexed F) (marks after : Marks) (claims left : List (Option (Claim T))) (changes : Changes F) (hand : ℕ) (c : Claim T) (index : ℕ)
-      → index + 1 ≡ place_of indexed c.key → claim_in claims hand ≡ Some c → ((h : ℕ) → claim_in left h ≡ put_hand (λ j. claim_in claims j) hand None h)
+  pub whole-gone : (indexed : Indexed F) (marks after : SlotMarks) (claims left : List (Option (Claim T))) (changes : ChangeLog F) (hand : ℕ) (c : Claim T) (index : ℕ)
+      → index + 1 ≡ place_of_key indexed c.key → claim_in claims hand ≡ Some c → ((h : ℕ) → claim_in left h ≡ put_hand (λ j. claim_in claims j) hand None h)
       → SetsMark index false (held_at marks.list) (held_at after.list)
-      → Covers (length indexed.table.entries) (pending_at after.list) → AreHeld (pending_of indexed after) (λ h. claim_in left h)
-      → AreEntries indexed marks claims changes → AreEntries indexed after left changes
+      → Covers (length indexed.table.entries) (pending_at after.list) → AreHeld (pending_by_slot indexed after) (λ h. claim_in left h)
+      → AreParts indexed marks claims changes → AreParts indexed after left changes
   whole-gone indexed marks after claims left changes hand c index stands there gone holds covered kept w = record {
     distinct = w.distinct;
     covered = covered;
@@ -280,7 +280,7 @@ module _ {F T : Type 0} where
     once = w.once;
   }
     where
-      held : (q : Key) → held_of indexed after q ≡ cond (same_key c.key q) false (held_of indexed marks q)
+      held : (q : Key) → held_by_slot indexed after q ≡ cond (same_key c.key q) false (held_by_slot indexed marks q)
       held q = at-set c.key indexed.table.entries index false (held_at marks.list) (held_at after.list) stands holds q
 
       stays : (q : Key) (h : ℕ) → is_claim_of q (claim_in claims h) ≡ true → same_key c.key q ≡ false → (b : Bool) → nat_eq hand h ≡ b → is_claim_of q (claim_in left h) ≡ true
@@ -289,13 +289,13 @@ module _ {F T : Type 0} where
           (sym (ap (is_claim_of q) (ap (λ j. claim_in claims j) (sym (eqb-true hand h same)) ∙ there)) ∙ is))
       stays q h is other false apart = ap (is_claim_of q) (gone h ∙ ap (λ b. cond b None (claim_in claims h)) apart) ∙ is
 
-      takes : (q : Key) → held_of indexed after q ≡ true → (own : Bool) → same_key c.key q ≡ own → (h : ℕ) × (is_claim_of q (claim_in left h) ≡ true)
-      takes q is true same = absurd (both_ways (held_of indexed after q) (held q ∙ ap (λ b. cond b false (held_of indexed marks q)) same) is)
+      takes : (q : Key) → held_by_slot indexed after q ≡ true → (own : Bool) → same_key c.key q ≡ own → (h : ℕ) × (is_claim_of q (claim_in left h) ≡ true)
+      takes q is true same = absurd (both_ways (held_by_slot indexed after q) (held q ∙ ap (λ b. cond b false (held_by_slot indexed marks q)) same) is)
       takes q is false other =
-          let at = w.taken q (sym (held q ∙ ap (λ b. cond b false (held_of indexed marks q)) other) ∙ is) in
+          let at = w.taken q (sym (held q ∙ ap (λ b. cond b false (held_by_slot indexed marks q)) other) ∙ is) in
           (at.0, stays q at.0 at.1 other (nat_eq hand at.0) refl)
 
-      marks_q : (h : ℕ) (q : Key) → is_claim_of q (claim_in left h) ≡ true → (b : Bool) → nat_eq hand h ≡ b → held_of indexed after q ≡ true
+      marks_q : (h : ℕ) (q : Key) → is_claim_of q (claim_in left h) ≡ true → (b : Bool) → nat_eq hand h ≡ b → held_by_slot indexed after q ≡ true
       marks_q h q is true same =
           let none : claim_in left h ≡ None = gone h ∙ ap (λ b. cond b None (claim_in claims h)) same in
           absurd (both_ways (is_claim_of q (claim_in left h)) (ap (is_claim_of q) none) is)
@@ -308,14 +308,14 @@ module _ {F T : Type 0} where
           (w.held.apart hand h c d.0 there d.1 (ap (same_key c.key) (same_key_exact d.0.key q d.2) ∙ same)))))
           (λ no. no)
           (cases_Bool (same_key c.key q)) in
-          held q ∙ ap (λ b. cond b false (held_of indexed marks q)) other ∙ w.marked h q was
+          held q ∙ ap (λ b. cond b false (held_by_slot indexed marks q)) other ∙ w.marked h q was
 
   -- a hand claims the key, which is pending
-  pub whole-taken : (indexed : Indexed F) (marks after : Marks) (claims more : List (Option (Claim T))) (changes : Changes F) (hand : ℕ) (c : Claim T) (index : ℕ)
-      → index + 1 ≡ place_of indexed c.key → claim_in claims hand ≡ None → ((h : ℕ) → claim_in more h ≡ put_hand (λ j. claim_in claims j) hand (Some c) h)
-      → pending_of indexed marks c.key ≡ true → held_of indexed marks c.key ≡ false
+  pub whole-taken : (indexed : Indexed F) (marks after : SlotMarks) (claims more : List (Option (Claim T))) (changes : ChangeLog F) (hand : ℕ) (c : Claim T) (index : ℕ)
+      → index + 1 ≡ place_of_key indexed c.key → claim_in claims hand ≡ None → ((h : ℕ) → claim_in more h ≡ put_hand (λ j. claim_in claims j) hand (Some c) h)
+      → pending_by_slot indexed marks c.key ≡ true → held_by_slot indexed marks c.key ≡ false
       → SetsMark index true (held_at marks.list) (held_at after.list) → SameMarks (pending_at marks.list) (pending_at after.list)
-      → AreEntries indexed marks claims changes → AreEntries indexed after more changes
+      → AreParts indexed marks claims changes → AreParts indexed after more changes
   whole-taken indexed marks after claims more changes hand c index stands none takes pends free holds same w = record {
     distinct = w.distinct;
     covered = covers-same (length indexed.table.entries) (pending_at marks.list) (pending_at after.list) same w.covered;
@@ -323,20 +323,20 @@ module _ {F T : Type 0} where
     taken = λ q is. takes_q q is (same_key c.key q) refl;
     marked = λ h q is. marks_q h q is (nat_eq hand h) refl;
     held =
-        held_same (pending_of indexed marks) (pending_of indexed after) (λ h. claim_in more h) (λ h. claim_in more h)
-        (λ q is. at-same (pending_at marks.list) (pending_at after.list) (place_of indexed q) same ∙ is) (λ h d is. (d, is, refl))
-        (held_claimed (pending_of indexed marks) (λ h. claim_in claims h) (λ h. claim_in more h) hand c pends others takes w.held);
+        held_same (pending_by_slot indexed marks) (pending_by_slot indexed after) (λ h. claim_in more h) (λ h. claim_in more h)
+        (λ q is. at-same (pending_at marks.list) (pending_at after.list) (place_of_key indexed q) same ∙ is) (λ h d is. (d, is, refl))
+        (held_claimed (pending_by_slot indexed marks) (λ h. claim_in claims h) (λ h. claim_in more h) hand c pends others takes w.held);
     listed = w.listed;
     once = w.once;
   }
     where
-      held : (q : Key) → held_of indexed after q ≡ cond (same_key c.key q) true (held_of indexed marks q)
+      held : (q : Key) → held_by_slot indexed after q ≡ cond (same_key c.key q) true (held_by_slot indexed marks q)
       held q = at-set c.key indexed.table.entries index true (held_at marks.list) (held_at after.list) stands holds q
 
       others : (h : ℕ) (d : Claim T) → claim_in claims h ≡ Some d → same_key d.key c.key ≡ false
       others h d is =
           ⊎_elim
-          (λ one. absurd (both_ways (held_of indexed marks c.key) free (w.marked h c.key (ap (is_claim_of c.key) is ∙ one))))
+          (λ one. absurd (both_ways (held_by_slot indexed marks c.key) free (w.marked h c.key (ap (is_claim_of c.key) is ∙ one))))
           (λ no. no)
           (cases_Bool (same_key d.key c.key))
 
@@ -344,56 +344,56 @@ module _ {F T : Type 0} where
       stays q h is true one = absurd (both_ways (is_claim_of q (claim_in claims h)) (ap (is_claim_of q) (ap (λ j. claim_in claims j) (sym (eqb-true hand h one)) ∙ none)) is)
       stays q h is false apart = ap (is_claim_of q) (takes h ∙ ap (λ b. cond b (Some c) (claim_in claims h)) apart) ∙ is
 
-      takes_q : (q : Key) → held_of indexed after q ≡ true → (own : Bool) → same_key c.key q ≡ own → (h : ℕ) × (is_claim_of q (claim_in more h) ≡ true)
+      takes_q : (q : Key) → held_by_slot indexed after q ≡ true → (own : Bool) → same_key c.key q ≡ own → (h : ℕ) × (is_claim_of q (claim_in more h) ≡ true)
       takes_q q is true one = (hand, ap (is_claim_of q) (takes hand ∙ ap (λ b. cond b (Some c) (claim_in claims hand)) (eq-eqb hand hand refl)) ∙ one)
       takes_q q is false other =
-          let at = w.taken q (sym (held q ∙ ap (λ b. cond b true (held_of indexed marks q)) other) ∙ is) in
+          let at = w.taken q (sym (held q ∙ ap (λ b. cond b true (held_by_slot indexed marks q)) other) ∙ is) in
           (at.0, stays q at.0 at.1 (nat_eq hand at.0) refl)
 
-      marks_q : (h : ℕ) (q : Key) → is_claim_of q (claim_in more h) ≡ true → (b : Bool) → nat_eq hand h ≡ b → held_of indexed after q ≡ true
+      marks_q : (h : ℕ) (q : Key) → is_claim_of q (claim_in more h) ≡ true → (b : Bool) → nat_eq hand h ≡ b → held_by_slot indexed after q ≡ true
       marks_q h q is true one =
           let own : same_key c.key q ≡ true = ap (is_claim_of q) (sym (takes h ∙ ap (λ b. cond b (Some c) (claim_in claims h)) one)) ∙ is in
-          held q ∙ ap (λ b. cond b true (held_of indexed marks q)) own
+          held q ∙ ap (λ b. cond b true (held_by_slot indexed marks q)) own
       marks_q h q is false apart =
           let was : is_claim_of q (claim_in claims h) ≡ true = ap (is_claim_of q) (sym (takes h ∙ ap (λ b. cond b (Some c) (claim_in claims h)) apart)) ∙ is in
           held q ∙ ap (λ b. cond (same_key c.key q) true b) (w.marked h q was) ∙ true-or (same_key c.key q)
 
   -- ---- what the image says
-  pub is-pending : (indexed : Indexed F) (marks : Marks) (claims : List (Option (Claim T))) (changes : Changes F) → AreEntries indexed marks claims changes
-      → (q : Key) → list_any (same_key q) (keys_where (pending_at marks.list) indexed.table.entries) ≡ pending_of indexed marks q
+  pub is-pending : (indexed : Indexed F) (marks : SlotMarks) (claims : List (Option (Claim T))) (changes : ChangeLog F) → AreParts indexed marks claims changes
+      → (q : Key) → list_any (same_key q) (keys_where (pending_at marks.list) indexed.table.entries) ≡ pending_by_slot indexed marks q
   is-pending indexed marks claims changes w q = any-where (pending_at marks.list) indexed.table.entries q w.distinct
 
-  pub pending-long : (indexed : Indexed F) (marks : Marks) (claims : List (Option (Claim T))) (changes : Changes F) → AreEntries indexed marks claims changes
+  pub pending-long : (indexed : Indexed F) (marks : SlotMarks) (claims : List (Option (Claim T))) (changes : ChangeLog F) → AreParts indexed marks claims changes
       → length (keys_where (pending_at marks.list) indexed.table.entries) ≡ pending_count marks.list
   pending-long indexed marks claims changes w = count-where indexed.table.entries marks.list w.covered
 
   -- where the claims of keys are those of the marks, so is what holds of them
-  pub is-worklist : (indexed : Indexed F) (marks : Marks) (claims : List (Option (Claim T))) (changes : Changes F) → AreEntries indexed marks claims changes
+  pub is-worklist : (indexed : Indexed F) (marks : SlotMarks) (claims : List (Option (Claim T))) (changes : ChangeLog F) → AreParts indexed marks claims changes
       → AreHeld (λ q. list_any (same_key q) (keys_where (pending_at marks.list) indexed.table.entries)) (λ h. claim_in claims h)
   is-worklist indexed marks claims changes w =
-      held_same (pending_of indexed marks) (λ q. list_any (same_key q) (keys_where (pending_at marks.list) indexed.table.entries)) (λ h. claim_in claims h) (λ h. claim_in claims h)
+      held_same (pending_by_slot indexed marks) (λ q. list_any (same_key q) (keys_where (pending_at marks.list) indexed.table.entries)) (λ h. claim_in claims h) (λ h. claim_in claims h)
       (λ q is. is-pending indexed marks claims changes w q ∙ is) (λ h c is. (c, is, refl)) w.held
 
   -- a key that no claim is of is not marked as claimed, and the other way round
-  pub unclaimed-free : (indexed : Indexed F) (marks : Marks) (claims : List (Option (Claim T))) (changes : Changes F) → AreEntries indexed marks claims changes
-      → (q : Key) → list_any (is_claim_of q) claims ≡ false → held_of indexed marks q ≡ false
+  pub unclaimed-free : (indexed : Indexed F) (marks : SlotMarks) (claims : List (Option (Claim T))) (changes : ChangeLog F) → AreParts indexed marks claims changes
+      → (q : Key) → list_any (is_claim_of q) claims ≡ false → held_by_slot indexed marks q ≡ false
   unclaimed-free indexed marks claims changes w q none =
       ⊎_elim
       (λ is. let at = w.taken q is in absurd (both_ways (list_any (is_claim_of q) claims) none (any-at q claims at.0 at.1)))
       (λ no. no)
-      (cases_Bool (held_of indexed marks q))
+      (cases_Bool (held_by_slot indexed marks q))
 
-  pub free-unclaimed : (indexed : Indexed F) (marks : Marks) (claims : List (Option (Claim T))) (changes : Changes F) → AreEntries indexed marks claims changes
-      → (q : Key) → held_of indexed marks q ≡ false → list_any (is_claim_of q) claims ≡ false
+  pub free-unclaimed : (indexed : Indexed F) (marks : SlotMarks) (claims : List (Option (Claim T))) (changes : ChangeLog F) → AreParts indexed marks claims changes
+      → (q : Key) → held_by_slot indexed marks q ≡ false → list_any (is_claim_of q) claims ≡ false
   free-unclaimed indexed marks claims changes w q free =
       ⊎_elim
-      (λ is. let at = claimed_at q claims is in absurd (both_ways (held_of indexed marks q) free (w.marked at.0 q at.1)))
+      (λ is. let at = claimed_at q claims is in absurd (both_ways (held_by_slot indexed marks q) free (w.marked at.0 q at.1)))
       (λ no. no)
       (cases_Bool (list_any (is_claim_of q) claims))
 
   -- parts that grew make the same image
-  pub image-same : (indexed after : Indexed F) (marks marks_after : Marks) (claims : List (Option (Claim T))) (changes changes_after : Changes F)
-      → SameParts indexed after marks marks_after changes changes_after → image_of after marks_after claims changes_after ≡ image_of indexed marks claims changes
+  pub image-same : (indexed after : Indexed F) (marks marks_after : SlotMarks) (claims : List (Option (Claim T))) (changes changes_after : ChangeLog F)
+      → SameParts indexed after marks marks_after changes changes_after → image_by after marks_after claims changes_after ≡ image_by indexed marks claims changes
   image-same indexed after marks marks_after claims changes changes_after same =
       let keys : keys_where (pending_at marks_after.list) after.table.entries ≡ keys_where (pending_at marks.list) indexed.table.entries =
       keys-same (pending_at marks.list) (pending_at marks_after.list) after.table.entries same.pending ∙ ap (λ (t : Table F). keys_where (pending_at marks.list) t.entries) same.table in
@@ -402,7 +402,7 @@ module _ {F T : Type 0} where
       cc (table, keys, list)
 
 -- a mark at the place of an index
-pub at-index : (mark : ℕ → Bool) (place index : ℕ) → index + 1 ≡ place → at_place mark place ≡ mark index
+pub at-index : (mark : ℕ → Bool) (place index : ℕ) → index + 1 ≡ place → marked_at mark place ≡ mark index
 at-index mark zero index is = absurd (omega (arith, is))
 at-index mark (suc n) index is = let same : n ≡ index = omega (arith, is) in ap mark same
 
@@ -411,7 +411,7 @@ module _ {F : Type 0} where
   pub cells-same : (indexed after : Indexed F) → after.places ≡ indexed.places → KeepsCells indexed.places after.places
   cells-same indexed after same q cell is = ap (λ places. cell_of places q) same ∙ is
 
-  pub same-spot : (indexed after : Indexed F) (marks : Marks) (changes : Changes F) → after.table ≡ indexed.table → KeepsCells indexed.places after.places
+  pub same-spot : (indexed after : Indexed F) (marks : SlotMarks) (changes : ChangeLog F) → after.table ≡ indexed.table → KeepsCells indexed.places after.places
       → SameParts indexed after marks marks changes changes
   same-spot indexed after marks changes table cells = record {
     table = table;
@@ -422,7 +422,7 @@ module _ {F : Type 0} where
     noted = λ n. refl;
   }
 
-  pub same-then : (a b c : Indexed F) (m n o : Marks) (x y z : Changes F) → SameParts a b m n x y → SameParts b c n o y z → SameParts a c m o x z
+  pub same-then : (a b c : Indexed F) (m n o : SlotMarks) (x y z : ChangeLog F) → SameParts a b m n x y → SameParts b c n o y z → SameParts a c m o x z
   same-then a b c m n o x y z first next = record {
     table = next.table ∙ first.table;
     cells = λ q cell is. next.cells q cell (first.cells q cell is);
@@ -433,7 +433,7 @@ module _ {F : Type 0} where
   }
 
   -- a key stands where it stood
-  pub spot-same : (indexed after : Indexed F) (marks marks_after : Marks) (changes changes_after : Changes F) (key : Key) (cell place : ℕ)
+  pub spot-same : (indexed after : Indexed F) (marks marks_after : SlotMarks) (changes changes_after : ChangeLog F) (key : Key) (cell place : ℕ)
       → SameParts indexed after marks marks_after changes changes_after → IsSpot indexed key cell place → IsSpot after key cell place
   spot-same indexed after marks marks_after changes changes_after key cell place same spot = record {
     has_cell = same.cells key cell spot.has_cell;
@@ -441,38 +441,38 @@ module _ {F : Type 0} where
   }
 
 -- where no slot is marked, no place is
-pub at-none : (mark : ℕ → Bool) (place : ℕ) → ((n : ℕ) → mark n ≡ false) → at_place mark place ≡ false
+pub at-none : (mark : ℕ → Bool) (place : ℕ) → ((n : ℕ) → mark n ≡ false) → marked_at mark place ≡ false
 at-none mark zero none = refl
 at-none mark (suc n) none = none n
 
 module _ {F T : Type 0} where
   -- parts that hold nothing agree
-  pub whole-new : (indexed : Indexed F) (marks : Marks) (claims : List (Option (Claim T))) (changes : Changes F)
+  pub whole-new : (indexed : Indexed F) (marks : SlotMarks) (claims : List (Option (Claim T))) (changes : ChangeLog F)
       → indexed.table.entries ≡ [] → marks.list ≡ [] → claims ≡ [] → unwrap_or changes.list [] ≡ []
       → ((key : Key) → is_some (noted changes.list key) ≡ false) → ((n : ℕ) → noted_at changes n ≡ false)
-      → AreEntries indexed marks claims changes
+      → AreParts indexed marks claims changes
   unfolding IsDistinct
   whole-new indexed marks claims changes entries unmarked none empty absent unnoted =
       let pending : (n : ℕ) → pending_at marks.list n ≡ false = λ n. ap (λ ms. pending_at ms n) unmarked in
-      let free : (key : Key) → held_of indexed marks key ≡ false = λ key. ap (λ es. at_place (held_at marks.list) (place_in key es)) entries in
+      let free : (key : Key) → held_by_slot indexed marks key ≡ false = λ key. ap (λ es. marked_at (held_at marks.list) (place_in key es)) entries in
       let no_claim : (h : ℕ) → claim_in claims h ≡ None = λ h. ap (λ cs. claim_in cs h) none in
       record {
         distinct = subst (λ (xs : List (Key × F)). IsDistinct same_key (keys_of xs)) (sym entries) tt;
         covered = λ n more. pending n;
         unnoted = λ n more. unnoted n;
-        taken = λ key is. absurd (both_ways (held_of indexed marks key) (free key) is);
+        taken = λ key is. absurd (both_ways (held_by_slot indexed marks key) (free key) is);
         marked = λ h key is. absurd (both_ways (is_claim_of key (claim_in claims h)) (ap (is_claim_of key) (no_claim h)) is);
         held = record {
           held = λ h c is. absurd (cc (sym (no_claim h) ∙ is));
           apart = λ h j c d is also same. absurd (cc (sym (no_claim h) ∙ is));
         };
-        listed = λ key. ap (λ es. at_place (noted_at changes) (place_in key es)) entries ∙ sym (absent key);
+        listed = λ key. ap (λ es. marked_at (noted_at changes) (place_in key es)) entries ∙ sym (absent key);
         once = subst (λ xs. IsDistinct same_key (keys_of xs)) (sym empty) tt;
       }
 
   -- another list of notes is begun
-  pub whole-anew : (indexed : Indexed F) (marks : Marks) (claims : List (Option (Claim T))) (changes after : Changes F)
-      → after.list ≡ Some [] → ((n : ℕ) → noted_at after n ≡ false) → AreEntries indexed marks claims changes → AreEntries indexed marks claims after
+  pub whole-anew : (indexed : Indexed F) (marks : SlotMarks) (claims : List (Option (Claim T))) (changes after : ChangeLog F)
+      → after.list ≡ Some [] → ((n : ℕ) → noted_at after n ≡ false) → AreParts indexed marks claims changes → AreParts indexed marks claims after
   unfolding IsDistinct
   whole-anew indexed marks claims changes after empty unnoted w = record {
     distinct = w.distinct;
@@ -481,13 +481,13 @@ module _ {F T : Type 0} where
     taken = w.taken;
     marked = w.marked;
     held = w.held;
-    listed = λ key. at-none (noted_at after) (place_of indexed key) unnoted ∙ sym (ap (λ list. is_some (noted list key)) empty);
+    listed = λ key. at-none (noted_at after) (place_of_key indexed key) unnoted ∙ sym (ap (λ list. is_some (noted list key)) empty);
     once = subst (λ list. IsDistinct same_key (keys_of (unwrap_or list []))) (sym empty) tt;
   }
 
   -- places that hold no claim are as good as none
-  pub whole-free : (indexed : Indexed F) (marks : Marks) (claims : List (Option (Claim T))) (changes : Changes F) (left : List (Option (Claim T)))
-      → left ≡ [] → ((h : ℕ) → claim_in claims h ≡ None) → AreEntries indexed marks claims changes → AreEntries indexed marks left changes
+  pub whole-free : (indexed : Indexed F) (marks : SlotMarks) (claims : List (Option (Claim T))) (changes : ChangeLog F) (left : List (Option (Claim T)))
+      → left ≡ [] → ((h : ℕ) → claim_in claims h ≡ None) → AreParts indexed marks claims changes → AreParts indexed marks left changes
   whole-free indexed marks claims changes left none free w =
       let gone : (h : ℕ) → claim_in left h ≡ None = λ h. ap (λ cs. claim_in cs h) none in
       whole-claims indexed marks claims left changes

@@ -13,23 +13,23 @@ use Rattle.ide_worklist.specs.Worklist.{ends, ends_key, is_claim_of, put_hand, w
 use Rattle.ide_image.specs.declared.entry.Entry.{Entry}
 use Rattle.ide_image.specs.declared.queue.Mark.{Mark}
 use Rattle.ide_image.specs.declared.queue.Mark.TheVariants.{Settled, Waiting, Held}
-use Rattle.ide_image.specs.Changes.{Changes}
-use Rattle.ide_image.specs.Entries.{AreEntries, SameParts, at_place, entry_by, keys_where, pending_of}
-use Rattle.ide_image.specs.Indexed.{Indexed, place_of}
+use Rattle.ide_image.specs.ChangeLog.{ChangeLog}
+use Rattle.ide_image.specs.KeyedImage.{AreParts, SameParts, marked_at, entry_by, keys_where, pending_by_slot}
+use Rattle.ide_image.specs.Indexed.{Indexed, place_of_key}
 use Rattle.ide_image.specs.Notes.{ended_key, noted, with_note}
-use Rattle.ide_image.specs.Queue.{Marks, held_at, is_held, is_pending_mark, is_waiting, mark_in, one_if, pending_at, pending_count, waiting_at}
+use Rattle.ide_image.specs.Queue.{SlotMarks, held_at, is_held, is_pending_mark, is_waiting_mark, mark_in, one_if, pending_at, pending_count, waiting_at}
 use Rattle.ide_image.proofs.Agree.{claim-done, is-pending, pending-long}
 use Rattle.ide_image.proofs.Marked.{at-same}
 use Rattle.ide_image.proofs.Stack.{pending-there}
 use Rattle.std.proofs.lemmas.Option.{same_Some}
 
 -- a place that is marked is of a slot
-pub at-some : (mark : ℕ → Bool) (place : ℕ) → at_place mark place ≡ true → 1 ≤ place
+pub at-some : (mark : ℕ → Bool) (place : ℕ) → marked_at mark place ≡ true → 1 ≤ place
 at-some mark zero is = absurd (cc (is))
 at-some mark (suc n) is = omega arith
 
 -- a slot that waits is pending, and no hand has claimed it
-waiting-open : (m : Mark) → is_waiting m ≡ true → (is_pending_mark m ≡ true) × (is_held m ≡ false)
+waiting-open : (m : Mark) → is_waiting_mark m ≡ true → (is_pending_mark m ≡ true) × (is_held m ≡ false)
 waiting-open Settled is = absurd (cc (is))
 waiting-open (Waiting n) is = (refl, refl)
 waiting-open Held is = absurd (cc (is))
@@ -38,7 +38,7 @@ pub waiting-is : (marks : List Mark) (slot : ℕ) → waiting_at marks slot ≡ 
 waiting-is marks slot is = waiting-open (mark_in marks slot) is
 
 -- and a pending slot that does not wait is claimed
-open-held : (m : Mark) → is_waiting m ≡ false → is_pending_mark m ≡ true → is_held m ≡ true
+open-held : (m : Mark) → is_waiting_mark m ≡ false → is_pending_mark m ≡ true → is_held m ≡ true
 open-held Settled is also = absurd (cc (also))
 open-held (Waiting n) is also = absurd (cc (is))
 open-held Held is also = refl
@@ -46,7 +46,7 @@ open-held Held is also = refl
 pub held-is : (marks : List Mark) (slot : ℕ) → waiting_at marks slot ≡ false → pending_at marks slot ≡ true → held_at marks slot ≡ true
 held-is marks slot = open-held (mark_in marks slot)
 
-pub waits-is : (m : Mark) → is_pending_mark m ≡ true → is_held m ≡ false → is_waiting m ≡ true
+pub waits-is : (m : Mark) → is_pending_mark m ≡ true → is_held m ≡ false → is_waiting_mark m ≡ true
 waits-is Settled is free = absurd (cc (is))
 waits-is (Waiting n) is free = refl
 waits-is Held is free = absurd (cc (free))
@@ -60,7 +60,7 @@ held-open Held is = refl
 pub held-there : (marks : List Mark) (slot : ℕ) → held_at marks slot ≡ true → slot < length marks
 held-there marks slot is = pending-there marks slot (held-open (mark_in marks slot) is)
 
-pub at-open : (marks : List Mark) (place : ℕ) → at_place (held_at marks) place ≡ true → at_place (pending_at marks) place ≡ true
+pub at-open : (marks : List Mark) (place : ℕ) → marked_at (held_at marks) place ≡ true → marked_at (pending_at marks) place ≡ true
 at-open marks zero is = is
 at-open marks (suc n) is = held-open (mark_in marks n) is
 
@@ -105,7 +105,7 @@ not-cond true b = refl
 not-cond false b = refl
 
 -- a place whose slot is held, where each pending one is
-pub at-held : (marks : List Mark) (place : ℕ) → ((n : ℕ) → waiting_at marks n ≡ false) → at_place (pending_at marks) place ≡ true → at_place (held_at marks) place ≡ true
+pub at-held : (marks : List Mark) (place : ℕ) → ((n : ℕ) → waiting_at marks n ≡ false) → marked_at (pending_at marks) place ≡ true → marked_at (held_at marks) place ≡ true
 at-held marks zero none is = is
 at-held marks (suc n) none is = held-is marks n (none n) is
 
@@ -151,11 +151,11 @@ kept-is B eq table key f old new b stands met same =
     let is : new ≡ lowered_by B table key f = met ∙ ap (λ g. B.meet g f) stands in
     sym (ap (λ g. eq g old) is ∙ ap (eq (lowered_by B table key f)) stands) ∙ same
 
-module _ {F T : Type 0} (indexed grown : Indexed F) (marks more : Marks) (claims : List (Option (Claim T))) (changes ready : Changes F) (w : AreEntries indexed marks claims changes) (same : SameParts indexed grown marks more changes ready) where
-  pub pending-before : (q : Key) → pending_of grown more q ≡ list_any (same_key q) (keys_where (pending_at marks.list) indexed.table.entries)
+module _ {F T : Type 0} (indexed grown : Indexed F) (marks more : SlotMarks) (claims : List (Option (Claim T))) (changes ready : ChangeLog F) (w : AreParts indexed marks claims changes) (same : SameParts indexed grown marks more changes ready) where
+  pub pending-before : (q : Key) → pending_by_slot grown more q ≡ list_any (same_key q) (keys_where (pending_at marks.list) indexed.table.entries)
   pending-before q =
-      at-same (pending_at marks.list) (pending_at more.list) (place_of grown q) same.pending
-      ∙ ap (λ (t : Table F). at_place (pending_at marks.list) (place_in q t.entries)) same.table
+      at-same (pending_at marks.list) (pending_at more.list) (place_of_key grown q) same.pending
+      ∙ ap (λ (t : Table F). marked_at (pending_at marks.list) (place_in q t.entries)) same.table
       ∙ sym (is-pending indexed marks claims changes w q)
 
   pub entry-before : (key : Key) → entry_by grown more key ≡ record { function = found indexed.table key; pending = list_any (same_key key) (keys_where (pending_at marks.list) indexed.table.entries) }
@@ -171,25 +171,25 @@ module _ {F T : Type 0} (indexed grown : Indexed F) (marks more : Marks) (claims
   pub entries-before : (key : Key) (f : F) (es : List (Key × F)) → es ≡ with_entry grown.table.entries key f → es ≡ with_entry indexed.table.entries key f
   entries-before key f es is = is ∙ ap (λ (t : Table F). with_entry t.entries key f) same.table
 
-  module _ (after : Indexed F) (marks_after : Marks) (claims_after : List (Option (Claim T))) (changes_after : Changes F) (key : Key) (v : AreEntries after marks_after claims_after changes_after) where
-    pub pending-then : ((q : Key) → pending_of after marks_after q ≡ (same_key key q || pending_of grown more q))
+  module _ (after : Indexed F) (marks_after : SlotMarks) (claims_after : List (Option (Claim T))) (changes_after : ChangeLog F) (key : Key) (v : AreParts after marks_after claims_after changes_after) where
+    pub pending-then : ((q : Key) → pending_by_slot after marks_after q ≡ (same_key key q || pending_by_slot grown more q))
         → (q : Key) → list_any (same_key q) (keys_where (pending_at marks_after.list) after.table.entries)
         ≡ (same_key key q || list_any (same_key q) (keys_where (pending_at marks.list) indexed.table.entries))
     pending-then entered q =
         is-pending after marks_after claims_after changes_after v q ∙ entered q ∙ ap (λ b. same_key key q || b) (pending-before q)
 
-    pub pending-set : (b : Bool) → ((q : Key) → pending_of after marks_after q ≡ cond (same_key key q) b (pending_of grown more q))
+    pub pending-set : (b : Bool) → ((q : Key) → pending_by_slot after marks_after q ≡ cond (same_key key q) b (pending_by_slot grown more q))
         → (q : Key) → list_any (same_key q) (keys_where (pending_at marks_after.list) after.table.entries)
         ≡ cond (same_key key q) b (list_any (same_key q) (keys_where (pending_at marks.list) indexed.table.entries))
     pending-set b set q =
         is-pending after marks_after claims_after changes_after v q ∙ set q ∙ ap (cond (same_key key q) b) (pending-before q)
 
     pub count-then : pending_count more.list ≡ pending_count marks.list
-        → pending_count marks_after.list + one_if (pending_of grown more key) ≡ pending_count more.list + 1
+        → pending_count marks_after.list + one_if (pending_by_slot grown more key) ≡ pending_count more.list + 1
         → length (keys_where (pending_at marks_after.list) after.table.entries)
         ≡ length (keys_where (pending_at marks.list) indexed.table.entries) + cond (list_any (same_key key) (keys_where (pending_at marks.list) indexed.table.entries)) 0 1
     count-then still counted =
-        let here : one_if (pending_of grown more key) ≡ one_if (list_any (same_key key) (keys_where (pending_at marks.list) indexed.table.entries)) = ap one_if (pending-before key) in
+        let here : one_if (pending_by_slot grown more key) ≡ one_if (list_any (same_key key) (keys_where (pending_at marks.list) indexed.table.entries)) = ap one_if (pending-before key) in
         let first = pending-long indexed marks claims changes w in
         let last = pending-long after marks_after claims_after changes_after v in
         count-one (length (keys_where (pending_at marks_after.list) after.table.entries)) (length (keys_where (pending_at marks.list) indexed.table.entries))

@@ -12,20 +12,20 @@ use Rattle.ide_tables.specs.Tables.{behind, place_in, with_entry}
 use Rattle.ide_tables.proofs.Places.{place-put, place_then}
 use Rattle.ide_tables.proofs.Falls.{count-with}
 use Rattle.ide_image.specs.declared.queue.Mark.{Mark}
-use Rattle.ide_image.specs.Entries.{Covers, at_place, keys_where}
+use Rattle.ide_image.specs.KeyedImage.{Covers, marked_at, keys_where}
 use Rattle.ide_image.specs.Queue.{SetsMark, is_pending_mark, one_if, pending_at, pending_count}
 use Rattle.ide_image.proofs.Spots.{place-few}
 
 -- what is behind a first entry
-pub at-behind : (mark : ℕ → Bool) (place : ℕ) → at_place mark (behind place) ≡ at_place (λ n. mark (suc n)) place
+pub at-behind : (mark : ℕ → Bool) (place : ℕ) → marked_at mark (behind place) ≡ marked_at (λ n. mark (suc n)) place
 at-behind mark zero = refl
 at-behind mark (suc n) = refl
 
-pub at-same : (mark after : ℕ → Bool) (place : ℕ) → ((n : ℕ) → after n ≡ mark n) → at_place after place ≡ at_place mark place
+pub at-same : (mark after : ℕ → Bool) (place : ℕ) → ((n : ℕ) → after n ≡ mark n) → marked_at after place ≡ marked_at mark place
 at-same mark after zero same = refl
 at-same mark after (suc n) same = same n
 
-at-first : (mark : ℕ → Bool) (here : Bool) (place : ℕ) → at_place mark (cond here 1 (behind place)) ≡ cond here (mark 0) (at_place (λ n. mark (suc n)) place)
+at-first : (mark : ℕ → Bool) (here : Bool) (place : ℕ) → marked_at mark (cond here 1 (behind place)) ≡ cond here (mark 0) (marked_at (λ n. mark (suc n)) place)
 at-first mark true place = refl
 at-first mark false place = at-behind mark place
 
@@ -79,16 +79,16 @@ module _ {F : Type 0} where
       ∙ ap behind (nowhere q x es same apart.1)
 
   any-step : (q : Key) (e : Key × F) (ks : List Key) (first here : Bool) (place : ℕ) (rest : ℕ → Bool) → same_key q e.0 ≡ here
-      → (here ≡ true → place ≡ 0) → list_any (same_key q) ks ≡ at_place rest place
-      → list_any (same_key q) (cond first (e.0 ∷ ks) ks) ≡ cond here first (at_place rest place)
+      → (here ≡ true → place ≡ 0) → list_any (same_key q) ks ≡ marked_at rest place
+      → list_any (same_key q) (cond first (e.0 ∷ ks) ks) ≡ cond here first (marked_at rest place)
   any-step q e ks true true place rest is none same = ap (λ b. b || list_any (same_key q) ks) is
-  any-step q e ks false true place rest is none same = same ∙ ap (at_place rest) (none refl)
+  any-step q e ks false true place rest is none same = same ∙ ap (marked_at rest) (none refl)
   any-step q e ks true false place rest is none same = ap (λ b. b || list_any (same_key q) ks) is ∙ same
   any-step q e ks false false place rest is none same = same
 
   -- a key is among them exactly where its slot is marked
   pub any-where : (mark : ℕ → Bool) (es : List (Key × F)) (q : Key) → IsDistinct same_key (keys_of es)
-      → list_any (same_key q) (keys_where mark es) ≡ at_place mark (place_in q es)
+      → list_any (same_key q) (keys_where mark es) ≡ marked_at mark (place_in q es)
   any-where mark [] q apart = refl
   any-where mark (e ∷ es) q apart =
       any-step q e (keys_where (λ n. mark (suc n)) es) (mark 0) (same_key q e.0) (place_in q es) (λ n. mark (suc n)) refl
@@ -112,11 +112,11 @@ module _ {F : Type 0} where
 
   -- what a mark at the key's slot says of each key
   pub at-set : (key : Key) (es : List (Key × F)) (index : ℕ) (b : Bool) (mark after : ℕ → Bool) → index + 1 ≡ place_in key es → SetsMark index b mark after
-      → (q : Key) → at_place after (place_in q es) ≡ cond (same_key key q) b (at_place mark (place_in q es))
+      → (q : Key) → marked_at after (place_in q es) ≡ cond (same_key key q) b (marked_at mark (place_in q es))
   at-set key es index b mark after stands sets q =
-      elim (same_key key q) as (λ own. same_key key q ≡ own → at_place after (place_in q es) ≡ cond own b (at_place mark (place_in q es))) [
+      elim (same_key key q) as (λ own. same_key key q ≡ own → marked_at after (place_in q es) ≡ cond own b (marked_at mark (place_in q es))) [
         | true ↦ λ same.
-            ap (λ k. at_place after (place_in k es)) (sym (same_key_exact key q same)) ∙ ap (at_place after) here
+            ap (λ k. marked_at after (place_in k es)) (sym (same_key_exact key q same)) ∙ ap (marked_at after) here
             ∙ sets index ∙ ap (λ t. cond t b (mark index)) (eq-eqb index index refl)
         | false ↦ λ other. elsewhere (place_in q es) refl other
       ] refl
@@ -124,7 +124,7 @@ module _ {F : Type 0} where
       here : place_in key es ≡ suc index
       here = sym stands ∙ omega arith
 
-      elsewhere : (place : ℕ) → place_in q es ≡ place → same_key key q ≡ false → at_place after place ≡ at_place mark place
+      elsewhere : (place : ℕ) → place_in q es ≡ place → same_key key q ≡ false → marked_at after place ≡ marked_at mark place
       elsewhere zero is other = refl
       elsewhere (suc n) is other =
           sets n ∙ ap (λ t. cond t b (mark n))
@@ -133,15 +133,15 @@ module _ {F : Type 0} where
 
   -- an entry that is put in changes no mark
   pub at-put : (key : Key) (es : List (Key × F)) (f : F) (mark : ℕ → Bool) → Covers (length es) mark
-      → (q : Key) → at_place mark (place_in q (with_entry es key f)) ≡ at_place mark (place_in q es)
+      → (q : Key) → marked_at mark (place_in q (with_entry es key f)) ≡ marked_at mark (place_in q es)
   at-put key es f mark covered q =
-      ap (at_place mark) (place-put key es q f)
-      ∙ elim (same_key key q) as (λ own. same_key key q ≡ own → at_place mark (cond own (place_then (place_in key es) (length es)) (place_in q es)) ≡ at_place mark (place_in q es)) [
-        | true ↦ λ same. then (place_in key es) ∙ ap (λ k. at_place mark (place_in k es)) (same_key_exact key q same)
+      ap (marked_at mark) (place-put key es q f)
+      ∙ elim (same_key key q) as (λ own. same_key key q ≡ own → marked_at mark (cond own (place_then (place_in key es) (length es)) (place_in q es)) ≡ marked_at mark (place_in q es)) [
+        | true ↦ λ same. then (place_in key es) ∙ ap (λ k. marked_at mark (place_in k es)) (same_key_exact key q same)
         | false ↦ λ other. refl
       ] refl
     where
-      then : (place : ℕ) → at_place mark (place_then place (length es)) ≡ at_place mark place
+      then : (place : ℕ) → marked_at mark (place_then place (length es)) ≡ marked_at mark place
       then zero = covered (length es) (omega arith)
       then (suc n) = refl
 

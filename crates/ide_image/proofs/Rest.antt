@@ -13,9 +13,9 @@ use Rattle.ide_image.specs.declared.entry.Entry.{Entry}
 use Rattle.ide_tables.specs.Tables.{Table, found, with_entry}
 use Rattle.ide_tables.proofs.Sets.{found-with_entry}
 use Rattle.ide_image.specs.Indexed.{Indexed}
-use Rattle.ide_image.specs.Queue.{Marks}
-use Rattle.ide_image.specs.Entries.{HasRoom, entry_by, marked_all, pending_of}
-use Rattle.ide_image.specs.Changes.{Changes}
+use Rattle.ide_image.specs.Queue.{SlotMarks}
+use Rattle.ide_image.specs.KeyedImage.{HasRoomFor, entry_by, marked_all, pending_by_slot}
+use Rattle.ide_image.specs.ChangeLog.{ChangeLog}
 use Rattle.ide_image.specs.Notes.{noted, noted_after, or_entry, with_note}
 
 -- a test of the first key is one of the others, or of it
@@ -117,14 +117,14 @@ noting-with None key entry = refl
 noting-with (Some list) key entry = refl
 
 -- the entry of another key stays once one is entered
-module _ {F : Type 0} (indexed after : Indexed F) (marks marks_after : Marks) (key : Key) (f : F)
+module _ {F : Type 0} (indexed after : Indexed F) (marks marks_after : SlotMarks) (key : Key) (f : F)
     (entered : after.table.entries ≡ with_entry indexed.table.entries key f)
-    (pends : (q : Key) → pending_of after marks_after q ≡ (same_key key q || pending_of indexed marks q)) where
+    (pends : (q : Key) → pending_by_slot after marks_after q ≡ (same_key key q || pending_by_slot indexed marks q)) where
   pub entry-kept : (q : Key) → same_key key q ≡ false → entry_by after marks_after q ≡ entry_by indexed marks q
   entry-kept q other =
       let function : found after.table q ≡ found indexed.table q =
       ap (lookup (same_key q)) entered ∙ found-with_entry indexed.table.entries key q f ∙ ap (λ b. cond b (Some f) (found indexed.table q)) other in
-      let pending : pending_of after marks_after q ≡ pending_of indexed marks q = pends q ∙ ap (λ b. b || pending_of indexed marks q) other in
+      let pending : pending_by_slot after marks_after q ≡ pending_by_slot indexed marks q = pends q ∙ ap (λ b. b || pending_by_slot indexed marks q) other in
       cc (function, pending)
 
   pub entry-own : (q : Key) → same_key key q ≡ true → entry_by indexed marks key ≡ entry_by indexed marks q
@@ -132,7 +132,7 @@ module _ {F : Type 0} (indexed after : Indexed F) (marks marks_after : Marks) (k
 
 module _ {F : Type 0} where
   -- room for some is room for one
-  pub room-one : (indexed : Indexed F) (marks : Marks) (changes : Changes F) (n : ℕ) → 1 ≤ n → HasRoom n indexed marks changes → HasRoom 1 indexed marks changes
+  pub room-one : (indexed : Indexed F) (marks : SlotMarks) (changes : ChangeLog F) (n : ℕ) → 1 ≤ n → HasRoomFor n indexed marks changes → HasRoomFor 1 indexed marks changes
   room-one indexed marks changes n some room = record {
     entries = record { free = omega (arith, some, room.entries.free); few = omega (arith, some, room.entries.few) };
     marked = omega (arith, some, room.marked);
@@ -144,8 +144,8 @@ module _ {F : Type 0} where
   }
 
   -- and the same room where cells were added
-  pub room-same : (indexed after : Indexed F) (marks : Marks) (changes : Changes F) (n : ℕ) → after.table ≡ indexed.table → after.room ≡ indexed.room
-      → HasRoom n indexed marks changes → HasRoom n after marks changes
+  pub room-same : (indexed after : Indexed F) (marks : SlotMarks) (changes : ChangeLog F) (n : ℕ) → after.table ≡ indexed.table → after.room ≡ indexed.room
+      → HasRoomFor n indexed marks changes → HasRoomFor n after marks changes
   room-same indexed after marks changes n table room has =
       let count : length after.table.entries ≡ length indexed.table.entries = ap (λ (t : Table F). length t.entries) table in
       record {

@@ -7,15 +7,15 @@ use Rattle.std.proofs.lemmas.List.{get_or-set_other, get_or-set_same}
 use Rattle.std.proofs.lemmas.List.Sums.{sum_by-cons, sum_by-set}
 use Rattle.ide_image.specs.declared.queue.Mark.{Mark}
 use Rattle.ide_image.specs.declared.queue.Mark.TheVariants.{Settled, Waiting, Held}
-use Rattle.ide_image.specs.Queue.{AreStacked, IsStacked, is_held, is_pending_mark, is_waiting, held_count, mark_in, one_if, pending_count, waiting_count}
+use Rattle.ide_image.specs.Queue.{AreStacked, IsStacked, is_held, is_pending_mark, is_waiting_mark, held_count, mark_in, one_if, pending_count, waiting_count}
 
 -- a mark that does not wait stands at no position
-pub not-waiting : (m : Mark) (n : ℕ) → is_waiting m ≡ false → m ≡ Waiting n → ⊥
-not-waiting m n off is = absurd (cc (sym off ∙ ap is_waiting is))
+pub not-waiting : (m : Mark) (n : ℕ) → is_waiting_mark m ≡ false → m ≡ Waiting n → ⊥
+not-waiting m n off is = absurd (cc (sym off ∙ ap is_waiting_mark is))
 
 -- the slot is put on top
 pub stacked-up : (mark after : ℕ → Mark) (at on : ℕ → ℕ) (count slot : ℕ)
-    → is_waiting (mark slot) ≡ false
+    → is_waiting_mark (mark slot) ≡ false
     → after slot ≡ Waiting count → ((n : ℕ) → n ≢ slot → after n ≡ mark n)
     → on count ≡ slot → ((n : ℕ) → n < count → on n ≡ at n)
     → IsStacked mark at count → IsStacked after on (count + 1)
@@ -44,7 +44,7 @@ stacked-up mark after at on count slot off here others top below w = record {
 
 -- the slot is taken off, and the one on top takes its position
 pub taken-off : (mark after : ℕ → Mark) (at on : ℕ → ℕ) (old count position slot : ℕ) (m : Mark)
-    → old ≡ count + 1 → mark slot ≡ Waiting position → is_waiting m ≡ false
+    → old ≡ count + 1 → mark slot ≡ Waiting position → is_waiting_mark m ≡ false
     → after slot ≡ m → (at count ≢ slot → after (at count) ≡ Waiting position)
     → ((n : ℕ) → n ≢ slot → n ≢ at count → after n ≡ mark n)
     → (position < count → on position ≡ at count) → ((n : ℕ) → n ≢ position → n < count → on n ≡ at n)
@@ -122,10 +122,10 @@ few-step false = omega arith
 
 pub waiting-few : (marks : List Mark) → waiting_count marks ≤ length marks
 waiting-few [] = omega arith
-waiting-few (m ∷ ms) = omega (arith, waiting-few ms, few-step (is_waiting m), sum_by-cons (λ m. one_if (is_waiting m)) m ms)
+waiting-few (m ∷ ms) = omega (arith, waiting-few ms, few-step (is_waiting_mark m), sum_by-cons (λ m. one_if (is_waiting_mark m)) m ms)
 
 -- a pending slot waits, or a hand has claimed it
-kinds-step : (m : Mark) → one_if (is_pending_mark m) ≡ one_if (is_waiting m) + one_if (is_held m)
+kinds-step : (m : Mark) → one_if (is_pending_mark m) ≡ one_if (is_waiting_mark m) + one_if (is_held m)
 kinds-step Settled = omega arith
 kinds-step (Waiting n) = omega arith
 kinds-step Held = omega arith
@@ -138,7 +138,7 @@ kinds (m ∷ ms) =
       kinds ms,
       kinds-step m,
       sum_by-cons (λ m. one_if (is_pending_mark m)) m ms,
-      sum_by-cons (λ m. one_if (is_waiting m)) m ms,
+      sum_by-cons (λ m. one_if (is_waiting_mark m)) m ms,
       sum_by-cons (λ m. one_if (is_held m)) m ms,
     )
 
@@ -221,7 +221,7 @@ module _ (marks : List Mark) (stack : List ℕ) (slot position last : ℕ) (mark
       → sum_by f off_marks + f (Waiting position) ≡ sum_by f marks + f mark
   off-counts f alike = counted-off marks last (length stack - 1) position slot mark f alike last-waits is (length-set marks last (Waiting position))
 
-  pub off-stacked : (on : List ℕ) → is_waiting mark ≡ false → length on + 1 ≡ length stack
+  pub off-stacked : (on : List ℕ) → is_waiting_mark mark ≡ false → length on + 1 ≡ length stack
       → (position + 1 < length stack → slice_index on position ≡ slice_index stack (length stack - 1))
       → ((n : ℕ) → n ≢ position → n + 1 < length stack → slice_index on n ≡ slice_index stack n)
       → AreStacked off_marks on

@@ -14,13 +14,13 @@ pub record Indexed (F : Type 0) : Type 0 where
   pub room : ℕ
 
 -- how many more there is room for, in two columns of these lengths and capacities
-abbrev pub room_of : (len capacity node_len node_capacity : ℕ) → ℕ
-room_of len capacity node_len node_capacity = min (capacity - len) (node_capacity - node_len)
+abbrev pub entry_room : (len capacity node_len node_capacity : ℕ) → ℕ
+entry_room len capacity node_len node_capacity = min (capacity - len) (node_capacity - node_len)
 
 module _ {F : Type 0} where
   -- one more than the index of the key's entry: 0, if it has none
-  abbrev pub place_of : Indexed F → Key → ℕ
-  place_of indexed key = place_in key indexed.table.entries
+  abbrev pub place_of_key : Indexed F → Key → ℕ
+  place_of_key indexed key = place_in key indexed.table.entries
 
   -- no two entries are of one key
   abbrev pub HasDistinctKeys : Indexed F → Type 0
@@ -34,4 +34,4 @@ module _ {F : Type 0} where
   -- the cell is the key's, and the place is that of its entry
   pub record IsSpot (indexed : Indexed F) (key : Key) (cell place : ℕ) : Type 0 where
     pub has_cell : cell_of indexed.places key ≡ Some cell
-    pub stands : place ≡ place_of indexed key
+    pub stands : place ≡ place_of_key indexed key

@@ -1,5 +1,5 @@
-pub mod Changes
-pub mod Entries
+pub mod ChangeLog
+pub mod KeyedImage
 pub mod Indexed
 pub mod Notes
 pub mod Queue

@@ -5,7 +5,7 @@ use Rattle.ide_image.specs.declared.queue.Mark.{Mark}
 use Rattle.ide_image.specs.declared.queue.Mark.TheVariants.{Settled, Waiting, Held}
 
 -- the marks of slots, in the order of these, and for how many more pending slots there is room
-pub record Marks : Type 0 where
+pub record SlotMarks : Type 0 where
   pub list : List Mark
   pub spare : ℕ
 
@@ -26,10 +26,10 @@ is_held (Waiting position) = false
 is_held Held = true
 
 -- whether it is pending, and no hand has claimed it
-abbrev pub is_waiting : Mark → Bool
-is_waiting Settled = false
-is_waiting (Waiting position) = true
-is_waiting Held = false
+abbrev pub is_waiting_mark : Mark → Bool
+is_waiting_mark Settled = false
+is_waiting_mark (Waiting position) = true
+is_waiting_mark Held = false
 
 -- how many pending slots a mark makes
 abbrev pub one_if : Bool → ℕ
@@ -45,7 +45,7 @@ held_at marks n = is_held (mark_in marks n)
 
 -- whether it is pending, and no hand has claimed it
 abbrev pub waiting_at : List Mark → ℕ → Bool
-waiting_at marks n = is_waiting (mark_in marks n)
+waiting_at marks n = is_waiting_mark (mark_in marks n)
 
 -- how many slots are pending
 abbrev pub pending_count : List Mark → ℕ
@@ -53,7 +53,7 @@ pending_count marks = sum_by (λ m. one_if (is_pending_mark m)) marks
 
 -- how many of them wait
 abbrev pub waiting_count : List Mark → ℕ
-waiting_count marks = sum_by (λ m. one_if (is_waiting m)) marks
+waiting_count marks = sum_by (λ m. one_if (is_waiting_mark m)) marks
 
 -- how many a hand has claimed
 abbrev pub held_count : List Mark → ℕ

@@ -8,7 +8,7 @@ ghost use Rattle.ide_wire.specs.declared.refused.Refused.TheVariants.{NoMemory};
 ghost use Rattle.ide_wire.specs.Key.{same_key};
 ghost use Rattle.ide_wire.specs.KeyOrder.{key_cmp};
 ghost use Rattle.ide_tables.specs.Tables.{AreJumpsTo, AreKeys, AreSummariesFrom, HaveCells, IsIndexed, found, function_at, nodes_of, or_top, partner_at, place_in, with_entry};
-ghost use Rattle.ide_image.specs.Indexed.{HasDistinctKeys, IsSpot, MayTake, place_of};
+ghost use Rattle.ide_image.specs.Indexed.{HasDistinctKeys, IsSpot, MayTake, place_of_key};
 
 use ide_lattice::EdgeFn;
 use ide_pages::Pages;
@@ -32,7 +32,7 @@ pub(crate) struct Indexed<F: EdgeFn> {
 
 /// Where a key stands: its cell, and one more than the index of its entry, or 0 where it has none.
 #[derive(Clone, Copy, Debug)]
-pub(crate) struct Spot {
+pub(crate) struct KeySpot {
     pub(crate) cell: usize,
     pub(crate) place: u32,
 }
@@ -40,11 +40,11 @@ pub(crate) struct Spot {
 impl<F: EdgeFn> Model for Indexed<F> {
     ghost use Rattle.std.specs.Prelude.{vec_capacity, vec_len};
     ghost use Rattle.ide_tables.specs.Tables.{IsIndexed};
-    ghost use Rattle.ide_image.specs.Indexed.{Indexed, room_of};
+    ghost use Rattle.ide_image.specs.Indexed.{Indexed, entry_room};
 
     ghost Value = { Indexed F };
 
-    ghost view = { λ t. record { table = record { entries = t.entries.items }; places = t.places; room = room_of (vec_len t.entries) (vec_capacity t.entries) (vec_len t.nodes) (vec_capacity t.nodes) } };
+    ghost view = { λ t. record { table = record { entries = t.entries.items }; places = t.places; room = entry_room (vec_len t.entries) (vec_capacity t.entries) (vec_len t.nodes) (vec_capacity t.nodes) } };
 
     ghost invariant = { λ t. IsIndexed t.places t.nodes.items t.entries.items };
 }
@@ -63,7 +63,7 @@ impl<F: EdgeFn> Indexed<F> {
 
     /// One more than the index of the key's entry, or 0 where it has none. One look-up.
     pub(crate) fn place(&self, key: Key) -> u32
-        ensures place { result ≡ place_of self.now key }
+        ensures place { result ≡ place_of_key self.now key }
         ensures within { result ≤ length self.now.table.entries }
         ensures absent { result ≡ 0 → found self.now.table key ≡ None }
     {
@@ -72,7 +72,7 @@ impl<F: EdgeFn> Indexed<F> {
 
     /// The function of the entry at a place, if it is one. No look-up.
     pub(crate) fn function_at(&self, place: u32) -> Option<F>
-        ensures { (key : Key) → place ≡ place_of self.now key → result ≡ found self.now.table key }
+        ensures { (key : Key) → place ≡ place_of_key self.now key → result ≡ found self.now.table key }
     {
         if place == 0 {
             return None;
@@ -85,7 +85,7 @@ impl<F: EdgeFn> Indexed<F> {
 
     /// The same, where no entry stands for the function that always gives top.
     pub(crate) fn function_in(&self, place: u32) -> F
-        ensures { (key : Key) → place ≡ place_of self.now key → result ≡ function_at F.edge self.now.table key }
+        ensures { (key : Key) → place ≡ place_of_key self.now key → result ≡ function_at F.edge self.now.table key }
     {
         match self.function_at(place) {
             Some(function) => function,
@@ -106,7 +106,7 @@ impl<F: EdgeFn> Indexed<F> {
         ensures entry { result ≡ slice_get self.now.table.entries index }
         ensures end { (result ≡ None) ↔ (length self.now.table.entries ≤ index) }
         ensures present { IfSome result (λ entry. found self.now.table entry.0 ≡ Some entry.1) }
-        ensures place { IfSome result (λ entry. place_of self.now entry.0 ≡ index + 1) }
+        ensures place { IfSome result (λ entry. place_of_key self.now entry.0 ≡ index + 1) }
     {
         entry_at(&self.entries, index)
     }
@@ -160,7 +160,7 @@ impl<F: EdgeFn> Indexed<F> {
     }
 
     /// Where the key stands, for which there is a cell then. One look-up.
-    pub(crate) fn spot(&mut self, key: Key) -> Result<Spot, Refused>
+    pub(crate) fn spot(&mut self, key: Key) -> Result<KeySpot, Refused>
         ensures spot { IfOk result (λ spot. IsSpot self.new key spot.cell spot.place) }
         ensures table { self.new.table ≡ self.old.table }
         ensures room { self.new.room ≡ self.old.room }
@@ -169,16 +169,16 @@ impl<F: EdgeFn> Indexed<F> {
     {
         let cell = self.places.make_room(key)?;
         let place = self.places.number_in(cell);
-        Ok(Spot { cell, place })
+        Ok(KeySpot { cell, place })
     }
 
     /// Where the key stands, which has a cell. One look-up.
-    pub(crate) fn spot_of(&self, key: Key) -> Spot
+    pub(crate) fn spot_of(&self, key: Key) -> KeySpot
         requires cell { IsSome (cell_of self.now.places key) }
         ensures { IsSpot self.now key result.cell result.place }
     {
         match self.places.cell(key) {
-            Some(cell) => Spot {
+            Some(cell) => KeySpot {
                 cell,
                 place: self.places.number_in(cell),
             },
@@ -216,7 +216,7 @@ impl<F: EdgeFn> Indexed<F> {
 
     /// Makes the function that of the key, which stands there, and answers the index of its entry. No
     /// look-up.
-    pub(crate) fn put(&mut self, spot: Spot, key: Key, function: F) -> usize
+    pub(crate) fn put(&mut self, spot: KeySpot, key: Key, function: F) -> usize
         requires spot { IsSpot self.old key spot.cell spot.place }
         requires room { MayTake 1 self.old }
         ensures entries { self.new.table.entries ≡ with_entry self.old.table.entries key function }

@@ -2,13 +2,13 @@
 //! the entry that it had when changes were last asked for.
 #![tactic(auto)]
 
-mod changes;
+mod change_log;
 mod claims;
-mod entries;
 mod entry;
 mod indexed;
+mod keyed_image;
 mod parts;
 mod queue;
 
-pub use entries::Entries;
 pub use entry::Entry;
+pub use keyed_image::KeyedImage;

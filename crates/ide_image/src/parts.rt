@@ -9,16 +9,16 @@ ghost use Rattle.ide_wire.specs.declared.key.Key.{Key};
 ghost use Rattle.ide_wire.specs.declared.refused.Refused.TheVariants.{NoMemory};
 ghost use Rattle.ide_wire.specs.Key.{same_key};
 ghost use Rattle.ide_worklist.specs.Worklist.{claim_in, is_claim_of, marked};
-ghost use Rattle.ide_image.specs.Changes.{MayNote, noted_at};
-ghost use Rattle.ide_image.specs.Entries.{AreEntries, Covers, HasRoom, SameParts, at_place, entry_by, held_of, marked_all, pending_of, SetsAt};
-ghost use Rattle.ide_image.specs.Indexed.{IsSpot, MayTake, place_of};
+ghost use Rattle.ide_image.specs.ChangeLog.{MayNote, noted_at};
+ghost use Rattle.ide_image.specs.KeyedImage.{AreParts, Covers, HasRoomFor, SameParts, marked_at, entry_by, held_by_slot, marked_all, pending_by_slot, SetsAt};
+ghost use Rattle.ide_image.specs.Indexed.{IsSpot, MayTake, place_of_key};
 ghost use Rattle.ide_image.specs.Notes.{noted, noted_after, with_note};
 ghost use Rattle.ide_image.specs.Queue.{SetsMark, held_at, one_if, pending_at, pending_count};
 
-use crate::changes::Changes;
+use crate::change_log::ChangeLog;
 use crate::claims;
 use crate::entry::Entry;
-use crate::indexed::{Indexed, Spot};
+use crate::indexed::{Indexed, KeySpot};
 use crate::queue::Queue;
 use ide_lattice::EdgeFn;
 use ide_wire::{Key, Refused};
@@ -26,14 +26,14 @@ use ide_worklist::Claim;
 
 /// Whether the slot at a place is pending.
 pub(crate) fn is_pending_at(queue: &Queue, place: u32) -> bool
-    ensures { result ≡ at_place (pending_at queue.now.list) place }
+    ensures { result ≡ marked_at (pending_at queue.now.list) place }
 {
     place != 0 && queue.is_pending(place as usize - 1)
 }
 
 /// Whether the key of the slot at a place is noted.
-pub(crate) fn is_noted_at<F: EdgeFn>(changes: &Changes<F>, place: u32) -> bool
-    ensures { result ≡ at_place (noted_at changes.now) place }
+pub(crate) fn is_noted_at<F: EdgeFn>(changes: &ChangeLog<F>, place: u32) -> bool
+    ensures { result ≡ marked_at (noted_at changes.now) place }
 {
     place != 0 && changes.is_noted(place as usize - 1)
 }
@@ -42,12 +42,12 @@ pub(crate) fn is_noted_at<F: EdgeFn>(changes: &Changes<F>, place: u32) -> bool
 pub(crate) fn make_room<F: EdgeFn>(
     indexed: &mut Indexed<F>,
     queue: &mut Queue,
-    changes: &mut Changes<F>,
+    changes: &mut ChangeLog<F>,
     additional: usize,
 ) -> Result<(), Refused>
     ensures same { SameParts indexed.old indexed.new queue.old queue.new changes.old changes.new }
     ensures count { pending_count queue.new.list ≡ pending_count queue.old.list }
-    ensures room { OnOk result (HasRoom additional indexed.new queue.new changes.new) }
+    ensures room { OnOk result (HasRoomFor additional indexed.new queue.new changes.new) }
     ensures refused { IsOkUnless result NoMemory }
 {
     indexed.reserve(additional)?;
@@ -63,16 +63,16 @@ pub(crate) fn make_room<F: EdgeFn>(
 pub(crate) fn end_slot<F: EdgeFn>(
     indexed: &Indexed<F>,
     queue: &mut Queue,
-    changes: &mut Changes<F>,
+    changes: &mut ChangeLog<F>,
     key: Key,
 ) -> Result<(), Refused>
-    requires held { held_of indexed.now queue.old key ≡ true }
-    requires listed { at_place (noted_at changes.old) (place_of indexed.now key) ≡ is_some (noted changes.old.list key) }
-    ensures pending { OnOk result (SetsAt (place_of indexed.now key) false (pending_at queue.old.list) (pending_at queue.new.list)) }
-    ensures held { OnOk result (SetsAt (place_of indexed.now key) false (held_at queue.old.list) (held_at queue.new.list)) }
+    requires held { held_by_slot indexed.now queue.old key ≡ true }
+    requires listed { marked_at (noted_at changes.old) (place_of_key indexed.now key) ≡ is_some (noted changes.old.list key) }
+    ensures pending { OnOk result (SetsAt (place_of_key indexed.now key) false (pending_at queue.old.list) (pending_at queue.new.list)) }
+    ensures held { OnOk result (SetsAt (place_of_key indexed.now key) false (held_at queue.old.list) (held_at queue.new.list)) }
     ensures count { OnOk result (pending_count queue.new.list + 1 ≡ pending_count queue.old.list) }
     ensures list { OnOk result (changes.new.list ≡ with_note changes.old.list key (entry_by indexed.now queue.old key)) }
-    ensures marks { OnOk result (SetsAt (place_of indexed.now key) (is_some changes.old.list) (noted_at changes.old) (noted_at changes.new)) }
+    ensures marks { OnOk result (SetsAt (place_of_key indexed.now key) (is_some changes.old.list) (noted_at changes.old) (noted_at changes.new)) }
     ensures err { OnErr result (SameParts indexed.now indexed.now queue.old queue.new changes.old changes.new) }
     ensures nobody { changes.old.list ≡ None → IsOk result }
     ensures refused { IsOkUnless result NoMemory }
@@ -94,17 +94,17 @@ pub(crate) fn end_slot<F: EdgeFn>(
 pub(crate) fn put_noted<F: EdgeFn>(
     indexed: &mut Indexed<F>,
     queue: &Queue,
-    changes: &mut Changes<F>,
-    spot: Spot,
+    changes: &mut ChangeLog<F>,
+    spot: KeySpot,
     key: Key,
     function: F,
 ) -> usize
     requires spot { IsSpot indexed.old key spot.cell spot.place }
-    requires room { HasRoom 1 indexed.old queue.now changes.old }
-    requires listed { at_place (noted_at changes.old) (place_of indexed.old key) ≡ is_some (noted changes.old.list key) }
+    requires room { HasRoomFor 1 indexed.old queue.now changes.old }
+    requires listed { marked_at (noted_at changes.old) (place_of_key indexed.old key) ≡ is_some (noted changes.old.list key) }
     requires unnoted { Covers (length indexed.old.table.entries) (noted_at changes.old) }
     ensures entries { indexed.new.table.entries ≡ with_entry indexed.old.table.entries key function }
-    ensures slot { result + 1 ≡ place_of indexed.new key }
+    ensures slot { result + 1 ≡ place_of_key indexed.new key }
     ensures list { changes.new.list ≡ with_note changes.old.list key (entry_by indexed.old queue.now key) }
     ensures marks { SetsMark result (is_some changes.old.list) (noted_at changes.old) (noted_at changes.new) }
     ensures cells { KeepsCells indexed.old.places indexed.new.places }
@@ -136,22 +136,22 @@ pub(crate) fn enter<F: EdgeFn, T: Drop>(
     indexed: &mut Indexed<F>,
     queue: &mut Queue,
     claims: &mut Vec<Option<Claim<T>>>,
-    changes: &mut Changes<F>,
-    spot: Spot,
+    changes: &mut ChangeLog<F>,
+    spot: KeySpot,
     key: Key,
     function: F,
 )
     requires spot { IsSpot indexed.old key spot.cell spot.place }
-    requires room { HasRoom 1 indexed.old queue.old changes.old }
-    requires whole { AreEntries indexed.old queue.old claims.old.items changes.old }
-    ensures whole { AreEntries indexed.new queue.new claims.new.items changes.new }
+    requires room { HasRoomFor 1 indexed.old queue.old changes.old }
+    requires whole { AreParts indexed.old queue.old claims.old.items changes.old }
+    ensures whole { AreParts indexed.new queue.new claims.new.items changes.new }
     ensures entries { indexed.new.table.entries ≡ with_entry indexed.old.table.entries key function }
     ensures list { changes.new.list ≡ with_note changes.old.list key (entry_by indexed.old queue.old key) }
     ensures claims { (h : ℕ) → claim_in claims.new.items h ≡ marked key (claim_in claims.old.items h) }
-    ensures pending { (q : Key) → pending_of indexed.new queue.new q ≡ (same_key key q || pending_of indexed.old queue.old q) }
-    ensures count { pending_count queue.new.list + one_if (pending_of indexed.old queue.old key) ≡ pending_count queue.old.list + 1 }
+    ensures pending { (q : Key) → pending_by_slot indexed.new queue.new q ≡ (same_key key q || pending_by_slot indexed.old queue.old q) }
+    ensures count { pending_count queue.new.list + one_if (pending_by_slot indexed.old queue.old key) ≡ pending_count queue.old.list + 1 }
     ensures cells { KeepsCells indexed.old.places indexed.new.places }
-    ensures room { (n : ℕ) → HasRoom (n + 1) indexed.old queue.old changes.old → HasRoom n indexed.new queue.new changes.new }
+    ensures room { (n : ℕ) → HasRoomFor (n + 1) indexed.old queue.old changes.old → HasRoomFor n indexed.new queue.new changes.new }
 {
     let slot = put_noted(indexed, queue, changes, spot, key, function);
     queue.push(slot);
@@ -163,15 +163,15 @@ pub(crate) fn enter_all<F: EdgeFn, T: Drop>(
     indexed: &mut Indexed<F>,
     queue: &mut Queue,
     claims: &mut Vec<Option<Claim<T>>>,
-    changes: &mut Changes<F>,
+    changes: &mut ChangeLog<F>,
     list: &[(Key, F)],
 )
-    requires room { HasRoom (length list.now) indexed.old queue.old changes.old }
+    requires room { HasRoomFor (length list.now) indexed.old queue.old changes.old }
     requires cells { HaveCells indexed.old.places list.now }
-    requires whole { AreEntries indexed.old queue.old claims.old.items changes.old }
-    ensures whole { AreEntries indexed.new queue.new claims.new.items changes.new }
+    requires whole { AreParts indexed.old queue.old claims.old.items changes.old }
+    ensures whole { AreParts indexed.new queue.new claims.new.items changes.new }
     ensures entries { indexed.new.table.entries ≡ with_all indexed.old.table.entries list.now }
-    ensures pending { (q : Key) → pending_of indexed.new queue.new q ≡ (list_any (same_key q) (keys_of list.now) || pending_of indexed.old queue.old q) }
+    ensures pending { (q : Key) → pending_by_slot indexed.new queue.new q ≡ (list_any (same_key q) (keys_of list.now) || pending_by_slot indexed.old queue.old q) }
     ensures claims { (h : ℕ) → claim_in claims.new.items h ≡ marked_all (keys_of list.now) (claim_in claims.old.items h) }
     ensures noting { is_some changes.new.list ≡ is_some changes.old.list }
     ensures notes { (q : Key) → noted changes.new.list q ≡ noted_after changes.old.list (list_any (same_key q) (keys_of list.now)) (entry_by indexed.old queue.old q) q }

@@ -4,7 +4,7 @@ ghost use Rattle.std.specs.Prelude.{◌≡◌, ◌≢◌, ℕ, ◌+◌, ◌-◌,
 ghost use Rattle.std.specs.List.{sum_by};
 ghost use Rattle.ide_image.specs.declared.queue.Mark.{Mark};
 ghost use Rattle.ide_image.specs.declared.queue.Mark.TheVariants.{Waiting};
-ghost use Rattle.ide_image.specs.Queue.{AreStacked, SameMarks, SetsMark, held_at, held_count, is_held, is_pending_mark, is_waiting, mark_in, one_if, pending_at, pending_count, waiting_at, waiting_count};
+ghost use Rattle.ide_image.specs.Queue.{AreStacked, SameMarks, SetsMark, held_at, held_count, is_held, is_pending_mark, is_waiting_mark, mark_in, one_if, pending_at, pending_count, waiting_at, waiting_count};
 
 use std::alloc::{AllocError, Global};
 use std::marker::Model;
@@ -32,9 +32,9 @@ pub(crate) struct Queue {
 
 impl Model for Queue {
     ghost use Rattle.std.specs.Prelude.{◌+◌, ◌-◌, vec_capacity, vec_len};
-    ghost use Rattle.ide_image.specs.Queue.{Marks, IsQueue};
+    ghost use Rattle.ide_image.specs.Queue.{SlotMarks, IsQueue};
 
-    ghost Value = { Marks };
+    ghost Value = { SlotMarks };
 
     ghost view = { λ q. record { list = q.marks.items; spare = vec_capacity q.stack - (vec_len q.stack + q.held) } };
 
@@ -254,7 +254,7 @@ fn stack_up(marks: &mut Vec<Mark>, stack: &mut Vec<u32>, slot: usize)
 /// Takes the slot, which waits at this position, off the stack, and gives it the mark.
 fn take_off(marks: &mut Vec<Mark>, stack: &mut Vec<u32>, slot: usize, position: u32, mark: Mark)
     requires at { mark_in marks.old.items slot ≡ Waiting position }
-    requires off { is_waiting mark ≡ false }
+    requires off { is_waiting_mark mark ≡ false }
     requires counted { waiting_count marks.old.items ≡ length stack.old.items }
     requires stacked { AreStacked marks.old.items stack.old.items }
     ensures stacked { AreStacked marks.new.items stack.new.items }

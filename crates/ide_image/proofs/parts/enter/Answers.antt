@@ -4,8 +4,8 @@ use Rattle.ide_wire.specs.Key.{same_key}
 use Rattle.ide_tables.specs.Tables.{place_in, with_entry}
 use Rattle.ide_worklist.specs.Worklist.{claim_in, is_claim_of}
 use Rattle.ide_worklist.proofs.Held.{IsOf-marked}
-use Rattle.ide_image.specs.Entries.{at_place, held_of, pending_of}
-use Rattle.ide_image.specs.Indexed.{place_of}
+use Rattle.ide_image.specs.KeyedImage.{marked_at, held_by_slot, pending_by_slot}
+use Rattle.ide_image.specs.Indexed.{place_of_key}
 use Rattle.ide_image.specs.Queue.{held_at, one_if, pending_at, pending_count}
 use Rattle.ide_image.proofs.Agree.{at-index, claim-marked, or-cond, whole-claims, whole-noted, whole-pushed, whole-put}
 use Rattle.ide_image.proofs.Marked.{at-put, at-set}
@@ -27,10 +27,10 @@ mark_held-requires g c =
     c.put_noted-slot.ensures.slot c.put_noted-slot.ensures.marks c.put_noted-slot.ensures.list put in
     let pushed = whole-pushed after c.args.queue.now c.push.new.self c.args.claims.now.items c.put_noted-slot.new.changes c.args.key c.put_noted-slot.result
     c.put_noted-slot.ensures.slot c.push.ensures.pending c.push.ensures.held noted in
-    let here = at-index (held_at c.push.new.self.list) (place_of after c.args.key) c.put_noted-slot.result c.put_noted-slot.ensures.slot in
+    let here = at-index (held_at c.push.new.self.list) (place_of_key after c.args.key) c.put_noted-slot.result c.put_noted-slot.ensures.slot in
     λ h off.
     ⊎_elim
-    (λ is. absurd (both_ways (held_of after c.push.new.self c.args.key) (here ∙ sym c.is_held.ensures ∙ off) (pushed.marked h c.args.key is)))
+    (λ is. absurd (both_ways (held_by_slot after c.push.new.self c.args.key) (here ∙ sym c.is_held.ensures ∙ off) (pushed.marked h c.args.key is)))
     (λ no. no)
     (cases_Bool (is_claim_of c.args.key (claim_in c.args.claims.now.items h)))
 
@@ -53,16 +53,16 @@ returns-clause-pending g c = λ q.
     let after = c.put_noted-slot.new.indexed in
     at-set c.args.key after.table.entries c.put_noted-slot.result true (pending_at c.args.queue.now.list) (pending_at c.push.new.self.list) c.put_noted-slot.ensures.slot c.push.ensures.pending q
     ∙ ap (cond (same_key c.args.key q) true)
-    (ap (λ xs. at_place (pending_at c.args.queue.now.list) (place_in q xs)) c.put_noted-slot.ensures.entries
+    (ap (λ xs. marked_at (pending_at c.args.queue.now.list) (place_in q xs)) c.put_noted-slot.ensures.entries
     ∙ at-put c.args.key es c.args.function (pending_at c.args.queue.now.list) c.requires.whole.covered q)
-    ∙ or-cond (same_key c.args.key q) (pending_of c.args.indexed.now c.args.queue.now q)
+    ∙ or-cond (same_key c.args.key q) (pending_by_slot c.args.indexed.now c.args.queue.now q)
 
 pub returns-clause-count : goal.returns-clause-count
 returns-clause-count g c =
     let es = c.args.indexed.now.table.entries in
     let after = c.put_noted-slot.new.indexed in
-    let here = sym (at-index (pending_at c.args.queue.now.list) (place_of after c.args.key) c.put_noted-slot.result c.put_noted-slot.ensures.slot)
-    ∙ ap (λ xs. at_place (pending_at c.args.queue.now.list) (place_in c.args.key xs)) c.put_noted-slot.ensures.entries
+    let here = sym (at-index (pending_at c.args.queue.now.list) (place_of_key after c.args.key) c.put_noted-slot.result c.put_noted-slot.ensures.slot)
+    ∙ ap (λ xs. marked_at (pending_at c.args.queue.now.list) (place_in c.args.key xs)) c.put_noted-slot.ensures.entries
     ∙ at-put c.args.key es c.args.function (pending_at c.args.queue.now.list) c.requires.whole.covered c.args.key in
     ap (λ b. pending_count c.push.new.self.list + one_if b) (sym here) ∙ c.push.ensures.count
 

@@ -9,7 +9,7 @@ use Rattle.ide_wire.specs.Key.{same_key}
 use Rattle.ide_tables.specs.Tables.{with_all}
 use Rattle.ide_tables.proofs.Places.{kept-cell}
 use Rattle.ide_worklist.specs.Worklist.{claim_in}
-use Rattle.ide_image.specs.Entries.{HasRoom, entry_by, marked_all, pending_of}
+use Rattle.ide_image.specs.KeyedImage.{HasRoomFor, entry_by, marked_all, pending_by_slot}
 use Rattle.ide_image.specs.Notes.{noted_after}
 use Rattle.ide_image.proofs.Rest.{entry-kept, entry-own, marked-none, noted-none, noting-with, marked-rest, notes-rest, pending-rest, room-one}
 use Rattle.ide_image.proofs.parts.enter_all.Goals as goal
@@ -41,7 +41,7 @@ loop-entry-preserved g c =
     let same : length (drop index list) ≡ length rest + 1 = omega (arith, left) in
     let next : drop index list ≡ entry ∷ rest = drop_more list index entry c.loop-entry-test.true ∙ ap (λ e. e ∷ rest) (sym c.entry-item.is) in
     record {
-      room = c.enter.ensures.room (length rest) (subst (λ n. HasRoom n indexed queue changes) same c.loop-entry.invariant.room);
+      room = c.enter.ensures.room (length rest) (subst (λ n. HasRoomFor n indexed queue changes) same c.loop-entry.invariant.room);
       cells = λ k d less. kept-cell indexed.places c.enter.new.indexed.places _ c.enter.ensures.cells (c.loop-entry.invariant.cells k d less);
       whole = c.enter.ensures.whole;
       entries =
@@ -50,8 +50,8 @@ loop-entry-preserved g c =
           ∙ c.loop-entry.invariant.entries;
       pending = λ q.
           ap (λ b. list_any (same_key q) (keys_of rest) || b) (c.enter.ensures.pending q)
-          ∙ pending-rest entry.0 q (keys_of rest) (pending_of indexed queue q)
-          ∙ ap (λ xs. list_any (same_key q) (keys_of xs) || pending_of indexed queue q) (sym next)
+          ∙ pending-rest entry.0 q (keys_of rest) (pending_by_slot indexed queue q)
+          ∙ ap (λ xs. list_any (same_key q) (keys_of xs) || pending_by_slot indexed queue q) (sym next)
           ∙ c.loop-entry.invariant.pending q;
       claims = λ h.
           ap (marked_all (keys_of rest)) (c.enter.ensures.claims h)
@@ -76,7 +76,7 @@ returns g c =
     record {
       whole = c.loop-entry.invariant.whole;
       entries = ap (with_all indexed.table.entries) empty ∙ c.loop-entry.invariant.entries;
-      pending = λ q. ap (λ xs. list_any (same_key q) (keys_of xs) || pending_of indexed queue q) empty ∙ c.loop-entry.invariant.pending q;
+      pending = λ q. ap (λ xs. list_any (same_key q) (keys_of xs) || pending_by_slot indexed queue q) empty ∙ c.loop-entry.invariant.pending q;
       claims = λ h.
           sym (marked-none (claim_in c.loop-entry.claims.items h))
           ∙ ap (λ xs. marked_all (keys_of xs) (claim_in c.loop-entry.claims.items h)) empty

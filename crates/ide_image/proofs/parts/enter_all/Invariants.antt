@@ -7,18 +7,18 @@ use Rattle.ide_wire.specs.Key.{same_key}
 use Rattle.ide_wire.specs.declared.key.Key.{Key}
 use Rattle.ide_tables.specs.Tables.{HaveCells, with_all}
 use Rattle.ide_worklist.specs.Worklist.{claim_in}
-use Rattle.ide_image.specs.Entries.{AreEntries, HasRoom, entry_by, marked_all, pending_of}
+use Rattle.ide_image.specs.KeyedImage.{AreParts, HasRoomFor, entry_by, marked_all, pending_by_slot}
 use Rattle.ide_image.specs.Notes.{noted_after}
 use Rattle.ide_image.proofs.parts.enter_all.Given as goal
 
 -- there is room for the entries that are left, and these make of what stands what all of them make of what stood
 abbrev pub invariant-loop-entry : goal.invariant-loop-entry
 invariant-loop-entry g l = record {
-  room : HasRoom (length (drop l.entry-index l.list)) l.indexed l.queue l.changes;
+  room : HasRoomFor (length (drop l.entry-index l.list)) l.indexed l.queue l.changes;
   cells : HaveCells l.indexed.places l.list;
-  whole : AreEntries l.indexed l.queue l.claims.items l.changes;
+  whole : AreParts l.indexed l.queue l.claims.items l.changes;
   entries : with_all l.indexed.table.entries (drop l.entry-index l.list) ≡ with_all l.initial.indexed.table.entries l.list;
-  pending : (q : Key) → (list_any (same_key q) (keys_of (drop l.entry-index l.list)) || pending_of l.indexed l.queue q) ≡ (list_any (same_key q) (keys_of l.list) || pending_of l.initial.indexed l.initial.queue q);
+  pending : (q : Key) → (list_any (same_key q) (keys_of (drop l.entry-index l.list)) || pending_by_slot l.indexed l.queue q) ≡ (list_any (same_key q) (keys_of l.list) || pending_by_slot l.initial.indexed l.initial.queue q);
   claims : (h : ℕ) → marked_all (keys_of (drop l.entry-index l.list)) (claim_in l.claims.items h) ≡ marked_all (keys_of l.list) (claim_in l.initial.claims.items h);
   noting : is_some l.changes.list ≡ is_some l.initial.changes.list;
   notes : (q : Key) → noted_after l.changes.list (list_any (same_key q) (keys_of (drop l.entry-index l.list))) (entry_by l.indexed l.queue q) q

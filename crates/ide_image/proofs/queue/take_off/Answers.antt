@@ -1,7 +1,7 @@
 use Rattle.std.proofs.Common.{arith, ap, ◌∙◌, ◌≡◌, ◌<◌, ◌+◌, ◌-◌, refl, length, get_or, vec_len}
 use Rattle.std.specs.Prelude.{slice_index}
 use Rattle.std.proofs.lemmas.List.{get_or_default}
-use Rattle.ide_image.specs.Queue.{is_held, is_pending_mark, is_waiting, one_if}
+use Rattle.ide_image.specs.Queue.{is_held, is_pending_mark, is_waiting_mark, one_if}
 use Rattle.ide_image.proofs.Stack.{last-there, off-counts, off-says, off-stacked}
 use Rattle.ide_image.proofs.queue.take_off.Goals as goal
 
@@ -68,8 +68,8 @@ returns-clause-waiting c =
     let end : c.len.result - 1 ≡ length stack - 1 = omega (arith, c.len.ensures, c.args.stack.now.ok) in
     let less : length stack - 1 < length stack = omega (arith, within) in
     let tops = c.index-last.ensures ∙ ap (λ k. get_or stack k c.index-last.result.now) end ∙ get_or_default stack (length stack - 1) c.index-last.result.now 0 less in
-    let counts = off-counts c.args.marks.now.items stack c.args.slot c.args.position c.index-last.result.now c.args.mark c.requires.at c.requires.stacked tops (λ m. one_if (is_waiting m)) refl in
-    let off : one_if (is_waiting c.args.mark) ≡ 0 = ap one_if c.requires.off in
+    let counts = off-counts c.args.marks.now.items stack c.args.slot c.args.position c.index-last.result.now c.args.mark c.requires.at c.requires.stacked tops (λ m. one_if (is_waiting_mark m)) refl in
+    let off : one_if (is_waiting_mark c.args.mark) ≡ 0 = ap one_if c.requires.off in
     let long : length c.swap_remove.new.self.items + 1 ≡ length stack = omega (arith, c.swap_remove.ensures.len, c.args.stack.now.ok, c.swap_remove.new.self.ok) in
     omega (arith, counts, off, long, c.requires.counted)
 

@@ -1,0 +1,39 @@
+-- What contracts say of notes with a mark at each slot: which slots' keys are noted.
+use Rattle.std.specs.Prelude.{◌≡◌, ℕ, ◌-◌, ◌<◌, ◌≤◌, Bool, true, List, Option, Some, None, length, nat_eq, slice_index, vec_capacity, vec_len}
+use Rattle.std.specs.Global.{Vec}
+use Rattle.std.specs.Option.{is_some}
+use Rattle.ide_wire.specs.declared.key.Key.{Key}
+use Rattle.ide_image.specs.declared.entry.Entry.{Entry}
+
+-- what is noted, if changes are; the number of the list that a slot was last noted in, that of the list as it is, and for how
+-- many notes more there is room
+pub record ChangeLog (F : Type 0) : Type 0 where
+  pub list : Option (List (Key × Entry F))
+  pub stamps : List ℕ
+  pub epoch : ℕ
+  pub room : ℕ
+
+-- how many notes more there is room for
+abbrev pub note_room : {X : Type 0} → Option (Vec X) → ℕ
+note_room None = 0
+note_room (Some list) = vec_capacity list - vec_len list
+
+-- the list, if there is one
+abbrev pub list_of : {X : Type 0} → Option (Vec X) → Option (List X)
+list_of None = None
+list_of (Some list) = Some list.items
+
+module _ {F : Type 0} where
+  -- whether the slot's key is noted
+  abbrev pub noted_at : ChangeLog F → ℕ → Bool
+  noted_at changes n = nat_eq (slice_index changes.stamps n) changes.epoch
+
+  -- where changes are noted, there is room for so many notes more, of the first slots
+  pub record MayNote (count slots : ℕ) (changes : ChangeLog F) : Type 0 where
+    pub free : is_some changes.list ≡ true → count ≤ changes.room
+    pub stamped : is_some changes.list ≡ true → slots ≤ length changes.stamps
+
+-- no stamp is of a list to come, and none is of no list
+pub record AreStamps (stamps : List ℕ) (epoch : ℕ) : Type 0 where
+  pub begun : 0 < epoch
+  pub past : (n : ℕ) → slice_index stamps n ≤ epoch

@@ -1,0 +1,159 @@
+//! Notes of what changed, with a mark at each slot whose key is noted.
+ghost use Rattle.std.specs.Prelude.{◌≡◌, ℕ, ◌+◌, ◌<◌, ◌≤◌, ◌^◌, [], None, Some, false, true, length, slice_index, OnOk, IsOk, option_map};
+ghost use Rattle.std.specs.Option.{is_some, option_copied};
+ghost use Rattle.ide_image.specs.ChangeLog.{AreStamps, MayNote, list_of, noted_at};
+ghost use Rattle.ide_image.specs.Notes.{noted, noted_count, with_note};
+ghost use Rattle.ide_image.specs.Queue.{SameMarks, SetsMark};
+
+use crate::entry::Entry;
+use ide_wire::Key;
+use std::alloc::{AllocError, Global};
+use std::marker::Model;
+use std::mem;
+
+/// The entry that each key had when changes were last asked for, if the key changed since: none where
+/// nobody asked.
+#[derive(Drop)]
+pub(crate) struct ChangeLog<F: Drop> {
+    list: Option<Vec<(Key, Entry<F>)>>,
+    /// For each slot the number of the list that its key was last noted in: 0 for none.
+    stamps: Vec<u32>,
+    /// The number of the list.
+    epoch: u32,
+}
+
+impl<F: Drop> Model for ChangeLog<F> {
+    ghost use Rattle.ide_image.specs.ChangeLog.{AreStamps, ChangeLog, list_of, note_room};
+
+    ghost Value = { ChangeLog F };
+
+    ghost view = { λ c. record { list = list_of c.list; stamps = c.stamps.items; epoch = c.epoch; room = note_room c.list } };
+
+    ghost invariant = { λ c. AreStamps c.stamps.items c.epoch };
+}
+
+impl<F: Copy + Drop> ChangeLog<F> {
+    /// Changes that nobody asked for. It allocates nothing.
+    pub(crate) fn new(alloc: Global) -> Self
+        ensures list { result.list ≡ None }
+        ensures marks { (n : ℕ) → noted_at result n ≡ false }
+    {
+        ChangeLog {
+            list: None,
+            stamps: Vec::new(alloc),
+            epoch: 1,
+        }
+    }
+
+    /// Whether changes are noted.
+    pub(crate) fn is_noting(&self) -> bool
+        ensures { result ≡ is_some self.now.list }
+    {
+        self.list.is_some()
+    }
+
+    /// The notes, in the order of the first changes, if changes are noted.
+    pub(crate) fn notes(&self) -> Option<&[(Key, Entry<F>)]>
+        ensures { option_copied result ≡ self.now.list }
+    {
+        match &self.list {
+            Some(list) => Some(list.as_slice()),
+            None => None,
+        }
+    }
+
+    /// Whether the slot's key is noted.
+    pub(crate) fn is_noted(&self, slot: usize) -> bool
+        ensures { result ≡ noted_at self.now slot }
+    {
+        stamp_in(&self.stamps, slot) == self.epoch
+    }
+
+    /// Makes room for so many notes more, of keys at the first slots, where changes are noted.
+    pub(crate) fn make_room(&mut self, additional: usize, slots: usize) -> Result<(), AllocError>
+        ensures list { self.new.list ≡ self.old.list }
+        ensures marks { SameMarks (noted_at self.old) (noted_at self.new) }
+        ensures room { OnOk result (MayNote additional slots self.new) }
+        ensures nobody { self.old.list ≡ None → IsOk result }
+    {
+        if let Some(list) = &mut self.list {
+            list.reserve(additional)?;
+            grow(&mut self.stamps, slots)?;
+        }
+        Ok(())
+    }
+
+    /// Notes the entry that the slot's key had before its change, if changes are noted and the key is
+    /// not yet.
+    pub(crate) fn note(&mut self, slot: usize, key: Key, before: Entry<F>)
+        requires room { MayNote 1 (slot + 1) self.old }
+        requires mark { noted_at self.old slot ≡ is_some (noted self.old.list key) }
+        ensures list { self.new.list ≡ with_note self.old.list key before }
+        ensures marks { SetsMark slot (is_some self.old.list) (noted_at self.old) (noted_at self.new) }
+        ensures room { (n s : ℕ) → MayNote (n + 1) s self.old → MayNote n s self.new }
+    {
+        let is_noted = self.is_noted(slot);
+        if let Some(list) = &mut self.list {
+            if !is_noted {
+                list.push_reserved((key, before));
+                self.stamps[slot] = self.epoch;
+            }
+        }
+    }
+
+    /// Hands the notes out, if changes were noted. From now on they are, and no key is noted yet.
+    pub(crate) fn take(&mut self, alloc: Global) -> Option<Vec<(Key, Entry<F>)>>
+        ensures taken { list_of result ≡ self.old.list }
+        ensures list { self.new.list ≡ Some [] }
+        ensures marks { (n : ℕ) → noted_at self.new n ≡ false }
+    {
+        begin_list(&mut self.stamps, &mut self.epoch);
+        mem::replace(&mut self.list, Some(Vec::new(alloc)))
+    }
+
+    /// Forgets what is noted. Changes are noted from now on where they were.
+    pub(crate) fn clear(&mut self, alloc: Global)
+        ensures list { self.new.list ≡ option_map (λ _. []) self.old.list }
+        ensures marks { (n : ℕ) → noted_at self.new n ≡ false }
+    {
+        begin_list(&mut self.stamps, &mut self.epoch);
+        if self.list.is_some() {
+            self.list = Some(Vec::new(alloc));
+        }
+    }
+}
+
+/// The slot's stamp.
+fn stamp_in(stamps: &[u32], slot: usize) -> u32
+    ensures { result ≡ slice_index stamps.now slot }
+{
+    match stamps.get(slot) {
+        Some(stamp) => *stamp,
+        None => 0,
+    }
+}
+
+/// Makes a stamp for each of the first slots, up to this count: those that are new are of no list.
+fn grow(stamps: &mut Vec<u32>, count: usize) -> Result<(), AllocError>
+    ensures covered { OnOk result (count ≤ length stamps.new.items) }
+    ensures same { (n : ℕ) → slice_index stamps.new.items n ≡ slice_index stamps.old.items n }
+{
+    for _ in stamps.len()..count {
+        stamps.push(0)?;
+    }
+    Ok(())
+}
+
+/// Begins another list, which no stamp is of. Once in 4,294,967,295 lists the stamps begin anew.
+fn begin_list(stamps: &mut Vec<u32>, epoch: &mut u32)
+    requires { AreStamps stamps.old.items epoch.old }
+    ensures stamps { AreStamps stamps.new.items epoch.new }
+    ensures anew { (n : ℕ) → slice_index stamps.new.items n < epoch.new }
+{
+    if *epoch == u32::MAX {
+        stamps.clear();
+        *epoch = 1;
+    } else {
+        *epoch += 1;
+    }
+}

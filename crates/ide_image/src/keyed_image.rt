@@ -1,0 +1,454 @@
+//! What an image has at each key.
+ghost use Rattle.std.specs.Prelude.{◌≡◌, ◌≢◌, ℕ, ◌+◌, ◌<◌, ◌≤◌, ◌^◌, ◌&&◌, ◌||◌, ◌↔◌, [], None, Some, Ok, Err, true, false, filter, length, nat_eq, not, slice_get, unwrap_or, if◌then◌else◌, IsOk, IsSome, IsTrue, IfOk, IfSome, IfNone, OnOk, OnErr, IsOkUnless};
+ghost use Rattle.std.specs.List.{IsDistinct, list_any};
+ghost use Rattle.std.specs.Map.{keys_of};
+ghost use Rattle.std.specs.Option.{is_some, option_copied, option_map};
+ghost use Rattle.ide_tables.specs.Spent.{Spends, spent};
+ghost use Rattle.ide_tables.specs.Tables.{AreJumpsTo, AreKeys, AreSummariesFrom, CountsKey, FallsAt, Lowers, Sets, SetsAll, found, function_at, is_kept, nodes_of};
+ghost use Rattle.ide_wire.specs.declared.key.Key.{Key};
+ghost use Rattle.ide_wire.specs.declared.refused.Refused.TheVariants.{NoMemory};
+ghost use Rattle.ide_wire.specs.Key.{same_key};
+ghost use Rattle.ide_wire.specs.KeyOrder.{key_cmp};
+ghost use Rattle.ide_worklist.specs.declared.claim.Claim.{Claim};
+ghost use Rattle.ide_worklist.specs.Worklist.{PutsClaim, IsFree, IsWorklist, begun, claim_at, ends, ends_key, is_claimed, is_pending, marked, with_done};
+ghost use Rattle.ide_image.specs.KeyedImage.{entry_now, marked_all};
+ghost use Rattle.ide_image.specs.Notes.{ended_key, entry_at, noted, noted_after, noted_count, with_change, with_note};
+
+use crate::change_log::ChangeLog;
+use crate::entry::Entry;
+use crate::indexed::Indexed;
+use crate::queue::Queue;
+use crate::{claims, parts};
+use ide_lattice::EdgeFn;
+use ide_tables::Change;
+use ide_wire::{Fact, Key, Node, Refused};
+use ide_worklist::Claim;
+use std::alloc::Global;
+use std::marker::Model;
+
+/// What an image has at each key: its function, whether it is pending, the claim of a hand on it, and
+/// the entry that it had when changes were last asked for. It has at most 4,294,967,295 keys: one
+/// more is refused as `NoMemory`. Each call on one key makes one look-up.
+#[derive(Drop)]
+pub struct KeyedImage<F: EdgeFn, T> {
+    indexed: Indexed<F>,
+    queue: Queue,
+    claims: Vec<Option<Claim<T>>>,
+    changes: ChangeLog<F>,
+}
+
+impl<F: EdgeFn, T> Model for KeyedImage<F, T> {
+    ghost use Rattle.ide_image.specs.KeyedImage.{AreParts, KeyedImageData, image_by};
+
+    ghost Value = { KeyedImageData F T };
+
+    ghost view = { λ e. image_by e.indexed e.queue e.claims.items e.changes };
+
+    ghost invariant = { λ e. AreParts e.indexed e.queue e.claims.items e.changes };
+}
+
+impl<F: EdgeFn, T: Drop> KeyedImage<F, T> {
+    /// An image with no present key. It allocates nothing.
+    pub fn new(alloc: Global) -> Self
+        ensures entries { result.table.entries ≡ [] }
+        ensures pending { result.pile.pending ≡ [] }
+        ensures claims { result.pile.claims ≡ [] }
+        ensures changes { result.changes ≡ None }
+    {
+        KeyedImage {
+            indexed: Indexed::new(alloc),
+            queue: Queue::new(alloc),
+            claims: Vec::new(alloc),
+            changes: ChangeLog::new(alloc),
+        }
+    }
+
+    /// The key's function, if the key is present.
+    pub fn get(&self, key: Key) -> Option<F>
+        ensures { result ≡ found self.now.table key }
+    {
+        self.indexed.function_at(self.indexed.place(key))
+    }
+
+    /// The function that the key stands for: always top, if it is not present.
+    pub fn function(&self, key: Key) -> F
+        ensures { result ≡ function_at F.edge self.now.table key }
+    {
+        self.indexed.function_in(self.indexed.place(key))
+    }
+
+    /// Whether the key is pending, claimed or not.
+    pub fn is_pending(&self, key: Key) -> bool
+        ensures { result ≡ is_pending self.now.pile key }
+    {
+        parts::is_pending_at(&self.queue, self.indexed.place(key))
+    }
+
+    /// Whether no key is pending.
+    pub fn is_quiet(&self) -> bool
+        ensures { IsTrue result ↔ (self.now.pile.pending ≡ []) }
+    {
+        self.queue.pending_count() == 0
+    }
+
+    /// How many keys are pending.
+    pub fn pending_count(&self) -> usize
+        ensures { result ≡ length self.now.pile.pending }
+    {
+        self.queue.pending_count()
+    }
+
+    /// How many keys are present.
+    pub fn key_count(&self) -> usize
+        ensures count { result ≡ length self.now.table.entries }
+        ensures distinct { IsDistinct same_key (keys_of self.now.table.entries) }
+    {
+        self.indexed.len()
+    }
+
+    /// The entry at `index`, in an order of which nothing is said but that it stays while the table is
+    /// not changed: so indices up to the count of keys meet each entry once.
+    pub fn entry_at(&self, index: usize) -> Option<(Key, F)>
+        ensures entry { result ≡ slice_get self.now.table.entries index }
+        ensures end { (result ≡ None) ↔ (length self.now.table.entries ≤ index) }
+        ensures present { IfSome result (λ entry. found self.now.table entry.0 ≡ Some entry.1) }
+    {
+        self.indexed.entry_at(index)
+    }
+
+    /// The node of the key of each entry, in the order of `entry_at`. So a walk over the entries of
+    /// some nodes reads 4 bytes of each other one.
+    pub fn nodes(&self) -> &[Node]
+        ensures nodes { result.now ≡ nodes_of self.now.table.entries }
+        ensures distinct { IsDistinct same_key (keys_of self.now.table.entries) }
+    {
+        self.indexed.nodes()
+    }
+
+    /// The present keys, ascending: jumps before summaries, then by node and facts.
+    pub fn keys(&self, alloc: Global) -> Result<Vec<Key>, Refused>
+        ensures keys { IfOk result (λ keys. AreKeys key_cmp self.now.table keys.items) }
+        ensures refused { IsOkUnless result NoMemory }
+    {
+        self.indexed.keys(alloc)
+    }
+
+    /// The jumps at the node to the fact: for each the fact at the start of its procedure, and its
+    /// function, ascending by fact. It takes a look-up for each.
+    pub fn jumps_at(&self, alloc: Global, node: Node, fact: Fact) -> Result<Vec<(Fact, F)>, Refused>
+        ensures partners { IfOk result (λ list. AreJumpsTo node fact self.now.table list.items) }
+        ensures refused { IsOkUnless result NoMemory }
+    {
+        self.indexed.jumps_at(alloc, node, fact)
+    }
+
+    /// The summaries at the call node from the fact: for each the fact at the return site, and its
+    /// function, ascending by fact. It takes a look-up for each.
+    pub fn summaries_at(
+        &self,
+        alloc: Global,
+        call: Node,
+        fact: Fact,
+    ) -> Result<Vec<(Fact, F)>, Refused>
+        ensures partners { IfOk result (λ list. AreSummariesFrom call fact self.now.table list.items) }
+        ensures refused { IsOkUnless result NoMemory }
+    {
+        self.indexed.summaries_at(alloc, call, fact)
+    }
+
+    /// The hand's claim.
+    pub fn claim(&self, hand: usize) -> Option<&Claim<T>>
+        ensures claim { option_copied result ≡ claim_at self.now.pile hand }
+        // Each claimed key is pending, and no two hands claim one key.
+        ensures held { IsWorklist self.now.pile }
+    {
+        claims::claim_of(&self.claims, hand)
+    }
+
+    /// Whether a hand other than this one has a claim.
+    pub fn claimed_elsewhere(&self, hand: usize) -> bool
+        ensures some { IsTrue result → (h : ℕ) × (nat_eq hand h ≡ false) × IsSome (claim_at self.now.pile h) }
+        ensures none { result ≡ false → (h : ℕ) → nat_eq hand h ≡ false → claim_at self.now.pile h ≡ None }
+    {
+        claims::claimed_elsewhere(&self.claims, hand)
+    }
+
+    /// A pending key that no hand has claimed, if there is one, near to the one that was pushed last. It
+    /// takes constant time.
+    pub fn unclaimed(&self) -> Option<Key>
+        ensures pending { IfSome result (λ key. is_pending self.now.pile key ≡ true) }
+        ensures unclaimed { IfSome result (λ key. is_claimed self.now.pile key ≡ false) }
+        ensures free { IfSome result (λ key. (h : ℕ) (claim : Claim T) → claim_at self.now.pile h ≡ Some claim → claim.key ≢ key) }
+        ensures none { IfNone result ((q : Key) → is_pending self.now.pile q ≡ true → is_claimed self.now.pile q ≡ true) }
+    {
+        let slot = self.queue.top()?;
+        let entry = self.indexed.entry_at(slot as usize)?;
+        Some(entry.0)
+    }
+
+    /// The keys that are noted to have changed, each with the entry that it had when changes were last
+    /// asked for, in the order of the first changes: none where nobody asked.
+    pub fn notes(&self) -> Option<&[(Key, Entry<F>)]>
+        ensures notes { option_copied result ≡ self.now.changes }
+        ensures once { IsDistinct same_key (keys_of (unwrap_or self.now.changes [])) }
+    {
+        self.changes.notes()
+    }
+
+    /// How many keys are noted to have changed.
+    pub fn changed_count(&self) -> usize
+        ensures { result ≡ noted_count self.now.changes }
+    {
+        match self.changes.notes() {
+            Some(notes) => notes.len(),
+            None => 0,
+        }
+    }
+
+    /// Whether the key is noted to have changed.
+    pub fn is_changed(&self, key: Key) -> bool
+        ensures { result ≡ is_some (noted self.now.changes key) }
+    {
+        parts::is_noted_at(&self.changes, self.indexed.place(key))
+    }
+
+    /// Meets the key's function with `f`, and says whether that changed it. An entry that changed is
+    /// pending then, a claim of its key is marked as lowered, and the entry of before is noted where
+    /// changes are noted. `NoMemory` leaves all as it was. One look-up.
+    pub fn lower(&mut self, key: Key, f: F) -> Result<Change, Refused>
+        ensures lowered { result ≡ Ok Change.Lowered → Lowers F.edge self.old.table self.new.table key f }
+        ensures changes { result ≡ Ok Change.Lowered → is_kept F.eq F.edge self.old.table key f ≡ false }
+        ensures falls { result ≡ Ok Change.Lowered → FallsAt F.edge self.old.table key f }
+        ensures spent { result ≡ Ok Change.Lowered → spent F.edge self.old.table.entries < spent F.edge self.new.table.entries }
+        ensures few { result ≡ Ok Change.Lowered → length self.new.table.entries < 2 ^ 64 }
+        ensures pending { result ≡ Ok Change.Lowered → (q : Key) → is_pending self.new.pile q ≡ (same_key key q || is_pending self.old.pile q) }
+        ensures count { result ≡ Ok Change.Lowered → length self.new.pile.pending ≡ length self.old.pile.pending + (if is_pending self.old.pile key then 0 else 1) }
+        // Each claimed key was pending, and no two hands had claimed one key.
+        ensures held { IsWorklist self.old.pile }
+        ensures claims { result ≡ Ok Change.Lowered → (h : ℕ) → claim_at self.new.pile h ≡ marked key (claim_at self.old.pile h) }
+        ensures noted { result ≡ Ok Change.Lowered → self.new.changes ≡ with_note self.old.changes key (entry_now self.old key) }
+        ensures same { result ≡ Ok Change.Same → self.new ≡ self.old }
+        ensures met { result ≡ Ok Change.Same → is_kept F.eq F.edge self.old.table key f ≡ true }
+        ensures err { OnErr result (self.new ≡ self.old) }
+        ensures refused { IsOkUnless result NoMemory }
+    {
+        let spot = self.indexed.spot(key)?;
+        let old = self.indexed.function_in(spot.place);
+        let new = fallen(old, f);
+        if new == old {
+            return Ok(Change::Same);
+        }
+        parts::make_room(&mut self.indexed, &mut self.queue, &mut self.changes, 1)?;
+        parts::enter(
+            &mut self.indexed,
+            &mut self.queue,
+            &mut self.claims,
+            &mut self.changes,
+            spot,
+            key,
+            new,
+        );
+        Ok(Change::Lowered)
+    }
+
+    /// Gives the hand a claim on the key. `NoMemory` leaves all as it was, and drops the task. One
+    /// look-up.
+    pub fn take(&mut self, hand: usize, key: Key, task: T) -> Result<(), Refused>
+        requires hand_in { hand < 64 }
+        requires free { claim_at self.old.pile hand ≡ None }
+        requires pending { is_pending self.old.pile key ≡ true }
+        requires unclaimed { is_claimed self.old.pile key ≡ false }
+        ensures table { self.new.table ≡ self.old.table }
+        ensures pending { self.new.pile.pending ≡ self.old.pile.pending }
+        ensures changes { self.new.changes ≡ self.old.changes }
+        ensures refused { IsOkUnless result NoMemory }
+        ensures claims { OnOk result (PutsClaim hand (Some (begun key task)) self.old.pile self.new.pile) }
+        ensures err { OnErr result ((h : ℕ) → claim_at self.new.pile h ≡ claim_at self.old.pile h) }
+    {
+        claims::grow(&mut self.claims, hand)?;
+        let slot = self.indexed.place(key) as usize - 1;
+        self.queue.hold(slot);
+        let claim = Claim {
+            key,
+            task,
+            done: 0,
+            lowered: false,
+        };
+        claims::set_claim(&mut self.claims, hand, claim);
+        Ok(())
+    }
+
+    /// Says how many parts of the hand's task are done. Without a claim it does nothing.
+    pub fn set_done(&mut self, hand: usize, count: usize)
+        ensures claims { PutsClaim hand (with_done count (claim_at self.old.pile hand)) self.old.pile self.new.pile }
+        ensures table { self.new.table ≡ self.old.table }
+        ensures pending { self.new.pile.pending ≡ self.old.pile.pending }
+        ensures changes { self.new.changes ≡ self.old.changes }
+    {
+        claims::set_done(&mut self.claims, hand, count);
+    }
+
+    /// Takes the hand's claim away, and returns it. Its key stays pending. It takes no memory.
+    pub fn release(&mut self, hand: usize) -> Option<Claim<T>>
+        ensures claim { result ≡ claim_at self.old.pile hand }
+        ensures claims { PutsClaim hand None self.old.pile self.new.pile }
+        ensures table { self.new.table ≡ self.old.table }
+        ensures pending { self.new.pile.pending ≡ self.old.pile.pending }
+        ensures changes { self.new.changes ≡ self.old.changes }
+    {
+        let key = claims::claim_of(&self.claims, hand)?.key;
+        let slot = self.indexed.place(key) as usize - 1;
+        self.queue.release(slot);
+        claims::take_claim(&mut self.claims, hand)
+    }
+
+    /// Takes every claim away, and answers how many there were. Their keys stay pending. It takes no
+    /// memory.
+    pub fn release_all(&mut self) -> usize
+        ensures count { result ≡ length (filter is_some self.old.pile.claims) }
+        ensures claims { self.new.pile.claims ≡ [] }
+        ensures table { self.new.table ≡ self.old.table }
+        ensures pending { self.new.pile.pending ≡ self.old.pile.pending }
+        ensures changes { self.new.changes ≡ self.old.changes }
+    {
+        let count = claims::claim_count(&self.claims);
+        self.release_each();
+        self.claims.clear();
+        count
+    }
+
+    /// Takes the claim of each hand away, which leaves its place.
+    fn release_each(&mut self)
+        ensures free { IsFree self.new.pile }
+        ensures table { self.new.table ≡ self.old.table }
+        ensures pending { self.new.pile.pending ≡ self.old.pile.pending }
+        ensures changes { self.new.changes ≡ self.old.changes }
+    {
+        let hands = self.claims.len();
+        for hand in 0..hands {
+            let _ = self.release(hand);
+        }
+    }
+
+    /// Ends the hand's claim, and returns it. Its key is no longer pending, unless it was lowered since
+    /// the hand claimed it; where it is not, the entry of before is noted if changes are noted. It takes
+    /// memory only for the note. `NoMemory` leaves all as it was.
+    pub fn finish(&mut self, hand: usize) -> Result<Option<Claim<T>>, Refused>
+        ensures claim { IfOk result (λ claim. claim ≡ claim_at self.old.pile hand) }
+        ensures claims { OnOk result (PutsClaim hand None self.old.pile self.new.pile) }
+        ensures pending { OnOk result ((q : Key) → is_pending self.new.pile q ≡ (not (ends (claim_at self.old.pile hand) q) && is_pending self.old.pile q)) }
+        ensures count { OnOk result (length self.new.pile.pending + (if ends_key (claim_at self.old.pile hand) then 1 else 0) ≡ length self.old.pile.pending) }
+        // Each claimed key was pending, and no two hands had claimed one key.
+        ensures held { IsWorklist self.old.pile }
+        ensures noted { OnOk result (self.new.changes ≡ with_change self.old.changes (ended_key (claim_at self.old.pile hand)) (entry_now self.old)) }
+        ensures table { self.new.table ≡ self.old.table }
+        ensures err { OnErr result (self.new ≡ self.old) }
+        ensures nobody { self.old.changes ≡ None → IsOk result }
+        ensures refused { IsOkUnless result NoMemory }
+    {
+        let Some(key) = claims::ended_key(&self.claims, hand) else {
+            return Ok(self.release(hand));
+        };
+        parts::end_slot(&self.indexed, &mut self.queue, &mut self.changes, key)?;
+        Ok(claims::take_claim(&mut self.claims, hand))
+    }
+
+    /// Makes `f` the function of the key, which no hand has claimed, whatever that was, and the key
+    /// pending or not. The entry of before is noted where changes are noted. `NoMemory` leaves all as it
+    /// was. One look-up.
+    pub fn set(&mut self, key: Key, f: F, pending: bool) -> Result<(), Refused>
+        requires unclaimed { is_claimed self.old.pile key ≡ false }
+        ensures sets { OnOk result (Sets self.old.table self.new.table key f) }
+        ensures spent { OnOk result (Spends F.edge self.old.table self.new.table key f) }
+        ensures count { OnOk result (CountsKey self.old.table self.new.table key) }
+        ensures few { OnOk result (length self.new.table.entries < 2 ^ 64) }
+        ensures pending { OnOk result ((q : Key) → is_pending self.new.pile q ≡ (if same_key key q then pending else is_pending self.old.pile q)) }
+        ensures claims { self.new.pile.claims ≡ self.old.pile.claims }
+        ensures noted { OnOk result (self.new.changes ≡ with_note self.old.changes key (entry_now self.old key)) }
+        ensures err { OnErr result (self.new ≡ self.old) }
+        ensures refused { IsOkUnless result NoMemory }
+    {
+        let spot = self.indexed.spot(key)?;
+        parts::make_room(&mut self.indexed, &mut self.queue, &mut self.changes, 1)?;
+        let slot = parts::put_noted(
+            &mut self.indexed,
+            &self.queue,
+            &mut self.changes,
+            spot,
+            key,
+            f,
+        );
+        self.queue.set_pending(slot, pending);
+        Ok(())
+    }
+
+    /// Makes the functions those of their keys, one after the other, and these keys pending. A claim of one
+    /// of them is marked as lowered, and their entries of before are noted where changes are noted. All
+    /// of them, or, where memory is wanting (`NoMemory`), none. Two look-ups for each.
+    pub fn set_all(&mut self, list: &[(Key, F)]) -> Result<(), Refused>
+        ensures sets { OnOk result (SetsAll self.old.table self.new.table list.now) }
+        ensures pending { OnOk result ((q : Key) → is_pending self.new.pile q ≡ (list_any (same_key q) (keys_of list.now) || is_pending self.old.pile q)) }
+        ensures claims { OnOk result ((h : ℕ) → claim_at self.new.pile h ≡ marked_all (keys_of list.now) (claim_at self.old.pile h)) }
+        ensures noting { is_some self.new.changes ≡ is_some self.old.changes }
+        ensures noted { OnOk result ((q : Key) → noted self.new.changes q ≡ noted_after self.old.changes (list_any (same_key q) (keys_of list.now)) (entry_now self.old q) q) }
+        ensures err { OnErr result (self.new ≡ self.old) }
+        ensures refused { IsOkUnless result NoMemory }
+    {
+        parts::make_room(
+            &mut self.indexed,
+            &mut self.queue,
+            &mut self.changes,
+            list.len(),
+        )?;
+        self.indexed.make_cells(list)?;
+        parts::enter_all(
+            &mut self.indexed,
+            &mut self.queue,
+            &mut self.claims,
+            &mut self.changes,
+            list,
+        );
+        Ok(())
+    }
+
+    /// Hands out, for each key that changed since this was last called, the entry that the key had then,
+    /// in the order of the first changes: none the first time. From now on changes are noted. It takes
+    /// constant time, and no memory.
+    pub fn take_changes(&mut self, alloc: Global) -> Vec<(Key, Entry<F>)>
+        ensures once { IsDistinct same_key (keys_of result.items) }
+        ensures list { result.items ≡ unwrap_or self.old.changes [] }
+        ensures changes { self.new.changes ≡ Some [] }
+        ensures table { self.new.table ≡ self.old.table }
+        ensures pile { self.new.pile ≡ self.old.pile }
+    {
+        match self.changes.take(alloc) {
+            Some(notes) => notes,
+            None => Vec::new(alloc),
+        }
+    }
+
+    /// Takes all keys, all claims and all notes away. Changes are noted from then on where they were. It
+    /// takes no memory.
+    pub fn clear(&mut self, alloc: Global)
+        ensures entries { self.new.table.entries ≡ [] }
+        ensures pending { self.new.pile.pending ≡ [] }
+        ensures claims { self.new.pile.claims ≡ [] }
+        ensures changes { self.new.changes ≡ option_map (λ _. []) self.old.changes }
+    {
+        self.indexed = Indexed::new(alloc);
+        self.queue.clear();
+        self.claims.clear();
+        self.changes.clear(alloc);
+    }
+}
+
+/// The meet of both: it is of smaller rank, where it is another function.
+fn fallen<F: EdgeFn>(old: F, f: F) -> F
+    ensures meet { result ≡ F.edge.meet old f }
+    ensures most { F.edge.rank old ≤ F.edge.height }
+    ensures falls { F.eq result old ≡ false → F.edge.rank result < F.edge.rank old }
+{
+    // Each function that a program holds is proper.
+    let _ = old.proper() && f.proper();
+    old.meet(f)
+}
