@@ -7,7 +7,7 @@ use Rattle.ide_pages.specs.Pages.{KeepsCells}
 use Rattle.ide_tables.specs.Tables.{Table, found}
 use Rattle.ide_wire.specs.Key.{same_key}
 use Rattle.ide_wire.specs.declared.key.Key.{Key}
-use Rattle.ide_worklist.specs.Worklist.{AreHeld, Pile, claim_in, is_claim_of}
+use Rattle.ide_worklist.specs.Worklist.{AreHeld, Pile, claim_in, is_claim_of, is_pending}
 use Rattle.ide_worklist.specs.declared.claim.Claim.{Claim}
 use Rattle.ide_image.specs.ChangeLog.{ChangeLog, MayNote, noted_at}
 use Rattle.ide_image.specs.Indexed.{Indexed, MayTake, place_of_key}
@@ -25,6 +25,14 @@ pub record KeyedImageData (F T : Type 0) : Type 0 where
 -- the key's entry, as it stands
 abbrev pub entry_now : {F T : Type 0} → KeyedImageData F T → Key → Entry F
 entry_now image key = entry_at image.table image.pile key
+
+-- these keys are pending beside those that were
+abbrev pub AddsKeys : List Key → (old new : Key → Bool) → Type 0
+AddsKeys keys old new = (q : Key) → new q ≡ (list_any (same_key q) keys || old q)
+
+-- one key more is pending, unless this one was
+abbrev pub CountsPending : {T : Type 0} → Key → (old new : Pile T) → Type 0
+CountsPending key old new = length new.pending ≡ length old.pending + (if is_pending old key then 0 else 1)
 
 -- the claim, marked as lowered if its key is one of these
 abbrev pub marked_all : {T : Type 0} → List Key → Option (Claim T) → Option (Claim T)

@@ -50,6 +50,10 @@ module _ {F : Type 0} where
   noted_after None later entry key = None
   noted_after (Some list) later entry key = or_entry (lookup (same_key key) list) (if later then Some entry else None)
 
+  -- each of these keys is noted with its entry of before, if changes are noted and it is not yet
+  abbrev pub NotesAll : (old new : Option (List (Key × Entry F))) → List Key → (Key → Entry F) → Type 0
+  NotesAll old new keys entry = (q : Key) → noted new q ≡ noted_after old (list_any (same_key q) keys) (entry q) q
+
   -- each key is noted as absent, if changes are noted and it is not yet
   abbrev pub NotesAbsent : {T : Type 0} → (old new : Option (List (Key × Entry F))) → Pile T → List Key → Type 0
   NotesAbsent old new pile keys =

@@ -11,8 +11,8 @@ ghost use Rattle.ide_wire.specs.Key.{same_key};
 ghost use Rattle.ide_wire.specs.KeyOrder.{key_cmp};
 ghost use Rattle.ide_worklist.specs.declared.claim.Claim.{Claim};
 ghost use Rattle.ide_worklist.specs.Worklist.{PutsClaim, IsFree, IsWorklist, begun, claim_at, ends, ends_key, is_claimed, is_pending, marked, with_done};
-ghost use Rattle.ide_image.specs.KeyedImage.{entry_now, marked_all};
-ghost use Rattle.ide_image.specs.Notes.{ended_key, entry_at, noted, noted_after, noted_count, with_change, with_note};
+ghost use Rattle.ide_image.specs.KeyedImage.{CountsPending, entry_now, marked_all};
+ghost use Rattle.ide_image.specs.Notes.{NotesAll, ended_key, entry_at, noted, noted_count, with_change, with_note};
 
 use crate::change_log::ChangeLog;
 use crate::entry::Entry;
@@ -222,7 +222,7 @@ impl<F: EdgeFn, T: Drop> KeyedImage<F, T> {
         ensures spent { result ≡ Ok Change.Lowered → spent F.edge self.old.table.entries < spent F.edge self.new.table.entries }
         ensures few { result ≡ Ok Change.Lowered → length self.new.table.entries < 2 ^ 64 }
         ensures pending { result ≡ Ok Change.Lowered → (q : Key) → is_pending self.new.pile q ≡ (same_key key q || is_pending self.old.pile q) }
-        ensures count { result ≡ Ok Change.Lowered → length self.new.pile.pending ≡ length self.old.pile.pending + (if is_pending self.old.pile key then 0 else 1) }
+        ensures count { result ≡ Ok Change.Lowered → CountsPending key self.old.pile self.new.pile }
         // Each claimed key was pending, and no two hands had claimed one key.
         ensures held { IsWorklist self.old.pile }
         ensures claims { result ≡ Ok Change.Lowered → (h : ℕ) → claim_at self.new.pile h ≡ marked key (claim_at self.old.pile h) }
@@ -390,7 +390,7 @@ impl<F: EdgeFn, T: Drop> KeyedImage<F, T> {
         ensures pending { OnOk result ((q : Key) → is_pending self.new.pile q ≡ (list_any (same_key q) (keys_of list.now) || is_pending self.old.pile q)) }
         ensures claims { OnOk result ((h : ℕ) → claim_at self.new.pile h ≡ marked_all (keys_of list.now) (claim_at self.old.pile h)) }
         ensures noting { is_some self.new.changes ≡ is_some self.old.changes }
-        ensures noted { OnOk result ((q : Key) → noted self.new.changes q ≡ noted_after self.old.changes (list_any (same_key q) (keys_of list.now)) (entry_now self.old q) q) }
+        ensures noted { OnOk result (NotesAll self.old.changes self.new.changes (keys_of list.now) (entry_now self.old)) }
         ensures err { OnErr result (self.new ≡ self.old) }
         ensures refused { IsOkUnless result NoMemory }
     {

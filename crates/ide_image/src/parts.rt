@@ -10,9 +10,9 @@ ghost use Rattle.ide_wire.specs.declared.refused.Refused.TheVariants.{NoMemory};
 ghost use Rattle.ide_wire.specs.Key.{same_key};
 ghost use Rattle.ide_worklist.specs.Worklist.{claim_in, is_claim_of, marked};
 ghost use Rattle.ide_image.specs.ChangeLog.{MayNote, noted_at};
-ghost use Rattle.ide_image.specs.KeyedImage.{AreParts, Covers, HasRoomFor, SameParts, marked_at, entry_by, held_by_slot, marked_all, pending_by_slot, SetsAt};
+ghost use Rattle.ide_image.specs.KeyedImage.{AddsKeys, AreParts, Covers, HasRoomFor, SameParts, marked_at, entry_by, held_by_slot, marked_all, pending_by_slot, SetsAt};
 ghost use Rattle.ide_image.specs.Indexed.{IsSpot, MayTake, place_of_key};
-ghost use Rattle.ide_image.specs.Notes.{noted, noted_after, with_note};
+ghost use Rattle.ide_image.specs.Notes.{NotesAll, noted, with_note};
 ghost use Rattle.ide_image.specs.Queue.{SetsMark, held_at, one_if, pending_at, pending_count};
 
 use crate::change_log::ChangeLog;
@@ -171,10 +171,10 @@ pub(crate) fn enter_all<F: EdgeFn, T: Drop>(
     requires whole { AreParts indexed.old queue.old claims.old.items changes.old }
     ensures whole { AreParts indexed.new queue.new claims.new.items changes.new }
     ensures entries { indexed.new.table.entries ≡ with_all indexed.old.table.entries list.now }
-    ensures pending { (q : Key) → pending_by_slot indexed.new queue.new q ≡ (list_any (same_key q) (keys_of list.now) || pending_by_slot indexed.old queue.old q) }
+    ensures pending { AddsKeys (keys_of list.now) (pending_by_slot indexed.old queue.old) (pending_by_slot indexed.new queue.new) }
     ensures claims { (h : ℕ) → claim_in claims.new.items h ≡ marked_all (keys_of list.now) (claim_in claims.old.items h) }
     ensures noting { is_some changes.new.list ≡ is_some changes.old.list }
-    ensures notes { (q : Key) → noted changes.new.list q ≡ noted_after changes.old.list (list_any (same_key q) (keys_of list.now)) (entry_by indexed.old queue.old q) q }
+    ensures notes { NotesAll changes.old.list changes.new.list (keys_of list.now) (entry_by indexed.old queue.old) }
 {
     for entry in list {
         let spot = indexed.spot_of(entry.0);
