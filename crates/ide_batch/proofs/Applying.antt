@@ -16,7 +16,7 @@ use Rattle.ide_text.specs.declared.program.Program.{Program}
 use Rattle.ide_theory.specs.Images.{Root as root_step, loaded, step}
 use Rattle.ide_wire.specs.declared.refused.Refused.{Refused}
 use Rattle.ide_wire.specs.declared.refused.Refused.TheVariants.{NoMemory, Damaged}
-use Rattle.ide_worklist.specs.Worklist.{IsFree, claim_at}
+use Rattle.ide_image.specs.Worklist.{IsFree, claim_at}
 use Rattle.ide_batch.specs.Applied.{ApplyRefusal, CanApply, IsApplied, LoadsText, MayBeRoot, RefusesRecord, SetsBody, SetsSome, SpellsFitting, damaged, memory}
 use Rattle.ide_batch.specs.Bodies.{AreSpelled}
 use Rattle.ide_batch.specs.Fold.{procedures, with_items}

@@ -24,7 +24,7 @@ use Rattle.ide_theory.specs.Images.{Root, root_begun, entered, loaded, seeded_be
 use Rattle.ide_theory.specs.State.{State}
 use Rattle.ide_wire.specs.Key.{same_key}
 use Rattle.ide_wire.specs.declared.key.Key.{Key}
-use Rattle.ide_worklist.specs.Worklist.{IsFree}
+use Rattle.ide_image.specs.Worklist.{IsFree}
 use Rattle.ide_batch.specs.Applied.{HasImage, IsGraphed, IsLoadedWith, NewCoresAreEmpty, SetsItems, entry_in, named_in}
 use Rattle.ide_batch.specs.Fold.{ProgramImage, image_entry, named, nodes_in_all, node_count_of, procedures, with_items}
 use Rattle.ide_batch.specs.Items.{Item}

@@ -15,7 +15,7 @@ use Rattle.ide_text.specs.Program.{value_of}
 use Rattle.ide_text.specs.declared.program.Program.{Program}
 use Rattle.ide_wire.specs.declared.refused.Refused.{Refused}
 use Rattle.ide_wire.specs.declared.refused.Refused.TheVariants.{NoMemory}
-use Rattle.ide_worklist.specs.Worklist.{IsFree}
+use Rattle.ide_image.specs.Worklist.{IsFree}
 use Rattle.std.specs.List.{slice_index_or}
 use Rattle.ide_batch.specs.Applied.{LoadsText, MayBeRoot, RefusesRecord, refusal_of}
 use Rattle.ide_batch.specs.Bodies.{AreSpelled}

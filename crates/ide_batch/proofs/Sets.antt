@@ -7,10 +7,10 @@ use Rattle.ide_steps.specs.Core.{CoreData, IsSameProblem, IsUnchanged}
 use Rattle.std.proofs.lemmas.List.Elements.{All-push}
 use Rattle.std.specs.Option.{IsSomeAnd}
 use Rattle.ide_steps.specs.Items.{IsKeyOf}
-use Rattle.ide_tables.specs.Tables.{Sets, found}
+use Rattle.ide_image.specs.Tables.{Sets, found}
 use Rattle.ide_wire.specs.Key.{same_key}
 use Rattle.ide_wire.specs.declared.key.Key.{Key}
-use Rattle.ide_worklist.specs.Worklist.{is_pending}
+use Rattle.ide_image.specs.Worklist.{is_pending}
 use Rattle.ide_batch.specs.Applied.{MayHaveAll, SetsItems, SetsFront, entry_in}
 use Rattle.ide_batch.specs.Fold.{named, or_else, said_by}
 use Rattle.ide_batch.specs.Items.{Item}

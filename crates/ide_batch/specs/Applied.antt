@@ -10,7 +10,7 @@ use Rattle.ide_lattice.specs.Algebra.{EdgeAlgebra}
 use Rattle.ide_steps.specs.Core.{CoreData, IsSameProblem, IsUnchanged}
 use Rattle.ide_steps.specs.Items.{IsKeyOf}
 use Rattle.ide_steps.specs.Refusal.{IsRootName}
-use Rattle.ide_tables.specs.Tables.{found}
+use Rattle.ide_image.specs.Tables.{found}
 use Rattle.ide_text.specs.Parsed.{IsParsed}
 use Rattle.ide_text.specs.Program.{value_of}
 use Rattle.ide_text.specs.Value.{ProgramValue}
@@ -19,7 +19,7 @@ use Rattle.ide_theory.specs.Images.{loaded}
 use Rattle.ide_wire.specs.declared.key.Key.{Key}
 use Rattle.ide_wire.specs.declared.refused.Refused.{Refused}
 use Rattle.ide_wire.specs.declared.refused.Refused.TheVariants.{NoMemory, Damaged}
-use Rattle.ide_worklist.specs.Worklist.{is_pending}
+use Rattle.ide_image.specs.Worklist.{is_pending}
 use Rattle.ide_batch.specs.Bodies.{AreSpelled, IsEntryOf}
 use Rattle.ide_batch.specs.Fold.{RecordLeads, ProgramImage, named, with_items}
 use Rattle.ide_batch.specs.Items.{Functions, Item}

@@ -9,7 +9,7 @@ ghost use Rattle.ide_steps.specs.Core.{IsUnchanged};
 ghost use Rattle.ide_steps.specs.Rooted.{IsBegun};
 ghost use Rattle.ide_text.specs.Parsed.{IsParsed};
 ghost use Rattle.ide_text.specs.declared.program.Program.{Program};
-ghost use Rattle.ide_worklist.specs.Worklist.{IsFree};
+ghost use Rattle.ide_image.specs.Worklist.{IsFree};
 
 use crate::body::read_body;
 use crate::spelled::Spelled;

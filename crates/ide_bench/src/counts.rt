@@ -3,7 +3,7 @@ ghost use Rattle.std.specs.Prelude.{◌≡◌, length};
 
 use ide_graph::Graph;
 use ide_lattice::EdgeFn;
-use ide_tables::Tables;
+use ide_image::Tables;
 
 /// How large a program's graph, its tables and the work on them are.
 #[derive(Clone, Copy)]

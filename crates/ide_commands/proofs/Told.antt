@@ -7,7 +7,7 @@ use Rattle.ide_graph.specs.Supergraph.{Supergraph}
 use Rattle.ide_store.specs.Table.{Analysis, TableData}
 use Rattle.ide_store.specs.TableCalls.{FindsNothing, SealsBatch}
 use Rattle.ide_store.specs.declared.outbox.Ticket.{Ticket}
-use Rattle.ide_tables.specs.Tables.{Table}
+use Rattle.ide_image.specs.Tables.{Table}
 use Rattle.ide_values.specs.Closed.{FollowFrom}
 use Rattle.ide_values.specs.Frozen.{AreBestOf}
 use Rattle.ide_values.specs.Values.{ValuesData}

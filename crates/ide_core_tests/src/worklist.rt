@@ -1,6 +1,6 @@
 //! Each public call of a work list, at a task that is a number.
 use ide_wire::Key;
-use ide_worklist::Worklist;
+use ide_image::Worklist;
 use std::process::Abort;
 use std::test::Fail;
 

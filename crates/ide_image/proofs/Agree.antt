@@ -7,12 +7,12 @@ use Rattle.std.specs.Option.{is_some}
 use Rattle.std.proofs.lemmas.Bool.{cases_Bool, both_ways, eq-eqb, eqb-true}
 use Rattle.ide_wire.specs.declared.key.Key.{Key}
 use Rattle.ide_wire.specs.Key.{same_key, same_key_exact, same_key_refl, same_key_symm}
-use Rattle.ide_tables.specs.Tables.{Table, behind, place_in, with_entry}
+use Rattle.ide_image.specs.Tables.{Table, behind, place_in, with_entry}
 use Rattle.ide_pages.specs.Pages.{KeepsCells, cell_of}
-use Rattle.ide_tables.proofs.Places.{distinct-put, put-last}
-use Rattle.ide_worklist.specs.declared.claim.Claim.{Claim}
-use Rattle.ide_worklist.specs.Worklist.{AreHeld, claim_in, is_claim_of, marked, put_hand, with_done}
-use Rattle.ide_worklist.proofs.Held.{IsOf, claimed_at, held_claimed, held_same}
+use Rattle.ide_image.proofs.Places.{distinct-put, put-last}
+use Rattle.ide_image.specs.declared.claim.Claim.{Claim}
+use Rattle.ide_image.specs.Worklist.{AreHeld, claim_in, is_claim_of, marked, put_hand, with_done}
+use Rattle.ide_image.proofs.Held.{IsOf, claimed_at, held_claimed, held_same}
 use Rattle.ide_image.specs.declared.entry.Entry.{Entry}
 use Rattle.ide_image.specs.ChangeLog.{ChangeLog, noted_at}
 use Rattle.ide_image.specs.KeyedImage.{AreParts, Covers, SameParts, marked_at, held_by_slot, image_by, keys_where, pending_by_slot}

@@ -7,9 +7,9 @@ use Rattle.std.specs.List.{list_any}
 use Rattle.ide_lattice.specs.Algebra.{EdgeAlgebra}
 use Rattle.ide_wire.specs.declared.key.Key.{Key}
 use Rattle.ide_wire.specs.Key.{same_key}
-use Rattle.ide_tables.specs.Tables.{Table, found, function_at, is_kept, lowered_by, place_in, with_entry}
-use Rattle.ide_worklist.specs.declared.claim.Claim.{Claim}
-use Rattle.ide_worklist.specs.Worklist.{ends, ends_key, is_claim_of, put_hand, with_done}
+use Rattle.ide_image.specs.Tables.{Table, found, function_at, is_kept, lowered_by, place_in, with_entry}
+use Rattle.ide_image.specs.declared.claim.Claim.{Claim}
+use Rattle.ide_image.specs.Worklist.{ends, ends_key, is_claim_of, put_hand, with_done}
 use Rattle.ide_image.specs.declared.entry.Entry.{Entry}
 use Rattle.ide_image.specs.declared.queue.Mark.{Mark}
 use Rattle.ide_image.specs.declared.queue.Mark.TheVariants.{Settled, Waiting, Held}

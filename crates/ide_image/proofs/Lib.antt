@@ -1,6 +1,13 @@
 pub mod Agree
 pub mod Before
+pub mod Defaults
+pub mod Falls
+pub mod Held
+pub mod Keys
 pub mod Marked
+pub mod Places
 pub mod Rest
+pub mod Rows
+pub mod Sets
 pub mod Spots
 pub mod Stack

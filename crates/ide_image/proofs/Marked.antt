@@ -8,9 +8,9 @@ use Rattle.std.proofs.lemmas.Map.Keys.{IsDistinct-head, IsDistinct-tail}
 use Rattle.std.proofs.lemmas.List.Sums.{sum_by-cons}
 use Rattle.ide_wire.specs.declared.key.Key.{Key}
 use Rattle.ide_wire.specs.Key.{same_key, same_key_exact, same_key_refl}
-use Rattle.ide_tables.specs.Tables.{behind, place_in, with_entry}
-use Rattle.ide_tables.proofs.Places.{place-put, place_then}
-use Rattle.ide_tables.proofs.Falls.{count-with}
+use Rattle.ide_image.specs.Tables.{behind, place_in, with_entry}
+use Rattle.ide_image.proofs.Places.{place-put, place_then}
+use Rattle.ide_image.proofs.Falls.{count-with}
 use Rattle.ide_image.specs.declared.queue.Mark.{Mark}
 use Rattle.ide_image.specs.KeyedImage.{Covers, marked_at, keys_where}
 use Rattle.ide_image.specs.Queue.{SetsMark, is_pending_mark, one_if, pending_at, pending_count}

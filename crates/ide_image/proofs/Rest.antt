@@ -7,11 +7,11 @@ use Rattle.std.specs.Map.{lookup}
 use Rattle.std.specs.Option.{is_some}
 use Rattle.ide_wire.specs.declared.key.Key.{Key}
 use Rattle.ide_wire.specs.Key.{same_key, same_key_exact, same_key_symm}
-use Rattle.ide_worklist.specs.declared.claim.Claim.{Claim}
-use Rattle.ide_worklist.specs.Worklist.{claim_in, marked, put_hand}
+use Rattle.ide_image.specs.declared.claim.Claim.{Claim}
+use Rattle.ide_image.specs.Worklist.{claim_in, marked, put_hand}
 use Rattle.ide_image.specs.declared.entry.Entry.{Entry}
-use Rattle.ide_tables.specs.Tables.{Table, found, with_entry}
-use Rattle.ide_tables.proofs.Sets.{found-with_entry}
+use Rattle.ide_image.specs.Tables.{Table, found, with_entry}
+use Rattle.ide_image.proofs.Sets.{found-with_entry}
 use Rattle.ide_image.specs.Indexed.{Indexed}
 use Rattle.ide_image.specs.Queue.{SlotMarks}
 use Rattle.ide_image.specs.KeyedImage.{HasRoomFor, entry_by, marked_all, pending_by_slot}

@@ -7,9 +7,9 @@ use Rattle.std.proofs.lemmas.Option.{same_Some}
 use Rattle.std.proofs.lemmas.Map.Keys.{IsDistinct-head, IsDistinct-tail}
 use Rattle.ide_wire.specs.declared.key.Key.{Key}
 use Rattle.ide_wire.specs.Key.{same_key, same_key_refl, same_key_symm}
-use Rattle.ide_tables.specs.Tables.{behind, place_in, with_entry}
-use Rattle.ide_tables.proofs.Places.{place-put, place_then}
-use Rattle.ide_tables.proofs.Falls.{count-with}
+use Rattle.ide_image.specs.Tables.{behind, place_in, with_entry}
+use Rattle.ide_image.proofs.Places.{place-put, place_then}
+use Rattle.ide_image.proofs.Falls.{count-with}
 use Rattle.std.specs.Option.{is_some}
 
 behind-few : (p count : ℕ) → p ≤ count → behind p ≤ suc count

@@ -3,7 +3,7 @@ use Rattle.std.specs.Prelude.{◌≡◌, ℕ, ◌+◌, ◌-◌, ◌<◌, ◌≤�
 use Rattle.std.specs.List.{IsDistinct}
 use Rattle.std.specs.Map.{keys_of}
 use Rattle.ide_pages.specs.Pages.{Numbers, cell_of}
-use Rattle.ide_tables.specs.Tables.{Table, place_in}
+use Rattle.ide_image.specs.Tables.{Table, place_in}
 use Rattle.ide_wire.specs.Key.{same_key}
 use Rattle.ide_wire.specs.declared.key.Key.{Key}
 

@@ -4,11 +4,11 @@ use Rattle.std.specs.List.{IsDistinct, list_any}
 use Rattle.std.specs.Map.{keys_of}
 use Rattle.std.specs.Option.{is_some}
 use Rattle.ide_pages.specs.Pages.{KeepsCells}
-use Rattle.ide_tables.specs.Tables.{Table, found}
+use Rattle.ide_image.specs.Tables.{Table, found}
 use Rattle.ide_wire.specs.Key.{same_key}
 use Rattle.ide_wire.specs.declared.key.Key.{Key}
-use Rattle.ide_worklist.specs.Worklist.{AreHeld, Pile, claim_in, is_claim_of, is_pending}
-use Rattle.ide_worklist.specs.declared.claim.Claim.{Claim}
+use Rattle.ide_image.specs.Worklist.{AreHeld, Pile, claim_in, is_claim_of, is_pending}
+use Rattle.ide_image.specs.declared.claim.Claim.{Claim}
 use Rattle.ide_image.specs.ChangeLog.{ChangeLog, MayNote, noted_at}
 use Rattle.ide_image.specs.Indexed.{Indexed, MayTake, place_of_key}
 use Rattle.ide_image.specs.Notes.{entry_at, noted}
@@ -91,7 +91,7 @@ module _ {F T : Type 0} where
   abbrev pub image_by : Indexed F → SlotMarks → List (Option (Claim T)) → ChangeLog F → KeyedImageData F T
   image_by indexed marks claims changes = record {
     table = indexed.table;
-    pile = record { pending = keys_where (pending_at marks.list) indexed.table.entries; claims = claims; spare = 0 };
+    pile = record { pending = keys_where (pending_at marks.list) indexed.table.entries; claims = claims };
     changes = changes.list;
   }
 

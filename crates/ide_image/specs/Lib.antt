@@ -1,5 +1,8 @@
 pub mod ChangeLog
-pub mod KeyedImage
 pub mod Indexed
+pub mod KeyedImage
 pub mod Notes
 pub mod Queue
+pub mod Spent
+pub mod Tables
+pub mod Worklist

@@ -3,11 +3,11 @@ use Rattle.std.specs.Prelude.{◌≡◌, ℕ, ◌++◌, Bool, List, [], ◌∷�
 use Rattle.std.specs.List.{list_any}
 use Rattle.std.specs.Map.{lookup}
 use Rattle.std.specs.Option.{is_some}
-use Rattle.ide_tables.specs.Tables.{Table, found}
+use Rattle.ide_image.specs.Tables.{Table, found}
 use Rattle.ide_wire.specs.Key.{same_key}
 use Rattle.ide_wire.specs.declared.key.Key.{Key}
-use Rattle.ide_worklist.specs.Worklist.{Pile, is_pending}
-use Rattle.ide_worklist.specs.declared.claim.Claim.{Claim}
+use Rattle.ide_image.specs.Worklist.{Pile, is_pending}
+use Rattle.ide_image.specs.declared.claim.Claim.{Claim}
 use Rattle.ide_image.specs.declared.entry.Entry.{Entry}
 
 -- the first value, or else the second

@@ -1,11 +1,11 @@
 //! The claims of hands: one place for each hand from 0 on, as far as a hand was in use.
 ghost use Rattle.std.specs.Prelude.{◌≡◌, ℕ, ◌<◌, false, filter, length, nat_eq, IsSome, IsTrue, OnOk};
 ghost use Rattle.std.specs.Option.{is_some, option_copied};
-ghost use Rattle.ide_worklist.specs.Worklist.{PutsIn, claim_in, marked, with_done};
+ghost use Rattle.ide_image.specs.Worklist.{PutsIn, claim_in, marked, with_done};
 ghost use Rattle.ide_image.specs.Notes.{ended_key};
 
+use crate::claim::Claim;
 use ide_wire::Key;
-use ide_worklist::Claim;
 use std::alloc::AllocError;
 
 /// Makes a place for the hand.

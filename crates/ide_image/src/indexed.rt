@@ -7,7 +7,7 @@ ghost use Rattle.ide_wire.specs.declared.key.Key.{Key};
 ghost use Rattle.ide_wire.specs.declared.refused.Refused.TheVariants.{NoMemory};
 ghost use Rattle.ide_wire.specs.Key.{same_key};
 ghost use Rattle.ide_wire.specs.KeyOrder.{key_cmp};
-ghost use Rattle.ide_tables.specs.Tables.{AreJumpsTo, AreKeys, AreSummariesFrom, HaveCells, IsIndexed, found, function_at, nodes_of, or_top, partner_at, place_in, with_entry};
+ghost use Rattle.ide_image.specs.Tables.{AreJumpsTo, AreKeys, AreSummariesFrom, HaveCells, IsIndexed, found, function_at, nodes_of, or_top, partner_at, place_in, with_entry};
 ghost use Rattle.ide_image.specs.Indexed.{HasDistinctKeys, IsSpot, MayTake, place_of_key};
 
 use ide_lattice::EdgeFn;
@@ -39,7 +39,7 @@ pub(crate) struct KeySpot {
 
 impl<F: EdgeFn> Model for Indexed<F> {
     ghost use Rattle.std.specs.Prelude.{vec_capacity, vec_len};
-    ghost use Rattle.ide_tables.specs.Tables.{IsIndexed};
+    ghost use Rattle.ide_image.specs.Tables.{IsIndexed};
     ghost use Rattle.ide_image.specs.Indexed.{Indexed, entry_room};
 
     ghost Value = { Indexed F };
@@ -157,6 +157,21 @@ impl<F: EdgeFn> Indexed<F> {
         let row = self.places.summaries_from(alloc, call, fact)?;
         let partners = partners_of(alloc, &self.entries, &row)?;
         Ok(partners)
+    }
+
+    /// A map with the same entries, in the same order.
+    pub(crate) fn copy(&self, alloc: Global) -> Result<Indexed<F>, Refused>
+        ensures table { IfOk result (λ copy. copy.table ≡ self.now.table) }
+        ensures refused { IsOkUnless result NoMemory }
+    {
+        let entries = Vec::from_slice(alloc, &self.entries)?;
+        let nodes = Vec::from_slice(alloc, &self.nodes)?;
+        let places = self.places.copy(alloc)?;
+        Ok(Indexed {
+            entries,
+            nodes,
+            places,
+        })
     }
 
     /// Where the key stands, for which there is a cell then. One look-up.

@@ -1,28 +1,29 @@
 //! What an image has at each key.
-ghost use Rattle.std.specs.Prelude.{◌≡◌, ◌≢◌, ℕ, ◌+◌, ◌<◌, ◌≤◌, ◌^◌, ◌&&◌, ◌||◌, ◌↔◌, [], None, Some, Ok, Err, true, false, filter, length, nat_eq, not, slice_get, unwrap_or, if◌then◌else◌, IsOk, IsSome, IsTrue, IfOk, IfSome, IfNone, OnOk, OnErr, IsOkUnless};
+ghost use Rattle.std.specs.Prelude.{◌≡◌, ◌≢◌, ℕ, ◌+◌, ◌<◌, ◌≤◌, ◌^◌, ◌&&◌, ◌||◌, ◌↔◌, [], None, Some, Ok, Err, true, false, filter, length, nat_eq, not, unwrap_or, if◌then◌else◌, IsOk, IsSome, IsTrue, IfOk, IfSome, IfNone, OnOk, OnErr, IsOkUnless};
 ghost use Rattle.std.specs.List.{IsDistinct, list_any};
 ghost use Rattle.std.specs.Map.{keys_of};
 ghost use Rattle.std.specs.Option.{is_some, option_copied, option_map};
-ghost use Rattle.ide_tables.specs.Spent.{Spends, spent};
-ghost use Rattle.ide_tables.specs.Tables.{AreJumpsTo, AreKeys, AreSummariesFrom, CountsKey, FallsAt, Lowers, Sets, SetsAll, found, function_at, is_kept, nodes_of};
+ghost use Rattle.ide_image.specs.Spent.{Spends, spent};
+ghost use Rattle.ide_image.specs.Tables.{AreJumpsTo, AreKeys, AreSummariesFrom, CountsKey, FallsAt, Lowers, Sets, SetsAll, found, function_at, is_kept};
 ghost use Rattle.ide_wire.specs.declared.key.Key.{Key};
 ghost use Rattle.ide_wire.specs.declared.refused.Refused.TheVariants.{NoMemory};
 ghost use Rattle.ide_wire.specs.Key.{same_key};
 ghost use Rattle.ide_wire.specs.KeyOrder.{key_cmp};
-ghost use Rattle.ide_worklist.specs.declared.claim.Claim.{Claim};
-ghost use Rattle.ide_worklist.specs.Worklist.{PutsClaim, IsFree, IsWorklist, begun, claim_at, ends, ends_key, is_claimed, is_pending, marked, with_done};
+ghost use Rattle.ide_image.specs.declared.claim.Claim.{Claim};
+ghost use Rattle.ide_image.specs.Worklist.{PutsClaim, IsFree, IsWorklist, begun, claim_at, ends, ends_key, is_claimed, is_pending, marked, with_done};
 ghost use Rattle.ide_image.specs.KeyedImage.{CountsPending, entry_now, marked_all};
 ghost use Rattle.ide_image.specs.Notes.{NotesAll, ended_key, entry_at, noted, noted_count, with_change, with_note};
 
+use crate::change::Change;
 use crate::change_log::ChangeLog;
+use crate::claim::Claim;
 use crate::entry::Entry;
 use crate::indexed::Indexed;
 use crate::queue::Queue;
+use crate::tables::Tables;
 use crate::{claims, parts};
 use ide_lattice::EdgeFn;
-use ide_tables::Change;
 use ide_wire::{Fact, Key, Node, Refused};
-use ide_worklist::Claim;
 use std::alloc::Global;
 use std::marker::Model;
 
@@ -104,25 +105,6 @@ impl<F: EdgeFn, T: Drop> KeyedImage<F, T> {
         ensures distinct { IsDistinct same_key (keys_of self.now.table.entries) }
     {
         self.indexed.len()
-    }
-
-    /// The entry at `index`, in an order of which nothing is said but that it stays while the table is
-    /// not changed: so indices up to the count of keys meet each entry once.
-    pub fn entry_at(&self, index: usize) -> Option<(Key, F)>
-        ensures entry { result ≡ slice_get self.now.table.entries index }
-        ensures end { (result ≡ None) ↔ (length self.now.table.entries ≤ index) }
-        ensures present { IfSome result (λ entry. found self.now.table entry.0 ≡ Some entry.1) }
-    {
-        self.indexed.entry_at(index)
-    }
-
-    /// The node of the key of each entry, in the order of `entry_at`. So a walk over the entries of
-    /// some nodes reads 4 bytes of each other one.
-    pub fn nodes(&self) -> &[Node]
-        ensures nodes { result.now ≡ nodes_of self.now.table.entries }
-        ensures distinct { IsDistinct same_key (keys_of self.now.table.entries) }
-    {
-        self.indexed.nodes()
     }
 
     /// The present keys, ascending: jumps before summaries, then by node and facts.
@@ -439,6 +421,23 @@ impl<F: EdgeFn, T: Drop> KeyedImage<F, T> {
         self.queue.clear();
         self.claims.clear();
         self.changes.clear(alloc);
+    }
+
+    /// The present keys with their functions, copied.
+    pub fn copy_tables(&self, alloc: Global) -> Result<Tables<F>, Refused>
+        ensures tables { IfOk result (λ tables. tables ≡ self.now.table) }
+        ensures refused { IsOkUnless result NoMemory }
+    {
+        let indexed = self.indexed.copy(alloc)?;
+        Ok(Tables::of(indexed))
+    }
+
+    /// The present keys with their functions. What is pending, claimed or noted is dropped.
+    pub fn into_tables(self) -> Tables<F>
+        ensures tables { result ≡ self.table }
+    {
+        let KeyedImage { indexed, .. } = self;
+        Tables::of(indexed)
     }
 }
 

@@ -4,11 +4,11 @@ ghost use Rattle.std.specs.List.{list_any};
 ghost use Rattle.std.specs.Map.{keys_of};
 ghost use Rattle.std.specs.Option.{is_some};
 ghost use Rattle.ide_pages.specs.Pages.{KeepsCells};
-ghost use Rattle.ide_tables.specs.Tables.{HaveCells, found, with_all, with_entry};
+ghost use Rattle.ide_image.specs.Tables.{HaveCells, found, with_all, with_entry};
 ghost use Rattle.ide_wire.specs.declared.key.Key.{Key};
 ghost use Rattle.ide_wire.specs.declared.refused.Refused.TheVariants.{NoMemory};
 ghost use Rattle.ide_wire.specs.Key.{same_key};
-ghost use Rattle.ide_worklist.specs.Worklist.{claim_in, is_claim_of, marked};
+ghost use Rattle.ide_image.specs.Worklist.{claim_in, is_claim_of, marked};
 ghost use Rattle.ide_image.specs.ChangeLog.{MayNote, noted_at};
 ghost use Rattle.ide_image.specs.KeyedImage.{AddsKeys, AreParts, Covers, HasRoomFor, SameParts, marked_at, entry_by, held_by_slot, marked_all, pending_by_slot, SetsAt};
 ghost use Rattle.ide_image.specs.Indexed.{IsSpot, MayTake, place_of_key};
@@ -16,13 +16,13 @@ ghost use Rattle.ide_image.specs.Notes.{NotesAll, noted, with_note};
 ghost use Rattle.ide_image.specs.Queue.{SetsMark, held_at, one_if, pending_at, pending_count};
 
 use crate::change_log::ChangeLog;
+use crate::claim::Claim;
 use crate::claims;
 use crate::entry::Entry;
 use crate::indexed::{Indexed, KeySpot};
 use crate::queue::Queue;
 use ide_lattice::EdgeFn;
 use ide_wire::{Key, Refused};
-use ide_worklist::Claim;
 
 /// Whether the slot at a place is pending.
 pub(crate) fn is_pending_at(queue: &Queue, place: u32) -> bool

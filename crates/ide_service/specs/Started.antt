@@ -10,7 +10,7 @@ use Rattle.ide_theory.specs.Image.{HasRoots}
 use Rattle.ide_theory.specs.Member.{IsIn}
 use Rattle.ide_theory.specs.Run.{Run}
 use Rattle.ide_theory.specs.Sites.{HaveEdgesOf}
-use Rattle.ide_worklist.specs.Worklist.{IsFree}
+use Rattle.ide_image.specs.Worklist.{IsFree}
 use Rattle.ide_steps.specs.Core.{CoreData}
 use Rattle.ide_steps.specs.Going.{IsFit}
 use Rattle.ide_steps.specs.State.{state_of}

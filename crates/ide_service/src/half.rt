@@ -1,6 +1,6 @@
 //! The half of a store that works, as what hands work over.
 ghost use Rattle.std.specs.Prelude.{◌≡◌, [], None, false};
-ghost use Rattle.ide_worklist.specs.Worklist.{claim_at};
+ghost use Rattle.ide_image.specs.Worklist.{claim_at};
 
 use crate::hands::Hands;
 use ide_problem::Problem;

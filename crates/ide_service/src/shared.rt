@@ -1,6 +1,6 @@
 //! A store that hands share: what each does to it under one hold of its lock.
 ghost use Rattle.std.specs.Prelude.{◌≡◌, ◌≤◌, [], None, false, Ok, IfOk, OnOk};
-ghost use Rattle.ide_worklist.specs.Worklist.{claim_at};
+ghost use Rattle.ide_image.specs.Worklist.{claim_at};
 
 use crate::hands::{Hands, Open, run_task};
 use ide_disk::Disk;

@@ -9,14 +9,14 @@ use Rattle.std.specs.Map.{keys_of}
 use Rattle.std.specs.Option.{is_some}
 use Rattle.ide_lattice.specs.Algebra.{EdgeAlgebra}
 use Rattle.ide_problem.specs.Flow.{Targets}
-use Rattle.ide_tables.specs.Tables.{Table, SetsAll, found, last_of}
+use Rattle.ide_image.specs.Tables.{Table, SetsAll, found, last_of}
 use Rattle.ide_tasks.specs.Task.{TaskData}
 use Rattle.ide_theory.specs.State.{Claim, State, claim_marked, seeded, with_function}
 use Rattle.ide_wire.specs.Key.{node_of, same_key, same_key_symm}
 use Rattle.ide_wire.specs.declared.key.Key.{Key}
 use Rattle.ide_wire.specs.declared.key.Key.TheVariants.{Jump}
-use Rattle.ide_worklist.specs.Worklist.{Pile, claim_at, is_pending, marked as marked_claim}
-use Rattle.ide_worklist.specs.declared.claim.Claim.{Claim as Held}
+use Rattle.ide_image.specs.Worklist.{Pile, claim_at, is_pending, marked as marked_claim}
+use Rattle.ide_image.specs.declared.claim.Claim.{Claim as Held}
 use Rattle.ide_theory.specs.Images.{seeded_below, seeded_once}
 use Rattle.ide_steps.specs.Core.{CoreData}
 use Rattle.ide_steps.specs.Rooted.{AllAbsent, AllAt, marked_all, marked_by, with_entries}

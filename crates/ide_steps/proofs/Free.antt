@@ -5,8 +5,8 @@ use Rattle.std.specs.List.{list_any}
 use Rattle.std.proofs.lemmas.Bool.{eqb-true}
 use Rattle.ide_wire.specs.Key.{same_key, same_key_refl}
 use Rattle.ide_wire.specs.declared.key.Key.{Key}
-use Rattle.ide_worklist.specs.Worklist.{Pile, claim_at, is_claim_of, is_claimed, is_pending, IsFree}
-use Rattle.ide_worklist.specs.declared.claim.Claim.{Claim}
+use Rattle.ide_image.specs.Worklist.{Pile, claim_at, is_claim_of, is_claimed, is_pending, IsFree}
+use Rattle.ide_image.specs.declared.claim.Claim.{Claim}
 use Rattle.ide_wire.specs.declared.refused.Refused.{Refused}
 use Rattle.ide_wire.specs.declared.refused.Refused.TheVariants.{NoMemory}
 use Rattle.ide_steps.specs.ClaimRefusal.{IsClaimRefusal, busy, limit, memory, no_program}

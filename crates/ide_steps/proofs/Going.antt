@@ -17,11 +17,11 @@ use Rattle.ide_theory.proofs.Laws.Ways.{joined-claims, joined-lowerings, joined-
 use Rattle.ide_theory.specs.Run.{ArePartsOf, AreBy, IsBy, Run, goes_on, Step, Steps, claim, skip, lower, finish, release, none, more, steps_joined, claims_of, claims_in, lowerings_of, lowerings_in, releases_of, releases_in}
 use Rattle.ide_theory.specs.Sites.{HaveEdgesOf}
 use Rattle.ide_theory.specs.State.{Claim, State, finished, with_claim}
-use Rattle.ide_tables.specs.Spent.{spent}
-use Rattle.ide_tables.specs.Tables.{found}
+use Rattle.ide_image.specs.Spent.{spent}
+use Rattle.ide_image.specs.Tables.{found}
 use Rattle.ide_wire.specs.Key.{same_key}
-use Rattle.ide_worklist.specs.Worklist.{claim_at}
-use Rattle.ide_worklist.specs.declared.claim.Claim.{Claim as Held}
+use Rattle.ide_image.specs.Worklist.{claim_at}
+use Rattle.ide_image.specs.declared.claim.Claim.{Claim as Held}
 use Rattle.ide_steps.specs.declared.part.Parted.{Parted}
 use Rattle.ide_steps.specs.declared.part.Parted.TheVariants.{Lowered, Same, NoPart}
 use Rattle.ide_steps.specs.Core.{CoreData, IsSameProblem, IsUnchanged}

@@ -13,14 +13,14 @@ use Rattle.std.proofs.lemmas.Map.Keys.{IsDistinct-IsPermutation}
 use Rattle.std.proofs.lemmas.Map.Made.{IsDistinct-keys_filter}
 use Rattle.std.proofs.lemmas.Map.Views.{Contains-from_lookup, lookup-from_Contains}
 use Rattle.ide_lattice.specs.Algebra.{EdgeAlgebra}
-use Rattle.ide_tables.proofs.Keys.{strictly}
-use Rattle.ide_tables.specs.Tables.{found, function_at, or_top}
+use Rattle.ide_image.proofs.Keys.{strictly}
+use Rattle.ide_image.specs.Tables.{found, function_at, or_top}
 use Rattle.ide_theory.specs.Member.{IsIn, first, later}
 use Rattle.ide_theory.specs.Members.{contains-in, first-or, in-contains, in-map, not-in-empty, of-map}
 use Rattle.ide_wire.specs.Key.{same_key, same_key_exact, same_key_laws, same_key_symm}
 use Rattle.ide_wire.specs.KeyOrder.{key_cmp}
 use Rattle.ide_wire.specs.declared.key.Key.{Key}
-use Rattle.ide_worklist.specs.Worklist.{is_pending}
+use Rattle.ide_image.specs.Worklist.{is_pending}
 use Rattle.ide_steps.specs.Changed.{standing_entry, entry_then, noted_count}
 use Rattle.ide_steps.specs.Core.{CoreData}
 use Rattle.ide_steps.specs.Items.{AreChangedItems, is_left, is_left_of, item_of, left_keys}

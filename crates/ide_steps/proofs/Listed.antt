@@ -5,14 +5,14 @@ use Rattle.std.specs.List.{Contains, list_any}
 use Rattle.std.specs.List.Sorted.{IsStrictlySortedBy}
 use Rattle.std.specs.Option.{is_some}
 use Rattle.ide_lattice.specs.Algebra.{EdgeAlgebra}
-use Rattle.ide_tables.specs.Tables.{AreKeys, found, function_at, or_top}
+use Rattle.ide_image.specs.Tables.{AreKeys, found, function_at, or_top}
 use Rattle.ide_theory.specs.Member.{IsIn}
 use Rattle.ide_theory.specs.Members.{contains-in, in-contains, in-map, of-map}
 use Rattle.ide_wire.specs.declared.key.Key.{Key}
 use Rattle.ide_wire.specs.Key.{same_key, same_key_exact, same_key_laws}
 use Rattle.ide_wire.specs.KeyOrder.{key_cmp}
-use Rattle.ide_worklist.specs.Worklist.{is_claim_of, is_pending}
-use Rattle.ide_worklist.specs.declared.claim.Claim.{Claim}
+use Rattle.ide_image.specs.Worklist.{is_claim_of, is_pending}
+use Rattle.ide_image.specs.declared.claim.Claim.{Claim}
 use Rattle.ide_steps.specs.Core.{CoreData}
 use Rattle.ide_steps.specs.Items.{AreItems, item_of}
 

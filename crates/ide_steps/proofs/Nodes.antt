@@ -21,8 +21,8 @@ use Rattle.ide_tasks.specs.declared.partners.Reaching.{Reaching}
 use Rattle.ide_wire.specs.Key.{node_of, same_key, same_key_exact}
 use Rattle.ide_wire.specs.declared.key.Key.{Key}
 use Rattle.ide_wire.specs.declared.key.Key.TheVariants.{Jump, Summary}
-use Rattle.ide_worklist.specs.Worklist.{Pile, claim_at, ends, is_pending, marked, put_hand, with_done}
-use Rattle.ide_worklist.specs.declared.claim.Claim.{Claim as Held}
+use Rattle.ide_image.specs.Worklist.{Pile, claim_at, ends, is_pending, marked, put_hand, with_done}
+use Rattle.ide_image.specs.declared.claim.Claim.{Claim as Held}
 use Rattle.ide_steps.specs.Core.{AllStandIn, AreKeysKept, StandsIn}
 use Rattle.ide_steps.specs.Rooted.{marked_all}
 use Rattle.ide_steps.specs.Steps.{progress_at}

@@ -8,11 +8,11 @@ use Rattle.std.specs.Option.{is_some}
 use Rattle.std.proofs.lemmas.List.{length-append}
 use Rattle.indexmap.specs.IndexMap.{IndexMap, get, insert_entry}
 use Rattle.indexmap.proofs.CallerLemmas.{insert_entry-new}
-use Rattle.ide_tables.specs.Tables.{Table, found, last_of}
+use Rattle.ide_image.specs.Tables.{Table, found, last_of}
 use Rattle.ide_wire.specs.Key.{same_key, same_key_exact, same_key_symm}
 use Rattle.ide_wire.specs.declared.key.Key.{Key}
-use Rattle.ide_worklist.specs.Worklist.{Pile, ends, is_pending}
-use Rattle.ide_worklist.specs.declared.claim.Claim.{Claim}
+use Rattle.ide_image.specs.Worklist.{Pile, ends, is_pending}
+use Rattle.ide_image.specs.declared.claim.Claim.{Claim}
 use Rattle.ide_steps.specs.declared.changes.Entry.{Entry}
 use Rattle.ide_steps.specs.Changed.{HasRoom, Notes, Remembers, ended_key, entry_at, standing_entry, grows, is_touched, noted, noted_after, noted_count, or_entry, with_change, with_note}
 use Rattle.ide_steps.specs.Core.{CoreData, IsUnchanged}

@@ -8,7 +8,7 @@ use Rattle.ide_graph.specs.declared.site.Site.{Site}
 use Rattle.ide_graph.specs.declared.site.Site.TheVariants.{Normal, Call, Exit}
 use Rattle.ide_lattice.specs.Algebra.{EdgeAlgebra}
 use Rattle.ide_problem.specs.Flow.{Targets}
-use Rattle.ide_tables.specs.Tables.{Table, ArePartners}
+use Rattle.ide_image.specs.Tables.{Table, ArePartners}
 use Rattle.ide_tasks.specs.Sources.{reaching_of}
 use Rattle.ide_tasks.specs.declared.partners.Partners.TheVariants.{Entries, Callers}
 use Rattle.ide_tasks.specs.declared.partners.Reaching.{Reaching}

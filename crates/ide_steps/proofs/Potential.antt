@@ -3,9 +3,9 @@ use Rattle.std.proofs.Common.{◌≡◌, ℕ, zero, suc, ◌+◌, ◌-◌, ◌*�
 use Rattle.ide_lattice.specs.Algebra.{EdgeAlgebra}
 use Rattle.ide_wire.specs.Key.{same_key, same_key_exact}
 use Rattle.ide_wire.specs.declared.key.Key.{Key}
-use Rattle.ide_tables.specs.Spent.{spent}
-use Rattle.ide_worklist.specs.Worklist.{IsWorklist, Pile, claim_at, is_pending, marked}
-use Rattle.ide_worklist.specs.declared.claim.Claim.{Claim}
+use Rattle.ide_image.specs.Spent.{spent}
+use Rattle.ide_image.specs.Worklist.{IsWorklist, Pile, claim_at, is_pending, marked}
+use Rattle.ide_image.specs.declared.claim.Claim.{Claim}
 use Rattle.ide_steps.specs.Drain.{left_by}
 
 pub at-most-one : (b : Bool) → cond b 0 1 ≤ 1

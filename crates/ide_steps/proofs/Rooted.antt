@@ -18,8 +18,8 @@ use Rattle.ide_theory.specs.Run.{Run, Steps, none, more, root}
 use Rattle.ide_theory.specs.State.{State, seeded_at}
 use Rattle.ide_wire.specs.declared.key.Key.TheVariants.{Jump}
 use Rattle.ide_wire.specs.Key.{same_key, same_key_refl}
-use Rattle.ide_worklist.specs.Worklist.{Pile, claim_at}
-use Rattle.ide_worklist.specs.declared.claim.Claim.{Claim as Held}
+use Rattle.ide_image.specs.Worklist.{Pile, claim_at}
+use Rattle.ide_image.specs.declared.claim.Claim.{Claim as Held}
 use Rattle.ide_steps.specs.Core.{CoreData}
 use Rattle.ide_steps.specs.Refusal.{IsRootName}
 use Rattle.ide_steps.specs.State.{state_of}

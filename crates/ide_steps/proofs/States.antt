@@ -10,7 +10,7 @@ use Rattle.ide_graph.specs.ProgramEdges.{HasEdgesOf}
 use Rattle.ide_graph.specs.Supergraph.{Supergraph}
 use Rattle.ide_lattice.specs.Algebra.{EdgeAlgebra}
 use Rattle.ide_problem.specs.Flow.{Targets}
-use Rattle.ide_tables.specs.Tables.{Table, Falls, Lowers, found, function_at, or_top, lowered_by as lowered_in}
+use Rattle.ide_image.specs.Tables.{Table, Falls, Lowers, found, function_at, or_top, lowered_by as lowered_in}
 use Rattle.ide_tasks.specs.Parts.{owed}
 use Rattle.ide_tasks.specs.Task.{TaskData}
 use Rattle.ide_tasks.specs.Work.{WorkData}
@@ -18,8 +18,8 @@ use Rattle.ide_theory.proofs.Laws.Targets.{nat_eq-refl}
 use Rattle.ide_theory.specs.State.{State, nothing_done, put, rest_of, without_first, claim_marked, with_claim, part_done, with_lowered, finished}
 use Rattle.ide_wire.specs.declared.key.Key.{Key}
 use Rattle.ide_wire.specs.Key.{same_key, same_key_exact}
-use Rattle.ide_worklist.specs.Worklist.{Pile, IsWorklist, is_pending, claim_at, put_hand, with_done, ends, ends_key, marked as marked_claim}
-use Rattle.ide_worklist.specs.declared.claim.Claim.{Claim as Held}
+use Rattle.ide_image.specs.Worklist.{Pile, IsWorklist, is_pending, claim_at, put_hand, with_done, ends, ends_key, marked as marked_claim}
+use Rattle.ide_image.specs.declared.claim.Claim.{Claim as Held}
 use Rattle.ide_steps.specs.Core.{CoreData, IsUnchanged}
 use Rattle.ide_steps.specs.declared.part.Parted.{Parted}
 use Rattle.ide_steps.specs.declared.part.Parted.TheVariants as part

@@ -4,12 +4,12 @@ use Rattle.std.specs.List.{list_any}
 use Rattle.std.specs.Map.{lookup}
 use Rattle.std.specs.Option.{is_some}
 use Rattle.indexmap.specs.IndexMap.{IndexMap, spare}
-use Rattle.ide_tables.specs.Tables.{Table, found}
+use Rattle.ide_image.specs.Tables.{Table, found}
 use Rattle.ide_tasks.specs.Work.{WorkData}
 use Rattle.ide_wire.specs.Key.{same_key}
 use Rattle.ide_wire.specs.declared.key.Key.{Key}
-use Rattle.ide_worklist.specs.Worklist.{Pile, claim_at, is_pending}
-use Rattle.ide_worklist.specs.declared.claim.Claim.{Claim}
+use Rattle.ide_image.specs.Worklist.{Pile, claim_at, is_pending}
+use Rattle.ide_image.specs.declared.claim.Claim.{Claim}
 use Rattle.ide_steps.specs.declared.changes.Entry.{Entry}
 use Rattle.ide_steps.specs.Core.{CoreData}
 

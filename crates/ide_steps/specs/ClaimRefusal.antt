@@ -3,7 +3,7 @@ use Rattle.std.specs.Prelude.{◌≡◌, ℕ, ◌<◌, ◌≤◌, true, false, N
 use Rattle.ide_wire.specs.declared.key.Key.{Key}
 use Rattle.ide_wire.specs.declared.refused.Refused.{Refused}
 use Rattle.ide_wire.specs.declared.refused.Refused.TheVariants.{Busy, Limit, NoMemory, NoProgram}
-use Rattle.ide_worklist.specs.Worklist.{claim_at, is_claimed, is_pending}
+use Rattle.ide_image.specs.Worklist.{claim_at, is_claimed, is_pending}
 use Rattle.ide_steps.specs.Core.{CoreData, is_loaded}
 
 -- the hand may claim a key: there is such a hand, a program is loaded, and the hand has no claim

@@ -5,7 +5,7 @@ use Rattle.ide_lattice.specs.Algebra.{EdgeAlgebra}
 use Rattle.ide_problem.specs.Flow.{Targets}
 use Rattle.ide_tasks.specs.Task.{TaskData}
 use Rattle.ide_wire.specs.declared.key.Key.{Key}
-use Rattle.ide_worklist.specs.Worklist.{Pile, PutsClaim, begun, claim_at, ends_key, is_claimed, is_pending}
+use Rattle.ide_image.specs.Worklist.{Pile, PutsClaim, begun, claim_at, ends_key, is_claimed, is_pending}
 use Rattle.ide_steps.specs.declared.claim.Claimed.{Claimed}
 use Rattle.ide_steps.specs.declared.claim.Claimed.TheVariants.{Task}
 use Rattle.ide_steps.specs.Core.{CoreData, IsSameProblem}

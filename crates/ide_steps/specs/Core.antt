@@ -10,14 +10,14 @@ use Rattle.ide_problem.specs.Flow.{Targets}
 use Rattle.ide_tasks.specs.Parts.{owed}
 use Rattle.ide_tasks.specs.Sources.{AreSourcesOf}
 use Rattle.ide_tasks.specs.declared.sources.Source.{Source}
-use Rattle.ide_tables.specs.Tables.{Table}
+use Rattle.ide_image.specs.Tables.{Table}
 use Rattle.ide_tasks.specs.Task.{TaskData}
 use Rattle.ide_text.specs.Value.{ProgramValue}
 use Rattle.ide_text.specs.declared.program.Program.{Program}
 use Rattle.ide_wire.specs.Key.{node_of}
 use Rattle.ide_wire.specs.declared.key.Key.{Key}
 use Rattle.ide_steps.specs.declared.changes.Entry.{Entry}
-use Rattle.ide_worklist.specs.Worklist.{Pile, claim_at, is_pending}
+use Rattle.ide_image.specs.Worklist.{Pile, claim_at, is_pending}
 
 -- what the loaded program says, and its graph, if one is loaded; the roots, as indices of procedures; the tables;
 -- the pending keys with the claims; and, if somebody asked for changes, for each key that changed since, the entry

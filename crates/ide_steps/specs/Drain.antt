@@ -3,11 +3,11 @@ use Rattle.std.specs.Prelude.{◌≡◌, ℕ, ◌+◌, ◌-◌, ◌*◌, ◌^◌
 use Rattle.std.specs.Option.{is_some}
 use Rattle.ide_lattice.specs.Algebra.{LatticeAlgebra, EdgeAlgebra}
 use Rattle.ide_problem.specs.Flow.{Targets}
-use Rattle.ide_tables.specs.Spent.{spent}
+use Rattle.ide_image.specs.Spent.{spent}
 use Rattle.ide_tasks.specs.Work.{WorkData}
 use Rattle.ide_tasks.specs.Task.{TaskData}
-use Rattle.ide_worklist.specs.Worklist.{Pile, claim_at, ends_key}
-use Rattle.ide_worklist.specs.declared.claim.Claim.{Claim}
+use Rattle.ide_image.specs.Worklist.{Pile, claim_at, ends_key}
+use Rattle.ide_image.specs.declared.claim.Claim.{Claim}
 use Rattle.ide_steps.specs.declared.part.Parted.{Parted}
 use Rattle.ide_steps.specs.declared.part.Parted.TheVariants.{Lowered, Same, NoPart}
 use Rattle.ide_steps.specs.Core.{CoreData}

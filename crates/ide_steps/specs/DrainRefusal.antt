@@ -2,7 +2,7 @@
 use Rattle.std.specs.Prelude.{◌≡◌, ℕ, true, false, None, IsSome, nat_eq}
 use Rattle.ide_wire.specs.declared.refused.Refused.{Refused}
 use Rattle.ide_wire.specs.declared.refused.Refused.TheVariants.{Busy, NoMemory, NoProgram, Unfinished}
-use Rattle.ide_worklist.specs.Worklist.{claim_at, IsFree}
+use Rattle.ide_image.specs.Worklist.{claim_at, IsFree}
 use Rattle.ide_steps.specs.Core.{CoreData, is_loaded}
 
 -- the core may be drained: a program is loaded, and no hand has a claim

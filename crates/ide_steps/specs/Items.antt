@@ -5,14 +5,14 @@ use Rattle.std.specs.List.{Contains}
 use Rattle.std.specs.List.Sorted.{IsStrictlySortedBy}
 use Rattle.ide_graph.specs.Supergraph.{Supergraph}
 use Rattle.ide_lattice.specs.Algebra.{EdgeAlgebra}
-use Rattle.ide_tables.specs.Tables.{found, function_at}
+use Rattle.ide_image.specs.Tables.{found, function_at}
 use Rattle.ide_theory.specs.Parts.{IsKeyInRange}
 use Rattle.ide_theory.specs.Within.{is_some_call}
 use Rattle.ide_wire.specs.Key.{same_key}
 use Rattle.ide_wire.specs.KeyOrder.{key_cmp}
 use Rattle.ide_wire.specs.declared.key.Key.{Key}
 use Rattle.ide_wire.specs.declared.key.Key.TheVariants.{Jump, Summary}
-use Rattle.ide_worklist.specs.Worklist.{Pile, is_pending}
+use Rattle.ide_image.specs.Worklist.{Pile, is_pending}
 use Rattle.ide_steps.specs.Changed.{standing_entry, entry_then}
 use Rattle.ide_steps.specs.Core.{CoreData}
 use Rattle.ide_steps.specs.declared.changes.Entry.{Entry as Noted}

@@ -5,12 +5,12 @@ use Rattle.ide_graph.specs.declared.site.Site.{Site}
 use Rattle.ide_graph.specs.Supergraph.{Supergraph}
 use Rattle.ide_lattice.specs.Algebra.{EdgeAlgebra}
 use Rattle.ide_problem.specs.Flow.{Targets}
-use Rattle.ide_tables.specs.Tables.{Table, found}
+use Rattle.ide_image.specs.Tables.{Table, found}
 use Rattle.ide_tasks.specs.Task.{TaskData}
 use Rattle.ide_tasks.specs.declared.partners.Partners.{Partners}
 use Rattle.ide_wire.specs.Key.{node_of}
 use Rattle.ide_wire.specs.declared.key.Key.{Key}
-use Rattle.ide_worklist.specs.Worklist.{Pile}
+use Rattle.ide_image.specs.Worklist.{Pile}
 use Rattle.ide_steps.specs.declared.loaded.Loaded.{Loaded}
 use Rattle.ide_steps.specs.Core.{AreKeysKept, CoreData, IsProgramKept}
 use Rattle.ide_steps.specs.State.{ArePartnersOf, IsTaskOf}

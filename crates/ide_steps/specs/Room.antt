@@ -7,7 +7,7 @@ use Rattle.ide_graph.specs.ProgramEdges.{HasEdgesOf}
 use Rattle.ide_graph.specs.Supergraph.{Supergraph}
 use Rattle.ide_lattice.specs.Algebra.{LatticeAlgebra, EdgeAlgebra}
 use Rattle.ide_problem.specs.Flow.{Targets}
-use Rattle.ide_tables.specs.Spent.{spent}
+use Rattle.ide_image.specs.Spent.{spent}
 use Rattle.ide_text.specs.Program.{value_of}
 use Rattle.ide_text.specs.Value.{ProgramValue}
 use Rattle.ide_text.specs.declared.program.Program.{Program}

@@ -6,7 +6,7 @@ use Rattle.ide_graph.specs.Joined.{AreJoined, start_at}
 use Rattle.ide_graph.specs.Supergraph.{Supergraph}
 use Rattle.ide_lattice.specs.Algebra.{LatticeAlgebra, EdgeAlgebra}
 use Rattle.ide_problem.specs.Flow.{Targets}
-use Rattle.ide_tables.specs.Tables.{found, last_of}
+use Rattle.ide_image.specs.Tables.{found, last_of}
 use Rattle.ide_theory.specs.Graphs.{frame_at}
 use Rattle.ide_theory.specs.Run.{Run, Steps}
 use Rattle.ide_theory.specs.Sites.{HaveEdgesOf}
@@ -15,8 +15,8 @@ use Rattle.ide_theory.specs.State.{Claim, State}
 use Rattle.ide_wire.specs.Key.{node_of, same_key}
 use Rattle.ide_wire.specs.declared.key.Key.{Key}
 use Rattle.ide_wire.specs.declared.key.Key.TheVariants.{Jump}
-use Rattle.ide_worklist.specs.declared.claim.Claim.{Claim as Held}
-use Rattle.ide_worklist.specs.Worklist.{IsFree, Pile, claim_at, is_pending}
+use Rattle.ide_image.specs.declared.claim.Claim.{Claim as Held}
+use Rattle.ide_image.specs.Worklist.{IsFree, Pile, claim_at, is_pending}
 use Rattle.ide_steps.specs.Core.{CoreData}
 use Rattle.ide_steps.specs.Refusal.{IsRootName}
 use Rattle.ide_steps.specs.State.{state_of}

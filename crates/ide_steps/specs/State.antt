@@ -5,7 +5,7 @@ use Rattle.ide_graph.specs.declared.site.Site.{Site}
 use Rattle.ide_graph.specs.declared.site.Site.TheVariants.{Normal, Call, Exit}
 use Rattle.ide_lattice.specs.Algebra.{EdgeAlgebra}
 use Rattle.ide_problem.specs.Flow.{Targets}
-use Rattle.ide_tables.specs.Tables.{Table, ArePartners, found}
+use Rattle.ide_image.specs.Tables.{Table, ArePartners, found}
 use Rattle.ide_tasks.specs.Parts.{owed}
 use Rattle.ide_tasks.specs.Sources.{sources_at, reaching_of}
 use Rattle.ide_tasks.specs.Task.{TaskData}
@@ -15,8 +15,8 @@ use Rattle.ide_theory.specs.State.{State, Claim}
 use Rattle.ide_wire.specs.Key.{node_of}
 use Rattle.ide_wire.specs.declared.key.Key.{Key}
 use Rattle.ide_wire.specs.declared.key.Key.TheVariants.{Jump, Summary}
-use Rattle.ide_worklist.specs.Worklist.{is_pending, claim_at}
-use Rattle.ide_worklist.specs.declared.claim.Claim.{Claim as Held}
+use Rattle.ide_image.specs.Worklist.{is_pending, claim_at}
+use Rattle.ide_image.specs.declared.claim.Claim.{Claim as Held}
 use Rattle.ide_steps.specs.Core.{CoreData}
 
 module _ {F L : Type 0} (targets : Targets F) (B : EdgeAlgebra F L) where

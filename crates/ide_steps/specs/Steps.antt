@@ -8,8 +8,8 @@ use Rattle.ide_tasks.specs.Work.{WorkData}
 use Rattle.ide_theory.specs.Invariant.{unclaimed}
 use Rattle.ide_theory.specs.State.{State, finished, with_lowered, new_claim, part_done, with_claim}
 use Rattle.ide_wire.specs.declared.key.Key.{Key}
-use Rattle.ide_worklist.specs.Worklist.{Pile, claim_at, is_pending}
-use Rattle.ide_worklist.specs.declared.claim.Claim.{Claim as Held}
+use Rattle.ide_image.specs.Worklist.{Pile, claim_at, is_pending}
+use Rattle.ide_image.specs.declared.claim.Claim.{Claim as Held}
 use Rattle.ide_steps.specs.Core.{AreInside, CoreData}
 use Rattle.ide_steps.specs.State.{claim_of, state_of}
 

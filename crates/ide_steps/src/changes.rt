@@ -5,14 +5,14 @@ ghost use Rattle.std.specs.Map.{keys_of};
 ghost use Rattle.std.specs.Option.{is_some, option_map};
 ghost use Rattle.ide_wire.specs.Key.{same_key};
 ghost use Rattle.ide_wire.specs.declared.key.Key.{Key};
-ghost use Rattle.ide_worklist.specs.Worklist.{claim_at, is_pending};
+ghost use Rattle.ide_image.specs.Worklist.{claim_at, is_pending};
 ghost use Rattle.ide_steps.specs.Changed.{ended_key, entry_at, notes_of, with_note, HasRoom, NotesAbsent, NotesBefore, NotesEnd};
 ghost use Rattle.ide_steps.specs.declared.changes.Entry.{Entry};
 
 use ide_lattice::EdgeFn;
-use ide_tables::Tables;
+use ide_image::Tables;
 use ide_wire::{Key, Refused};
-use ide_worklist::Worklist;
+use ide_image::Worklist;
 use indexmap::IndexMap;
 use std::alloc::Global;
 

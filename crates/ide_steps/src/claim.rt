@@ -2,9 +2,9 @@
 ghost use Rattle.std.specs.Prelude.{◌≡◌, ◌≢◌, ℕ, nat_eq, ◌<◌, [], true, false, None, Some, Ok, IsSome, IfErr, IfOk, OnErr, OnOk, IsOkUnless};
 ghost use Rattle.ide_graph.specs.Edges.{EdgesWithin};
 ghost use Rattle.ide_graph.specs.Supergraph.{Supergraph};
-ghost use Rattle.ide_tables.specs.Tables.{found};
+ghost use Rattle.ide_image.specs.Tables.{found};
 ghost use Rattle.ide_wire.specs.declared.key.Key.{Key};
-ghost use Rattle.ide_worklist.specs.Worklist.{PutsClaim, begun, claim_at, ends_key, is_pending, is_claimed};
+ghost use Rattle.ide_image.specs.Worklist.{PutsClaim, begun, claim_at, ends_key, is_pending, is_claimed};
 ghost use Rattle.ide_tasks.specs.Task.{TaskData};
 ghost use Rattle.ide_steps.specs.ClaimRefusal.{IsClaimRefusal, MayClaim};
 ghost use Rattle.ide_steps.specs.Claiming.{BeginsClaim, FindsIdle, FindsQuiet, FindsTask, IfTask, KeepsAllBut};
@@ -15,10 +15,10 @@ use crate::loaded::Loaded;
 use crate::machine::{Core, HANDS};
 use ide_graph::Site;
 use ide_problem::Problem;
-use ide_tables::Tables;
+use ide_image::Tables;
 use ide_tasks::{Partners, Task};
 use ide_wire::{Key, Listing, Refused};
-use ide_worklist::Worklist;
+use ide_image::Worklist;
 use std::alloc::Global;
 
 /// What a claim gives.

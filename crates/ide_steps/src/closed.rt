@@ -6,7 +6,7 @@ ghost use Rattle.ide_steps.specs.Frozen.{graph_in, program_in};
 use crate::loaded::Loaded;
 use crate::machine::Core;
 use ide_problem::Problem;
-use ide_tables::Tables;
+use ide_image::Tables;
 use ide_wire::Refused;
 use std::sync::Arc;
 

@@ -8,7 +8,7 @@ ghost use Rattle.ide_steps.specs.Drain.{AreOthersFree, ClaimsTask, Drains, ForTa
 ghost use Rattle.ide_steps.specs.Going.{GoesOn};
 ghost use Rattle.ide_steps.specs.Room.{AreTasksFew};
 ghost use Rattle.ide_steps.specs.Steps.{progress_at};
-ghost use Rattle.ide_worklist.specs.Worklist.{claim_at, ends_key, IsFree};
+ghost use Rattle.ide_image.specs.Worklist.{claim_at, ends_key, IsFree};
 
 use crate::claim::Claimed;
 use crate::laws::{calls_are_steps, cores_are_whole, images_have_room};

@@ -3,10 +3,10 @@ ghost use Rattle.std.specs.Prelude.{◌≡◌, ◌<◌, ◌≤◌, ℕ, ◌↔�
 ghost use Rattle.std.specs.List.{IsDistinct};
 ghost use Rattle.std.specs.Map.{keys_of};
 ghost use Rattle.std.specs.Option.{IsSomeAnd};
-ghost use Rattle.ide_tables.specs.Tables.{Sets};
+ghost use Rattle.ide_image.specs.Tables.{Sets};
 ghost use Rattle.ide_theory.specs.Within.{is_some_call};
 ghost use Rattle.ide_wire.specs.Key.{same_key};
-ghost use Rattle.ide_worklist.specs.Worklist.{claim_at, IsFree};
+ghost use Rattle.ide_image.specs.Worklist.{claim_at, IsFree};
 ghost use Rattle.ide_steps.specs.Changed.{Notes, Remembers, noted_count};
 ghost use Rattle.ide_steps.specs.Core.{IsSameProblem, IsUnchanged};
 ghost use Rattle.ide_steps.specs.Items.{AreChangedItems, AreItems, IsKeyOf, SetsPending, is_left_of, item_of, left_keys};

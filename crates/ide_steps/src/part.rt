@@ -1,5 +1,5 @@
 //! Parts: a hand gives what its task owes to the tables, one part a call.
-ghost use Rattle.ide_worklist.specs.Worklist.{claim_at};
+ghost use Rattle.ide_image.specs.Worklist.{claim_at};
 ghost use Rattle.ide_steps.specs.Drain.{HasDonePart, HasLess, HasNoMore, IsPartPaid, IsStill};
 ghost use Rattle.std.specs.Prelude.{◌≡◌, ℕ, ◌<◌, ◌+◌, ◌-◌, ◌↔◌, None, Ok, Err, IfErr, IfOk, OnErr, OnOk, length, min, IsTrue, IsOkUnless};
 ghost use Rattle.ide_tasks.specs.Parts.{owed};
@@ -10,7 +10,7 @@ ghost use Rattle.ide_steps.specs.Core.{AreInside, IsSameProblem, IsUnchanged};
 
 use crate::machine::Core;
 use ide_problem::Problem;
-use ide_tables::Change;
+use ide_image::Change;
 use ide_tasks::Work;
 use ide_wire::Refused;
 

@@ -1,7 +1,7 @@
 //! Roots: where analysis begins.
 ghost use Rattle.std.specs.Prelude.{◌≡◌, ◌≤◌, ◌<◌, ◌^◌, ◌↔◌, ◌⊎◌, ◌++◌, ◌∷◌, [], None, length, IfErr, IfOk, IsTrue, OnErr, OnOk, IsOkUnless};
 ghost use Rattle.std.specs.Map.{keys_of};
-ghost use Rattle.ide_tables.specs.Tables.{found};
+ghost use Rattle.ide_image.specs.Tables.{found};
 ghost use Rattle.ide_steps.specs.Changed.{Remembers};
 ghost use Rattle.ide_steps.specs.Core.{AreInside, IsUnchanged};
 ghost use Rattle.ide_steps.specs.Refusal.{IsNoRoot, IsRootName, IsRootNow, IsRootRefusal, RootFault};
@@ -15,7 +15,7 @@ use ide_lattice::EdgeFn;
 use ide_problem::Problem;
 use ide_theory::{runs_go_on, sites_make_a_graph, starts_are_seeded};
 use ide_wire::{Fact, Key, Node, Refused};
-use ide_worklist::Worklist;
+use ide_image::Worklist;
 use std::alloc::AllocError;
 
 impl<P: Problem> Core<P> {

@@ -18,7 +18,7 @@ use Rattle.ide_steps.specs.Core.{CoreData}
 use Rattle.ide_steps.specs.Items.{AreChangedItems}
 use Rattle.ide_steps.specs.Room.{IsWholeCore}
 use Rattle.ide_steps.specs.State.{state_of as core_state}
-use Rattle.ide_tables.specs.Tables.{found}
+use Rattle.ide_image.specs.Tables.{found}
 use Rattle.ide_text.specs.Value.{ProgramValue}
 use Rattle.ide_theory.proofs.Laws.Changes.{none-some}
 use Rattle.ide_theory.proofs.Laws.Reached.{present-run}

@@ -13,7 +13,7 @@ use Rattle.ide_steps.specs.Changed.{noted_count}
 use Rattle.ide_steps.specs.Core.{CoreData}
 use Rattle.ide_steps.specs.declared.changes.Entry.{Entry as Noted}
 use Rattle.ide_wire.specs.declared.key.Key.{Key}
-use Rattle.ide_worklist.specs.Worklist.{IsFree, Pile}
+use Rattle.ide_image.specs.Worklist.{IsFree, Pile}
 use Rattle.ide_store.specs.Engine.{AreNewHalves}
 use Rattle.ide_store.specs.Half.{Writes}
 use Rattle.ide_store.specs.Opening.{BeginsOn, half_over}

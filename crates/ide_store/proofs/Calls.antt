@@ -17,7 +17,7 @@ use Rattle.ide_steps.specs.declared.part.Parted.TheVariants.{Lowered, Same}
 use Rattle.ide_tasks.specs.Work.{WorkData}
 use Rattle.ide_wire.specs.declared.refused.Refused.{Refused}
 use Rattle.ide_theory.proofs.Laws.Targets.{nat_eq-refl}
-use Rattle.ide_worklist.specs.Worklist.{Pile, PutsClaim, claim_at}
+use Rattle.ide_image.specs.Worklist.{Pile, PutsClaim, claim_at}
 use Rattle.ide_store.specs.Acting.{CallsAreActs}
 use Rattle.ide_store.specs.Table.{Analysis, IsTable, KeepsRest, TableData}
 use Rattle.ide_store.specs.TableCalls.{DoesPart, EndsClaim, HasRoomForEnd}

@@ -12,7 +12,7 @@ use Rattle.ide_steps.specs.Claiming.{FindsTask, KeepsAllBut}
 use Rattle.ide_steps.specs.Kept.{IsTaskWhere}
 use Rattle.ide_steps.specs.Room.{IsWholeCore}
 use Rattle.ide_steps.specs.State.{ArePartnersOf, IsTaskOf, claim_of}
-use Rattle.ide_tables.specs.Tables.{Table, found}
+use Rattle.ide_image.specs.Tables.{Table, found}
 use Rattle.ide_tasks.specs.Parts.{owed}
 use Rattle.ide_tasks.specs.Sources.{reaching_of, sources_at}
 use Rattle.ide_tasks.specs.Task.{TaskData}
@@ -30,7 +30,7 @@ use Rattle.ide_theory.specs.State.{Claim, State, new_claim, with_claim}
 use Rattle.ide_wire.specs.Key.{node_of}
 use Rattle.ide_wire.specs.declared.key.Key.{Key}
 use Rattle.ide_wire.specs.declared.key.Key.TheVariants.{Jump, Summary}
-use Rattle.ide_worklist.specs.Worklist.{claim_at}
+use Rattle.ide_image.specs.Worklist.{claim_at}
 use Rattle.ide_store.proofs.HandActs.{some_of, state_is, then_stays, works_on}
 use Rattle.ide_store.proofs.Hands.{run_now}
 use Rattle.ide_store.proofs.Machine.{machine_is_exact}

@@ -20,8 +20,8 @@ use Rattle.ide_steps.specs.State.{claim_of}
 use Rattle.ide_steps.specs.Steps.{EndsDone, FindsNone, GivesBack, IsCurrent, LowersPart, SkipsPart, progress_at}
 use Rattle.ide_steps.specs.declared.part.Parted.{Parted}
 use Rattle.ide_steps.specs.declared.part.Parted.TheVariants.{Lowered, NoPart, Same}
-use Rattle.ide_tables.specs.Spent.{spent}
-use Rattle.ide_tables.specs.Tables.{Table, found}
+use Rattle.ide_image.specs.Spent.{spent}
+use Rattle.ide_image.specs.Tables.{Table, found}
 use Rattle.ide_tasks.specs.Parts.{owed}
 use Rattle.ide_tasks.specs.Task.{TaskData}
 use Rattle.ide_tasks.specs.Work.{WorkData}
@@ -29,8 +29,8 @@ use Rattle.ide_theory.proofs.Laws.Changes.{none-some}
 use Rattle.ide_wire.specs.declared.refused.Refused.{Refused}
 use Rattle.ide_wire.specs.declared.refused.Refused.TheVariants.{Limit, NoMemory}
 use Rattle.ide_wire.specs.declared.key.Key.{Key}
-use Rattle.ide_worklist.specs.Worklist.{Pile, PutsClaim, claim_at, ends_key}
-use Rattle.ide_worklist.specs.declared.claim.Claim.{Claim as Held}
+use Rattle.ide_image.specs.Worklist.{Pile, PutsClaim, claim_at, ends_key}
+use Rattle.ide_image.specs.declared.claim.Claim.{Claim as Held}
 use Rattle.ide_store.specs.Acting.{BeginsAnew, CallsAreActs}
 use Rattle.ide_store.specs.Draining.{AreByDrainer, IsByHand, IsDrainStop, IsSameCore, IsWorkStop, WorksBy, count_of, full_batch_stays, is_claim, is_release, memory_is_wanting, stops}
 use Rattle.ide_store.specs.Hands.{Batches, Claims, Ends, Parts, Releases}

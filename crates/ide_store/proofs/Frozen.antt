@@ -6,7 +6,7 @@ use Rattle.ide_batch.specs.Applied.{named_in}
 use Rattle.ide_graph.specs.Supergraph.{Supergraph}
 use Rattle.ide_steps.specs.Frozen.{graph_in, program_in}
 use Rattle.ide_steps.specs.declared.closed.Closed.{Closed}
-use Rattle.ide_tables.specs.Tables.{found}
+use Rattle.ide_image.specs.Tables.{found}
 use Rattle.ide_wire.specs.Key.{same_key}
 use Rattle.ide_wire.specs.declared.refused.Refused.{Refused}
 use Rattle.ide_store.specs.Freezing.{IsImageOver}

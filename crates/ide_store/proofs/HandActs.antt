@@ -14,7 +14,7 @@ use Rattle.ide_steps.specs.Changed.{Remembers, entry_then, noted}
 use Rattle.ide_steps.specs.Core.{CoreData, IsSameProblem}
 use Rattle.ide_steps.specs.State.{claim_of}
 use Rattle.ide_steps.specs.Steps.{EndsDone, GivesBack, IsKeyBelow, IsCurrent, LowersPart, SkipsPart}
-use Rattle.ide_tables.specs.Tables.{found}
+use Rattle.ide_image.specs.Tables.{found}
 use Rattle.ide_tasks.specs.Parts.{owed}
 use Rattle.ide_tasks.specs.Task.{TaskData}
 use Rattle.ide_tasks.specs.Work.{WorkData}
@@ -22,8 +22,8 @@ use Rattle.ide_theory.specs.Images.{IsSame, is_met, received}
 use Rattle.ide_theory.specs.State.{Claim, State, finished, with_lowered, part_done, with_claim}
 use Rattle.ide_wire.specs.Key.{same_key}
 use Rattle.ide_wire.specs.declared.key.Key.{Key}
-use Rattle.ide_worklist.specs.Worklist.{claim_at}
-use Rattle.ide_worklist.specs.declared.claim.Claim.{Claim as Held}
+use Rattle.ide_image.specs.Worklist.{claim_at}
+use Rattle.ide_image.specs.declared.claim.Claim.{Claim as Held}
 use Rattle.ide_store.proofs.Reached.{Knows}
 use Rattle.ide_store.proofs.Working.{part_is}
 use Rattle.ide_store.specs.Hands.{Parts}

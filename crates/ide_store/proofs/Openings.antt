@@ -15,7 +15,7 @@ use Rattle.ide_lattice.specs.Algebra.{EdgeAlgebra}
 use Rattle.ide_steps.specs.Core.{CoreData}
 use Rattle.ide_steps.specs.State.{claim_of}
 use Rattle.ide_theory.specs.Images.{loaded}
-use Rattle.ide_worklist.specs.Worklist.{IsFree}
+use Rattle.ide_image.specs.Worklist.{IsFree}
 use Rattle.ide_store.specs.Machine.{machine}
 use Rattle.ide_store.specs.Opening.{HaveFold, BeginsOn, GoesOnFrom, HalvesBegin, half_over}
 use Rattle.ide_store.specs.Table.{Analysis, forms_of, rules_at}

@@ -20,8 +20,8 @@ use Rattle.ide_theory.specs.Members.{contains-in}
 use Rattle.ide_wire.specs.declared.key.Key.{Key}
 use Rattle.ide_wire.specs.declared.refused.Refused.{Refused}
 use Rattle.ide_wire.specs.declared.refused.Refused.TheVariants.{Limit, Stale}
-use Rattle.ide_worklist.specs.Worklist.{claim_at}
-use Rattle.ide_worklist.specs.declared.claim.Claim.{Claim as Held}
+use Rattle.ide_image.specs.Worklist.{claim_at}
+use Rattle.ide_image.specs.declared.claim.Claim.{Claim as Held}
 use Rattle.ide_store.specs.Table.{Analysis, TableData, forms_of}
 use Rattle.ide_store.specs.TableCalls.{EndOverflows, IsRefusal, IsRootStop, IsSealStop, IsStaleClaim, PartOverflows, by_itself, memory_wanting, no_claim, no_root, not_spelled}
 

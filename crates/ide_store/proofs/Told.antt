@@ -6,14 +6,14 @@ use Rattle.ide_steps.specs.Changed.{standing_entry, entry_then}
 use Rattle.ide_steps.specs.Core.{CoreData}
 use Rattle.ide_steps.specs.Items.{AreChangedItems}
 use Rattle.ide_steps.specs.declared.changes.Entry.{Entry as Noted}
-use Rattle.ide_tables.specs.Tables.{found}
+use Rattle.ide_image.specs.Tables.{found}
 use Rattle.ide_theory.proofs.Laws.Changes.{none-some, some-inj}
 use Rattle.ide_theory.specs.Images.{IsSame}
 use Rattle.ide_theory.specs.Member.{IsIn, first, later}
 use Rattle.ide_theory.specs.Members.{contains-in, first-or, in-contains, not-in-empty}
 use Rattle.ide_wire.specs.Key.{same_key, same_key_exact, same_key_refl}
 use Rattle.ide_wire.specs.declared.key.Key.{Key}
-use Rattle.ide_worklist.specs.Worklist.{is_pending}
+use Rattle.ide_image.specs.Worklist.{is_pending}
 use Rattle.ide_store.specs.Table.{told}
 
 -- ---- what items say of a key

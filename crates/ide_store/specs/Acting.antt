@@ -19,7 +19,7 @@ use Rattle.ide_tasks.specs.Work.{WorkData}
 use Rattle.ide_text.specs.Parsed.{IsParsed}
 use Rattle.ide_text.specs.Program.{value_of}
 use Rattle.ide_text.specs.declared.program.Program.{Program}
-use Rattle.ide_worklist.specs.Worklist.{claim_at}
+use Rattle.ide_image.specs.Worklist.{claim_at}
 use Rattle.ide_store.specs.Hands.{Batches, Loads, Roots}
 use Rattle.ide_store.specs.Table.{Analysis, IsAct, KeepsRest, TableData, forms_of}
 use Rattle.ide_store.specs.TableCalls.{DoesPart, EndsClaim, FindsNothing, GivesClaimBack, TakesTask, behind_first}

@@ -4,7 +4,7 @@ use Rattle.ide_batch.specs.Applied.{named_in}
 use Rattle.ide_journal.specs.Format.{Entry, Head}
 use Rattle.ide_steps.specs.Frozen.{graph_in, program_in}
 use Rattle.ide_steps.specs.declared.closed.Closed.{Closed}
-use Rattle.ide_tables.specs.Tables.{found}
+use Rattle.ide_image.specs.Tables.{found}
 use Rattle.ide_wire.specs.declared.key.Key.{Key}
 use Rattle.ide_store.specs.Table.{Analysis, IsReached, StoreWorld, TableData, WorksOn}
 

@@ -10,7 +10,7 @@ use Rattle.ide_steps.specs.Core.{CoreData}
 use Rattle.ide_theory.specs.Images.{loaded}
 use Rattle.ide_wire.specs.declared.refused.Refused.{Refused}
 use Rattle.ide_wire.specs.declared.refused.Refused.TheVariants.{Limit}
-use Rattle.ide_worklist.specs.Worklist.{IsFree}
+use Rattle.ide_image.specs.Worklist.{IsFree}
 use Rattle.ide_store.specs.Hands.{Happens}
 use Rattle.ide_store.specs.Machine.{machine}
 use Rattle.ide_store.specs.OneDisk.{Writer}

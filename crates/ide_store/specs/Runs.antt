@@ -6,7 +6,7 @@ use Rattle.ide_disk.specs.declared.disk.Disk.{Ghosts}
 use Rattle.ide_journal.specs.Format.{Head}
 use Rattle.ide_steps.specs.Frozen.{graph_in, program_in}
 use Rattle.ide_steps.specs.declared.closed.Closed.{Closed}
-use Rattle.ide_tables.specs.Tables.{found}
+use Rattle.ide_image.specs.Tables.{found}
 use Rattle.ide_theory.specs.Best.{IsBest}
 use Rattle.ide_theory.specs.Value.{IsStarted, value_at}
 use Rattle.ide_wire.specs.declared.refused.Refused.{Refused}

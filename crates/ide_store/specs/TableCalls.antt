@@ -10,7 +10,7 @@ use Rattle.ide_steps.specs.Refusal.{IsNoRoot}
 use Rattle.ide_steps.specs.Core.{CoreData}
 use Rattle.ide_steps.specs.State as steps
 use Rattle.ide_steps.specs.Steps.{IsKeyBelow, IsCurrent}
-use Rattle.ide_tables.specs.Tables.{found}
+use Rattle.ide_image.specs.Tables.{found}
 use Rattle.ide_tasks.specs.Parts.{owed}
 use Rattle.ide_tasks.specs.Task.{TaskData}
 use Rattle.ide_tasks.specs.Work.{WorkData}
@@ -18,8 +18,8 @@ use Rattle.ide_text.specs.Value.{ProgramValue}
 use Rattle.ide_wire.specs.declared.key.Key.{Key}
 use Rattle.ide_wire.specs.declared.refused.Refused.{Refused}
 use Rattle.ide_wire.specs.declared.refused.Refused.TheVariants.{Failed, Limit, NoMemory, Stale}
-use Rattle.ide_worklist.specs.Worklist.{claim_at}
-use Rattle.ide_worklist.specs.declared.claim.Claim.{Claim as Held}
+use Rattle.ide_image.specs.Worklist.{claim_at}
+use Rattle.ide_image.specs.declared.claim.Claim.{Claim as Held}
 use Rattle.ide_store.specs.Hands.{Batches, Claims, Ends, Loads, Parts, Releases, Roots}
 use Rattle.ide_store.specs.Table.{Analysis, HasNothingNew, IsAct, IsReached, KeepsRest, StoreWorld, TableData, WorksOn, forms_of}
 

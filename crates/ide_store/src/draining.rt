@@ -7,7 +7,7 @@ ghost use Rattle.ide_steps.specs.Core.{IsSameProblem};
 ghost use Rattle.ide_steps.specs.Drain.{AreOthersFree, ForTask, HasDonePart, HasLess, HasNoMore, StayOthersFree, TakesOut};
 ghost use Rattle.ide_steps.specs.DrainRefusal.{MayDrain};
 ghost use Rattle.ide_steps.specs.Steps.{DoesNext, IsCurrent};
-ghost use Rattle.ide_worklist.specs.Worklist.{claim_at, ends_key, IsFree};
+ghost use Rattle.ide_image.specs.Worklist.{claim_at, ends_key, IsFree};
 ghost use Rattle.ide_store.specs.Draining.{DrainsBy, IsDrainStop, IsSameCore, IsWorkStop, StopsBy, WorksBy};
 ghost use Rattle.ide_store.specs.Table.{KeepsRest};
 ghost use Rattle.ide_store.specs.TableCalls.{IsRefusal};

@@ -7,7 +7,7 @@ ghost use Rattle.ide_steps.specs.CloseRefusal.{IsFreezeRefusal};
 ghost use Rattle.ide_steps.specs.Drain.{HasDonePart};
 ghost use Rattle.ide_steps.specs.Frozen.{graph_in};
 ghost use Rattle.ide_steps.specs.Steps.{FindsNone, HasReceived, LowersPart, SkipsPart};
-ghost use Rattle.ide_worklist.specs.Worklist.{claim_at};
+ghost use Rattle.ide_image.specs.Worklist.{claim_at};
 ghost use Rattle.ide_store.specs.Freezing.{IsImageOver};
 ghost use Rattle.ide_store.specs.Table.{IsSameTable, KeepsRest};
 ghost use Rattle.ide_store.specs.TableCalls.{DoesPart, EndOverflows, EndsClaim, HasRoomForEnd, HasRoomForPart, PartOverflows, GivesClaimBack, IsFinishStop, IsPartStop, IsRefusal, IsStaleClaim, TakesTask};

@@ -7,7 +7,7 @@ use Rattle.ide_graph.specs.Supergraph.{Supergraph}
 use Rattle.ide_lattice.specs.Algebra.{LatticeAlgebra, EdgeAlgebra}
 use Rattle.ide_lattice.specs.Laws.{IsLattice}
 use Rattle.ide_problem.specs.Flow.{Targets}
-use Rattle.ide_tables.specs.Tables.{found}
+use Rattle.ide_image.specs.Tables.{found}
 use Rattle.ide_theory.specs.Best.{IsBest}
 use Rattle.ide_theory.specs.Frame.{AreRoots}
 use Rattle.ide_theory.specs.Given.{Edges, IsGraph}

@@ -17,7 +17,7 @@ use Rattle.ide_wire.specs.declared.key.Key.{Key}
 use Rattle.ide_wire.specs.declared.key.Key.TheVariants.{Jump, Summary}
 use Rattle.ide_wire.specs.Key.{node_of, same_key, same_key_laws, same_key_exact}
 use Rattle.ide_graph.specs.Supergraph.{Supergraph}
-use Rattle.ide_tables.specs.Tables.{Table, found, nodes_of}
+use Rattle.ide_image.specs.Tables.{Table, found, nodes_of}
 use Rattle.ide_values.specs.Fill.{Fills, FillsFrom, IsFilledAt, IsImage, Meets, lowered, value_from}
 use Rattle.ide_values.specs.Start.{value_before}
 use Rattle.ide_values.proofs.Lowered.{meets_elsewhere}

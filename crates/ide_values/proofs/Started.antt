@@ -10,7 +10,7 @@ use Rattle.ide_lattice.specs.Laws.{IsLattice, IsEdgeAlgebra}
 use Rattle.ide_lattice.specs.Meets.{meet_of}
 use Rattle.ide_lattice.specs.Order.{IsBelow, below-refl, below-top}
 use Rattle.ide_problem.specs.Flow.{IsFlow, Targets, function_to}
-use Rattle.ide_tables.specs.Tables.{Table, found}
+use Rattle.ide_image.specs.Tables.{Table, found}
 use Rattle.ide_theory.specs.Member.{IsIn, first, later}
 use Rattle.ide_theory.specs.Parts.{AreEdgesOf}
 use Rattle.ide_graph.specs.Joined.{AreJoined, start_at}

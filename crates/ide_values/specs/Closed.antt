@@ -10,7 +10,7 @@ use Rattle.ide_theory.specs.Graphs.{frame_at, roots_at}
 use Rattle.ide_theory.specs.Member.{IsIn}
 use Rattle.ide_theory.specs.Sites.{HaveEdgesOf}
 use Rattle.ide_theory.specs.Value.{IsStarted, value_at}
-use Rattle.ide_tables.specs.Tables.{Table, found}
+use Rattle.ide_image.specs.Tables.{Table, found}
 use Rattle.ide_values.specs.Fill.{Fills, IsImage}
 
 -- the graph is closed, and roots are procedures

@@ -3,7 +3,7 @@ use Rattle.ide_lattice.specs.Algebra.{LatticeAlgebra, EdgeAlgebra}
 use Rattle.ide_problem.specs.Flow.{Targets}
 use Rattle.ide_steps.specs.Frozen.{graph_in}
 use Rattle.ide_steps.specs.declared.closed.Closed.{Closed}
-use Rattle.ide_tables.specs.Tables.{Table}
+use Rattle.ide_image.specs.Tables.{Table}
 use Rattle.ide_values.specs.Best.{AreBest}
 use Rattle.ide_values.specs.Closed.{FollowFrom}
 use Rattle.ide_values.specs.Values.{AreValues, ValuesData, value_there}

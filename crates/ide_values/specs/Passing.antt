@@ -4,7 +4,7 @@ use Rattle.ide_graph.specs.Supergraph.{Supergraph}
 use Rattle.ide_graph.specs.declared.edge.EdgeData.{EdgeData}
 use Rattle.ide_lattice.specs.Algebra.{LatticeAlgebra, EdgeAlgebra}
 use Rattle.ide_problem.specs.Flow.{Targets}
-use Rattle.ide_tables.specs.Tables.{Table}
+use Rattle.ide_image.specs.Tables.{Table}
 use Rattle.ide_wire.specs.declared.key.Key.{Key}
 use Rattle.ide_values.specs.declared.passes.JumpAt.{JumpAt}
 use Rattle.ide_values.specs.declared.passes.Starts.{Starts}

@@ -4,7 +4,7 @@ use Rattle.std.specs.Prelude.{ℕ, ◌+◌, ◌*◌, ◌≤◌, ◌⊎◌, List,
 use Rattle.ide_graph.specs.Supergraph.{Supergraph}
 use Rattle.ide_lattice.specs.Algebra.{LatticeAlgebra, EdgeAlgebra}
 use Rattle.ide_problem.specs.Flow.{Targets}
-use Rattle.ide_tables.specs.Tables.{Table}
+use Rattle.ide_image.specs.Tables.{Table}
 use Rattle.ide_text.specs.Value.{ProgramValue}
 use Rattle.ide_values.specs.Dump.{Appends, dump_of, lines_at}
 use Rattle.ide_values.specs.Fill.{Fills}

@@ -10,7 +10,7 @@ use crate::rows::{procedure_at, start_place, value_at_place, value_before};
 use ide_graph::{EdgeData, Graph, Site};
 use ide_lattice::{EdgeFn, Lattice};
 use ide_problem::{Problem, TargetList};
-use ide_tables::Tables;
+use ide_image::Tables;
 use ide_wire::{Fact, Key, Node};
 use std::alloc::{AllocError, Global};
 

@@ -9,7 +9,7 @@ use crate::rows::tops;
 use crate::share::{Ranges, fill_shared};
 use ide_graph::Graph;
 use ide_lattice::EdgeFn;
-use ide_tables::Tables;
+use ide_image::Tables;
 use ide_wire::Node;
 use std::alloc::{AllocError, Global};
 use std::thread::Threads;

@@ -10,7 +10,7 @@ use crate::rows::{procedure_at, start_place};
 use ide_graph::Graph;
 use ide_lattice::EdgeFn;
 use ide_problem::{Problem, TargetList};
-use ide_tables::Tables;
+use ide_image::Tables;
 use ide_wire::Key;
 use std::alloc::{AllocError, Global};
 

@@ -17,7 +17,7 @@ use crate::starts::start_values;
 use ide_graph::Graph;
 use ide_problem::Problem;
 use ide_steps::{Closed, HANDS, Loaded};
-use ide_tables::Tables;
+use ide_image::Tables;
 use ide_text::Program;
 use ide_theory::sites_make_a_graph;
 use ide_wire::{Fact, Node, Refused};

@@ -10,7 +10,7 @@ use Rattle.ide_graph.specs.declared.site.Site.{Site}
 use Rattle.ide_graph.specs.declared.site.Site.TheVariants.{Normal, Call, Exit}
 use Rattle.ide_lattice.specs.Algebra.{LatticeAlgebra, EdgeAlgebra}
 use Rattle.ide_problem.specs.Flow.{Targets}
-use Rattle.ide_tables.specs.Tables.{Table, ArePartners, found}
+use Rattle.ide_image.specs.Tables.{Table, ArePartners, found}
 use Rattle.ide_tasks.specs.Parts.{owed, parts_at, flat_parts, seed_parts, after_parts, resumed_parts, exit_parts}
 use Rattle.ide_tasks.specs.Task.{TaskData}
 use Rattle.ide_tasks.specs.declared.partners.Partners.{Partners}

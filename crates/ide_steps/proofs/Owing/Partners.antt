@@ -10,7 +10,7 @@ use Rattle.std.specs.Prelude.{unwrap_or}
 use Rattle.std.proofs.lemmas.Bool.Decides.{nat_tests}
 use Rattle.std.proofs.lemmas.Map.Keys.{sorted_head, sorted_tail}
 use Rattle.std.proofs.lemmas.Option.{none-some}
-use Rattle.ide_tables.specs.Tables.{Table, ArePartners, found}
+use Rattle.ide_image.specs.Tables.{Table, ArePartners, found}
 use Rattle.ide_theory.specs.Member.{IsIn, first, later}
 use Rattle.ide_theory.specs.Members.{first-or, not-in-empty, in-one, in-left, in-right, in-either, in-map, of-map, in-flat_map, of-flat_map, in-range_below}
 use Rattle.ide_theory.specs.Parts.{if_some}

@@ -1,6 +1,6 @@
 use Rattle.std.proofs.Common.{take}
 use Rattle.ide_journal.specs.Lists.{entries_of}
-use Rattle.ide_worklist.specs.Worklist.{IsFree}
+use Rattle.ide_image.specs.Worklist.{IsFree}
 use Rattle.ide_batch.specs.AppliedAll.{AreApplied}
 use Rattle.ide_batch.specs.Items.{functions_by}
 use Rattle.ide_batch.proofs.replay.apply_all.Given as goal

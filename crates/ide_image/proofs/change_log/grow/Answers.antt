@@ -1,6 +1,6 @@
 use Rattle.std.proofs.Common.{◌+◌, ap, ◌∙◌, length, length-append, [], ◌∷◌}
 use Rattle.std.specs.Prelude.{slice_index}
-use Rattle.ide_worklist.proofs.Places.{get_or-push_default}
+use Rattle.ide_image.proofs.Defaults.{get_or-push_default}
 use Rattle.ide_image.proofs.change_log.grow.Goals as goal
 
 pub loop-preserved : goal.loop-preserved

@@ -1,5 +1,5 @@
 use Rattle.std.proofs.Common.{◌≡◌, ◌++◌, map, take, drop}
-use Rattle.ide_worklist.specs.Worklist.{marked}
+use Rattle.ide_image.specs.Worklist.{marked}
 use Rattle.ide_image.proofs.claims.mark.Given as goal
 
 abbrev pub invariant-loop-claim : goal.invariant-loop-claim

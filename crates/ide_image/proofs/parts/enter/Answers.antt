@@ -1,9 +1,9 @@
 use Rattle.std.proofs.Common.{◌≡◌, ◌+◌, arith, ap, cond, sym, ◌∙◌, length, true, ⊎_elim}
 use Rattle.std.proofs.lemmas.Bool.{both_ways, cases_Bool}
 use Rattle.ide_wire.specs.Key.{same_key}
-use Rattle.ide_tables.specs.Tables.{place_in, with_entry}
-use Rattle.ide_worklist.specs.Worklist.{claim_in, is_claim_of}
-use Rattle.ide_worklist.proofs.Held.{IsOf-marked}
+use Rattle.ide_image.specs.Tables.{place_in, with_entry}
+use Rattle.ide_image.specs.Worklist.{claim_in, is_claim_of}
+use Rattle.ide_image.proofs.Held.{IsOf-marked}
 use Rattle.ide_image.specs.KeyedImage.{marked_at, held_by_slot, pending_by_slot}
 use Rattle.ide_image.specs.Indexed.{place_of_key}
 use Rattle.ide_image.specs.Queue.{held_at, one_if, pending_at, pending_count}

@@ -6,9 +6,9 @@ use Rattle.std.specs.Option.{is_some}
 use Rattle.std.proofs.lemmas.List.{drop_all, drop_more}
 use Rattle.ide_pages.specs.Pages.{cell_of}
 use Rattle.ide_wire.specs.Key.{same_key}
-use Rattle.ide_tables.specs.Tables.{with_all}
-use Rattle.ide_tables.proofs.Places.{kept-cell}
-use Rattle.ide_worklist.specs.Worklist.{claim_in}
+use Rattle.ide_image.specs.Tables.{with_all}
+use Rattle.ide_image.proofs.Places.{kept-cell}
+use Rattle.ide_image.specs.Worklist.{claim_in}
 use Rattle.ide_image.specs.KeyedImage.{HasRoomFor, entry_by, marked_all, pending_by_slot}
 use Rattle.ide_image.specs.Notes.{noted_after}
 use Rattle.ide_image.proofs.Rest.{entry-kept, entry-own, marked-none, noted-none, noting-with, marked-rest, notes-rest, pending-rest, room-one}

@@ -5,8 +5,8 @@ use Rattle.std.specs.Map.{keys_of}
 use Rattle.std.specs.Option.{is_some}
 use Rattle.ide_wire.specs.Key.{same_key}
 use Rattle.ide_wire.specs.declared.key.Key.{Key}
-use Rattle.ide_tables.specs.Tables.{HaveCells, with_all}
-use Rattle.ide_worklist.specs.Worklist.{claim_in}
+use Rattle.ide_image.specs.Tables.{HaveCells, with_all}
+use Rattle.ide_image.specs.Worklist.{claim_in}
 use Rattle.ide_image.specs.KeyedImage.{AreParts, HasRoomFor, entry_by, marked_all, pending_by_slot}
 use Rattle.ide_image.specs.Notes.{noted_after}
 use Rattle.ide_image.proofs.parts.enter_all.Given as goal

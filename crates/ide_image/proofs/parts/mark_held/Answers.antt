@@ -1,4 +1,4 @@
-use Rattle.ide_worklist.specs.Worklist.{claim_in}
+use Rattle.ide_image.specs.Worklist.{claim_in}
 use Rattle.ide_image.proofs.Agree.{unmarked}
 use Rattle.ide_image.proofs.parts.mark_held.Goals as goal
 

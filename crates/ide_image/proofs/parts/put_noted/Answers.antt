@@ -1,6 +1,6 @@
 use Rattle.std.proofs.Common.{arith, sym, ◌∙◌}
 use Rattle.ide_image.specs.ChangeLog.{noted_at}
-use Rattle.ide_tables.specs.Tables.{place_in, with_entry}
+use Rattle.ide_image.specs.Tables.{place_in, with_entry}
 use Rattle.ide_image.proofs.Agree.{at-index}
 use Rattle.ide_image.proofs.Marked.{at-put}
 use Rattle.ide_image.proofs.Spots.{slot-few}

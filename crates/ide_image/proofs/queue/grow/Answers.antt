@@ -1,7 +1,7 @@
 use Rattle.std.proofs.Common.{◌≡◌, ◌+◌, ap, ◌∙◌, arith, length, length-append, [], ◌∷◌}
 use Rattle.std.specs.List.{sum_by}
 use Rattle.std.proofs.lemmas.List.Sums.{sum_by_push}
-use Rattle.ide_worklist.proofs.Places.{get_or-push_default}
+use Rattle.ide_image.proofs.Defaults.{get_or-push_default}
 use Rattle.ide_image.specs.Queue.{mark_in}
 use Rattle.ide_image.specs.declared.queue.Mark.TheVariants.{Settled}
 use Rattle.ide_image.proofs.queue.grow.Goals as goal

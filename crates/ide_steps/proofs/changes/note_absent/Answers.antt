@@ -5,7 +5,7 @@ use Rattle.std.specs.Option.{is_some}
 use Rattle.std.proofs.lemmas.List.{drop_more}
 use Rattle.ide_wire.specs.Key.{same_key}
 use Rattle.ide_wire.specs.declared.key.Key.{Key}
-use Rattle.ide_worklist.specs.Worklist.{is_pending}
+use Rattle.ide_image.specs.Worklist.{is_pending}
 use Rattle.ide_steps.specs.Changed.{HasRoom, noted, noted_after, notes_of, with_note}
 use Rattle.ide_steps.specs.declared.changes.Entry.{Entry}
 use Rattle.ide_steps.proofs.Entries.{any-taken}

@@ -4,7 +4,7 @@ use Rattle.std.specs.Map.{keys_of}
 use Rattle.std.specs.Option.{is_some}
 use Rattle.ide_wire.specs.Key.{same_key}
 use Rattle.ide_wire.specs.declared.key.Key.{Key}
-use Rattle.ide_worklist.specs.Worklist.{is_pending}
+use Rattle.ide_image.specs.Worklist.{is_pending}
 use Rattle.ide_steps.specs.Changed.{HasRoom, noted, noted_after, notes_of}
 use Rattle.ide_steps.proofs.changes.note_absent.Given as goal
 

@@ -1,6 +1,6 @@
 use Rattle.std.proofs.Common.{Some, false, ap, ◌∙◌}
 use Rattle.ide_tasks.specs.Task.{TaskData}
-use Rattle.ide_worklist.specs.Worklist.{claim_at, put_hand}
+use Rattle.ide_image.specs.Worklist.{claim_at, put_hand}
 use Rattle.ide_steps.proofs.claim.take_task.Goals as goal
 
 pub returns-clause-claims : goal.returns-clause-claims

@@ -1,5 +1,5 @@
 use Rattle.ide_graph.specs.Joined.{start_at}
-use Rattle.ide_tables.specs.Tables.{found}
+use Rattle.ide_image.specs.Tables.{found}
 use Rattle.ide_theory.specs.Sites.{edges_of, node_edges}
 use Rattle.ide_steps.proofs.Owing.Owed.{task-owes}
 use Rattle.ide_steps.proofs.laws.tasks_owe_their_parts.Goals as goal

@@ -3,7 +3,7 @@ use Rattle.std.specs.List.{list_any}
 use Rattle.std.specs.Map.{keys_of}
 use Rattle.ide_wire.specs.Key.{same_key}
 use Rattle.ide_wire.specs.declared.key.Key.{Key}
-use Rattle.ide_worklist.specs.Worklist.{claim_at, is_pending}
+use Rattle.ide_image.specs.Worklist.{claim_at, is_pending}
 use Rattle.ide_steps.specs.Rooted.{marked_all}
 use Rattle.ide_steps.proofs.root.push_each.Given as goal
 

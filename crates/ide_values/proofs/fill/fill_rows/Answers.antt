@@ -1,6 +1,6 @@
 use Rattle.std.proofs.Common.{rules, ◌≡◌, ◌+◌, ◌*◌, ◌<◌, ◌≤◌, ◌∙◌, None, get_or, length, subst, sym, ap, arith}
 use Rattle.ide_wire.specs.Key.{node_of}
-use Rattle.ide_tables.specs.Tables.{nodes_of}
+use Rattle.ide_image.specs.Tables.{nodes_of}
 use Rattle.ide_values.proofs.Filled.{IsFilledBy, filled_more, passed_more, all_filled, entry_of_node, node_count}
 use Rattle.ide_values.proofs.fill.fill_rows.Goals as goal
 use Rattle.ide_values.proofs.fill.fill_rows.Goals.{then-is_near+in-Some, else-is_near, else-is_near-via-else-is_near, else-is_near-via-then-is_near+in-None-1}

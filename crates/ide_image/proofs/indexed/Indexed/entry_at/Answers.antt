@@ -1,6 +1,6 @@
 use Rattle.std.proofs.Common.{ap, ◌∙◌}
 use Rattle.std.specs.Prelude.{slice_get}
-use Rattle.ide_tables.proofs.Places.{present-at}
+use Rattle.ide_image.proofs.Places.{present-at}
 use Rattle.ide_image.proofs.Spots.{place-at}
 use Rattle.ide_image.proofs.indexed.Indexed.entry_at.Goals as goal
 

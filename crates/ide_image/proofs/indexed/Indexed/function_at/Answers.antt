@@ -1,6 +1,6 @@
 use Rattle.std.proofs.Common.{◌-◌, ap, sym, ◌∙◌, arith}
 use Rattle.std.specs.Prelude.{slice_get}
-use Rattle.ide_tables.proofs.Places.{found-none, found-some, none-at}
+use Rattle.ide_image.proofs.Places.{found-none, found-some, none-at}
 use Rattle.ide_image.proofs.indexed.Indexed.function_at.Goals as goal
 
 pub returns-then-place-eq0 : goal.returns-then-place-eq0

@@ -1,5 +1,5 @@
 use Rattle.std.proofs.Common.{ap, sym, ◌∙◌}
-use Rattle.ide_tables.specs.Tables.{or_top}
+use Rattle.ide_image.specs.Tables.{or_top}
 use Rattle.ide_image.proofs.indexed.Indexed.function_in.Goals as goal
 
 pub returns-in-Some : goal.returns-in-Some

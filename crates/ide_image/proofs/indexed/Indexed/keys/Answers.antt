@@ -1,6 +1,6 @@
 use Rattle.std.proofs.Common.{ap, ◌∙◌}
 use Rattle.std.specs.Map.{keys_of}
-use Rattle.ide_tables.proofs.Keys.{are_keys}
+use Rattle.ide_image.proofs.Keys.{are_keys}
 use Rattle.ide_image.proofs.indexed.Indexed.keys.Goals as goal
 
 pub returns-clause-keys : goal.returns-clause-keys

@@ -1,6 +1,6 @@
 use Rattle.std.proofs.Common.{◌∙◌, refl, subst, sym}
 use Rattle.std.specs.Prelude.{IsSome}
-use Rattle.ide_tables.proofs.Places.{cells-more}
+use Rattle.ide_image.proofs.Places.{cells-more}
 use Rattle.ide_image.proofs.indexed.Indexed.make_cells.Goals as goal
 
 pub loop-entry-preserved : goal.loop-entry-preserved

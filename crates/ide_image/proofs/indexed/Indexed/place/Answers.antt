@@ -1,5 +1,5 @@
 use Rattle.std.proofs.Common.{sym, subst, ◌∙◌, ◌≤◌, length}
-use Rattle.ide_tables.proofs.Places.{none-at}
+use Rattle.ide_image.proofs.Places.{none-at}
 use Rattle.ide_image.proofs.Spots.{place-few}
 use Rattle.ide_image.proofs.indexed.Indexed.place.Goals as goal
 

@@ -1,8 +1,8 @@
 use Rattle.std.proofs.Common.{◌≡◌, ◌+◌, ◌++◌, ◌∷◌, [], ap, cond, length, sym, subst, ◌∙◌, arith}
 use Rattle.ide_pages.specs.Pages.{number_at}
 use Rattle.ide_wire.specs.Key.{same_key}
-use Rattle.ide_tables.specs.Tables.{IsIndexed}
-use Rattle.ide_tables.proofs.Places.{indexed-before, indexed-last, put-before, put-last, stands-before}
+use Rattle.ide_image.specs.Tables.{IsIndexed}
+use Rattle.ide_image.proofs.Places.{indexed-before, indexed-last, put-before, put-last, stands-before}
 use Rattle.ide_image.proofs.Spots.{spot-before, spot-last}
 use Rattle.ide_image.proofs.indexed.Indexed.put.Goals as goal
 

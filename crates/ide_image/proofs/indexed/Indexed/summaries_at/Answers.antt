@@ -1,7 +1,7 @@
 use Rattle.std.proofs.Common.{ap, map, sym, subst, ◌∙◌}
 use Rattle.ide_wire.specs.declared.key.Key.TheVariants.{Summary}
-use Rattle.ide_tables.specs.Tables.{ArePartners, partner_at}
-use Rattle.ide_tables.proofs.Rows.{are-partners}
+use Rattle.ide_image.specs.Tables.{ArePartners, partner_at}
+use Rattle.ide_image.proofs.Rows.{are-partners}
 use Rattle.ide_image.proofs.indexed.Indexed.summaries_at.Goals as goal
 
 pub returns-clause-partners : goal.returns-clause-partners

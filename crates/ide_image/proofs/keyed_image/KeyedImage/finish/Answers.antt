@@ -3,9 +3,9 @@ use Rattle.std.specs.Prelude.{◌&&◌, not}
 use Rattle.std.specs.List.{list_any}
 use Rattle.ide_wire.specs.declared.key.Key.{Key}
 use Rattle.ide_wire.specs.Key.{same_key, same_key_refl}
-use Rattle.ide_worklist.specs.Worklist.{claim_in, ends, ends_key, is_claim_of}
-use Rattle.ide_tables.specs.Tables.{found}
-use Rattle.ide_worklist.proofs.Held.{held_settled}
+use Rattle.ide_image.specs.Worklist.{claim_in, ends, ends_key, is_claim_of}
+use Rattle.ide_image.specs.Tables.{found}
+use Rattle.ide_image.proofs.Held.{held_settled}
 use Rattle.ide_image.specs.KeyedImage.{keys_where, pending_by_slot}
 use Rattle.ide_image.specs.Indexed.{place_of_key}
 use Rattle.ide_image.specs.Notes.{ended_key, with_change}

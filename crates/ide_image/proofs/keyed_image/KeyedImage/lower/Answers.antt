@@ -1,8 +1,8 @@
 use Rattle.std.proofs.Common.{◌≡◌, ◌<◌, ◌≤◌, ap, subst, sym, ◌∙◌, arith}
-use Rattle.ide_tables.specs.Spent.{spent}
-use Rattle.ide_tables.specs.Tables.{Table, found, function_at, with_entry}
-use Rattle.ide_tables.proofs.Falls.{lowers, spent-lower, spent-with}
-use Rattle.ide_tables.proofs.Sets.{sets-with}
+use Rattle.ide_image.specs.Spent.{spent}
+use Rattle.ide_image.specs.Tables.{Table, found, function_at, with_entry}
+use Rattle.ide_image.proofs.Falls.{lowers, spent-lower, spent-with}
+use Rattle.ide_image.proofs.Sets.{sets-with}
 use Rattle.ide_image.proofs.Agree.{is-worklist, same-spot, same-then, spot-same, whole-same}
 use Rattle.ide_image.proofs.Before.{count-then, entries-before, note-before, pending-then}
 use Rattle.ide_image.proofs.keyed_image.KeyedImage.lower.Goals as goal

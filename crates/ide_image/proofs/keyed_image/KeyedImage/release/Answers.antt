@@ -1,7 +1,7 @@
 use Rattle.std.proofs.Common.{◌≡◌, ◌+◌, ◌-◌, arith, length, refl, sym, ap, ◌∙◌}
 use Rattle.ide_wire.specs.Key.{same_key_refl}
-use Rattle.ide_worklist.specs.Worklist.{claim_in, is_claim_of}
-use Rattle.ide_worklist.proofs.Held.{held_gone, held_same}
+use Rattle.ide_image.specs.Worklist.{claim_in, is_claim_of}
+use Rattle.ide_image.proofs.Held.{held_gone, held_same}
 use Rattle.ide_image.specs.KeyedImage.{pending_by_slot}
 use Rattle.ide_image.specs.Indexed.{place_of_key}
 use Rattle.ide_image.specs.Queue.{held_at, pending_at}

@@ -1,6 +1,6 @@
 use Rattle.std.proofs.Common.{arith, ◌∙◌, ⊎_elim}
 use Rattle.std.proofs.lemmas.Bool.{cases_lt}
-use Rattle.ide_worklist.specs.Worklist.{claim_at}
+use Rattle.ide_image.specs.Worklist.{claim_at}
 use Rattle.ide_image.proofs.Rest.{past-none, put-gone, put-still}
 use Rattle.ide_image.proofs.keyed_image.KeyedImage.release_each.Goals as goal
 

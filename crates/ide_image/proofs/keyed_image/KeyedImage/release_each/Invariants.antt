@@ -1,5 +1,5 @@
 use Rattle.std.proofs.Common.{◌≡◌, ◌<◌, ℕ, None}
-use Rattle.ide_worklist.specs.Worklist.{claim_at}
+use Rattle.ide_image.specs.Worklist.{claim_at}
 use Rattle.ide_image.proofs.keyed_image.KeyedImage.release_each.Given as goal
 
 -- the first hands have no claim, nor has one that had none, and all else is as it was

@@ -1,8 +1,8 @@
 use Rattle.std.proofs.Common.{ap, cond, sym, ◌∙◌, arith}
 use Rattle.ide_wire.specs.Key.{same_key}
-use Rattle.ide_tables.specs.Tables.{place_in}
-use Rattle.ide_tables.proofs.Falls.{count-with, spent-with}
-use Rattle.ide_tables.proofs.Sets.{sets-with}
+use Rattle.ide_image.specs.Tables.{place_in}
+use Rattle.ide_image.proofs.Falls.{count-with, spent-with}
+use Rattle.ide_image.proofs.Sets.{sets-with}
 use Rattle.ide_image.specs.KeyedImage.{marked_at}
 use Rattle.ide_image.specs.Indexed.{place_of_key}
 use Rattle.ide_image.specs.Queue.{held_at, pending_at}

@@ -3,8 +3,8 @@ use Rattle.std.specs.Prelude.{◌||◌}
 use Rattle.std.specs.List.{list_any}
 use Rattle.std.specs.Map.{keys_of}
 use Rattle.ide_wire.specs.Key.{same_key}
-use Rattle.ide_tables.specs.Tables.{Table, with_all}
-use Rattle.ide_tables.proofs.Sets.{sets-all}
+use Rattle.ide_image.specs.Tables.{Table, with_all}
+use Rattle.ide_image.proofs.Sets.{sets-all}
 use Rattle.ide_image.specs.KeyedImage.{entry_by}
 use Rattle.ide_image.specs.Notes.{noted_after}
 use Rattle.ide_image.proofs.Agree.{is-pending, same-spot, same-then, whole-same}

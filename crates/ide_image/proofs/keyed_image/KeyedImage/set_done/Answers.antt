@@ -1,6 +1,6 @@
 use Rattle.std.proofs.Common.{ap, sym, ◌∙◌}
-use Rattle.ide_worklist.specs.Worklist.{claim_in, is_claim_of, with_done}
-use Rattle.ide_worklist.proofs.Held.{IsOf-done, IsOf-put}
+use Rattle.ide_image.specs.Worklist.{claim_in, is_claim_of, with_done}
+use Rattle.ide_image.proofs.Held.{IsOf-done, IsOf-put}
 use Rattle.ide_image.proofs.Agree.{whole-claims}
 use Rattle.ide_image.proofs.Before.{claim-put-done}
 use Rattle.ide_image.proofs.keyed_image.KeyedImage.set_done.Goals as goal

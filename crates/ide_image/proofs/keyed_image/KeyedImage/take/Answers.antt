@@ -1,5 +1,5 @@
 use Rattle.std.proofs.Common.{◌≡◌, ◌+◌, ◌-◌, false, ap, refl, sym, ◌∙◌, arith}
-use Rattle.ide_worklist.specs.Worklist.{is_claim_of}
+use Rattle.ide_image.specs.Worklist.{is_claim_of}
 use Rattle.ide_image.specs.Indexed.{place_of_key}
 use Rattle.ide_image.specs.Queue.{held_at, mark_in, pending_at}
 use Rattle.ide_image.proofs.Agree.{at-index, is-pending, unclaimed-free, whole-claims, whole-taken}

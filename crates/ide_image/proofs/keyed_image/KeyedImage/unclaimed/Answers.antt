@@ -1,7 +1,7 @@
 use Rattle.std.proofs.Common.{sym, ◌∙◌}
 use Rattle.ide_image.specs.Indexed.{place_of_key}
 use Rattle.ide_image.specs.Queue.{held_at, pending_at}
-use Rattle.ide_worklist.proofs.Held.{apart_at}
+use Rattle.ide_image.proofs.Held.{apart_at}
 use Rattle.ide_image.proofs.Agree.{any-at, at-index, free-unclaimed, is-pending}
 use Rattle.ide_image.proofs.Before.{at-held, waiting-is}
 use Rattle.ide_image.proofs.keyed_image.KeyedImage.unclaimed.Goals as goal

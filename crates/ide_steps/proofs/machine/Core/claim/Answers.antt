@@ -5,7 +5,7 @@ use Rattle.ide_graph.specs.Edges.{EdgesWithin}
 use Rattle.ide_tasks.specs.Parts.{owed}
 use Rattle.ide_tasks.specs.Task.{TaskData}
 use Rattle.ide_theory.specs.State.{new_claim, with_claim}
-use Rattle.ide_worklist.specs.declared.claim.Claim.{Claim as Held}
+use Rattle.ide_image.specs.declared.claim.Claim.{Claim as Held}
 use Rattle.ide_steps.proofs.Nodes.{kept-put, kept-unchanged, parts-within}
 use Rattle.ide_wire.specs.declared.refused.Refused.TheVariants.{NoMemory}
 use Rattle.ide_steps.specs.ClaimRefusal.{IsClaimRefusal, busy, limit, memory, no_program}

@@ -1,8 +1,8 @@
 use Rattle.ide_steps.proofs.States.{state-finished}
-use Rattle.ide_worklist.specs.Worklist.{claim_at, is_pending}
+use Rattle.ide_image.specs.Worklist.{claim_at, is_pending}
 use Rattle.ide_steps.proofs.Nodes.{kept-finished}
 use Rattle.std.proofs.Common.{refl, ◌∙◌}
-use Rattle.ide_tables.specs.Tables.{found}
+use Rattle.ide_image.specs.Tables.{found}
 use Rattle.ide_steps.specs.Changed.{ended_key}
 use Rattle.ide_steps.proofs.Noted.{end-kept, notes-change, remembers-change, remembers-same}
 use Rattle.ide_steps.proofs.machine.Core.end_claim.Goals as goal

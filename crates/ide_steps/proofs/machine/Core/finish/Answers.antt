@@ -1,7 +1,7 @@
 use Rattle.std.proofs.Common.{◌≡◌, [], None, drop, length, ap, ◌∙◌, arith, rules, refl}
 use Rattle.std.proofs.lemmas.List.{drop_all}
 use Rattle.ide_tasks.specs.Parts.{owed}
-use Rattle.ide_worklist.specs.Worklist.{claim_at}
+use Rattle.ide_image.specs.Worklist.{claim_at}
 use Rattle.ide_steps.proofs.States.{claim-of-work, handed-on}
 use Rattle.ide_steps.proofs.Noted.{remembers-same}
 use Rattle.std.proofs.lemmas.Result.{err_from_is_err_and}

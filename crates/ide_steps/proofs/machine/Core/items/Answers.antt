@@ -1,5 +1,5 @@
 use Rattle.std.proofs.Common.{◌∙◌, ap, map, subst}
-use Rattle.ide_tables.specs.Tables.{AreKeys}
+use Rattle.ide_image.specs.Tables.{AreKeys}
 use Rattle.ide_wire.specs.KeyOrder.{key_cmp}
 use Rattle.ide_steps.specs.Core.{CoreData}
 use Rattle.ide_steps.specs.Items.{item_of}

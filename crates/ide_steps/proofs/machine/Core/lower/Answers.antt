@@ -1,15 +1,15 @@
 use Rattle.std.proofs.Common.{◌≡◌, ◌+◌, ◌≤◌, length, subst, ap, sym, ◌∙◌, get_or, arith, refl, None, Some, Ok, rules}
 use Rattle.ide_steps.specs.Drain.{left_by}
 use Rattle.ide_steps.proofs.Potential.{at-most-one, falls, push-pays}
-use Rattle.ide_tables.specs.declared.tables.Change.{Change}
+use Rattle.ide_image.specs.declared.change.Change.{Change}
 use Rattle.ide_steps.specs.Changed.{entry_at, notes_of}
 use Rattle.ide_steps.proofs.Noted.{entry-other, noted-once, notes-change, remembers-change, remembers-same}
 use Rattle.ide_steps.proofs.States.{or-cond, changes-of, or_top-unwrap, state-lowered}
 use Rattle.std.specs.Prelude.{◌||◌}
 use Rattle.std.specs.List.{list_any}
-use Rattle.ide_tables.specs.Tables.{found}
+use Rattle.ide_image.specs.Tables.{found}
 use Rattle.ide_wire.specs.Key.{same_key}
-use Rattle.ide_worklist.specs.Worklist.{claim_at, marked}
+use Rattle.ide_image.specs.Worklist.{claim_at, marked}
 use Rattle.ide_steps.specs.Core.{CoreData}
 use Rattle.ide_steps.proofs.Nodes.{kept-pushed, kept-same, through}
 use Rattle.ide_steps.proofs.machine.Core.lower.Goals as goal

@@ -1,7 +1,7 @@
 use Rattle.std.proofs.Common.{◌≡◌, ◌+◌, ◌<◌, sym, ap, subst, ◌∙◌, add-one, arith, Ok, Some, length, refl}
 use Rattle.std.specs.Prelude.{slice_get}
 use Rattle.std.proofs.lemmas.Option.{slice_get_within, same_Some}
-use Rattle.ide_tables.specs.declared.tables.Change.{Change}
+use Rattle.ide_image.specs.declared.change.Change.{Change}
 use Rattle.ide_theory.specs.State.{part_done}
 use Rattle.ide_steps.specs.Steps.{KeepTasks}
 use Rattle.ide_steps.proofs.States.{state-counted, tasks-counted}

@@ -1,6 +1,6 @@
 use Rattle.std.proofs.Common.{◌≡◌, ◌+◌, ◌-◌, ◌≤◌, ℕ, None, Some, length}
 use Rattle.ide_tasks.specs.Task.{TaskData}
-use Rattle.ide_worklist.specs.Worklist.{claim_at}
+use Rattle.ide_image.specs.Worklist.{claim_at}
 use Rattle.ide_steps.specs.Changed.{Remembers}
 use Rattle.ide_steps.specs.Core.{IsSameProblem}
 use Rattle.ide_steps.specs.State.{state_of}

@@ -1,7 +1,7 @@
 use Rattle.std.proofs.Common.{rules, refl, Ok, None, ◌≡◌, ◌+◌, ◌-◌, ◌*◌, ◌^◌, ◌<◌, ◌≤◌, ◌⊎◌, Bool, true, false, cond, ℕ, length, arith, ◌∙◌, ap, inl, inr, sym, subst}
 use Rattle.std.specs.Prelude.{nat_eq}
-use Rattle.ide_worklist.specs.Worklist.{claim_at, ends_key}
-use Rattle.ide_tables.specs.Spent.{spent}
+use Rattle.ide_image.specs.Worklist.{claim_at, ends_key}
+use Rattle.ide_image.specs.Spent.{spent}
 use Rattle.ide_lattice.specs.Algebra.{EdgeAlgebra}
 use Rattle.ide_tasks.specs.Work.{WorkData}
 use Rattle.ide_steps.specs.Core.{AllStandIn, CoreData}

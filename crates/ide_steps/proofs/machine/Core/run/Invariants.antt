@@ -1,6 +1,6 @@
 use Rattle.std.proofs.Common.{◌≡◌, ◌-◌, ◌<◌, ◌⊎◌, ℕ, None, true, false, length}
 use Rattle.std.specs.Prelude.{nat_eq}
-use Rattle.ide_worklist.specs.Worklist.{claim_at, ends_key}
+use Rattle.ide_image.specs.Worklist.{claim_at, ends_key}
 use Rattle.ide_steps.specs.Changed.{Remembers}
 use Rattle.ide_steps.specs.Drain.{IsPaidBy, potential}
 use Rattle.ide_steps.specs.Going.{GoesOnByHand}

@@ -1,6 +1,6 @@
 use Rattle.std.proofs.Common.{◌≡◌, ◌-◌, ◌^◌, ℕ}
 use Rattle.std.specs.Prelude.{min}
-use Rattle.ide_worklist.specs.Worklist.{IsFree}
+use Rattle.ide_image.specs.Worklist.{IsFree}
 use Rattle.ide_steps.specs.Changed.{Remembers}
 use Rattle.ide_steps.specs.Drain.{GoesOnPaid, potential}
 use Rattle.ide_steps.proofs.machine.Core.run_all.Given as goal

@@ -6,7 +6,7 @@ use Rattle.ide_steps.specs.Items.{IsKeyOf}
 use Rattle.ide_steps.proofs.Nodes.{kept-same, kept-set, through}
 use Rattle.ide_steps.proofs.Room.{key-stands}
 use Rattle.std.specs.List.{list_any}
-use Rattle.ide_worklist.specs.Worklist.{is_claim_of}
+use Rattle.ide_image.specs.Worklist.{is_claim_of}
 use Rattle.ide_steps.proofs.Listed.{none-claimed}
 use Rattle.ide_steps.specs.Changed.{entry_at, notes_of}
 use Rattle.ide_steps.proofs.Noted.{entry-other, noted-once, notes-change, remembers-change, remembers-same}

@@ -1,5 +1,5 @@
 use Rattle.std.proofs.Common.{ap, cond, refl, None, ◌∙◌}
-use Rattle.ide_worklist.specs.Worklist.{claim_at}
+use Rattle.ide_image.specs.Worklist.{claim_at}
 use Rattle.ide_steps.proofs.Free.{free-without}
 use Rattle.ide_store.proofs.Drained.{back_works, stop_stays}
 use Rattle.ide_store.proofs.table.TableHalf.give_back.Goals as goal

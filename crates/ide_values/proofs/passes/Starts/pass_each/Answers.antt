@@ -1,6 +1,6 @@
 use Rattle.std.proofs.Common.{◌≡◌, Some, sym, subst, take_all, length, ◌<◌, ◌≤◌, ◌∙◌, arith}
 use Rattle.std.proofs.lemmas.Option.{get_or_from_slice_get}
-use Rattle.ide_tables.specs.Tables.{found}
+use Rattle.ide_image.specs.Tables.{found}
 use Rattle.ide_values.specs.Pass.{IsSteadyBy, Passes, by_entry, stays}
 use Rattle.ide_values.proofs.Coming.{goes_by, none_within}
 use Rattle.ide_values.proofs.Falling.{falls_not, falls_then}

@@ -1,5 +1,5 @@
 use Rattle.std.proofs.Common.{◌≡◌, Some}
-use Rattle.ide_tables.specs.Tables.{found}
+use Rattle.ide_image.specs.Tables.{found}
 use Rattle.ide_values.specs.Pass.{by_entry, stays}
 use Rattle.ide_values.proofs.Coming.{goes_trans}
 use Rattle.ide_values.proofs.Falling.{falls_not, falls_then}

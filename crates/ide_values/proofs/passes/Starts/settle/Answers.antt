@@ -1,5 +1,5 @@
 use Rattle.std.proofs.Common.{◌≡◌, Some, ap, arith, subst}
-use Rattle.ide_tables.specs.Tables.{found}
+use Rattle.ide_image.specs.Tables.{found}
 use Rattle.ide_values.specs.Falling.{ranks}
 use Rattle.ide_values.specs.Pass.{by_entry, stays}
 use Rattle.ide_values.specs.Settled.{ComesTo}

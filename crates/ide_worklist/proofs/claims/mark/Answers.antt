@@ -1,7 +1,0 @@
-use Rattle.std.proofs.Common.{rules}
-use Rattle.std.proofs.lemmas.List.Edits.{map_over_more}
-use Rattle.ide_worklist.specs.Worklist.{marked}
-use Rattle.ide_worklist.proofs.claims.mark.Goals as goal
-
-pub loop-claim-preserved : goal.loop-claim-preserved
-loop-claim-preserved g c = search (rules, map_over_more (marked {T = g.row.T.Denot} c.args.key))

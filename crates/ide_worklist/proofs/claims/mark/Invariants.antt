@@ -1,6 +1,0 @@
-use Rattle.std.proofs.Common.{◌≡◌, ◌++◌, map, take, drop}
-use Rattle.ide_worklist.specs.Worklist.{marked}
-use Rattle.ide_worklist.proofs.claims.mark.Given as goal
-
-abbrev pub invariant-loop-claim : goal.invariant-loop-claim
-invariant-loop-claim g l = l.claim-items ≡ map (marked l.key) (take l.claim-index l.fn.claims.items) ++ drop l.claim-index l.fn.claims.items
