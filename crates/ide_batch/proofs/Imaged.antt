@@ -157,10 +157,10 @@ module _ {F L : Type 0} (A : LatticeAlgebra L) (B : EdgeAlgebra F L) (targets : 
           start_is known.0 name is.root (sym (known.2.named name) ∙ is.named.named)
           ∙ ap (λ n. Some n) (sym (known.2.starts is.root (subst (λ n. is.root < n) known.2.procedures is.within)))
 
-      states : image_state image ≡ core_state targets B old
-      states = λ i. record { get = λ key. has.get key i; pending = λ key. has.pending key i; claims = λ h. option_map (claim_of targets B) (sym (free h) i) }
+      states : image_state image ≡ core_state B targets old
+      states = λ i. record { get = λ key. has.get key i; pending = λ key. has.pending key i; claims = λ h. option_map (claim_of B targets) (sym (free h) i) }
 
-      whole : entered procedures B same image.program name (image_state image) ≡ core_state targets B new
+      whole : entered procedures B same image.program name (image_state image) ≡ core_state B targets new
       whole =
           ap (λ o. entered procedures B same o name (image_state image)) (has.program ∙ known.1)
           ∙ ap (λ o. root_begun procedures B same (value_of known.0) o (image_state image)) begins

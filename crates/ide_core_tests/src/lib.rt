@@ -1,4 +1,4 @@
-//! Tests of the work list and of the core: its tables, its claims, and hands that work in turns.
+//! Tests of what an image has at each key, and of the core: its tables, its claims, and hands that work in turns.
 //!
 //! A proof of a test costs time for each clause of each call, and a crate with tests is proved
 //! twice: so the tests of these crates stand here, above them both, and each file has the tests of
@@ -15,4 +15,4 @@ mod hands;
 #[cfg(test)]
 mod tables;
 #[cfg(test)]
-mod worklist;
+mod image;

@@ -53,8 +53,3 @@ module _ {F : Type 0} where
   -- each of these keys is noted with its entry of before, if changes are noted and it is not yet
   abbrev pub NotesAll : (old new : Option (List (Key × Entry F))) → List Key → (Key → Entry F) → Type 0
   NotesAll old new keys entry = (q : Key) → noted new q ≡ noted_after old (list_any (same_key q) keys) (entry q) q
-
-  -- each key is noted as absent, if changes are noted and it is not yet
-  abbrev pub NotesAbsent : {T : Type 0} → (old new : Option (List (Key × Entry F))) → Pile T → List Key → Type 0
-  NotesAbsent old new pile keys =
-      (q : Key) → noted new q ≡ noted_after old (list_any (same_key q) keys) (record { function = None; pending = is_pending pile q }) q

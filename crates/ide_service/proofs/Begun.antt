@@ -66,10 +66,10 @@ module _ {F L : Type 0} (A : LatticeAlgebra L) (B : EdgeAlgebra F L) (targets : 
           ];
       steps = λ graph at all ready run.
           let way = before.steps graph at all ready run in
-          (goes graph all ready.joined).compose (state_of targets B old) (state_of targets B mid) (state_of targets B new) way
-          (on graph at all ready ((goes graph all ready.joined).run (state_of targets B old) (state_of targets B mid) run way));
+          (goes graph all ready.joined).compose (state_of B targets old) (state_of B targets mid) (state_of B targets new) way
+          (on graph at all ready ((goes graph all ready.joined).run (state_of B targets old) (state_of B targets mid) run way));
       begun = λ graph at all ready run has r d start within.
-          let run_mid = (goes graph all ready.joined).run (state_of targets B old) (state_of targets B mid) run (before.steps graph at all ready run) in
+          let run_mid = (goes graph all ready.joined).run (state_of B targets old) (state_of B targets mid) run (before.steps graph at all ready run) in
           let of = of-map (slice_index graph.starts) new.roots start in
           elim (in-either mid.roots (is.root ∷ []) (subst (IsIn of.0) is.roots of.1)) [
             | inl earlier ↦ kept graph at all ready run_mid r d (before.begun graph at all ready run has r d (among-starts graph mid.roots of.0 r earlier of.2) within)
@@ -84,47 +84,47 @@ module _ {F L : Type 0} (A : LatticeAlgebra L) (B : EdgeAlgebra F L) (targets : 
         start_is graph at ready = ready.home is.root (subst (λ g. is.root < g.procedures) (here graph at) is.within)
 
         on : (graph : Supergraph) → old.graph ≡ Some graph → (all : HaveEdgesOf graph.facts graph.sites) → IsInOrder graph
-            → Run (frame_at A B targets graph all) (state_of targets B mid)
-            → Steps (frame_at A B targets graph all) (state_of targets B mid) (state_of targets B new)
+            → Run (frame_at A B targets graph all) (state_of B targets mid)
+            → Steps (frame_at A B targets graph all) (state_of B targets mid) (state_of B targets new)
         on graph at all ready run =
             subst (λ g. (every : HaveEdgesOf g.facts g.sites) → AreJoined g.sites (start_at g)
             → start_at g (slice_index g.starts is.root) ≡ slice_index g.starts is.root → g.entries ≤ g.facts
-            → Run (frame_at A B targets g every) (state_of targets B mid)
-            → Steps (frame_at A B targets g every) (state_of targets B mid) (state_of targets B new)) (here graph at) is.steps
+            → Run (frame_at A B targets g every) (state_of B targets mid)
+            → Steps (frame_at A B targets g every) (state_of B targets mid) (state_of B targets new)) (here graph at) is.steps
             all ready.joined (start_is graph at ready) ready.entries run
 
         met : (graph : Supergraph) → old.graph ≡ Some graph → (all : HaveEdgesOf graph.facts graph.sites) → IsInOrder graph
-            → Run (frame_at A B targets graph all) (state_of targets B mid) → (d : ℕ) → d < graph.entries
-            → IsMet (frame_at A B targets graph all) (state_of targets B new).get (Jump (slice_index graph.starts is.root) d d) B.id
+            → Run (frame_at A B targets graph all) (state_of B targets mid) → (d : ℕ) → d < graph.entries
+            → IsMet (frame_at A B targets graph all) (state_of B targets new).get (Jump (slice_index graph.starts is.root) d d) B.id
         met graph at all ready run d entry =
             subst (λ g. (every : HaveEdgesOf g.facts g.sites) → AreJoined g.sites (start_at g)
             → start_at g (slice_index g.starts is.root) ≡ slice_index g.starts is.root → g.entries ≤ g.facts
-            → Run (frame_at A B targets g every) (state_of targets B mid) → (k : ℕ) → k < g.entries
-            → IsMet (frame_at A B targets g every) (state_of targets B new).get (Jump (slice_index g.starts is.root) k k) B.id) (here graph at) is.met
+            → Run (frame_at A B targets g every) (state_of B targets mid) → (k : ℕ) → k < g.entries
+            → IsMet (frame_at A B targets g every) (state_of B targets new).get (Jump (slice_index g.starts is.root) k k) B.id) (here graph at) is.met
             all ready.joined (start_is graph at ready) ready.entries run d entry
 
         among-starts : (graph : Supergraph) (roots : List ℕ) (i r : ℕ) → IsIn i roots → slice_index graph.starts i ≡ r → IsIn r (map (slice_index graph.starts) roots)
         among-starts graph roots i r among same = subst (λ s. IsIn s (map (slice_index graph.starts) roots)) same (in-map (slice_index graph.starts) among)
 
         kept : (graph : Supergraph) → old.graph ≡ Some graph → (all : HaveEdgesOf graph.facts graph.sites) → IsInOrder graph
-            → Run (frame_at A B targets graph all) (state_of targets B mid) → (r d : ℕ)
-            → ((cond (nat_lt d graph.entries) A.bottom A.top) ≡ A.top) ⊎ IsMet (frame_at A B targets graph all) (state_of targets B mid).get (Jump r d d) B.id
-            → ((cond (nat_lt d graph.entries) A.bottom A.top) ≡ A.top) ⊎ IsMet (frame_at A B targets graph all) (state_of targets B new).get (Jump r d d) B.id
+            → Run (frame_at A B targets graph all) (state_of B targets mid) → (r d : ℕ)
+            → ((cond (nat_lt d graph.entries) A.bottom A.top) ≡ A.top) ⊎ IsMet (frame_at A B targets graph all) (state_of B targets mid).get (Jump r d d) B.id
+            → ((cond (nat_lt d graph.entries) A.bottom A.top) ≡ A.top) ⊎ IsMet (frame_at A B targets graph all) (state_of B targets new).get (Jump r d d) B.id
         kept graph at all ready run r d (inl top) = inl top
         kept graph at all ready run r d (inr has) =
-            inr ((goes graph all ready.joined).keeps (state_of targets B mid) (state_of targets B new) run (on graph at all ready run) (Jump r d d) B.id proper_id has)
+            inr ((goes graph all ready.joined).keeps (state_of B targets mid) (state_of B targets new) run (on graph at all ready run) (Jump r d d) B.id proper_id has)
 
         by-entry : (graph : Supergraph) → old.graph ≡ Some graph → (all : HaveEdgesOf graph.facts graph.sites) → IsInOrder graph
-            → Run (frame_at A B targets graph all) (state_of targets B mid) → (d : ℕ) (entry : Bool) → nat_lt d graph.entries ≡ entry
-            → ((cond (nat_lt d graph.entries) A.bottom A.top) ≡ A.top) ⊎ IsMet (frame_at A B targets graph all) (state_of targets B new).get (Jump (slice_index graph.starts is.root) d d) B.id
+            → Run (frame_at A B targets graph all) (state_of B targets mid) → (d : ℕ) (entry : Bool) → nat_lt d graph.entries ≡ entry
+            → ((cond (nat_lt d graph.entries) A.bottom A.top) ≡ A.top) ⊎ IsMet (frame_at A B targets graph all) (state_of B targets new).get (Jump (slice_index graph.starts is.root) d d) B.id
         by-entry graph at all ready run d true is_entry = inr (met graph at all ready run d (less d graph.entries is_entry))
         by-entry graph at all ready run d false past = inl (entry-top d graph.entries past)
 
         given : (graph : Supergraph) → old.graph ≡ Some graph → (all : HaveEdgesOf graph.facts graph.sites) → IsInOrder graph
-            → Run (frame_at A B targets graph all) (state_of targets B mid) → (r d : ℕ) → r ≡ slice_index graph.starts is.root
-            → ((cond (nat_lt d graph.entries) A.bottom A.top) ≡ A.top) ⊎ IsMet (frame_at A B targets graph all) (state_of targets B new).get (Jump r d d) B.id
+            → Run (frame_at A B targets graph all) (state_of B targets mid) → (r d : ℕ) → r ≡ slice_index graph.starts is.root
+            → ((cond (nat_lt d graph.entries) A.bottom A.top) ≡ A.top) ⊎ IsMet (frame_at A B targets graph all) (state_of B targets new).get (Jump r d d) B.id
         given graph at all ready run r d same =
-            subst (λ s. ((cond (nat_lt d graph.entries) A.bottom A.top) ≡ A.top) ⊎ IsMet (frame_at A B targets graph all) (state_of targets B new).get (Jump s d d) B.id)
+            subst (λ s. ((cond (nat_lt d graph.entries) A.bottom A.top) ≡ A.top) ⊎ IsMet (frame_at A B targets graph all) (state_of B targets new).get (Jump s d d) B.id)
             (sym same) (by-entry graph at all ready run d (nat_lt d graph.entries) refl)
 
 -- what the first of a list are made into, and one more

@@ -61,18 +61,18 @@ module _ {F L : Type 0} (A : LatticeAlgebra L) (B : EdgeAlgebra F L) (targets : 
       on : DoRunsGoOn K
       on = goes_on graph is.all is.fit.joined
 
-      steps : Steps K (state_of targets B rooted) (state_of targets B drained)
+      steps : Steps K (state_of B targets rooted) (state_of B targets drained)
       steps = (goes.by.steps graph at_roots is.all is.fit is.run).0
 
-      kept : (r d : ℕ) → (cond (nat_lt d graph.entries) A.bottom A.top ≡ A.top) ⊎ IsMet K (state_of targets B rooted).get (Jump r d d) B.id
-          → (cond (nat_lt d graph.entries) A.bottom A.top ≡ A.top) ⊎ IsMet K (state_of targets B drained).get (Jump r d d) B.id
+      kept : (r d : ℕ) → (cond (nat_lt d graph.entries) A.bottom A.top ≡ A.top) ⊎ IsMet K (state_of B targets rooted).get (Jump r d d) B.id
+          → (cond (nat_lt d graph.entries) A.bottom A.top ≡ A.top) ⊎ IsMet K (state_of B targets drained).get (Jump r d d) B.id
       kept r d (inl top) = inl top
-      kept r d (inr has) = inr (on.keeps (state_of targets B rooted) (state_of targets B drained) is.run steps (Jump r d d) B.id proper_id has)
+      kept r d (inr has) = inr (on.keeps (state_of B targets rooted) (state_of B targets drained) is.run steps (Jump r d d) B.id proper_id has)
 
       is_solved : TablesRest A B targets graph is.all values.roots table
       is_solved = record {
-        state = state_of targets B drained;
-        run = on.run (state_of targets B rooted) (state_of targets B drained) is.run steps;
+        state = state_of B targets drained;
+        run = on.run (state_of B targets rooted) (state_of B targets drained) is.run steps;
         image = ap found (sym table_is);
         quiet = λ key. ap (list_any (same_key key)) quiet;
         begun = λ r d start within. kept r d (is.begun r d (subst (λ rs. IsIn r (map (slice_index graph.starts) rs)) roots_are start) within);

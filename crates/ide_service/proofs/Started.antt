@@ -44,7 +44,7 @@ held P (Some x) h = (x, refl)
 
 module _ {F L : Type 0} (A : LatticeAlgebra L) (B : EdgeAlgebra F L) (targets : Targets F) (laws : Laws A B targets) where
   pub started : (text : List ℕ) (names : List (List ℕ)) (p : Program) → IsParsed text p → (loaded rooted : CoreData F)
-      → loaded.program ≡ Some (value_of p) → IsSomeAnd loaded.graph (IsGraphOf p) → IsSomeAnd loaded.graph (HasEdgesOf p) → state_of targets B loaded ≡ nothing_done F → loaded.roots ≡ []
+      → loaded.program ≡ Some (value_of p) → IsSomeAnd loaded.graph (IsGraphOf p) → IsSomeAnd loaded.graph (HasEdgesOf p) → state_of B targets loaded ≡ nothing_done F → loaded.roots ≡ []
       → loaded.pile.claims ≡ [] → AreBegun A B targets loaded rooted names
       → (graph : Supergraph) × IsPrepared A B targets text names rooted graph
   started text names p parsed loaded rooted has_program has_graph has_edges state no_roots no_claims begun = (
@@ -62,7 +62,7 @@ module _ {F L : Type 0} (A : LatticeAlgebra L) (B : EdgeAlgebra F L) (targets : 
         ends = laws.ends p graph numbered edges;
       };
       all = all;
-      run = goes_on.run (state_of targets B loaded) (state_of targets B rooted) run_load (begun.steps graph at_load all ready run_load);
+      run = goes_on.run (state_of B targets loaded) (state_of B targets rooted) run_load (begun.steps graph at_load all ready run_load);
       begun = begun.begun graph at_load all ready run_load has_none;
       unclaimed = begun.unclaimed (λ h. ap (λ claims. slice_index_or claims h None) no_claims);
     },
@@ -96,10 +96,10 @@ module _ {F L : Type 0} (A : LatticeAlgebra L) (B : EdgeAlgebra F L) (targets : 
       goes_on : DoRunsGoOn (frame_at A B targets graph all)
       goes_on = laws.goes graph all joined
 
-      run_load : Run (frame_at A B targets graph all) (state_of targets B loaded)
+      run_load : Run (frame_at A B targets graph all) (state_of B targets loaded)
       run_load = subst (Run (frame_at A B targets graph all)) (sym state) begins
 
-      has_none : HasRoots (frame_at A B targets graph all) (roots_at A B targets graph all loaded.roots) (state_of targets B loaded).get
+      has_none : HasRoots (frame_at A B targets graph all) (roots_at A B targets graph all loaded.roots) (state_of B targets loaded).get
       has_none r d start within = elim (not-in-empty (subst (λ rs. IsIn r (map (slice_index graph.starts) rs)) no_roots start)) [ ]
 
       none_before : (i : ℕ) → IsIn i loaded.roots → i < graph.procedures

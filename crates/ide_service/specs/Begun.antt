@@ -31,9 +31,9 @@ module _ {F L : Type 0} (A : LatticeAlgebra L) (B : EdgeAlgebra F L) (targets : 
     pub within : (graph : Supergraph) → old.graph ≡ Some graph → ((i : ℕ) → IsIn i old.roots → i < graph.procedures)
         → (i : ℕ) → IsIn i new.roots → i < graph.procedures
     pub steps : (graph : Supergraph) → old.graph ≡ Some graph → (all : HaveEdgesOf graph.facts graph.sites) → IsInOrder graph
-        → Run (frame_at A B targets graph all) (state_of targets B old)
-        → Steps (frame_at A B targets graph all) (state_of targets B old) (state_of targets B new)
+        → Run (frame_at A B targets graph all) (state_of B targets old)
+        → Steps (frame_at A B targets graph all) (state_of B targets old) (state_of B targets new)
     pub begun : (graph : Supergraph) → old.graph ≡ Some graph → (all : HaveEdgesOf graph.facts graph.sites) → IsInOrder graph
-        → Run (frame_at A B targets graph all) (state_of targets B old)
-        → HasRoots (frame_at A B targets graph all) (roots_at A B targets graph all old.roots) (state_of targets B old).get
-        → HasRoots (frame_at A B targets graph all) (roots_at A B targets graph all new.roots) (state_of targets B new).get
+        → Run (frame_at A B targets graph all) (state_of B targets old)
+        → HasRoots (frame_at A B targets graph all) (roots_at A B targets graph all old.roots) (state_of B targets old).get
+        → HasRoots (frame_at A B targets graph all) (roots_at A B targets graph all new.roots) (state_of B targets new).get

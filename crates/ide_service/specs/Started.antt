@@ -27,8 +27,8 @@ module _ {F L : Type 0} (A : LatticeAlgebra L) (B : EdgeAlgebra F L) (targets : 
     pub within : (i : ℕ) → IsIn i core.roots → i < graph.procedures
     pub fit : IsFit graph
     pub all : HaveEdgesOf graph.facts graph.sites
-    pub run : Run (frame_at A B targets graph all) (state_of targets B core)
-    pub begun : HasRoots (frame_at A B targets graph all) (roots_at A B targets graph all core.roots) (state_of targets B core).get
+    pub run : Run (frame_at A B targets graph all) (state_of B targets core)
+    pub begun : HasRoots (frame_at A B targets graph all) (roots_at A B targets graph all core.roots) (state_of B targets core).get
     pub unclaimed : IsFree core.pile
 
   -- the same, with some graph

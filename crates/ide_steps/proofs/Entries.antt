@@ -1,7 +1,6 @@
 -- Entries put into a state one after the other.
-use Rattle.std.proofs.Common.{◌≡◌, ℕ, ◌+◌, suc, ◌<◌, ◌≤◌, add-one, refl, sym, ap, ◌∙◌, arith, List, [], ◌∷◌, ◌++◌, length, take, get_or, Option, Some, None, Bool, true, false, cond, ◌||◌}
+use Rattle.std.proofs.Common.{◌≡◌, ℕ, ◌+◌, suc, ◌≤◌, add-one, refl, sym, ap, ◌∙◌, arith, List, [], ◌∷◌, ◌++◌, Option, Some, None, Bool, true, false, cond, ◌||◌}
 use Rattle.std.proofs.lemmas.Bool.Decides.{nat_tests}
-use Rattle.std.proofs.lemmas.List.{take_more}
 use Rattle.std.proofs.lemmas.List.Elements.{All-nil, All-push}
 use Rattle.std.specs.Prelude.{option_map}
 use Rattle.std.specs.List.{list_any}
@@ -15,17 +14,14 @@ use Rattle.ide_theory.specs.State.{Claim, State, claim_marked, seeded, with_func
 use Rattle.ide_wire.specs.Key.{node_of, same_key, same_key_symm}
 use Rattle.ide_wire.specs.declared.key.Key.{Key}
 use Rattle.ide_wire.specs.declared.key.Key.TheVariants.{Jump}
-use Rattle.ide_image.specs.Worklist.{Pile, claim_at, is_pending, marked as marked_claim}
+use Rattle.ide_image.specs.Worklist.{Pile, claim_at, is_pending}
 use Rattle.ide_image.specs.declared.claim.Claim.{Claim as Held}
 use Rattle.ide_theory.specs.Images.{seeded_below, seeded_once}
 use Rattle.ide_steps.specs.Core.{CoreData}
-use Rattle.ide_steps.specs.Rooted.{AllAbsent, AllAt, marked_all, marked_by, with_entries}
+use Rattle.ide_image.specs.KeyedImage.{marked_all}
+use Rattle.ide_steps.specs.Rooted.{AllAbsent, AllAt, marked_by, with_entries}
 use Rattle.ide_steps.specs.State.{claim_of}
 use Rattle.ide_steps.proofs.States.{or-cond, state-at}
-
-pub marked-none : {T : Type 0} (o : Option (Held T)) → marked_all [] o ≡ o
-marked-none None = refl
-marked-none (Some held) = refl
 
 module _ {F : Type 0} where
   pub last_of-more : (es : List (Key × F)) (e : Key × F) (q : Key) (f : Option F) → last_of (es ++ e ∷ []) q f ≡ cond (same_key e.0 q) (Some e.1) (last_of es q f)
@@ -43,44 +39,6 @@ module _ {F : Type 0} where
   any-more p [] e = refl
   any-more p (x ∷ es) e = ap (λ b. p x.0 || b) (any-more p es e) ∙ grind (arith)
 
-  -- the claim, marked by one key and then by those before
-  pub marked-more : {T : Type 0} (es : List (Key × F)) (e : Key × F) (o : Option (Held T))
-      → marked_claim e.0 (marked_all (keys_of es) o) ≡ marked_all (keys_of (es ++ e ∷ [])) o
-  marked-more es e None = refl
-  marked-more es e (Some held) =
-      elim (same_key held.key e.0) as (λ b. cond b (Some (record held { lowered = true })) (Some (record held { lowered = list_any (same_key held.key) (keys_of es) || held.lowered }))
-      ≡ Some (record held { lowered = (b || list_any (same_key held.key) (keys_of es)) || held.lowered })) [ true ↦ refl | false ↦ refl ]
-      ∙ ap (λ b. Some (record held { lowered = b || held.lowered })) (sym (any-more (same_key held.key) es e))
-
-  -- whether a key is one of the first entries', or of one more
-  pub any-taken : (q : Key) (es : List (Key × F)) (index : ℕ) (e : Key × F) → index < length es → e ≡ get_or es index e
-      → (same_key e.0 q || list_any (same_key q) (keys_of (take index es))) ≡ list_any (same_key q) (keys_of (take (index + 1) es))
-  any-taken q es index e within at =
-      ap (λ b. b || list_any (same_key q) (keys_of (take index es))) (same_key_symm e.0 q)
-      ∙ sym (any-more (same_key q) (take index es) e)
-      ∙ ap (λ xs. list_any (same_key q) (keys_of xs)) (ap (λ x. take index es ++ x ∷ []) at ∙ sym (take_more es index e within))
-
-  -- one key more is pushed
-  pub pushed-pending : {T : Type 0} (es : List (Key × F)) (index : ℕ) (e : Key × F) (old mid new : Pile T) → index < length es → e ≡ get_or es index e
-      → ((q : Key) → is_pending new q ≡ (same_key e.0 q || is_pending mid q))
-      → ((q : Key) → is_pending mid q ≡ (list_any (same_key q) (keys_of (take index es)) || is_pending old q))
-      → (q : Key) → is_pending new q ≡ (list_any (same_key q) (keys_of (take (index + 1) es)) || is_pending old q)
-  pushed-pending es index e old mid new within at now before q =
-      let first : is_pending new q ≡ (same_key q e.0 || (list_any (same_key q) (keys_of (take index es)) || is_pending old q)) =
-      now q ∙ ((λ i. same_key_symm e.0 q i || before q i)) in
-      let both : (same_key q e.0 || (list_any (same_key q) (keys_of (take index es)) || is_pending old q)) ≡ (list_any (same_key q) (keys_of (take index es ++ e ∷ [])) || is_pending old q) =
-      grind (arith) ∙ ap (λ b. b || is_pending old q) (sym (any-more (same_key q) (take index es) e)) in
-      first ∙ (both ∙ ap (λ xs. list_any (same_key q) (keys_of xs) || is_pending old q) (ap (λ x. take index es ++ x ∷ []) at ∙ sym (take_more es index e within)))
-
-  pub pushed-claims : {T : Type 0} (es : List (Key × F)) (index : ℕ) (e : Key × F) (old mid new : Pile T) → index < length es → e ≡ get_or es index e
-      → ((h : ℕ) → claim_at new h ≡ marked_claim e.0 (claim_at mid h))
-      → ((h : ℕ) → claim_at mid h ≡ marked_all (keys_of (take index es)) (claim_at old h))
-      → (h : ℕ) → claim_at new h ≡ marked_all (keys_of (take (index + 1) es)) (claim_at old h)
-  pushed-claims es index e old mid new within at now before h =
-      now h ∙ (ap (marked_claim e.0) (before h)
-      ∙ (marked-more (take index es) e (claim_at old h)
-      ∙ ap (λ xs. marked_all (keys_of xs) (claim_at old h)) (ap (λ x. take index es ++ x ∷ []) at ∙ sym (take_more es index e within))))
-
   -- marks stay no progress
   pub progress-marked : (keys : List Key) (o : Option (Held (TaskData F)))
       → option_map {U = TaskData F × ℕ} (λ held. (held.task, held.done)) (marked_all keys o) ≡ option_map {U = TaskData F × ℕ} (λ held. (held.task, held.done)) o
@@ -95,7 +53,7 @@ module _ {F : Type 0} where
       same None = refl
       same (Some claim) = refl
 
-module _ {F L : Type 0} (targets : Targets F) (B : EdgeAlgebra F L) where
+module _ {F L : Type 0} (B : EdgeAlgebra F L) (targets : Targets F) where
   -- one entry more gives its key the function
   pub with-more : (s : State F) (es : List (Key × F)) (key : Key) (f : F)
       → with_entries s (es ++ (key, f) ∷ []) ≡ with_function (with_entries s es) key f
@@ -116,15 +74,15 @@ module _ {F L : Type 0} (targets : Targets F) (B : EdgeAlgebra F L) where
   pub state-with : (table new_table : Table F) (pile new_pile : Pile (TaskData F)) (es : List (Key × F)) → SetsAll table new_table es
       → ((q : Key) → is_pending new_pile q ≡ (list_any (same_key q) (keys_of es) || is_pending pile q))
       → ((h : ℕ) → claim_at new_pile h ≡ marked_all (keys_of es) (claim_at pile h))
-      → state-at targets B new_table new_pile ≡ with_entries (state-at targets B table pile) es
+      → state-at B targets new_table new_pile ≡ with_entries (state-at B targets table pile) es
   state-with table new_table pile new_pile es sets pending claims =
-      let hands : (h : ℕ) → option_map (claim_of targets B) (claim_at new_pile h)
-      ≡ option_map (marked_by (keys_of es)) (option_map (claim_of targets B) (claim_at pile h)) =
-      λ h. ap (option_map (claim_of targets B)) (claims h) ∙ marks (claim_at pile h) in
+      let hands : (h : ℕ) → option_map (claim_of B targets) (claim_at new_pile h)
+      ≡ option_map (marked_by (keys_of es)) (option_map (claim_of B targets) (claim_at pile h)) =
+      λ h. ap (option_map (claim_of B targets)) (claims h) ∙ marks (claim_at pile h) in
       λ i. record { get = λ q. sets.entries q i; pending = λ q. pending q i; claims = λ h. hands h i }
     where
-      marks : (o : Option (Held (TaskData F))) → option_map (claim_of targets B) (marked_all (keys_of es) o)
-          ≡ option_map (marked_by (keys_of es)) (option_map (claim_of targets B) o)
+      marks : (o : Option (Held (TaskData F))) → option_map (claim_of B targets) (marked_all (keys_of es) o)
+          ≡ option_map (marked_by (keys_of es)) (option_map (claim_of B targets) o)
       marks None = refl
       marks (Some held) = refl
 
@@ -174,7 +132,7 @@ module _ {F L : Type 0} (B : EdgeAlgebra F L) (targets : Targets F) (r n : ℕ) 
   entered-absent f is none are =
       one-more are
       ∙ ap (λ o. cond (is_some o) (with_entries s es) (seeded B (with_entries s es) (Jump r n n))) (own ∙ none)
-      ∙ (ap (with_function (with_entries s es) (Jump r n n)) (sym is) ∙ sym (with-more targets B s es (Jump r n n) f))
+      ∙ (ap (with_function (with_entries s es) (Jump r n n)) (sym is) ∙ sym (with-more B targets s es (Jump r n n) f))
 
   -- it was present, and stays
   pub entered-present : (s.get (Jump r n n) ≡ None → ⊥) → seeded_below B s r n ≡ with_entries s es → seeded_below B s r (n + 1) ≡ with_entries s es

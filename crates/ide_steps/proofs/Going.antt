@@ -61,22 +61,22 @@ module _ {F L : Type 0} (A : LatticeAlgebra L) (B : EdgeAlgebra F L) (targets : 
 
   -- what it still owes
   claim_has : (core : CoreData F) (hand : ℕ) (task : TaskData F) (done : ℕ) (h : Holds core hand task done)
-      → (state_of targets B core).claims hand ≡ Some (claim_of targets B h.held)
-  claim_has core hand task done h = ap (option_map (claim_of targets B)) h.has
+      → (state_of B targets core).claims hand ≡ Some (claim_of B targets h.held)
+  claim_has core hand task done h = ap (option_map (claim_of B targets)) h.has
 
   parts_left : (core : CoreData F) (hand : ℕ) (task : TaskData F) (done : ℕ) (h : Holds core hand task done)
-      → (claim_of targets B h.held).parts ≡ drop done (owed targets B task)
-  parts_left core hand task done h = ap (λ t. drop h.held.done (owed targets B t)) h.task_is ∙ ap (λ n. drop n (owed targets B task)) h.done_is
+      → (claim_of B targets h.held).parts ≡ drop done (owed B targets task)
+  parts_left core hand task done h = ap (λ t. drop h.held.done (owed B targets t)) h.task_is ∙ ap (λ n. drop n (owed B targets task)) h.done_is
 
   pub lowers : (old new : CoreData F) (hand : ℕ) (work after : WorkData F) (task : TaskData F) → progress_at old.pile hand ≡ Some (task, work.done)
-      → work.parts ≡ owed targets B task → IsLowered B (state_of targets B old) (state_of targets B new) hand work after
-      → StepBy (frame_at A B targets graph all) hand 0 1 0 (state_of targets B old) (state_of targets B new)
+      → work.parts ≡ owed B targets task → IsLowered B (state_of B targets old) (state_of B targets new) hand work after
+      → StepBy (frame_at A B targets graph all) hand 0 1 0 (state_of B targets old) (state_of B targets new)
   lowers old new hand work after task progress parts is =
       let h = held_by old hand task work.done progress in
-      let at : slice_get (owed targets B task) work.done ≡ Some is.part = subst (λ ps. slice_get ps work.done ≡ Some is.part) parts is.next in
-      subst (StepBy (frame_at A B targets graph all) hand 0 1 0 (state_of targets B old)) (sym is.state) (
-        lower hand (claim_of targets B h.held) is.part.0 is.part.1 (drop (suc work.done) (owed targets B task))
-            (claim_has old hand task work.done h) (parts_left old hand task work.done h ∙ drop-at (owed targets B task) work.done is.part at) is.changes.falls,
+      let at : slice_get (owed B targets task) work.done ≡ Some is.part = subst (λ ps. slice_get ps work.done ≡ Some is.part) parts is.next in
+      subst (StepBy (frame_at A B targets graph all) hand 0 1 0 (state_of B targets old)) (sym is.state) (
+        lower hand (claim_of B targets h.held) is.part.0 is.part.1 (drop (suc work.done) (owed B targets task))
+            (claim_has old hand task work.done h) (parts_left old hand task work.done h ∙ drop-at (owed B targets task) work.done is.part at) is.changes.falls,
         refl,
         refl,
         refl,
@@ -84,14 +84,14 @@ module _ {F L : Type 0} (A : LatticeAlgebra L) (B : EdgeAlgebra F L) (targets : 
       )
 
   pub skips : (old new : CoreData F) (hand : ℕ) (work after : WorkData F) (task : TaskData F) → progress_at old.pile hand ≡ Some (task, work.done)
-      → work.parts ≡ owed targets B task → IsSkipped B (state_of targets B old) (state_of targets B new) hand work after
-      → StepBy (frame_at A B targets graph all) hand 0 0 0 (state_of targets B old) (state_of targets B new)
+      → work.parts ≡ owed B targets task → IsSkipped B (state_of B targets old) (state_of B targets new) hand work after
+      → StepBy (frame_at A B targets graph all) hand 0 0 0 (state_of B targets old) (state_of B targets new)
   skips old new hand work after task progress parts is =
       let h = held_by old hand task work.done progress in
-      let at : slice_get (owed targets B task) work.done ≡ Some is.part = subst (λ ps. slice_get ps work.done ≡ Some is.part) parts is.next in
-      subst (StepBy (frame_at A B targets graph all) hand 0 0 0 (state_of targets B old)) (sym is.state) (
-        skip hand (claim_of targets B h.held) is.part.0 is.part.1 (drop (suc work.done) (owed targets B task))
-            (claim_has old hand task work.done h) (parts_left old hand task work.done h ∙ drop-at (owed targets B task) work.done is.part at) is.met,
+      let at : slice_get (owed B targets task) work.done ≡ Some is.part = subst (λ ps. slice_get ps work.done ≡ Some is.part) parts is.next in
+      subst (StepBy (frame_at A B targets graph all) hand 0 0 0 (state_of B targets old)) (sym is.state) (
+        skip hand (claim_of B targets h.held) is.part.0 is.part.1 (drop (suc work.done) (owed B targets task))
+            (claim_has old hand task work.done h) (parts_left old hand task work.done h ∙ drop-at (owed B targets task) work.done is.part at) is.met,
         refl,
         refl,
         refl,
@@ -99,28 +99,28 @@ module _ {F L : Type 0} (A : LatticeAlgebra L) (B : EdgeAlgebra F L) (targets : 
       )
 
   pub finishes : (old new : CoreData F) (hand : ℕ) (work : WorkData F) (task : TaskData F) → progress_at old.pile hand ≡ Some (task, work.done)
-      → work.parts ≡ owed targets B task → work.done ≡ length work.parts
-      → ((held : Held (TaskData F)) → claim_at old.pile hand ≡ Some held → state_of targets B new ≡ finished (state_of targets B old) hand (claim_of targets B held))
-      → StepBy (frame_at A B targets graph all) hand 0 0 0 (state_of targets B old) (state_of targets B new)
+      → work.parts ≡ owed B targets task → work.done ≡ length work.parts
+      → ((held : Held (TaskData F)) → claim_at old.pile hand ≡ Some held → state_of B targets new ≡ finished (state_of B targets old) hand (claim_of B targets held))
+      → StepBy (frame_at A B targets graph all) hand 0 0 0 (state_of B targets old) (state_of B targets new)
   finishes old new hand work task progress parts over state =
       let h = held_by old hand task work.done progress in
-      let nothing : drop work.done (owed targets B task) ≡ [] = drop_all work.done (owed targets B task) (let same = ap length parts in omega (arith, over, same)) in
-      subst (StepBy (frame_at A B targets graph all) hand 0 0 0 (state_of targets B old)) (sym (state h.held h.has))
-      (finish hand (claim_of targets B h.held) (claim_has old hand task work.done h) (parts_left old hand task work.done h ∙ nothing), refl, refl, refl, refl)
+      let nothing : drop work.done (owed B targets task) ≡ [] = drop_all work.done (owed B targets task) (let same = ap length parts in omega (arith, over, same)) in
+      subst (StepBy (frame_at A B targets graph all) hand 0 0 0 (state_of B targets old)) (sym (state h.held h.has))
+      (finish hand (claim_of B targets h.held) (claim_has old hand task work.done h) (parts_left old hand task work.done h ∙ nothing), refl, refl, refl, refl)
 
-  pub claims : (old new : CoreData F) (hand : ℕ) (task : TaskData F) → IsTaken targets B hand old new task
-      → ArePartsOf (frame_at A B targets graph all) (state_of targets B old).get task.key (owed targets B task)
-      → StepBy (frame_at A B targets graph all) hand 1 0 0 (state_of targets B old) (state_of targets B new)
+  pub claims : (old new : CoreData F) (hand : ℕ) (task : TaskData F) → IsTaken B targets hand old new task
+      → ArePartsOf (frame_at A B targets graph all) (state_of B targets old).get task.key (owed B targets task)
+      → StepBy (frame_at A B targets graph all) hand 1 0 0 (state_of B targets old) (state_of B targets new)
   claims old new hand task is parts =
-      subst (StepBy (frame_at A B targets graph all) hand 1 0 0 (state_of targets B old)) (sym is.state)
-      (claim hand task.key (owed targets B task) (ap (option_map (claim_of targets B)) is.free) is.pending alone parts, refl, refl, refl, refl)
+      subst (StepBy (frame_at A B targets graph all) hand 1 0 0 (state_of B targets old)) (sym is.state)
+      (claim hand task.key (owed B targets task) (ap (option_map (claim_of B targets)) is.free) is.pending alone parts, refl, refl, refl, refl)
     where
       apart : (j : ℕ) (c : Claim F) (claimed : Option (Held (TaskData F))) → claim_at old.pile j ≡ claimed
-          → option_map (claim_of targets B) claimed ≡ Some c → c.key ≢ task.key
+          → option_map (claim_of B targets) claimed ≡ Some c → c.key ≢ task.key
       apart j c None same has = let no : None ≡ Some c = has in cc
       apart j c (Some held) same some = subst (λ d. d.key ≢ task.key) (same_Some _ _ some) (is.unclaimed j held same)
 
-      alone : (j : ℕ) (c : Claim F) → (state_of targets B old).claims j ≡ Some c → c.key ≢ task.key
+      alone : (j : ℕ) (c : Claim F) → (state_of B targets old).claims j ≡ Some c → c.key ≢ task.key
       alone j c has = apart j c (claim_at old.pile j) refl has
 
 module _ {F L : Type 0} (A : LatticeAlgebra L) (B : EdgeAlgebra F L) (targets : Targets F) where
@@ -133,18 +133,18 @@ module _ {F L : Type 0} (A : LatticeAlgebra L) (B : EdgeAlgebra F L) (targets : 
 
   -- nothing happens to the state
   pub goes-nowhere : (hand : ℕ) (old new : CoreData F) → IsSameProblem old new
-      → state_of targets B new ≡ state_of targets B old → GoesOnByHand A B targets hand 0 0 0 old new
+      → state_of B targets new ≡ state_of B targets old → GoesOnByHand A B targets hand 0 0 0 old new
   goes-nowhere hand old new same state = record {
     same = same;
     steps = λ g is all fit run.
-        subst (λ t. (way : Steps (frame_at A B targets g all) (state_of targets B old) t) × AreBy hand way × (claims_in way ≡ 0) × (lowerings_in way ≡ 0) × (releases_in way ≡ 0))
+        subst (λ t. (way : Steps (frame_at A B targets g all) (state_of B targets old) t) × AreBy hand way × (claims_in way ≡ 0) × (lowerings_in way ≡ 0) × (releases_in way ≡ 0))
         (sym state) (none, tt, refl, refl, refl);
   }
 
   pub goes-step : (hand m k l : ℕ) (old new : CoreData F) → IsSameProblem old new
       → ((graph : Supergraph) → old.graph ≡ Some graph → (all : HaveEdgesOf graph.facts graph.sites) → IsFit graph
-      → Run (frame_at A B targets graph all) (state_of targets B old)
-      → StepBy (frame_at A B targets graph all) hand m k l (state_of targets B old) (state_of targets B new))
+      → Run (frame_at A B targets graph all) (state_of B targets old)
+      → StepBy (frame_at A B targets graph all) hand m k l (state_of B targets old) (state_of B targets new))
       → GoesOnByHand A B targets hand m k l old new
   goes-step hand m k l old new same step = record {
     same = same;
@@ -217,11 +217,11 @@ module _ {F L : Type 0} (A : LatticeAlgebra L) (B : EdgeAlgebra F L) (targets : 
   goes-more (Err e) old new is goes = tt
 
   -- an image, pending keys and claims that are as they were are the same state
-  pub state-unchanged : (old new : CoreData F) → IsUnchanged old new → state_of targets B new ≡ state_of targets B old
+  pub state-unchanged : (old new : CoreData F) → IsUnchanged old new → state_of B targets new ≡ state_of B targets old
   state-unchanged old new is = λ i. record {
     get = found (is.table i);
     pending = λ key. list_any (same_key key) (is.pending i);
-    claims = λ h. option_map (claim_of targets B) (is.claims h i);
+    claims = λ h. option_map (claim_of B targets) (is.claims h i);
   }
 
   pub goes-unchanged : (hand : ℕ) (old new : CoreData F) → IsUnchanged old new → GoesOnByHand A B targets hand 0 0 0 old new
@@ -229,62 +229,62 @@ module _ {F L : Type 0} (A : LatticeAlgebra L) (B : EdgeAlgebra F L) (targets : 
       goes-nowhere hand old new (record { program = is.program; graph = is.graph; roots = is.roots }) (state-unchanged old new is)
 
   -- a claim is a step, where its task owes what a claim of its key does
-  pub goes-claim : (old new : CoreData F) (hand : ℕ) (task : TaskData F) → IsSameProblem old new → IsTaken targets B hand old new task
+  pub goes-claim : (old new : CoreData F) (hand : ℕ) (task : TaskData F) → IsSameProblem old new → IsTaken B targets hand old new task
       → ((graph : Supergraph) → old.graph ≡ Some graph → (all : HaveEdgesOf graph.facts graph.sites) → IsFit graph
-      → Run (frame_at A B targets graph all) (state_of targets B old)
-      → ArePartsOf (frame_at A B targets graph all) (state_of targets B old).get task.key (owed targets B task))
+      → Run (frame_at A B targets graph all) (state_of B targets old)
+      → ArePartsOf (frame_at A B targets graph all) (state_of B targets old).get task.key (owed B targets task))
       → GoesOnByHand A B targets hand 1 0 0 old new
   goes-claim old new hand task same taken owes =
       goes-step hand 1 0 0 old new same (λ g is all fit run. claims A B targets g all old new hand task taken (owes g is all fit run))
 
   -- a part is a step, which lowers a key or finds it met
   pub goes-lowered : (old new : CoreData F) (hand : ℕ) (work after : WorkData F) (task : TaskData F) → IsSameProblem old new
-      → progress_at old.pile hand ≡ Some (task, work.done) → work.parts ≡ owed targets B task → IsLowered B (state_of targets B old) (state_of targets B new) hand work after
+      → progress_at old.pile hand ≡ Some (task, work.done) → work.parts ≡ owed B targets task → IsLowered B (state_of B targets old) (state_of B targets new) hand work after
       → GoesOnByHand A B targets hand 0 1 0 old new
   goes-lowered old new hand work after task same progress parts is =
       goes-step hand 0 1 0 old new same (λ g at all fit run. lowers A B targets g all old new hand work after task progress parts is)
 
   pub goes-skipped : (old new : CoreData F) (hand : ℕ) (work after : WorkData F) (task : TaskData F) → IsSameProblem old new
-      → progress_at old.pile hand ≡ Some (task, work.done) → work.parts ≡ owed targets B task → IsSkipped B (state_of targets B old) (state_of targets B new) hand work after
+      → progress_at old.pile hand ≡ Some (task, work.done) → work.parts ≡ owed B targets task → IsSkipped B (state_of B targets old) (state_of B targets new) hand work after
       → GoesOnByHand A B targets hand 0 0 0 old new
   goes-skipped old new hand work after task same progress parts is =
       goes-step hand 0 0 0 old new same (λ g at all fit run. skips A B targets g all old new hand work after task progress parts is)
 
   -- a claim that ends with no part left is a step
   pub goes-ended : (old new : CoreData F) (hand : ℕ) (held : Held (TaskData F)) → IsSameProblem old new → claim_at old.pile hand ≡ Some held
-      → (claim_of targets B held).parts ≡ [] → state_of targets B new ≡ finished (state_of targets B old) hand (claim_of targets B held)
+      → (claim_of B targets held).parts ≡ [] → state_of B targets new ≡ finished (state_of B targets old) hand (claim_of B targets held)
       → GoesOnByHand A B targets hand 0 0 0 old new
   goes-ended old new hand held same has over state =
-      goes-step hand 0 0 0 old new same (λ g at all fit run. subst (StepBy (frame_at A B targets g all) hand 0 0 0 (state_of targets B old)) (sym state)
-      (finish hand (claim_of targets B held) (ap (option_map (claim_of targets B)) has) over, refl, refl, refl, refl))
+      goes-step hand 0 0 0 old new same (λ g at all fit run. subst (StepBy (frame_at A B targets g all) hand 0 0 0 (state_of B targets old)) (sym state)
+      (finish hand (claim_of B targets held) (ap (option_map (claim_of B targets)) has) over, refl, refl, refl, refl))
 
   -- the hand goes on working
-  pub works-on : (new : CoreData F) (hand : ℕ) (old work : WorkData F) → IsOneMore old work → old.parts ≡ owed targets B old.task
-      → progress_at new.pile hand ≡ Some (old.task, work.done) → IsCurrent targets B new hand work
+  pub works-on : (new : CoreData F) (hand : ℕ) (old work : WorkData F) → IsOneMore old work → old.parts ≡ owed B targets old.task
+      → progress_at new.pile hand ≡ Some (old.task, work.done) → IsCurrent B targets new hand work
   works-on new hand old work is parts progress = record {
     claim = progress ∙ ap (λ t. Some (t, work.done)) (sym is.task);
-    parts = is.parts ∙ parts ∙ ap (owed targets B) (sym is.task);
+    parts = is.parts ∙ parts ∙ ap (owed B targets) (sym is.task);
   }
 
   -- a claim that is given back is a step
   pub goes-back : (old new : CoreData F) (hand : ℕ) (held : Held (TaskData F)) → IsSameProblem old new → claim_at old.pile hand ≡ Some held
-      → state_of targets B new ≡ with_claim (state_of targets B old) hand None → GoesOnByHand A B targets hand 0 0 1 old new
+      → state_of B targets new ≡ with_claim (state_of B targets old) hand None → GoesOnByHand A B targets hand 0 0 1 old new
   goes-back old new hand held same has state =
-      goes-step hand 0 0 1 old new same (λ g is all fit run. subst (StepBy (frame_at A B targets g all) hand 0 0 1 (state_of targets B old)) (sym state)
-      (release hand (claim_of targets B held) (ap (option_map (claim_of targets B)) has), refl, refl, refl, refl))
+      goes-step hand 0 0 1 old new same (λ g is all fit run. subst (StepBy (frame_at A B targets g all) hand 0 0 1 (state_of B targets old)) (sym state)
+      (release hand (claim_of B targets held) (ap (option_map (claim_of B targets)) has), refl, refl, refl, refl))
 
-  without-claim : (core : CoreData F) (hand : ℕ) → claim_at core.pile hand ≡ None → with_claim (state_of targets B core) hand None ≡ state_of targets B core
-  without-claim core hand empty = λ i. record { get = (state_of targets B core).get; pending = (state_of targets B core).pending; claims = λ h. kept h i }
+  without-claim : (core : CoreData F) (hand : ℕ) → claim_at core.pile hand ≡ None → with_claim (state_of B targets core) hand None ≡ state_of B targets core
+  without-claim core hand empty = λ i. record { get = (state_of B targets core).get; pending = (state_of B targets core).pending; claims = λ h. kept h i }
     where
-      kept : (h : ℕ) → cond (nat_eq hand h) None ((state_of targets B core).claims h) ≡ (state_of targets B core).claims h
-      kept h = elim (nat_eq hand h) as (λ b. nat_eq hand h ≡ b → cond b None ((state_of targets B core).claims h) ≡ (state_of targets B core).claims h) [
-        | true ↦ λ same. sym (ap (option_map (claim_of targets B)) (ap (claim_at core.pile) (sym (eqb-true hand h same)) ∙ empty))
+      kept : (h : ℕ) → cond (nat_eq hand h) None ((state_of B targets core).claims h) ≡ (state_of B targets core).claims h
+      kept h = elim (nat_eq hand h) as (λ b. nat_eq hand h ≡ b → cond b None ((state_of B targets core).claims h) ≡ (state_of B targets core).claims h) [
+        | true ↦ λ same. sym (ap (option_map (claim_of B targets)) (ap (claim_at core.pile) (sym (eqb-true hand h same)) ∙ empty))
         | false ↦ λ other. refl
       ] refl
 
   -- a hand that is without a claim then gave one back, or had none
   pub goes-released : (old new : CoreData F) (hand : ℕ) → IsSameProblem old new
-      → state_of targets B new ≡ with_claim (state_of targets B old) hand None → GoesOn A B targets hand old new
+      → state_of B targets new ≡ with_claim (state_of B targets old) hand None → GoesOn A B targets hand old new
   goes-released old new hand same state =
       elim (claim_at old.pile hand) as (λ o. claim_at old.pile hand ≡ o → GoesOn A B targets hand old new) [
         | Some held ↦ λ has. goes-on old new (goes-back old new hand held same has state)
@@ -293,11 +293,11 @@ module _ {F L : Type 0} (A : LatticeAlgebra L) (B : EdgeAlgebra F L) (targets : 
 
   pub goes-same : (hand : ℕ) (old new : CoreData F) → new ≡ old → GoesOnByHand A B targets hand 0 0 0 old new
   goes-same hand old new same =
-      goes-nowhere hand old new (record { program = ap (λ c. c.program) same; graph = ap (λ c. c.graph) same; roots = ap (λ c. c.roots) same }) (ap (state_of targets B) same)
+      goes-nowhere hand old new (record { program = ap (λ c. c.program) same; graph = ap (λ c. c.graph) same; roots = ap (λ c. c.roots) same }) (ap (state_of B targets) same)
 
   pub goes-finish : (old new : CoreData F) (hand : ℕ) (work : WorkData F) → IsSameProblem old new
-      → IsCurrent targets B old hand work → work.done ≡ length work.parts
-      → ((held : Held (TaskData F)) → claim_at old.pile hand ≡ Some held → state_of targets B new ≡ finished (state_of targets B old) hand (claim_of targets B held))
+      → IsCurrent B targets old hand work → work.done ≡ length work.parts
+      → ((held : Held (TaskData F)) → claim_at old.pile hand ≡ Some held → state_of B targets new ≡ finished (state_of B targets old) hand (claim_of B targets held))
       → GoesOnByHand A B targets hand 0 0 0 old new
   goes-finish old new hand work same current over state =
       goes-step hand 0 0 0 old new same (λ g is all fit run. finishes A B targets g all old new hand work work.task current.claim current.parts over state)

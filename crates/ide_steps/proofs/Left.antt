@@ -21,10 +21,11 @@ use Rattle.ide_wire.specs.Key.{same_key, same_key_exact, same_key_laws, same_key
 use Rattle.ide_wire.specs.KeyOrder.{key_cmp}
 use Rattle.ide_wire.specs.declared.key.Key.{Key}
 use Rattle.ide_image.specs.Worklist.{is_pending}
-use Rattle.ide_steps.specs.Changed.{standing_entry, entry_then, noted_count}
+use Rattle.ide_image.specs.Notes.{noted_count}
+use Rattle.ide_steps.specs.Changed.{standing_entry, entry_then}
 use Rattle.ide_steps.specs.Core.{CoreData}
 use Rattle.ide_steps.specs.Items.{AreChangedItems, is_left, is_left_of, item_of, left_keys}
-use Rattle.ide_steps.specs.declared.changes.Entry.{Entry}
+use Rattle.ide_image.specs.declared.entry.Entry.{Entry}
 use Rattle.ide_steps.proofs.Listed.{keys-of-items}
 use Rattle.ide_steps.proofs.Room.{in-filter}
 

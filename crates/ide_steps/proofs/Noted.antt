@@ -1,22 +1,26 @@
 -- That what is noted tells what each key's entry was.
-use Rattle.std.proofs.Common.{◌≡◌, ℕ, ◌+◌, ◌≤◌, refl, sym, ap, subst, ◌∙◌, arith, Bool, true, false, cond, ◌||◌, List, [], ◌∷◌, ◌++◌, length, Option, None, Some}
-use Rattle.std.specs.Prelude.{not, unwrap_or, ◌&&◌, Result, Ok, Err, OnOk, IsOk}
-use Rattle.std.specs.List.{All, list_any}
-use Rattle.std.proofs.lemmas.List.Elements.{All-head, All-tail}
+use Rattle.std.proofs.Common.{◌≡◌, ◌+◌, refl, sym, ap, subst, ◌∙◌, arith, Bool, true, false, cond, ◌||◌, List, [], ◌∷◌, ◌++◌, length, Option, None, Some}
+use Rattle.std.specs.Prelude.{not, unwrap_or, ◌&&◌, Result, Ok, Err, OnErr}
+use Rattle.std.specs.List.{list_any}
 use Rattle.std.specs.Map.{keys_of, lookup}
 use Rattle.std.specs.Option.{is_some}
 use Rattle.std.proofs.lemmas.List.{length-append}
-use Rattle.indexmap.specs.IndexMap.{IndexMap, get, insert_entry}
-use Rattle.indexmap.proofs.CallerLemmas.{insert_entry-new}
+use Rattle.ide_image.specs.KeyedImage.{KeyedImageData}
 use Rattle.ide_image.specs.Tables.{Table, found, last_of}
 use Rattle.ide_wire.specs.Key.{same_key, same_key_exact, same_key_symm}
 use Rattle.ide_wire.specs.declared.key.Key.{Key}
 use Rattle.ide_image.specs.Worklist.{Pile, ends, is_pending}
+use Rattle.ide_image.specs.declared.change.Change.{Change}
+use Rattle.ide_image.specs.declared.change.Change.TheVariants.{Lowered, Same}
 use Rattle.ide_image.specs.declared.claim.Claim.{Claim}
-use Rattle.ide_steps.specs.declared.changes.Entry.{Entry}
-use Rattle.ide_steps.specs.Changed.{HasRoom, Notes, Remembers, ended_key, entry_at, standing_entry, grows, is_touched, noted, noted_after, noted_count, or_entry, with_change, with_note}
+use Rattle.ide_wire.specs.declared.refused.Refused.{Refused}
+use Rattle.ide_image.specs.declared.entry.Entry.{Entry}
+use Rattle.ide_image.specs.Notes.{ended_key, entry_at, noted, noted_after, noted_count, or_entry, with_change, with_note}
+use Rattle.ide_steps.specs.Changed.{Notes, Remembers, standing_entry, grows, is_touched}
+use Rattle.ide_tasks.specs.Task.{TaskData}
 use Rattle.ide_steps.specs.Core.{CoreData, IsUnchanged}
 use Rattle.ide_steps.proofs.Entries.{last_of-other}
+use Rattle.ide_steps.proofs.States.{or-cond}
 
 or-none : {X : Type 0} (o : Option X) → or_entry o None ≡ o
 or-none None = refl
@@ -32,15 +36,6 @@ lookup-more test (e ∷ es) key x =
       | false ↦ lookup-more test es key x
     ]
 
-pub not-some : {X : Type 0} (o : Option X) → is_some o ≡ false → o ≡ None
-not-some None is = refl
-not-some (Some x) is = absurd (cc (is))
-
--- what holds at Ok holds of an answer that is Ok
-pub on-ok : {T E P : Type 0} (r : Result T E) → OnOk r P → IsOk r → P
-on-ok (Ok x) p is = p
-on-ok (Err e) p is = absurd (cc (is))
-
 -- the end of a claim takes no other key out
 pub end-kept : {T : Type 0} (o : Option (Claim T)) (q : Key) (waits : Bool) → is_touched (ended_key o) q ≡ false → (not (ends o q) && waits) ≡ waits
 end-kept None q waits other = refl
@@ -50,22 +45,12 @@ end-kept (Some claim) q waits other =
       | false ↦ λ no. ap (λ b. not b && waits) no
     ] other
 
-or-or : {X : Type 0} (o : Option X) (first later : Bool) (x : X)
-    → or_entry (or_entry o (cond first (Some x) None)) (cond later (Some x) None) ≡ or_entry o (cond (later || first) (Some x) None)
-or-or (Some y) first later x = refl
-or-or None true true x = refl
-or-or None true false x = refl
-or-or None false true x = refl
-or-or None false false x = refl
+-- what holds of an error, and what follows from it
+pub err-then : {T E P Q : Type 0} (r : Result T E) → OnErr r P → (P → Q) → OnErr r Q
+err-then (Ok x) p follows = tt
+err-then (Err e) p follows = follows p
 
 module _ {F : Type 0} where
-  -- a new key goes last
-  pub added : {S : Type 0} (map : IndexMap Key (Entry F) S) (entries : List (Key × Entry F)) (key : Key) (entry : Entry F) → get same_key map key ≡ None
-      → entries ≡ insert_entry same_key map.entries key entry → Some entries ≡ with_note (Some map.entries) key entry
-  added map entries key entry none is =
-      ap (λ es. Some es) (is ∙ insert_entry-new same_key map key entry none)
-      ∙ sym (ap (λ o. Some (cond (is_some o) map.entries (map.entries ++ (key, entry) ∷ []))) none)
-
   -- the entry of the same key
   entry-same : (key q : Key) (entry : Key → Entry F) → cond (same_key q key) (Some (entry key)) None ≡ cond (same_key key q) (Some (entry q)) None
   entry-same key q entry =
@@ -165,6 +150,14 @@ module _ {F : Type 0} where
   remembers-same old new changes table pending =
       remembers-change old new None changes (λ q _. λ i. record { function = found (table i) q; pending = list_any (same_key q) (pending i) })
 
+  -- what the core has at each key
+  abbrev pub image-of : CoreData F → KeyedImageData F (TaskData F)
+  image-of core = record { table = core.table; pile = core.pile; changes = core.changes }
+
+  pub remembers-image : (old new : CoreData F) → image-of new ≡ image-of old → Remembers old new
+  remembers-image old new is =
+      remembers-same old new (ap (λ image. image.changes) is) (ap (λ image. image.table) is) (ap (λ image. image.pile.pending) is)
+
   pub remembers-unchanged : (old new : CoreData F) → IsUnchanged old new → Remembers old new
   remembers-unchanged old new is = remembers-same old new is.changes is.table is.pending
 
@@ -187,11 +180,10 @@ module _ {F : Type 0} where
   pub notes-on : (old mid new : CoreData F) (changed : Option Key) → new.changes ≡ mid.changes → Notes old mid changed → Notes old new changed
   notes-on old mid new changed changes is = record { changes = changes ∙ is.changes; count = ap noted_count changes ∙ is.count }
 
-  -- an entry that is noted once there is room
-  pub noted-once : {T : Type 0} (table : Table F) (pile mid : Pile T) (start room new : Option (List (Key × Entry F))) (key : Key) → mid.pending ≡ pile.pending
-      → room ≡ start → new ≡ with_note room key (entry_at table mid key) → new ≡ with_note start key (entry_at table pile key)
-  noted-once table pile mid start room new key pending same is =
-      is ∙ (λ i. with_note (same i) key (record { function = found table key; pending = list_any (same_key key) (pending i) }))
+  -- the same function, pending or not as before
+  pub same-entry : {T : Type 0} (table new_table : Table F) (pile new_pile : Pile T) (q : Key) → new_table ≡ table
+      → is_pending new_pile q ≡ is_pending pile q → entry_at new_table new_pile q ≡ entry_at table pile q
+  same-entry table new_table pile new_pile q same waits i = record { function = found (same i) q; pending = waits i }
 
   -- another key than the one that changes
   pub entry-other : {T : Type 0} (table new_table : Table F) (pile new_pile : Pile T) (q : Key) (here : Bool) (f : Option F) (waits : Bool) → here ≡ false
@@ -202,36 +194,6 @@ module _ {F : Type 0} where
       let waiting : is_pending new_pile q ≡ is_pending pile q = pending ∙ ap (λ b. cond b waits (is_pending pile q)) other in
       λ i. record { function = functions i; pending = waiting i }
 
-  -- a later note of an entry that was
-  pub after-same : (notes : Option (List (Key × Entry F))) (later : Bool) (e f : Entry F) (q : Key) → (later ≡ true → e ≡ f)
-      → noted_after notes later e q ≡ noted_after notes later f q
-  after-same None later e f q same = refl
-  after-same (Some list) later e f q same =
-      elim later as (λ b. (b ≡ true → e ≡ f) → or_entry (lookup (same_key q) list) (cond b (Some e) None) ≡ or_entry (lookup (same_key q) list) (cond b (Some f) None)) [
-        | true ↦ λ is. ap (λ x. or_entry (lookup (same_key q) list) (Some x)) (is refl)
-        | false ↦ λ _. refl
-      ] same
-
-  -- a key among absent ones is absent
-  pub absent-among : (table : Table F) (es : List (Key × F)) (q : Key) → All (λ e. found table e.0 ≡ None) es → list_any (same_key q) (keys_of es) ≡ true
-      → found table q ≡ None
-  absent-among table [] q absent is = absurd (cc (is))
-  absent-among table (e ∷ es) q absent is =
-      elim (same_key q e.0) as (λ b. same_key q e.0 ≡ b → (b || list_any (same_key q) (keys_of es)) ≡ true → found table q ≡ None) [
-        | true ↦ λ same _. ap (found table) (same_key_exact q e.0 same) ∙ All-head (λ (e : Key × F). found table e.0 ≡ None) e es absent
-        | false ↦ λ _ rest. absent-among table es q (All-tail (λ (e : Key × F). found table e.0 ≡ None) e es absent) rest
-      ] refl is
-
-  -- keys that were absent are noted so, and no other entry changes
-  pub remembers-entered : {T : Type 0} (table : Table F) (pile mid : Pile T) (start room : Option (List (Key × Entry F))) (es : List (Key × F)) (new : Option (List (Key × Entry F)))
-      → All (λ e. found table e.0 ≡ None) es → mid.pending ≡ pile.pending → room ≡ start
-      → ((q : Key) → noted new q ≡ noted_after room (list_any (same_key q) (keys_of es)) (record { function = None; pending = is_pending mid q }) q)
-      → (q : Key) → noted new q ≡ noted_after start (list_any (same_key q) (keys_of es)) (entry_at table pile q) q
-  remembers-entered table pile mid start room es new absent pending same is q =
-      is q ∙ (λ i. noted_after (same i) (list_any (same_key q) (keys_of es)) (record { function = None; pending = list_any (same_key q) (pending i) }) q)
-      ∙ after-same start (list_any (same_key q) (keys_of es)) (record { function = None; pending = is_pending pile q }) (entry_at table pile q) q
-      (λ among. let none : found table q ≡ None = absent-among table es q absent among in λ i. record { function = sym none i; pending = is_pending pile q })
-
   pub entered-other : {T : Type 0} (table new_table : Table F) (pile new_pile : Pile T) (es : List (Key × F)) (q : Key) → list_any (same_key q) (keys_of es) ≡ false
       → found new_table q ≡ last_of es q (found table q) → is_pending new_pile q ≡ (list_any (same_key q) (keys_of es) || is_pending pile q)
       → entry_at new_table new_pile q ≡ entry_at table pile q
@@ -240,23 +202,15 @@ module _ {F : Type 0} where
       let waiting : is_pending new_pile q ≡ is_pending pile q = pending ∙ ap (λ b. b || is_pending pile q) other in
       λ i. record { function = functions i; pending = waiting i }
 
-  -- notes after notes
-  pub after-after : (start mid : Option (List (Key × Entry F))) (first later : Bool) (entry : Entry F) (q : Key) → is_some mid ≡ is_some start
-      → noted mid q ≡ noted_after start first entry q → noted_after mid later entry q ≡ noted_after start (later || first) entry q
-  after-after None None first later entry q noting is = refl
-  after-after None (Some list) first later entry q noting is = absurd (cc (noting))
-  after-after (Some list) None first later entry q noting is = absurd (cc (noting))
-  after-after (Some list) (Some more) first later entry q noting is =
-      ap (λ o. or_entry o (cond later (Some entry) None)) is ∙ or-or (lookup (same_key q) list) first later entry
-
-  -- room for some is room for fewer
-  pub room-fewer : {S : Type 0} (m n : ℕ) (map : Option (IndexMap Key (Entry F) S)) → m ≤ n → HasRoom n map → HasRoom m map
-  room-fewer m n None few room = tt
-  room-fewer m n (Some map) few room = omega (arith, few, room)
-
-  -- before any
-  pub after-nothing : (start : Option (List (Key × Entry F))) (entry : Entry F) (q : Key) → noted start q ≡ noted_after start false entry q
-  after-nothing = after-none
-
-  pub noting-one : (notes : Option (List (Key × Entry F))) (key : Key) (entry : Entry F) → is_some (with_note notes key entry) ≡ is_some notes
-  noting-one = noting-with
+  -- a key is lowered, and its entry noted; or nothing changes
+  pub remembers-lowered : (old new : CoreData F) (key : Key) (f : Option F) (r : Result Change Refused)
+      → (r ≡ Ok Lowered → new.changes ≡ with_note old.changes key (standing_entry old key))
+      → (r ≡ Ok Lowered → (q : Key) → found new.table q ≡ cond (same_key key q) f (found old.table q))
+      → (r ≡ Ok Lowered → (q : Key) → is_pending new.pile q ≡ (same_key key q || is_pending old.pile q))
+      → (r ≡ Ok Same → image-of new ≡ image-of old) → OnErr r (image-of new ≡ image-of old) → Remembers old new
+  remembers-lowered old new key f (Ok Lowered) noted sets pending same err =
+      remembers-change old new (Some key) (noted refl)
+      (λ q other. entry-other old.table new.table old.pile new.pile q (same_key key q) f true other (sets refl q)
+      (pending refl q ∙ or-cond (same_key key q) (is_pending old.pile q)))
+  remembers-lowered old new key f (Ok Same) noted sets pending same err = remembers-image old new (same refl)
+  remembers-lowered old new key f (Err e) noted sets pending same err = remembers-image old new err

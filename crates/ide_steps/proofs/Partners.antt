@@ -18,9 +18,9 @@ use Rattle.ide_wire.specs.declared.key.Key.TheVariants.{Jump, Summary}
 use Rattle.ide_steps.specs.Core.{IsProgramKept}
 use Rattle.ide_steps.specs.State.{ArePartnersOf}
 
-module _ {F L : Type 0} (targets : Targets F) (B : EdgeAlgebra F L) (graph : Supergraph) (table : Table F) where
+module _ {F L : Type 0} (B : EdgeAlgebra F L) (targets : Targets F) (graph : Supergraph) (table : Table F) where
   pub resumed-partners : (c a b : ℕ) (site : Site) (jumps : List (ℕ × F)) → ArePartners (λ d. Jump c d a) table jumps
-      → ArePartnersOf targets B graph table (Summary c a b) site (Entries jumps)
+      → ArePartnersOf B targets graph table (Summary c a b) site (Entries jumps)
   resumed-partners c a b (Normal edges) jumps partners = tt
   resumed-partners c a b (Call calls along) jumps partners = partners
   resumed-partners c a b (Exit start callers) jumps partners = tt
@@ -29,7 +29,7 @@ module _ {F L : Type 0} (targets : Targets F) (B : EdgeAlgebra F L) (graph : Sup
       → (n a b start : ℕ) (callers : List Caller) (reaching : List (Reaching F)) (procedure : ℕ) → AreExitsOwned graph
       → slice_get graph.sites n ≡ Some (Exit start callers) → procedure ≡ slice_index graph.owners n → procedure < graph.procedures
       → reaching ≡ reaching_of a (slice_index_or sources procedure [])
-      → ArePartnersOf targets B graph table (Jump n a b) (Exit start callers) (Callers reaching)
+      → ArePartnersOf B targets graph table (Jump n a b) (Exit start callers) (Callers reaching)
   exit-partners program sources kept n a b start callers reaching procedure exits is owner within reached =
       reached
       ∙ kept.inverse.exact procedure (Exit start callers) within

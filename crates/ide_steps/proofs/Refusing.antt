@@ -14,12 +14,12 @@ use Rattle.ide_steps.specs.PartRefusal.{IsPartRefusal, memory}
 use Rattle.ide_steps.specs.Refusal.{IsNoRoot, RootFault, already, fault, parameters, unnamed}
 use Rattle.ide_steps.specs.Steps.{IsCurrent}
 
-module _ {F L : Type 0} (targets : Targets F) (B : EdgeAlgebra F L) (core : CoreData F) (hand : ℕ) (work : WorkData F) where
+module _ {F L : Type 0} (B : EdgeAlgebra F L) (targets : Targets F) (core : CoreData F) (hand : ℕ) (work : WorkData F) where
   -- where the work is the hand's claim, it wants memory where it is refused
-  pub wants-memory : {T : Type 0} (r : Result T Refused) → IsOkUnless r NoMemory → OnErr r (work.done < length work.parts) → IsCurrent targets B core hand work
-      → IfErr r (IsPartRefusal targets B core hand work)
+  pub wants-memory : {T : Type 0} (r : Result T Refused) → IsOkUnless r NoMemory → OnErr r (work.done < length work.parts) → IsCurrent B targets core hand work
+      → IfErr r (IsPartRefusal B targets core hand work)
   wants-memory (Ok x) is left current = tt
-  wants-memory (Err e) is left current = subst (IsPartRefusal targets B core hand work) (sym is) (memory current left)
+  wants-memory (Err e) is left current = subst (IsPartRefusal B targets core hand work) (sym is) (memory current left)
 
 -- what holds in any case holds at Err
 pub at-err : {T E P : Type 0} (r : Result T E) → P → OnErr r P

@@ -85,13 +85,13 @@ module _ {F L : Type 0} (A : LatticeAlgebra L) (B : EdgeAlgebra F L) (targets : 
       → old.graph ≡ Some graph → IsRootName graph old.roots name procedure → procedure < graph.procedures
       → start ≡ slice_index graph.starts procedure → entries ≡ graph.entries → new.program ≡ old.program → new.graph ≡ old.graph
       → ((h : ℕ) → progress_at new.pile h ≡ progress_at old.pile h)
-      → state_of targets B new ≡ seeded_below B (state_of targets B old) start entries
+      → state_of B targets new ≡ seeded_below B (state_of B targets old) start entries
       → new.roots ≡ old.roots ++ procedure ∷ []
       → IsBegun A B targets old new name
   begun graph procedure start entries old new name make seeds go is named within starts counted program_is graph_is progress entered roots =
       let at = slice_index graph.starts procedure in
-      let s = state_of targets B old in
-      let state : state_of targets B new ≡ seeded_below B s at graph.entries = entered ∙ (λ i. seeded_below B s (starts i) (counted i)) in
+      let s = state_of B targets old in
+      let state : state_of B targets new ≡ seeded_below B s at graph.entries = entered ∙ (λ i. seeded_below B s (starts i) (counted i)) in
       record {
         graph = graph;
         is = is;

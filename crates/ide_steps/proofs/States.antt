@@ -20,6 +20,7 @@ use Rattle.ide_wire.specs.declared.key.Key.{Key}
 use Rattle.ide_wire.specs.Key.{same_key, same_key_exact}
 use Rattle.ide_image.specs.Worklist.{Pile, IsWorklist, is_pending, claim_at, put_hand, with_done, ends, ends_key, marked as marked_claim}
 use Rattle.ide_image.specs.declared.claim.Claim.{Claim as Held}
+use Rattle.ide_image.specs.declared.entry.Entry.{Entry}
 use Rattle.ide_steps.specs.Core.{CoreData, IsUnchanged}
 use Rattle.ide_steps.specs.declared.part.Parted.{Parted}
 use Rattle.ide_steps.specs.declared.part.Parted.TheVariants as part
@@ -39,21 +40,21 @@ drop-more zero (x ∷ xs) = refl
 drop-more (suc n) [] = refl
 drop-more (suc n) (x ∷ xs) = drop-more n xs
 
-module _ {F L : Type 0} (targets : Targets F) (B : EdgeAlgebra F L) where
+module _ {F L : Type 0} (B : EdgeAlgebra F L) (targets : Targets F) where
   pub or_top-unwrap : (o : Option F) → or_top B o ≡ unwrap_or o B.all_top
   or_top-unwrap None = refl
   or_top-unwrap (Some f) = refl
 
   pub claim-marked : (key : Key) (o : Option (Held (TaskData F)))
-      → option_map (claim_of targets B) (marked_claim key o) ≡ option_map (claim_marked key) (option_map (claim_of targets B) o)
+      → option_map (claim_of B targets) (marked_claim key o) ≡ option_map (claim_marked key) (option_map (claim_of B targets) o)
   claim-marked key None = refl
   claim-marked key (Some c) =
-      elim (same_key c.key key) as (λ b. option_map (claim_of targets B) (cond b (Some (record c { lowered = true })) (Some c))
-      ≡ Some (record (claim_of targets B c) { lowered = b || c.lowered })) [ true ↦ refl | false ↦ refl ]
+      elim (same_key c.key key) as (λ b. option_map (claim_of B targets) (cond b (Some (record c { lowered = true })) (Some c))
+      ≡ Some (record (claim_of B targets c) { lowered = b || c.lowered })) [ true ↦ refl | false ↦ refl ]
 
   -- the state that tables with these pending keys and claims are
   abbrev pub state-at : Table F → Pile (TaskData F) → State F
-  state-at table pile = record { get = found table; pending = is_pending pile; claims = λ h. option_map (claim_of targets B) (claim_at pile h) }
+  state-at table pile = record { get = found table; pending = is_pending pile; claims = λ h. option_map (claim_of B targets) (claim_at pile h) }
 
   -- a lowered table with its key pushed
   pub state-lowered : (table new_table : Table F) (pile new_pile : Pile (TaskData F)) (key : Key) (g : F) → Lowers B table new_table key g
@@ -65,8 +66,8 @@ module _ {F L : Type 0} (targets : Targets F) (B : EdgeAlgebra F L) where
       λ q. lowers.entries q ∙ ap (λ f. cond (same_key key q) (Some (B.meet f g)) (found table q)) (or_top-unwrap (found table key)) in
       let waits : (q : Key) → is_pending new_pile q ≡ put same_key (is_pending pile) key true q =
       λ q. pending q ∙ or-cond (same_key key q) (is_pending pile q) in
-      let hands : (h : ℕ) → option_map (claim_of targets B) (claim_at new_pile h) ≡ option_map (claim_marked key) (option_map (claim_of targets B) (claim_at pile h)) =
-      λ h. ap (option_map (claim_of targets B)) (claims h) ∙ claim-marked key (claim_at pile h) in
+      let hands : (h : ℕ) → option_map (claim_of B targets) (claim_at new_pile h) ≡ option_map (claim_marked key) (option_map (claim_of B targets) (claim_at pile h)) =
+      λ h. ap (option_map (claim_of B targets)) (claims h) ∙ claim-marked key (claim_at pile h) in
       λ i. record { get = λ q. gets q i; pending = λ q. waits q i; claims = λ h. hands h i }
 
   -- a function that falls is not the one before, and not always top
@@ -89,17 +90,17 @@ module _ {F L : Type 0} (targets : Targets F) (B : EdgeAlgebra F L) where
       λ i. record {
         get = λ q. lookup (same_key q) (entries i);
         pending = λ q. list_any (same_key q) (pending i);
-        claims = λ h. option_map (claim_of targets B) (get_or (claims i) h None);
+        claims = λ h. option_map (claim_of B targets) (get_or (claims i) h None);
       }
 
   -- cores of the same tables, pending keys and claims have one state
   pub same-state : (old new : CoreData F) → new.table ≡ old.table → new.pile.pending ≡ old.pile.pending → new.pile.claims ≡ old.pile.claims
-      → state_of targets B new ≡ state_of targets B old
+      → state_of B targets new ≡ state_of B targets old
   same-state old new table pending claims =
       λ i. record {
         get = found (table i);
         pending = λ q. list_any (same_key q) (pending i);
-        claims = λ h. option_map (claim_of targets B) (get_or (claims i) h None);
+        claims = λ h. option_map (claim_of B targets) (get_or (claims i) h None);
       }
 
   pub map-cond : {X Y : Type 0} (f : X → Y) (b : Bool) (x y : Option X)
@@ -114,38 +115,38 @@ module _ {F L : Type 0} (targets : Targets F) (B : EdgeAlgebra F L) where
 
   pub claim-counted : (o : Option (Held (TaskData F))) (task : TaskData F) (n count : ℕ)
       → option_map {U = TaskData F × ℕ} (λ held. (held.task, held.done)) o ≡ Some (task, n) → count ≡ suc n
-      → option_map (claim_of targets B) (with_done count o) ≡ option_map without_first (option_map (claim_of targets B) o)
+      → option_map (claim_of B targets) (with_done count o) ≡ option_map without_first (option_map (claim_of B targets) o)
   claim-counted None task n count is one = absurd (cc)
   claim-counted (Some c) task n count is one =
       let done : c.done ≡ n = ap count-of is in
-      ap (λ k. Some (record { key = c.key; parts = drop k (owed targets B c.task); lowered = c.lowered })) (one ∙ ap suc (sym done))
-      ∙ ap (λ parts. Some (record { key = c.key; parts = parts; lowered = c.lowered })) (drop-more c.done (owed targets B c.task))
+      ap (λ k. Some (record { key = c.key; parts = drop k (owed B targets c.task); lowered = c.lowered })) (one ∙ ap suc (sym done))
+      ∙ ap (λ parts. Some (record { key = c.key; parts = parts; lowered = c.lowered })) (drop-more c.done (owed B targets c.task))
 
   -- one part more of the hand's claim is done
-  pub state-counted : (table : Table F) (pile new_pile : Pile (TaskData F)) (hand : ℕ) (task : TaskData F) (n count : ℕ)
+  pub state-counted : (table new_table : Table F) (pile new_pile : Pile (TaskData F)) (hand : ℕ) (task : TaskData F) (n count : ℕ)
       → option_map {U = TaskData F × ℕ} (λ held. (held.task, held.done)) (claim_at pile hand) ≡ Some (task, n) → count ≡ suc n
-      → new_pile.pending ≡ pile.pending
+      → new_table ≡ table → new_pile.pending ≡ pile.pending
       → ((h : ℕ) → claim_at new_pile h ≡ put_hand (claim_at pile) hand (with_done count (claim_at pile hand)) h)
-      → state-at table new_pile ≡ part_done (state-at table pile) hand
-  state-counted table pile new_pile hand task n count is one pending claims =
-      let hands : (h : ℕ) → option_map (claim_of targets B) (claim_at new_pile h)
-      ≡ put nat_eq (λ j. option_map (claim_of targets B) (claim_at pile j)) hand (option_map without_first (option_map (claim_of targets B) (claim_at pile hand))) h =
+      → state-at new_table new_pile ≡ part_done (state-at table pile) hand
+  state-counted table new_table pile new_pile hand task n count is one same pending claims =
+      let hands : (h : ℕ) → option_map (claim_of B targets) (claim_at new_pile h)
+      ≡ put nat_eq (λ j. option_map (claim_of B targets) (claim_at pile j)) hand (option_map without_first (option_map (claim_of B targets) (claim_at pile hand))) h =
       λ h.
-      ap (option_map (claim_of targets B)) (claims h)
-      ∙ map-cond (claim_of targets B) (nat_eq hand h) (with_done count (claim_at pile hand)) (claim_at pile h)
-      ∙ ap (λ o. cond (nat_eq hand h) o (option_map (claim_of targets B) (claim_at pile h))) (claim-counted (claim_at pile hand) task n count is one) in
-      λ i. record { get = found table; pending = λ q. list_any (same_key q) (pending i); claims = λ h. hands h i }
+      ap (option_map (claim_of B targets)) (claims h)
+      ∙ map-cond (claim_of B targets) (nat_eq hand h) (with_done count (claim_at pile hand)) (claim_at pile h)
+      ∙ ap (λ o. cond (nat_eq hand h) o (option_map (claim_of B targets) (claim_at pile h))) (claim-counted (claim_at pile hand) task n count is one) in
+      λ i. record { get = found (same i); pending = λ q. list_any (same_key q) (pending i); claims = λ h. hands h i }
 
   -- the hand's claim is replaced
-  pub state-claimed : (table : Table F) (pile new_pile : Pile (TaskData F)) (hand : ℕ) (o : Option (Held (TaskData F)))
-      → new_pile.pending ≡ pile.pending
+  pub state-claimed : (table new_table : Table F) (pile new_pile : Pile (TaskData F)) (hand : ℕ) (o : Option (Held (TaskData F)))
+      → new_table ≡ table → new_pile.pending ≡ pile.pending
       → ((h : ℕ) → claim_at new_pile h ≡ put_hand (claim_at pile) hand o h)
-      → state-at table new_pile ≡ with_claim (state-at table pile) hand (option_map (claim_of targets B) o)
-  state-claimed table pile new_pile hand o pending claims =
-      let hands : (h : ℕ) → option_map (claim_of targets B) (claim_at new_pile h)
-      ≡ put nat_eq (λ j. option_map (claim_of targets B) (claim_at pile j)) hand (option_map (claim_of targets B) o) h =
-      λ h. ap (option_map (claim_of targets B)) (claims h) ∙ map-cond (claim_of targets B) (nat_eq hand h) o (claim_at pile h) in
-      λ i. record { get = found table; pending = λ q. list_any (same_key q) (pending i); claims = λ h. hands h i }
+      → state-at new_table new_pile ≡ with_claim (state-at table pile) hand (option_map (claim_of B targets) o)
+  state-claimed table new_table pile new_pile hand o same pending claims =
+      let hands : (h : ℕ) → option_map (claim_of B targets) (claim_at new_pile h)
+      ≡ put nat_eq (λ j. option_map (claim_of B targets) (claim_at pile j)) hand (option_map (claim_of B targets) o) h =
+      λ h. ap (option_map (claim_of B targets)) (claims h) ∙ map-cond (claim_of B targets) (nat_eq hand h) o (claim_at pile h) in
+      λ i. record { get = found (same i); pending = λ q. list_any (same_key q) (pending i); claims = λ h. hands h i }
 
   pub ends-cond : (lowered same pending : Bool) → (same ≡ true → pending ≡ true)
       → (not (not lowered && same) && pending) ≡ cond same lowered pending
@@ -155,21 +156,21 @@ module _ {F L : Type 0} (targets : Targets F) (B : EdgeAlgebra F L) where
   ends-cond false false pending is = refl
 
   -- the hand's claim is over
-  pub state-finished : (table : Table F) (pile new_pile : Pile (TaskData F)) (hand : ℕ) (held : Held (TaskData F)) → IsWorklist pile
-      → claim_at pile hand ≡ Some held
+  pub state-finished : (table new_table : Table F) (pile new_pile : Pile (TaskData F)) (hand : ℕ) (held : Held (TaskData F)) → IsWorklist pile
+      → claim_at pile hand ≡ Some held → new_table ≡ table
       → ((q : Key) → is_pending new_pile q ≡ (not (ends (claim_at pile hand) q) && is_pending pile q))
       → ((h : ℕ) → claim_at new_pile h ≡ put_hand (claim_at pile) hand None h)
-      → state-at table new_pile ≡ finished (state-at table pile) hand (claim_of targets B held)
-  state-finished table pile new_pile hand held list is pending claims =
-      let hands : (h : ℕ) → option_map (claim_of targets B) (claim_at new_pile h)
-      ≡ put nat_eq (λ j. option_map (claim_of targets B) (claim_at pile j)) hand None h =
-      λ h. ap (option_map (claim_of targets B)) (claims h) ∙ map-cond (claim_of targets B) (nat_eq hand h) None (claim_at pile h) in
+      → state-at new_table new_pile ≡ finished (state-at table pile) hand (claim_of B targets held)
+  state-finished table new_table pile new_pile hand held list is same pending claims =
+      let hands : (h : ℕ) → option_map (claim_of B targets) (claim_at new_pile h)
+      ≡ put nat_eq (λ j. option_map (claim_of B targets) (claim_at pile j)) hand None h =
+      λ h. ap (option_map (claim_of B targets)) (claims h) ∙ map-cond (claim_of B targets) (nat_eq hand h) None (claim_at pile h) in
       let waits : (q : Key) → is_pending new_pile q ≡ put same_key (is_pending pile) held.key held.lowered q =
       λ q.
       pending q ∙ ap (λ o. not (ends o q) && is_pending pile q) is
       ∙ ends-cond held.lowered (same_key held.key q) (is_pending pile q)
       (λ same. ap (is_pending pile) (sym (same_key_exact held.key q same)) ∙ list.held hand held is) in
-      λ i. record { get = found table; pending = λ q. waits q i; claims = λ h. hands h i }
+      λ i. record { get = found (same i); pending = λ q. waits q i; claims = λ h. hands h i }
 
 -- the claim that is of the work
 pub claim-of-work : {F : Type 0} (work : WorkData F) (o : Option (Held (TaskData F))) → IsClaimOfWork work o
@@ -197,18 +198,19 @@ after-part (Err e) done none = tt
 
 module _ {F : Type 0} where
   -- nothing changed where the claims stand as they were
-  pub unchanged-err : {T E : Type 0} (r : Result T E) (inside old : CoreData F) (pile : Pile (TaskData F)) → inside ≡ old
-      → pile.pending ≡ inside.pile.pending → ((h : ℕ) → claim_at pile h ≡ claim_at inside.pile h)
-      → OnErr r (IsUnchanged old (record inside { pile = pile }))
-  unchanged-err (Ok x) inside old pile same pending claims = tt
-  unchanged-err (Err e) inside old pile same pending claims = record {
+  pub unchanged-err : {T E : Type 0} (r : Result T E) (inside old : CoreData F) (table : Table F) (pile : Pile (TaskData F))
+      (changes : Option (List (Key × Entry F))) → inside ≡ old → table ≡ inside.table
+      → pile.pending ≡ inside.pile.pending → ((h : ℕ) → claim_at pile h ≡ claim_at inside.pile h) → changes ≡ inside.changes
+      → OnErr r (IsUnchanged old (record inside { table = table; pile = pile; changes = changes }))
+  unchanged-err (Ok x) inside old table pile changes same tables pending claims noted = tt
+  unchanged-err (Err e) inside old table pile changes same tables pending claims noted = record {
     program = ap (λ (c : CoreData F). c.program) same;
     graph = ap (λ (c : CoreData F). c.graph) same;
     roots = ap (λ (c : CoreData F). c.roots) same;
-    table = ap (λ (c : CoreData F). c.table) same;
+    table = tables ∙ ap (λ (c : CoreData F). c.table) same;
     pending = pending ∙ ap (λ (c : CoreData F). c.pile.pending) same;
     claims = λ h. claims h ∙ ap (λ (c : CoreData F). claim_at c.pile h) same;
-    changes = ap (λ (c : CoreData F). c.changes) same;
+    changes = noted ∙ ap (λ (c : CoreData F). c.changes) same;
   }
 
   module _ (pile new_pile : Pile (TaskData F)) (hand : ℕ) (held : Held (TaskData F))

@@ -20,21 +20,21 @@ module _ {F L : Type 0} (A : LatticeAlgebra L) (B : EdgeAlgebra F L) (targets : 
   -- what each call says of the core before and after it makes it one step of its hand: a claim, a part that
   -- lowers its key, one that changes nothing, the end of a claim, and a claim that is given back
   pub record CallsAreSteps : Type 0 where
-    pub claim : (hand : ℕ) (old new : CoreData F) (task : TaskData F) → IsSameProblem old new → IsTaken targets B hand old new task
-        → ((graph : Supergraph) → old.graph ≡ Some graph → AreExitsOwned graph → IsSome (found old.table task.key) → IsTaskOf targets B graph old.table task)
+    pub claim : (hand : ℕ) (old new : CoreData F) (task : TaskData F) → IsSameProblem old new → IsTaken B targets hand old new task
+        → ((graph : Supergraph) → old.graph ≡ Some graph → AreExitsOwned graph → IsSome (found old.table task.key) → IsTaskOf B targets graph old.table task)
         → GoesOnByHand A B targets hand 1 0 0 old new
     pub lower : (hand : ℕ) (old new : CoreData F) (work after : WorkData F) (task : TaskData F) → IsSameProblem old new
-        → progress_at old.pile hand ≡ Some (task, work.done) → work.parts ≡ owed targets B task
-        → IsLowered B (state_of targets B old) (state_of targets B new) hand work after
+        → progress_at old.pile hand ≡ Some (task, work.done) → work.parts ≡ owed B targets task
+        → IsLowered B (state_of B targets old) (state_of B targets new) hand work after
         → GoesOnByHand A B targets hand 0 1 0 old new
     pub skip : (hand : ℕ) (old new : CoreData F) (work after : WorkData F) (task : TaskData F) → IsSameProblem old new
-        → progress_at old.pile hand ≡ Some (task, work.done) → work.parts ≡ owed targets B task
-        → IsSkipped B (state_of targets B old) (state_of targets B new) hand work after
+        → progress_at old.pile hand ≡ Some (task, work.done) → work.parts ≡ owed B targets task
+        → IsSkipped B (state_of B targets old) (state_of B targets new) hand work after
         → GoesOnByHand A B targets hand 0 0 0 old new
     pub finish : (hand : ℕ) (old new : CoreData F) (held : Held (TaskData F)) → IsSameProblem old new
-        → claim_at old.pile hand ≡ Some held → (claim_of targets B held).parts ≡ []
-        → state_of targets B new ≡ finished (state_of targets B old) hand (claim_of targets B held)
+        → claim_at old.pile hand ≡ Some held → (claim_of B targets held).parts ≡ []
+        → state_of B targets new ≡ finished (state_of B targets old) hand (claim_of B targets held)
         → GoesOnByHand A B targets hand 0 0 0 old new
     pub release : (hand : ℕ) (old new : CoreData F) (held : Held (TaskData F)) → IsSameProblem old new
-        → claim_at old.pile hand ≡ Some held → state_of targets B new ≡ with_claim (state_of targets B old) hand None
+        → claim_at old.pile hand ≡ Some held → state_of B targets new ≡ with_claim (state_of B targets old) hand None
         → GoesOnByHand A B targets hand 0 0 1 old new

@@ -33,10 +33,10 @@ module _ {F : Type 0} where
     pub waits : new ≡ old
 
 -- the hand has claimed the task's key, and no part of the task is done
-pub record FindsTask {F L : Type 0} (targets : Targets F) (B : EdgeAlgebra F L) (hand : ℕ) (old new : CoreData F) (task : TaskData F) : Type 0 where
+pub record FindsTask {F L : Type 0} (B : EdgeAlgebra F L) (targets : Targets F) (hand : ℕ) (old new : CoreData F) (task : TaskData F) : Type 0 where
   pub fresh : ends_key (claim_at new.pile hand) ≡ true
-  pub taken : IsTaken targets B hand old new task
-  pub is_task : (graph : Supergraph) → IsTaskWhere targets B graph old task
+  pub taken : IsTaken B targets hand old new task
+  pub is_task : (graph : Supergraph) → IsTaskWhere B targets graph old task
   pub progress : progress_at new.pile hand ≡ Some (task, 0)
 
 -- P holds of the task that is answered, if one is

@@ -16,7 +16,7 @@ use Rattle.ide_text.specs.Value.{ProgramValue}
 use Rattle.ide_text.specs.declared.program.Program.{Program}
 use Rattle.ide_wire.specs.Key.{node_of}
 use Rattle.ide_wire.specs.declared.key.Key.{Key}
-use Rattle.ide_steps.specs.declared.changes.Entry.{Entry}
+use Rattle.ide_image.specs.declared.entry.Entry.{Entry}
 use Rattle.ide_image.specs.Worklist.{Pile, claim_at, is_pending}
 
 -- what the loaded program says, and its graph, if one is loaded; the roots, as indices of procedures; the tables;
@@ -81,6 +81,6 @@ pub record IsProgramKept {F : Type 0} (targets : Targets F) (program : Program) 
 
 -- no key stands outside of the graph: each pending key stands at a node of it, and so does the key of each part
 -- that the task of a claim owes
-pub record AreKeysKept {F L : Type 0} (targets : Targets F) (B : EdgeAlgebra F L) (graph : Supergraph) (pile : Pile (TaskData F)) : Type 0 where
+pub record AreKeysKept {F L : Type 0} (B : EdgeAlgebra F L) (targets : Targets F) (graph : Supergraph) (pile : Pile (TaskData F)) : Type 0 where
   pub pending : (key : Key) → is_pending pile key ≡ true → StandsIn graph key
-  pub claims : (hand : ℕ) → IfSome (claim_at pile hand) (λ held. AllStandIn graph (owed targets B held.task))
+  pub claims : (hand : ℕ) → IfSome (claim_at pile hand) (λ held. AllStandIn graph (owed B targets held.task))

@@ -100,4 +100,4 @@ module _ {F L : Type 0} (A : LatticeAlgebra L) (B : EdgeAlgebra F L) (targets : 
   -- the parts of the work of hand 0 are steps, where it is its claim, and a finished claim is paid for
   abbrev pub RunsWork : {T E : Type 0} → Result T E → WorkData F → (old new : CoreData F) → Type 0
   RunsWork result work old new =
-      (lowerings : ℕ) × (IsCurrent targets B old 0 work → GoesOnByHand A B targets 0 0 lowerings 0 old new) × OnOk result (ArePaid B 1 lowerings old new)
+      (lowerings : ℕ) × (IsCurrent B targets old 0 work → GoesOnByHand A B targets 0 0 lowerings 0 old new) × OnOk result (ArePaid B 1 lowerings old new)

@@ -27,8 +27,8 @@ module _ {F L : Type 0} (A : LatticeAlgebra L) (B : EdgeAlgebra F L) (targets : 
   pub record GoesOnByHand (hand claims lowerings releases : ℕ) (old new : CoreData F) : Type 0 where
     pub same : IsSameProblem old new
     pub steps : (graph : Supergraph) → old.graph ≡ Some graph → (all : HaveEdgesOf graph.facts graph.sites) → IsFit graph
-        → Run (frame_at A B targets graph all) (state_of targets B old)
-        → (way : Steps (frame_at A B targets graph all) (state_of targets B old) (state_of targets B new))
+        → Run (frame_at A B targets graph all) (state_of B targets old)
+        → (way : Steps (frame_at A B targets graph all) (state_of B targets old) (state_of B targets new))
         × AreBy hand way
         × (claims_in way ≡ claims)
         × (lowerings_in way ≡ lowerings)

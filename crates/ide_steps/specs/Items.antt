@@ -15,7 +15,7 @@ use Rattle.ide_wire.specs.declared.key.Key.TheVariants.{Jump, Summary}
 use Rattle.ide_image.specs.Worklist.{Pile, is_pending}
 use Rattle.ide_steps.specs.Changed.{standing_entry, entry_then}
 use Rattle.ide_steps.specs.Core.{CoreData}
-use Rattle.ide_steps.specs.declared.changes.Entry.{Entry as Noted}
+use Rattle.ide_image.specs.declared.entry.Entry.{Entry as Noted}
 
 -- the key stands at a node of the graph, a summary at a call node
 abbrev pub StandsAt : Supergraph → Key → Type 0

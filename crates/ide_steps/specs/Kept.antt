@@ -27,26 +27,26 @@ module _ {P L F : Type 0} (targets : Targets F) (loaded : Loaded P L F) where
       → procedure < loaded.graph.procedures → fact)
 
 -- over a graph whose exits are their procedures' own, if it is the loaded one, the task is that of its key, if that is present
-abbrev pub IsTaskWhere : {F L : Type 0} → Targets F → EdgeAlgebra F L → Supergraph → CoreData F → TaskData F → Type 0
-IsTaskWhere targets B graph core task =
-    core.graph ≡ Some graph → AreExitsOwned graph → IsSome (found core.table task.key) → IsTaskOf targets B graph core.table task
+abbrev pub IsTaskWhere : {F L : Type 0} → EdgeAlgebra F L → Targets F → Supergraph → CoreData F → TaskData F → Type 0
+IsTaskWhere B targets graph core task =
+    core.graph ≡ Some graph → AreExitsOwned graph → IsSome (found core.table task.key) → IsTaskOf B targets graph core.table task
 
 -- they are the partners of the key at that site of the loaded graph
-abbrev pub ArePartnersIn : {P L F : Type 0} → Targets F → EdgeAlgebra F L → Loaded P L F → Table F → Key → Site → Partners F → Type 0
-ArePartnersIn targets B loaded table key site partners = ArePartnersOf targets B loaded.graph table key site partners
+abbrev pub ArePartnersIn : {P L F : Type 0} → EdgeAlgebra F L → Targets F → Loaded P L F → Table F → Key → Site → Partners F → Type 0
+ArePartnersIn B targets loaded table key site partners = ArePartnersOf B targets loaded.graph table key site partners
 
-module _ {P L F : Type 0} (targets : Targets F) (B : EdgeAlgebra F L) (loaded : Loaded P L F) (table : Table F) (key : Key) where
+module _ {P L F : Type 0} (B : EdgeAlgebra F L) (targets : Targets F) (loaded : Loaded P L F) (table : Table F) (key : Key) where
   -- where the program is kept, what is answered is the key's task, if the key is present
   abbrev pub GivesTask : {E : Type 0} → Result (TaskData F) E → Type 0
-  GivesTask result = WhereKept targets loaded (IsSome (found table key) → IfOk result (IsTaskOf targets B loaded.graph table))
+  GivesTask result = WhereKept targets loaded (IsSome (found table key) → IfOk result (IsTaskOf B targets loaded.graph table))
 
   -- where it is, and that is the site of the key's node, and that its procedure, they are the key's partners there
   abbrev pub GivesPartners : {E : Type 0} → Site → ℕ → Result (Partners F) E → Type 0
   GivesPartners site procedure result =
-      WhereKeptAt targets loaded key site procedure (IfOk result (ArePartnersIn targets B loaded table key site))
+      WhereKeptAt targets loaded key site procedure (IfOk result (ArePartnersIn B targets loaded table key site))
 
 -- the program that is loaded, if one is, is kept, and no key of the pile stands outside of its graph
-abbrev pub KeepsLoaded : {P L F : Type 0} → Targets F → EdgeAlgebra F L → Option (Loaded P L F) → Pile (TaskData F) → Type 0
-KeepsLoaded {P} {L} {F} targets B held pile =
+abbrev pub KeepsLoaded : {P L F : Type 0} → EdgeAlgebra F L → Targets F → Option (Loaded P L F) → Pile (TaskData F) → Type 0
+KeepsLoaded {P} {L} {F} B targets held pile =
     (loaded : Loaded P L F) → held ≡ Some loaded
-    → IsProgramKept targets loaded.program loaded.graph loaded.sources × AreKeysKept targets B loaded.graph pile
+    → IsProgramKept targets loaded.program loaded.graph loaded.sources × AreKeysKept B targets loaded.graph pile

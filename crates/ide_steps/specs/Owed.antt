@@ -18,6 +18,6 @@ module _ {F L : Type 0} (A : LatticeAlgebra L) (B : EdgeAlgebra F L) (targets : 
   abbrev pub TasksOweTheirParts : Type 0
   TasksOweTheirParts =
       (graph : Supergraph) (all : HaveEdgesOf graph.facts graph.sites) → AreJoined graph.sites (start_at graph) → graph.facts ≤ 2 ^ 16
-      → (table : Table F) (task : TaskData F) → IsTaskOf targets B graph table task
+      → (table : Table F) (task : TaskData F) → IsTaskOf B targets graph table task
       → AreKeysInRange (frame_at A B targets graph all) (found table)
-      → ArePartsOf (frame_at A B targets graph all) (found table) task.key (owed targets B task)
+      → ArePartsOf (frame_at A B targets graph all) (found table) task.key (owed B targets task)

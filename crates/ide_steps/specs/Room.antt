@@ -47,7 +47,7 @@ module _ {F L : Type 0} (A : LatticeAlgebra L) (B : EdgeAlgebra F L) (targets : 
   abbrev pub InRuns : CoreData F → (Supergraph → Type 0) → Type 0
   InRuns core P =
       (graph : Supergraph) → core.graph ≡ Some graph → (all : HaveEdgesOf graph.facts graph.sites) → IsFit graph
-      → Run (frame_at A B targets graph all) (state_of targets B core) → P graph
+      → Run (frame_at A B targets graph all) (state_of B targets core) → P graph
 
   -- the functions of a core have lost no more ranks than those of all keys have
   abbrev pub ImagesHaveRoom : Type 0

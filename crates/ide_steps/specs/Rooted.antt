@@ -1,5 +1,5 @@
 -- What a call of `root` does: one procedure more is a root, and the absent entries of its start become the identity.
-use Rattle.std.specs.Prelude.{◌≡◌, ℕ, ◌<◌, ◌≤◌, ◌++◌, ◌||◌, List, [], ◌∷◌, Option, Some, None, option_map, slice_index}
+use Rattle.std.specs.Prelude.{◌≡◌, ℕ, ◌<◌, ◌≤◌, ◌++◌, ◌||◌, List, [], ◌∷◌, Some, None, option_map, slice_index}
 use Rattle.std.specs.List.{All, list_any}
 use Rattle.std.specs.Map.{keys_of}
 use Rattle.ide_graph.specs.Joined.{AreJoined, start_at}
@@ -15,19 +15,13 @@ use Rattle.ide_theory.specs.State.{Claim, State}
 use Rattle.ide_wire.specs.Key.{node_of, same_key}
 use Rattle.ide_wire.specs.declared.key.Key.{Key}
 use Rattle.ide_wire.specs.declared.key.Key.TheVariants.{Jump}
-use Rattle.ide_image.specs.declared.claim.Claim.{Claim as Held}
-use Rattle.ide_image.specs.Worklist.{IsFree, Pile, claim_at, is_pending}
+use Rattle.ide_image.specs.Worklist.{IsFree}
 use Rattle.ide_steps.specs.Core.{CoreData}
 use Rattle.ide_steps.specs.Refusal.{IsRootName}
 use Rattle.ide_steps.specs.State.{state_of}
 use Rattle.ide_steps.specs.Steps.{IsKeyBelow, SameTasks}
 
 -- the claim, marked as lowered if its key is one of these
-abbrev pub marked_all : {T : Type 0} → List Key → Option (Held T) → Option (Held T)
-marked_all keys None = None
-marked_all keys (Some held) = Some (record held { lowered = list_any (same_key held.key) keys || held.lowered })
-
--- the claim of a state, marked in the same way
 abbrev pub marked_by : {F : Type 0} → List Key → Claim F → Claim F
 marked_by keys claim = record claim { lowered = list_any (same_key claim.key) keys || claim.lowered }
 
@@ -39,17 +33,9 @@ with_entries s entries = record {
   claims = λ h. option_map (marked_by (keys_of entries)) (s.claims h);
 }
 
--- the keys are pending too
-abbrev pub Queues : {T : Type 0} → List Key → (old new : Pile T) → Type 0
-Queues keys old new = (q : Key) → is_pending new q ≡ (list_any (same_key q) keys || is_pending old q)
-
--- each claim is marked, if its key is one of these
-abbrev pub MarksAll : {T : Type 0} → List Key → (old new : Pile T) → Type 0
-MarksAll keys old new = (h : ℕ) → claim_at new h ≡ marked_all keys (claim_at old h)
-
 -- the entries' keys have these functions in the new core, and are pending there
-abbrev pub Enters : {F L : Type 0} → Targets F → EdgeAlgebra F L → (old new : CoreData F) → List (Key × F) → Type 0
-Enters targets B old new entries = state_of targets B new ≡ with_entries (state_of targets B old) entries
+abbrev pub Enters : {F L : Type 0} → EdgeAlgebra F L → Targets F → (old new : CoreData F) → List (Key × F) → Type 0
+Enters B targets old new entries = state_of B targets new ≡ with_entries (state_of B targets old) entries
 
 -- each of the entries is of a key at the node
 abbrev pub AllAt : {F : Type 0} → ℕ → List (Key × F) → Type 0
@@ -60,9 +46,9 @@ abbrev pub AllAbsent : {F : Type 0} → CoreData F → List (Key × F) → Type 
 AllAbsent core entries = All (λ entry. found core.table entry.0 ≡ None) entries
 
 -- these entries are what a root's start gets in the core's state
-abbrev pub AreSeedEntries : {F L : Type 0} → Targets F → EdgeAlgebra F L → CoreData F → ℕ → ℕ → List (Key × F) → Type 0
-AreSeedEntries targets B core start count entries =
-    seeded_below B (state_of targets B core) start count ≡ with_entries (state_of targets B core) entries
+abbrev pub AreSeedEntries : {F L : Type 0} → EdgeAlgebra F L → Targets F → CoreData F → ℕ → ℕ → List (Key × F) → Type 0
+AreSeedEntries B targets core start count entries =
+    seeded_below B (state_of B targets core) start count ≡ with_entries (state_of B targets core) entries
 
 -- the procedure of the name is a root now, and each absent entry of its start is the identity; in a run
 -- those were steps, and each entry of the start is below the identity then
@@ -75,14 +61,14 @@ pub record IsBegun {F L : Type 0} (A : LatticeAlgebra L) (B : EdgeAlgebra F L) (
   pub program : new.program ≡ old.program
   pub same : new.graph ≡ old.graph
   pub roots : new.roots ≡ old.roots ++ root ∷ []
-  pub state : state_of targets B new ≡ seeded_below B (state_of targets B old) (slice_index graph.starts root) graph.entries
+  pub state : state_of B targets new ≡ seeded_below B (state_of B targets old) (slice_index graph.starts root) graph.entries
   pub tasks : SameTasks old.pile new.pile
   pub unclaimed : IsFree old.pile → IsFree new.pile
   pub steps : (all : HaveEdgesOf graph.facts graph.sites) → AreJoined graph.sites (start_at graph)
       → start_at graph (slice_index graph.starts root) ≡ slice_index graph.starts root → graph.entries ≤ graph.facts
-      → Run (frame_at A B targets graph all) (state_of targets B old)
-      → Steps (frame_at A B targets graph all) (state_of targets B old) (state_of targets B new)
+      → Run (frame_at A B targets graph all) (state_of B targets old)
+      → Steps (frame_at A B targets graph all) (state_of B targets old) (state_of B targets new)
   pub met : (all : HaveEdgesOf graph.facts graph.sites) → AreJoined graph.sites (start_at graph)
       → start_at graph (slice_index graph.starts root) ≡ slice_index graph.starts root → graph.entries ≤ graph.facts
-      → Run (frame_at A B targets graph all) (state_of targets B old)
-      → (d : ℕ) → d < graph.entries → IsKeyBelow B (state_of targets B new) (Jump (slice_index graph.starts root) d d) B.id
+      → Run (frame_at A B targets graph all) (state_of B targets old)
+      → (d : ℕ) → d < graph.entries → IsKeyBelow B (state_of B targets new) (Jump (slice_index graph.starts root) d d) B.id

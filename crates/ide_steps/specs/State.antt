@@ -19,10 +19,10 @@ use Rattle.ide_image.specs.Worklist.{is_pending, claim_at}
 use Rattle.ide_image.specs.declared.claim.Claim.{Claim as Held}
 use Rattle.ide_steps.specs.Core.{CoreData}
 
-module _ {F L : Type 0} (targets : Targets F) (B : EdgeAlgebra F L) where
+module _ {F L : Type 0} (B : EdgeAlgebra F L) (targets : Targets F) where
   -- what a claim still owes: the parts of its task that are not done
   abbrev pub claim_of : Held (TaskData F) → Claim F
-  claim_of held = record { key = held.key; parts = drop held.done (owed targets B held.task); lowered = held.lowered }
+  claim_of held = record { key = held.key; parts = drop held.done (owed B targets held.task); lowered = held.lowered }
 
   -- the image, the pending keys and the claims of the hands
   abbrev pub state_of : CoreData F → State F

@@ -101,11 +101,11 @@ pub data ArePartsDone {F L : Type 0} (B : EdgeAlgebra F L) (hand : ℕ) (s : Sta
   then_skipped : {t u : State F} {before after : WorkData F} → ArePartsDone B hand s work t before → IsSkipped B t u hand before after
       → ArePartsDone B hand s work u after
 
-module _ {F L : Type 0} (targets : Targets F) (B : EdgeAlgebra F L) where
+module _ {F L : Type 0} (B : EdgeAlgebra F L) (targets : Targets F) where
   -- the hand's claim is of the work's task, with as many parts done, and its parts are what the task owes
   pub record IsCurrent (core : CoreData F) (hand : ℕ) (work : WorkData F) : Type 0 where
     pub claim : IsClaimOfWork work (claim_at core.pile hand)
-    pub parts : work.parts ≡ owed targets B work.task
+    pub parts : work.parts ≡ owed B targets work.task
 
   -- the keys of all parts of the hand's work stand in the graph
   abbrev pub IsWorkInside : CoreData F → ℕ → Type 0
@@ -116,35 +116,35 @@ module _ {F L : Type 0} (targets : Targets F) (B : EdgeAlgebra F L) where
     pub free : claim_at old.pile hand ≡ None
     pub pending : is_pending old.pile task.key ≡ true
     pub unclaimed : (h : ℕ) (held : Held (TaskData F)) → claim_at old.pile h ≡ Some held → held.key ≢ task.key
-    pub state : state_of targets B new ≡ with_claim (state_of targets B old) hand (Some (new_claim task.key (owed targets B task)))
+    pub state : state_of B targets new ≡ with_claim (state_of B targets old) hand (Some (new_claim task.key (owed B targets task)))
 
   -- the image, the pending keys and the claims are as they were
   abbrev pub SameState : (old new : CoreData F) → Type 0
-  SameState old new = state_of targets B new ≡ state_of targets B old
+  SameState old new = state_of B targets new ≡ state_of B targets old
 
   -- the key has received the function already
   abbrev pub HasReceived : CoreData F → Key → F → Type 0
-  HasReceived core key f = IsKeyBelow B (state_of targets B core) key f
+  HasReceived core key f = IsKeyBelow B (state_of B targets core) key f
 
   -- to meet the key's function with this one changes it
   abbrev pub IsChangedBy : CoreData F → Key → F → Type 0
-  IsChangedBy core key f = Changes B (state_of targets B core) key f
+  IsChangedBy core key f = Changes B (state_of B targets core) key f
 
   -- the key's function is met with this one, and the key is pending
   abbrev pub IsLoweredBy : (old new : CoreData F) → Key → F → Type 0
-  IsLoweredBy old new key f = state_of targets B new ≡ with_lowered B (state_of targets B old) key f
+  IsLoweredBy old new key f = state_of B targets new ≡ with_lowered B (state_of B targets old) key f
 
   -- the hand does the work's next part, which lowers its key
   abbrev pub LowersPart : ℕ → (old new : CoreData F) → (work after : WorkData F) → Type 0
-  LowersPart hand old new work after = IsLowered B (state_of targets B old) (state_of targets B new) hand work after
+  LowersPart hand old new work after = IsLowered B (state_of B targets old) (state_of B targets new) hand work after
 
   -- the hand does the work's next part, which its key had received already
   abbrev pub SkipsPart : ℕ → (old new : CoreData F) → (work after : WorkData F) → Type 0
-  SkipsPart hand old new work after = IsSkipped B (state_of targets B old) (state_of targets B new) hand work after
+  SkipsPart hand old new work after = IsSkipped B (state_of B targets old) (state_of B targets new) hand work after
 
   -- the hand does some of the work's next parts, one after the other
   abbrev pub DoesParts : ℕ → (old new : CoreData F) → (work after : WorkData F) → Type 0
-  DoesParts hand old new work after = ArePartsDone B hand (state_of targets B old) work (state_of targets B new) after
+  DoesParts hand old new work after = ArePartsDone B hand (state_of B targets old) work (state_of B targets new) after
 
   -- the same, where the work is that of the hand's claim
   abbrev pub LowersOwn : ℕ → (old new : CoreData F) → (work after : WorkData F) → Type 0
@@ -158,20 +158,20 @@ module _ {F L : Type 0} (targets : Targets F) (B : EdgeAlgebra F L) where
 
   -- the hand's claim is given back, if it has one
   abbrev pub GivesBack : ℕ → (old new : CoreData F) → Type 0
-  GivesBack hand old new = state_of targets B new ≡ with_claim (state_of targets B old) hand None
+  GivesBack hand old new = state_of B targets new ≡ with_claim (state_of B targets old) hand None
 
   -- every claim is given back
   abbrev pub GivesAllBack : (old new : CoreData F) → Type 0
-  GivesAllBack old new = state_of targets B new ≡ unclaimed (state_of targets B old)
+  GivesAllBack old new = state_of B targets new ≡ unclaimed (state_of B targets old)
 
   -- the hand's claim, if it has one, is finished
   abbrev pub EndsHeld : ℕ → (old new : CoreData F) → Type 0
   EndsHeld hand old new =
       (held : Held (TaskData F)) → claim_at old.pile hand ≡ Some held
-      → state_of targets B new ≡ finished (state_of targets B old) hand (claim_of targets B held)
+      → state_of B targets new ≡ finished (state_of B targets old) hand (claim_of B targets held)
 
   -- the hand had a claim with no part left, and it is finished
   abbrev pub EndsDone : ℕ → (old new : CoreData F) → Type 0
   EndsDone hand old new =
-      (held : Held (TaskData F)) × (claim_at old.pile hand ≡ Some held) × ((claim_of targets B held).parts ≡ [])
-      × (state_of targets B new ≡ finished (state_of targets B old) hand (claim_of targets B held))
+      (held : Held (TaskData F)) × (claim_at old.pile hand ≡ Some held) × ((claim_of B targets held).parts ≡ [])
+      × (state_of B targets new ≡ finished (state_of B targets old) hand (claim_of B targets held))

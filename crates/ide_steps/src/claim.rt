@@ -1,11 +1,8 @@
 //! Claims: a hand takes a pending key with its task.
-ghost use Rattle.std.specs.Prelude.{◌≡◌, ◌≢◌, ℕ, nat_eq, ◌<◌, [], true, false, None, Some, Ok, IsSome, IfErr, IfOk, OnErr, OnOk, IsOkUnless};
+ghost use Rattle.std.specs.Prelude.{◌≡◌, ℕ, ◌<◌, true, false, None, Some, Ok, IfErr, IfOk, OnErr, OnOk, IsOkUnless};
 ghost use Rattle.ide_graph.specs.Edges.{EdgesWithin};
-ghost use Rattle.ide_graph.specs.Supergraph.{Supergraph};
-ghost use Rattle.ide_image.specs.Tables.{found};
 ghost use Rattle.ide_wire.specs.declared.key.Key.{Key};
-ghost use Rattle.ide_image.specs.Worklist.{PutsClaim, begun, claim_at, ends_key, is_pending, is_claimed};
-ghost use Rattle.ide_tasks.specs.Task.{TaskData};
+ghost use Rattle.ide_image.specs.Worklist.{claim_at, is_pending, is_claimed};
 ghost use Rattle.ide_steps.specs.ClaimRefusal.{IsClaimRefusal, MayClaim};
 ghost use Rattle.ide_steps.specs.Claiming.{BeginsClaim, FindsIdle, FindsQuiet, FindsTask, IfTask, KeepsAllBut};
 ghost use Rattle.ide_steps.specs.Core.{IsUnchanged, StandsIn};
@@ -14,11 +11,10 @@ ghost use Rattle.ide_steps.specs.Kept.{GivesPartners, GivesTask};
 use crate::loaded::Loaded;
 use crate::machine::{Core, HANDS};
 use ide_graph::Site;
+use ide_image::KeyedImage;
 use ide_problem::Problem;
-use ide_image::Tables;
 use ide_tasks::{Partners, Task};
 use ide_wire::{Key, Listing, Refused};
-use ide_image::Worklist;
 use std::alloc::Global;
 
 /// What a claim gives.
@@ -42,7 +38,7 @@ impl<P: Problem> Core<P> {
         ensures may { OnOk result (MayClaim self.old hand) }
         ensures refused { IfErr result (IsClaimRefusal self.old hand) }
         ensures keeps { KeepsAllBut hand self.old self.new }
-        ensures task { IfTask result (FindsTask P.targets P.F.edge hand self.old self.new) }
+        ensures task { IfTask result (FindsTask P.F.edge P.targets hand self.old self.new) }
         ensures idle { result ≡ Ok Claimed.Idle → FindsIdle self.old self.new }
         ensures quiet { result ≡ Ok Claimed.Quiet → FindsQuiet self.old self.new }
         ensures unchanged { OnErr result (IsUnchanged self.old self.new) }
@@ -53,23 +49,16 @@ impl<P: Problem> Core<P> {
         let Some(loaded) = &self.loaded else {
             return Err(Refused::NoProgram);
         };
-        if self.worklist.claim(hand).is_some() {
+        if self.image.claim(hand).is_some() {
             return Err(Refused::Busy);
         }
-        if self.worklist.is_quiet() {
+        if self.image.is_quiet() {
             return Ok(Claimed::Quiet);
         }
-        let Some(key) = self.worklist.unclaimed() else {
+        let Some(key) = self.image.unclaimed() else {
             return Ok(Claimed::Idle);
         };
-        let task = take_task(
-            self.alloc,
-            loaded,
-            &self.tables,
-            &mut self.worklist,
-            hand,
-            key,
-        )?;
+        let task = take_task(self.alloc, loaded, &mut self.image, hand, key)?;
         Ok(Claimed::Task(task))
     }
 }
@@ -78,26 +67,27 @@ impl<P: Problem> Core<P> {
 fn take_task<P: Problem>(
     alloc: Global,
     loaded: &Loaded<P>,
-    tables: &Tables<P::F>,
-    worklist: &mut Worklist<Task<P>>,
+    image: &mut KeyedImage<P::F, Task<P>>,
     hand: usize,
     key: Key,
 ) -> Result<Task<P>, Refused>
     requires place { StandsIn loaded.now.graph key }
     requires hand_in { hand < 64 }
-    requires free { claim_at worklist.old hand ≡ None }
-    requires pending { is_pending worklist.old key ≡ true }
-    requires unclaimed { is_claimed worklist.old key ≡ false }
+    requires free { claim_at image.old.pile hand ≡ None }
+    requires pending { is_pending image.old.pile key ≡ true }
+    requires unclaimed { is_claimed image.old.pile key ≡ false }
     ensures key { IfOk result (λ task. task.key ≡ key) }
-    ensures is_task { GivesTask P.targets P.F.edge loaded.now tables.now key result }
+    ensures is_task { GivesTask P.F.edge P.targets loaded.now image.old.table key result }
     ensures edges { IfOk result (λ task. EdgesWithin loaded.now.graph.nodes task.site) }
     ensures refused { IsOkUnless result Refused.NoMemory }
-    ensures pending { worklist.new.pending ≡ worklist.old.pending }
-    ensures claims { IfOk result (BeginsClaim hand key worklist.old worklist.new) }
-    ensures err { OnErr result ((h : ℕ) → claim_at worklist.new h ≡ claim_at worklist.old h) }
+    ensures table { image.new.table ≡ image.old.table }
+    ensures pending { image.new.pile.pending ≡ image.old.pile.pending }
+    ensures changes { image.new.changes ≡ image.old.changes }
+    ensures claims { IfOk result (BeginsClaim hand key image.old.pile image.new.pile) }
+    ensures err { OnErr result ((h : ℕ) → claim_at image.new.pile h ≡ claim_at image.old.pile h) }
 {
-    let task = task_of(alloc, loaded, tables, key)?;
-    worklist.take(hand, key, task.copy(alloc)?)?;
+    let task = task_of(alloc, loaded, image, key)?;
+    image.take(hand, key, task.copy(alloc)?)?;
     Ok(task)
 }
 
@@ -105,22 +95,22 @@ fn take_task<P: Problem>(
 fn task_of<P: Problem>(
     alloc: Global,
     loaded: &Loaded<P>,
-    tables: &Tables<P::F>,
+    image: &KeyedImage<P::F, Task<P>>,
     key: Key,
 ) -> Result<Task<P>, Refused>
     requires { StandsIn loaded.now.graph key }
     ensures key { IfOk result (λ task. task.key ≡ key) }
-    ensures is_task { GivesTask P.targets P.F.edge loaded.now tables.now key result }
+    ensures is_task { GivesTask P.F.edge P.targets loaded.now image.now.table key result }
     ensures edges { IfOk result (λ task. EdgesWithin loaded.now.graph.nodes task.site) }
     ensures refused { IsOkUnless result Refused.NoMemory }
 {
     let node = key.node();
     let site = loaded.graph.shared_site(node)?;
     let procedure = loaded.graph.procedure_of(node);
-    let partners = partners_of(alloc, loaded, tables, key, procedure, &*site)?;
+    let partners = partners_of(alloc, loaded, image, key, procedure, &*site)?;
     Ok(Task {
         key,
-        function: tables.function(key),
+        function: image.function(key),
         site,
         partners,
     })
@@ -131,17 +121,17 @@ fn task_of<P: Problem>(
 fn partners_of<P: Problem>(
     alloc: Global,
     loaded: &Loaded<P>,
-    tables: &Tables<P::F>,
+    image: &KeyedImage<P::F, Task<P>>,
     key: Key,
     procedure: usize,
     site: &Site,
 ) -> Result<Partners<P::F>, Refused>
-    ensures partners { GivesPartners P.targets P.F.edge loaded.now tables.now key site.now procedure result }
+    ensures partners { GivesPartners P.F.edge P.targets loaded.now image.now.table key site.now procedure result }
     ensures refused { IsOkUnless result Refused.NoMemory }
 {
     match (key, site) {
         (Key::Jump(call, _, to), Site::Call { .. }) => {
-            let summaries = tables.summaries_at(alloc, call, to)?;
+            let summaries = image.summaries_at(alloc, call, to)?;
             Ok(Partners::Entries(Listing::of(summaries)))
         }
         (Key::Jump(_, from, _), Site::Exit { .. }) => {
@@ -152,7 +142,7 @@ fn partners_of<P: Problem>(
             Ok(Partners::Entries(Listing::of(Vec::new(alloc))))
         }
         (Key::Summary(call, from, _), _) => {
-            let jumps = tables.jumps_at(alloc, call, from)?;
+            let jumps = image.jumps_at(alloc, call, from)?;
             Ok(Partners::Entries(Listing::of(jumps)))
         }
     }

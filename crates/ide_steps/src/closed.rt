@@ -5,8 +5,8 @@ ghost use Rattle.ide_steps.specs.Frozen.{graph_in, program_in};
 
 use crate::loaded::Loaded;
 use crate::machine::Core;
-use ide_problem::Problem;
 use ide_image::Tables;
+use ide_problem::Problem;
 use ide_wire::Refused;
 use std::sync::Arc;
 
@@ -40,7 +40,7 @@ impl<P: Problem> Core<P> {
         Ok(Closed {
             loaded: Arc::try_clone(loaded)?,
             roots: Vec::from_slice(self.alloc, self.roots.as_slice())?,
-            tables: self.tables.copy(self.alloc)?,
+            tables: self.image.copy_tables(self.alloc)?,
         })
     }
 
@@ -66,15 +66,13 @@ impl<P: Problem> Core<P> {
             alloc,
             loaded,
             roots,
-            tables,
-            worklist,
-            changes,
+            image,
         } = self;
         match loaded {
             Some(loaded) => Ok(Closed {
                 loaded,
                 roots,
-                tables,
+                tables: image.into_tables(),
             }),
             None => Err((
                 Refused::NoProgram,
@@ -82,9 +80,7 @@ impl<P: Problem> Core<P> {
                     alloc,
                     loaded: None,
                     roots,
-                    tables,
-                    worklist,
-                    changes,
+                    image,
                 },
             )),
         }

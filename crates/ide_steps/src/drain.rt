@@ -1,5 +1,5 @@
 //! All steps that are left, by one hand.
-ghost use Rattle.std.specs.Prelude.{◌≡◌, ℕ, ◌-◌, ◌^◌, ◌<◌, ◌⊎◌, [], true, false, nat_eq, min, if◌then◌else◌, Ok, Some, None, IfErr, IfOk, OnErr, OnOk, IsOkUnless};
+ghost use Rattle.std.specs.Prelude.{◌≡◌, ◌-◌, ◌<◌, ◌⊎◌, [], true, false, Ok, Some, None, IfErr, IfOk, OnErr, OnOk, IsOkUnless};
 ghost use Rattle.ide_steps.specs.Changed.{Remembers};
 ghost use Rattle.ide_steps.specs.Claiming.{FindsQuiet, FindsTask, KeepsAllBut};
 ghost use Rattle.ide_steps.specs.Core.{is_loaded, AreInside, IsUnchanged};
@@ -62,10 +62,10 @@ impl<P: Problem> Core<P> {
         if self.loaded.is_none() {
             return Err(Refused::NoProgram);
         }
-        if self.worklist.claim(DRAINING).is_some() {
+        if self.image.claim(DRAINING).is_some() {
             return Err(Refused::Busy);
         }
-        if self.worklist.claimed_elsewhere(DRAINING) {
+        if self.image.claimed_elsewhere(DRAINING) {
             return Err(Refused::Unfinished);
         }
         Ok(())
@@ -123,7 +123,7 @@ impl<P: Problem> Core<P> {
         requires loaded { is_loaded self.old ≡ true }
         requires free { IsFree self.old.pile }
         ensures refused { IsOkUnless result Refused.NoMemory }
-        ensures task { ForTask result (FindsTask P.targets P.F.edge 0 self.old self.new) }
+        ensures task { ForTask result (FindsTask P.F.edge P.targets 0 self.old self.new) }
         ensures quiet { result ≡ Ok None → FindsQuiet self.old self.new }
         ensures keeps { KeepsAllBut 0 self.old self.new }
         ensures unchanged { OnErr result (IsUnchanged self.old self.new) }

@@ -2,13 +2,13 @@
 ghost use Rattle.std.specs.Prelude.{◌≡◌, ◌≢◌, [], filter, ◌↔◌, None, Err, IfErr, IsOk, OnErr, OnOk, length, IsOkUnless};
 ghost use Rattle.std.specs.Option.{is_some};
 ghost use Rattle.ide_image.specs.Worklist.{PutsClaim, claim_at};
-ghost use Rattle.ide_steps.specs.Changed.{ended_key, Notes, Remembers};
+ghost use Rattle.ide_image.specs.Notes.{ended_key};
+ghost use Rattle.ide_steps.specs.Changed.{Notes, Remembers};
 ghost use Rattle.ide_steps.specs.Core.{IsSameProblem};
 ghost use Rattle.ide_steps.specs.Drain.{TakesOut};
 ghost use Rattle.ide_steps.specs.PartRefusal.{IsFinishRefusal};
 ghost use Rattle.ide_steps.specs.Steps.{EndsDone, EndsHeld, GivesAllBack, GivesBack, IsCurrent};
 
-use crate::changes;
 use crate::machine::Core;
 use ide_problem::Problem;
 use ide_tasks::Work;
@@ -21,12 +21,12 @@ impl<P: Problem> Core<P> {
     /// Refusals, in this order: `Stale` where the work is not the hand's claim as it stands, or parts
     /// are left; `NoMemory`, which never comes where nobody asked for changes.
     pub fn finish(&mut self, hand: usize, work: &Work<P>) -> Result<(), Refused>
-        ensures refused { IfErr result (IsFinishRefusal P.targets P.F.edge self.old hand work.now) }
+        ensures refused { IfErr result (IsFinishRefusal P.F.edge P.targets self.old hand work.now) }
         ensures nobody { self.old.changes ≡ None → result ≢ Err Refused.NoMemory }
         ensures notes { OnOk result (Notes self.old self.new (ended_key (claim_at self.old.pile hand))) }
         ensures remembers { Remembers self.old self.new }
-        ensures current { OnOk result (IsCurrent P.targets P.F.edge self.old hand work.now) }
-        ensures finished { OnOk result (EndsDone P.targets P.F.edge hand self.old self.new) }
+        ensures current { OnOk result (IsCurrent P.F.edge P.targets self.old hand work.now) }
+        ensures finished { OnOk result (EndsDone P.F.edge P.targets hand self.old self.new) }
         ensures claims { OnOk result (PutsClaim hand None self.old.pile self.new.pile) }
         ensures count { OnOk result (TakesOut hand self.old.pile self.new.pile) }
         ensures stays { IsSameProblem self.old self.new }
@@ -45,7 +45,7 @@ impl<P: Problem> Core<P> {
 
     /// Ends the hand's claim, and notes the entry of the key that this takes out.
     pub(crate) fn end_claim(&mut self, hand: usize) -> Result<(), Refused>
-        ensures finished { OnOk result (EndsHeld P.targets P.F.edge hand self.old self.new) }
+        ensures finished { OnOk result (EndsHeld P.F.edge P.targets hand self.old self.new) }
         ensures notes { OnOk result (Notes self.old self.new (ended_key (claim_at self.old.pile hand))) }
         ensures remembers { Remembers self.old self.new }
         ensures refused { IsOkUnless result Refused.NoMemory }
@@ -56,8 +56,7 @@ impl<P: Problem> Core<P> {
         ensures claims { OnOk result (PutsClaim hand None self.old.pile self.new.pile) }
         ensures count { OnOk result (TakesOut hand self.old.pile self.new.pile) }
     {
-        changes::note_end(&mut self.changes, &self.tables, &self.worklist, hand)?;
-        self.worklist.finish(hand);
+        self.image.finish(hand)?;
         Ok(())
     }
 
@@ -68,7 +67,7 @@ impl<P: Problem> Core<P> {
     pub fn release(&mut self, hand: usize) -> Result<(), Refused>
         ensures stale { (result ≡ Err Refused.Stale) ↔ (claim_at self.old.pile hand ≡ None) }
         ensures refused { IsOkUnless result Refused.Stale }
-        ensures released { GivesBack P.targets P.F.edge hand self.old self.new }
+        ensures released { GivesBack P.F.edge P.targets hand self.old self.new }
         ensures claim { claim_at self.new.pile hand ≡ None }
         ensures claims { PutsClaim hand None self.old.pile self.new.pile }
         ensures stays { IsSameProblem self.old self.new }
@@ -76,7 +75,7 @@ impl<P: Problem> Core<P> {
         ensures pending { self.new.pile.pending ≡ self.old.pile.pending }
         ensures changes { self.new.changes ≡ self.old.changes }
     {
-        match self.worklist.release(hand) {
+        match self.image.release(hand) {
             Some(_) => Ok(()),
             None => Err(Refused::Stale),
         }
@@ -90,8 +89,8 @@ impl<P: Problem> Core<P> {
         ensures table { self.new.table ≡ self.old.table }
         ensures pending { self.new.pile.pending ≡ self.old.pile.pending }
         ensures changes { self.new.changes ≡ self.old.changes }
-        ensures state { GivesAllBack P.targets P.F.edge self.old self.new }
+        ensures state { GivesAllBack P.F.edge P.targets self.old self.new }
     {
-        self.worklist.release_all()
+        self.image.release_all()
     }
 }

@@ -7,14 +7,15 @@ ghost use Rattle.ide_image.specs.Tables.{Sets};
 ghost use Rattle.ide_theory.specs.Within.{is_some_call};
 ghost use Rattle.ide_wire.specs.Key.{same_key};
 ghost use Rattle.ide_image.specs.Worklist.{claim_at, IsFree};
-ghost use Rattle.ide_steps.specs.Changed.{Notes, Remembers, noted_count};
+ghost use Rattle.ide_image.specs.Notes.{noted_count};
+ghost use Rattle.ide_steps.specs.Changed.{Notes, Remembers};
 ghost use Rattle.ide_steps.specs.Core.{IsSameProblem, IsUnchanged};
 ghost use Rattle.ide_steps.specs.Items.{AreChangedItems, AreItems, IsKeyOf, SetsPending, is_left_of, item_of, left_keys};
 
-use crate::changes::{self, Entry};
 use crate::loaded::is_call;
 use crate::machine::Core;
 use ide_graph::Graph;
+use ide_image::Entry;
 use ide_problem::Problem;
 use ide_wire::{Fact, Key, Node, Refused};
 use std::alloc::AllocError;
@@ -27,7 +28,7 @@ impl<P: Problem> Core<P> {
         ensures items { IfOk result (λ items. AreItems self.now items.items) }
         ensures refused { IfErr result (λ e. e ≡ Refused.NoMemory) }
     {
-        let keys = self.tables.keys(self.alloc)?;
+        let keys = self.image.keys(self.alloc)?;
         let items = self.items_of(&keys)?;
         Ok(items)
     }
@@ -53,11 +54,11 @@ impl<P: Problem> Core<P> {
         ensures keys { IfOk result (λ keys. keys.items ≡ left_keys P.F.eq self.now (unwrap_or self.now.changes [])) }
         ensures once { IsDistinct same_key (keys_of (unwrap_or self.now.changes [])) }
     {
-        match &self.changes {
+        match self.image.notes() {
             Some(notes) => notes
                 .iter()
-                .filter(|note| self.is_left(*note.0, note.1))
-                .map(|note| *note.0)
+                .filter(|note| self.is_left(note.0, &note.1))
+                .map(|note| note.0)
                 .collect(self.alloc),
             None => Ok(Vec::new(self.alloc)),
         }
@@ -67,7 +68,7 @@ impl<P: Problem> Core<P> {
     fn is_left(&self, key: Key, before: &Entry<P::F>) -> bool
         ensures { result ≡ is_left_of P.F.eq self.now (key, before.now) }
     {
-        match (self.tables.get(key), before.function) {
+        match (self.image.get(key), before.function) {
             (Some(now), Some(then)) => now != then || self.is_pending(key) != before.pending,
             (Some(_), None) => true,
             (None, _) => false,
@@ -85,7 +86,7 @@ impl<P: Problem> Core<P> {
     fn item(&self, key: Key) -> (Key, P::F, bool)
         ensures { result ≡ item_of P.F.edge self.now key }
     {
-        (key, self.tables.function(key), self.is_pending(key))
+        (key, self.image.function(key), self.is_pending(key))
     }
 
     /// Whether the core may have the key: a program is loaded, the key stands at a node of it, a
@@ -116,12 +117,7 @@ impl<P: Problem> Core<P> {
         ensures refused { IfErr result (λ e. e ≡ Refused.NoMemory) }
         ensures unchanged { OnErr result (IsUnchanged self.old self.new) }
     {
-        self.worklist.reserve(1)?;
-        changes::make_room(&mut self.changes, 1)?;
-        let before = changes::standing(&self.changes, &self.tables, &self.worklist, key);
-        self.tables.set(key, function)?;
-        changes::note(&mut self.changes, key, before);
-        self.worklist.set_pending(key, pending);
+        self.image.set(key, function, pending)?;
         Ok(())
     }
 }

@@ -31,7 +31,7 @@ pub fn calls_are_steps<P: Problem>()
 pub fn cores_are_whole<P: Problem>(core: &Core<P>)
     ensures { IsWholeCore core.now }
 {
-    let _ = core.tables.key_count();
+    let _ = core.image.key_count();
     if let Some(loaded) = &core.loaded {
         let _ = loaded.graph.node_count();
     }

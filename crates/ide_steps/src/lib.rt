@@ -7,7 +7,6 @@
 //! makes an image again from such a list, is the one call that is no step.
 #![tactic(auto)]
 
-mod changes;
 mod claim;
 mod closed;
 mod drain;
@@ -20,7 +19,6 @@ mod part;
 mod root;
 mod sources;
 
-pub use changes::Entry;
 pub use claim::Claimed;
 pub use closed::Closed;
 pub use laws::{calls_are_steps, cores_are_whole, images_have_room, tasks_owe_their_parts};

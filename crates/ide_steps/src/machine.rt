@@ -1,7 +1,8 @@
 //! The core: its state and what may be asked of it.
 ghost use Rattle.ide_graph.specs.GraphOf.{IsGraphOf};
 ghost use Rattle.ide_graph.specs.ProgramEdges.{HasEdgesOf};
-ghost use Rattle.ide_steps.specs.Changed.{HandsOut, Notes, Remembers, standing_entry, entry_then, noted, noted_count};
+ghost use Rattle.ide_image.specs.Notes.{noted, noted_count};
+ghost use Rattle.ide_steps.specs.Changed.{HandsOut, Notes, Remembers, standing_entry, entry_then};
 ghost use Rattle.ide_steps.specs.Core.{IsInside, IsSameProblem, IsUnchanged};
 ghost use Rattle.ide_steps.specs.Drain.{HasLess, IsPaidBy};
 ghost use Rattle.std.specs.Prelude.{◌≡◌, ℕ, ◌↔◌, [], None, Some, Ok, length, unwrap_or, IsTrue, IfErr, OnOk, OnErr, IsOkUnless};
@@ -17,36 +18,27 @@ ghost use Rattle.ide_image.specs.Tables.{found};
 ghost use Rattle.ide_text.specs.Program.{value_of};
 ghost use Rattle.ide_image.specs.Worklist.{claim_at, is_pending};
 
-use crate::changes::{self, Entry};
 use crate::loaded::Loaded;
 use ide_graph::Graph;
+use ide_image::{Change, Claim, Entry, KeyedImage};
 use ide_problem::Problem;
-use ide_image::{Change, Tables};
 use ide_tasks::Task;
 use ide_text::Program;
 use ide_wire::{Key, Refused};
-use ide_image::{Claim, Worklist};
-use indexmap::IndexMap;
 use std::alloc::Global;
 use std::marker::Model;
-use std::mem;
 use std::sync::Arc;
 
 /// The most hands that may have a claim: they are numbered from 0.
 pub const HANDS: usize = 64;
 
-/// A solver's state: the loaded program, its roots, the tables, and which keys are pending and
-/// claimed.
+/// A solver's state: the loaded program, its roots, and what the image has at each key.
 #[derive(Drop)]
 pub struct Core<P: Problem> {
     pub(crate) alloc: Global,
     pub(crate) loaded: Option<Arc<Loaded<P>>>,
     pub(crate) roots: Vec<usize>,
-    pub(crate) tables: Tables<P::F>,
-    pub(crate) worklist: Worklist<Task<P>>,
-    /// For each key that changed since changes were last asked for, the entry that it had then:
-    /// none where nobody asked.
-    pub(crate) changes: Option<IndexMap<Key, Entry<P::F>>>,
+    pub(crate) image: KeyedImage<P::F, Task<P>>,
 }
 
 impl<P: Problem> Model for Core<P> {
@@ -54,15 +46,14 @@ impl<P: Problem> Model for Core<P> {
     ghost use Rattle.std.specs.Option.{option_map};
     ghost use Rattle.std.specs.Arc.{arc_value};
     ghost use Rattle.ide_steps.specs.declared.loaded.Loaded.{Loaded};
-    ghost use Rattle.ide_steps.specs.Changed.{notes_of};
     ghost use Rattle.ide_steps.specs.Core.{CoreData};
     ghost use Rattle.ide_steps.specs.Kept.{KeepsLoaded};
 
     ghost Value = { CoreData P.F };
 
-    ghost view = { λ c. record { program = option_map (λ loaded. value_of (arc_value {X = Loaded P P.L P.F} loaded).program) c.loaded; graph = option_map (λ loaded. (arc_value {X = Loaded P P.L P.F} loaded).graph) c.loaded; roots = c.roots.items; table = c.tables; pile = c.worklist; changes = notes_of c.changes } };
+    ghost view = { λ c. record { program = option_map (λ loaded. value_of (arc_value {X = Loaded P P.L P.F} loaded).program) c.loaded; graph = option_map (λ loaded. (arc_value {X = Loaded P P.L P.F} loaded).graph) c.loaded; roots = c.roots.items; table = c.image.table; pile = c.image.pile; changes = c.image.changes } };
 
-    ghost invariant = { λ c. KeepsLoaded P.targets P.F.edge (option_map (arc_value {X = Loaded P P.L P.F}) c.loaded) c.worklist };
+    ghost invariant = { λ c. KeepsLoaded P.F.edge P.targets (option_map (arc_value {X = Loaded P P.L P.F}) c.loaded) c.image.pile };
 }
 
 impl<P: Problem> Core<P> {
@@ -71,7 +62,7 @@ impl<P: Problem> Core<P> {
         ensures program { result.program ≡ None }
         ensures graph { result.graph ≡ None }
         ensures roots { result.roots ≡ [] }
-        ensures state { state_of P.targets P.F.edge result ≡ nothing_done P.F }
+        ensures state { state_of P.F.edge P.targets result ≡ nothing_done P.F }
         ensures entries { result.table.entries ≡ [] }
         ensures pending { result.pile.pending ≡ [] }
         ensures claims { result.pile.claims ≡ [] }
@@ -81,9 +72,7 @@ impl<P: Problem> Core<P> {
             alloc,
             loaded: None,
             roots: Vec::new(alloc),
-            tables: Tables::new(alloc),
-            worklist: Worklist::new(alloc),
-            changes: None,
+            image: KeyedImage::new(alloc),
         }
     }
 
@@ -95,7 +84,7 @@ impl<P: Problem> Core<P> {
         ensures roots { OnOk result (self.new.roots ≡ []) }
         ensures graph { OnOk result (IsSomeAnd self.new.graph (IsGraphOf program)) }
         ensures edges { OnOk result (IsSomeAnd self.new.graph (HasEdgesOf program)) }
-        ensures state { OnOk result (state_of P.targets P.F.edge self.new ≡ nothing_done P.F) }
+        ensures state { OnOk result (state_of P.F.edge P.targets self.new ≡ nothing_done P.F) }
         ensures entries { OnOk result (self.new.table.entries ≡ []) }
         ensures pending { OnOk result (self.new.pile.pending ≡ []) }
         ensures claims { OnOk result (self.new.pile.claims ≡ []) }
@@ -106,10 +95,8 @@ impl<P: Problem> Core<P> {
         let loaded = Loaded::of(self.alloc, program)?;
         let loaded = Arc::new(self.alloc, loaded)?;
         self.loaded = Some(loaded);
-        self.tables = Tables::new(self.alloc);
-        self.worklist.clear();
+        self.image.clear(self.alloc);
         self.roots.clear();
-        changes::begin_anew(self.alloc, &mut self.changes);
         Ok(())
     }
 
@@ -138,80 +125,68 @@ impl<P: Problem> Core<P> {
     pub fn claim_of(&self, hand: usize) -> Option<&Claim<Task<P>>>
         ensures { option_copied result ≡ claim_at self.now.pile hand }
     {
-        self.worklist.claim(hand)
+        self.image.claim(hand)
     }
 
     /// Whether no key is pending, claimed or not.
     pub fn is_quiet(&self) -> bool
         ensures { IsTrue result ↔ (self.now.pile.pending ≡ []) }
     {
-        self.worklist.is_quiet()
+        self.image.is_quiet()
     }
 
     /// The function at a key; an absent one stands for the always-top function.
     pub fn get(&self, key: Key) -> Option<P::F>
         ensures { result ≡ found self.now.table key }
     {
-        self.tables.get(key)
+        self.image.get(key)
     }
 
     /// Whether the key is pending, claimed or not.
     pub fn is_pending(&self, key: Key) -> bool
         ensures { result ≡ is_pending self.now.pile key }
     {
-        self.worklist.is_pending(key)
+        self.image.is_pending(key)
     }
 
     /// How many keys have an entry.
     pub fn key_count(&self) -> usize
         ensures { result ≡ length self.now.table.entries }
     {
-        self.tables.key_count()
+        self.image.key_count()
     }
 
     /// How many keys are pending.
     pub fn pending_count(&self) -> usize
         ensures { result ≡ length self.now.pile.pending }
     {
-        self.worklist.pending_count()
+        self.image.pending_count()
     }
 
     /// Hands out, for each key that changed since this was last called, the entry that the key had
-    /// then: none the first time. From now on changes are noted.
-    pub fn take_changes(&mut self) -> IndexMap<Key, Entry<P::F>>
-        ensures once { IsDistinct same_key (keys_of result.entries) }
-        ensures list { result.entries ≡ unwrap_or self.old.changes [] }
-        ensures entries { HandsOut self.old self.new result.entries }
+    /// then: none the first time. From now on changes are noted. It takes constant time, and no memory.
+    pub fn take_changes(&mut self) -> Vec<(Key, Entry<P::F>)>
+        ensures once { IsDistinct same_key (keys_of result.items) }
+        ensures list { result.items ≡ unwrap_or self.old.changes [] }
+        ensures entries { HandsOut self.old self.new result.items }
         ensures anew { (key : Key) → entry_then self.new key ≡ standing_entry self.new key }
         ensures stays { self.new ≡ record self.old { changes = Some [] } }
     {
-        let anew = Some(IndexMap::new(self.alloc));
-        let noted = match mem::replace(&mut self.changes, anew) {
-            Some(noted) => noted,
-            None => IndexMap::new(self.alloc),
-        };
-        let _ = noted.len();
-        noted
+        self.image.take_changes(self.alloc)
     }
 
     /// How many keys are noted to have changed.
     pub fn changed_count(&self) -> usize
         ensures { result ≡ noted_count self.now.changes }
     {
-        match &self.changes {
-            Some(noted) => noted.len(),
-            None => 0,
-        }
+        self.image.changed_count()
     }
 
     /// Whether the key is noted to have changed.
     pub fn is_changed(&self, key: Key) -> bool
         ensures { result ≡ is_some (noted self.now.changes key) }
     {
-        match &self.changes {
-            Some(noted) => noted.contains_key(&key),
-            None => false,
-        }
+        self.image.is_changed(key)
     }
 
     /// Meets one entry with a function. An entry that changed is pending then, a claim of its key is
@@ -224,22 +199,14 @@ impl<P: Problem> Core<P> {
         ensures still { result ≡ Ok Change.Same → IsUnchanged self.old self.new }
         ensures notes { result ≡ Ok Change.Lowered → Notes self.old self.new (Some key) }
         ensures remembers { Remembers self.old self.new }
-        ensures lowered { result ≡ Ok Change.Lowered → IsLoweredBy P.targets P.F.edge self.old self.new key function }
-        ensures changes { result ≡ Ok Change.Lowered → IsChangedBy P.targets P.F.edge self.old key function }
-        ensures same { result ≡ Ok Change.Same → SameState P.targets P.F.edge self.old self.new }
-        ensures met { result ≡ Ok Change.Same → HasReceived P.targets P.F.edge self.old key function }
+        ensures lowered { result ≡ Ok Change.Lowered → IsLoweredBy P.F.edge P.targets self.old self.new key function }
+        ensures changes { result ≡ Ok Change.Lowered → IsChangedBy P.F.edge P.targets self.old key function }
+        ensures same { result ≡ Ok Change.Same → SameState P.F.edge P.targets self.old self.new }
+        ensures met { result ≡ Ok Change.Same → HasReceived P.F.edge P.targets self.old key function }
         ensures progress { OnOk result (SameTasks self.old.pile self.new.pile) }
         ensures refused { IsOkUnless result Refused.NoMemory }
         ensures unchanged { OnErr result (IsUnchanged self.old self.new) }
     {
-        self.worklist.reserve(1)?;
-        changes::make_room(&mut self.changes, 1)?;
-        let before = changes::standing(&self.changes, &self.tables, &self.worklist, key);
-        let change = self.tables.lower(key, function)?;
-        if change == Change::Lowered {
-            changes::note(&mut self.changes, key, before);
-            self.worklist.push(key);
-        }
-        Ok(change)
+        self.image.lower(key, function)
     }
 }

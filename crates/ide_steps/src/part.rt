@@ -9,8 +9,8 @@ ghost use Rattle.ide_steps.specs.Changed.{NotesPart, Remembers};
 ghost use Rattle.ide_steps.specs.Core.{AreInside, IsSameProblem, IsUnchanged};
 
 use crate::machine::Core;
-use ide_problem::Problem;
 use ide_image::Change;
+use ide_problem::Problem;
 use ide_tasks::Work;
 use ide_wire::Refused;
 
@@ -32,12 +32,12 @@ impl<P: Problem> Core<P> {
     /// count of parts done is not the claim's; `NoMemory`, which comes only where a part is left.
     /// Telling whether the work is the claim's takes time in proportion to its site and partners.
     pub fn part(&mut self, hand: usize, work: &mut Work<P>) -> Result<Parted, Refused>
-        ensures refused { IfErr result (IsPartRefusal P.targets P.F.edge self.old hand work.old) }
-        ensures current { OnOk result (IsCurrent P.targets P.F.edge self.old hand work.old) }
+        ensures refused { IfErr result (IsPartRefusal P.F.edge P.targets self.old hand work.old) }
+        ensures current { OnOk result (IsCurrent P.F.edge P.targets self.old hand work.old) }
         ensures no_part { result ≡ Ok Parted.NoPart → FindsNone self.old self.new work.old work.new }
         ensures all_done { WhereAllDone hand self.old work.old (result ≡ Ok Parted.NoPart) }
-        ensures lowered { result ≡ Ok Parted.Lowered → LowersPart P.targets P.F.edge hand self.old self.new work.old work.new }
-        ensures same { result ≡ Ok Parted.Same → SkipsPart P.targets P.F.edge hand self.old self.new work.old work.new }
+        ensures lowered { result ≡ Ok Parted.Lowered → LowersPart P.F.edge P.targets hand self.old self.new work.old work.new }
+        ensures same { result ≡ Ok Parted.Same → SkipsPart P.F.edge P.targets hand self.old self.new work.old work.new }
         ensures tasks { OnOk result (KeepTasks hand work.new.done self.old.pile self.new.pile) }
         ensures notes { result ≡ Ok Parted.Lowered → NotesPart work.old self.old self.new }
         ensures notes_none { result ≡ Ok Parted.Same → self.new.changes ≡ self.old.changes }
@@ -56,14 +56,14 @@ impl<P: Problem> Core<P> {
     ///
     /// Refusal: `NoMemory`, which comes only where a part is left.
     pub fn own_part(&mut self, hand: usize, work: &mut Work<P>) -> Result<Parted, Refused>
-        requires { IsCurrent P.targets P.F.edge self.old hand work.old }
+        requires { IsCurrent P.F.edge P.targets self.old hand work.old }
         ensures refused { IsOkUnless result Refused.NoMemory }
         ensures left { OnErr result (work.old.done < length work.old.parts) }
         ensures no_part { result ≡ Ok Parted.NoPart → FindsNone self.old self.new work.old work.new }
         ensures all_done { work.old.done ≡ length work.old.parts → result ≡ Ok Parted.NoPart }
-        ensures lowered { result ≡ Ok Parted.Lowered → LowersPart P.targets P.F.edge hand self.old self.new work.old work.new }
-        ensures same { result ≡ Ok Parted.Same → SkipsPart P.targets P.F.edge hand self.old self.new work.old work.new }
-        ensures own { OnOk result (IsCurrent P.targets P.F.edge self.new hand work.new) }
+        ensures lowered { result ≡ Ok Parted.Lowered → LowersPart P.F.edge P.targets hand self.old self.new work.old work.new }
+        ensures same { result ≡ Ok Parted.Same → SkipsPart P.F.edge P.targets hand self.old self.new work.old work.new }
+        ensures own { OnOk result (IsCurrent P.F.edge P.targets self.new hand work.new) }
         ensures less { OnOk result (HasNoMore P.F.edge hand self.old self.new) }
         ensures tasks { OnOk result (KeepTasks hand work.new.done self.old.pile self.new.pile) }
         ensures free { (h : ℕ) → claim_at self.old.pile h ≡ None → claim_at self.new.pile h ≡ None }
@@ -84,11 +84,11 @@ impl<P: Problem> Core<P> {
     /// and the work counts them. Whether the work is the claim's is told once for all of these parts:
     /// that takes time in proportion to its site and partners once, and then that of each part.
     pub fn parts(&mut self, hand: usize, work: &mut Work<P>, most: usize) -> Result<usize, Refused>
-        ensures refused { IfErr result (IsPartRefusal P.targets P.F.edge self.old hand work.old) }
-        ensures current { OnOk result (IsCurrent P.targets P.F.edge self.old hand work.old) }
+        ensures refused { IfErr result (IsPartRefusal P.F.edge P.targets self.old hand work.old) }
+        ensures current { OnOk result (IsCurrent P.F.edge P.targets self.old hand work.old) }
         ensures count { IfOk result (λ n. n ≡ min most (length work.old.parts - work.old.done)) }
         ensures done { IfOk result (λ n. work.new ≡ record work.old { done = work.old.done + n }) }
-        ensures parts { DoesParts P.targets P.F.edge hand self.old self.new work.old work.new }
+        ensures parts { DoesParts P.F.edge P.targets hand self.old self.new work.old work.new }
         ensures kept { (work.new.task ≡ work.old.task) × (work.new.parts ≡ work.old.parts) }
         ensures tasks { CountsParts hand self.old self.new work.old work.new }
         ensures remembers { Remembers self.old self.new }
@@ -108,9 +108,9 @@ impl<P: Problem> Core<P> {
     /// takes time in proportion to the site and the partners of the task.
     pub fn is_current(&self, hand: usize, work: &Work<P>) -> bool
         ensures current { IsTrue result ↔ IsClaimOfWork work.now (claim_at self.now.pile hand) }
-        ensures owed { IsTrue result → work.now.parts ≡ owed P.targets P.F.edge work.now.task }
+        ensures owed { IsTrue result → work.now.parts ≡ owed P.F.edge P.targets work.now.task }
     {
-        match self.worklist.claim(hand) {
+        match self.image.claim(hand) {
             Some(claim) => claim.done == work.done() && claim.task.is_same(work.task()),
             None => false,
         }
@@ -118,9 +118,9 @@ impl<P: Problem> Core<P> {
 
     /// It does nothing: its clause is what is known of the parts of work that is the hand's claim.
     pub(crate) fn parts_are_inside(&self, hand: usize)
-        ensures { IsWorkInside P.targets P.F.edge self.now hand }
+        ensures { IsWorkInside P.F.edge P.targets self.now hand }
     {
-        let _ = self.worklist.claim(hand);
+        let _ = self.image.claim(hand);
     }
 
     /// Does the next part of work that is the hand's claim.
@@ -135,8 +135,8 @@ impl<P: Problem> Core<P> {
         ensures left { OnErr result (work.old.done < length work.old.parts) }
         ensures no_part { result ≡ Ok Parted.NoPart → FindsNone self.old self.new work.old work.new }
         ensures all_done { work.old.done ≡ length work.old.parts → result ≡ Ok Parted.NoPart }
-        ensures lowered { result ≡ Ok Parted.Lowered → LowersOwn P.targets P.F.edge hand self.old self.new work.old work.new }
-        ensures same { result ≡ Ok Parted.Same → SkipsOwn P.targets P.F.edge hand self.old self.new work.old work.new }
+        ensures lowered { result ≡ Ok Parted.Lowered → LowersOwn P.F.edge P.targets hand self.old self.new work.old work.new }
+        ensures same { result ≡ Ok Parted.Same → SkipsOwn P.F.edge P.targets hand self.old self.new work.old work.new }
         ensures progress { OnOk result (KeepsWork hand self.old self.new work.old work.new) }
         ensures tasks { HasDonePart result → KeepTasks hand work.new.done self.old.pile self.new.pile }
         ensures notes { result ≡ Ok Parted.Lowered → NotesPart work.old self.old self.new }
@@ -150,7 +150,7 @@ impl<P: Problem> Core<P> {
         };
         let change = self.lower(part.0, part.1)?;
         work.advance();
-        self.worklist.set_done(hand, work.done());
+        self.image.set_done(hand, work.done());
         match change {
             Change::Lowered => Ok(Parted::Lowered),
             Change::Same => Ok(Parted::Same),
@@ -164,7 +164,7 @@ impl<P: Problem> Core<P> {
         ensures left { OnErr result (work.old.done < length work.old.parts) }
         ensures count { IfOk result (λ n. n ≡ min most (length work.old.parts - work.old.done)) }
         ensures done { IfOk result (λ n. work.new ≡ record work.old { done = work.old.done + n }) }
-        ensures parts { DoesOwn P.targets P.F.edge hand self.old self.new work.old work.new }
+        ensures parts { DoesOwn P.F.edge P.targets hand self.old self.new work.old work.new }
         ensures kept { (work.new.task ≡ work.old.task) × (work.new.parts ≡ work.old.parts) }
         ensures remembers { Remembers self.old self.new }
         ensures tasks { CountsParts hand self.old self.new work.old work.new }

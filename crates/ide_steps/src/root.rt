@@ -1,21 +1,18 @@
 //! Roots: where analysis begins.
-ghost use Rattle.std.specs.Prelude.{◌≡◌, ◌≤◌, ◌<◌, ◌^◌, ◌↔◌, ◌⊎◌, ◌++◌, ◌∷◌, [], None, length, IfErr, IfOk, IsTrue, OnErr, OnOk, IsOkUnless};
-ghost use Rattle.std.specs.Map.{keys_of};
+ghost use Rattle.std.specs.Prelude.{◌≡◌, ◌≤◌, ◌<◌, ◌^◌, ◌↔◌, ◌⊎◌, ◌++◌, ◌∷◌, [], None, IfErr, IfOk, IsTrue, OnErr, OnOk, IsOkUnless};
 ghost use Rattle.ide_image.specs.Tables.{found};
 ghost use Rattle.ide_steps.specs.Changed.{Remembers};
 ghost use Rattle.ide_steps.specs.Core.{AreInside, IsUnchanged};
 ghost use Rattle.ide_steps.specs.Refusal.{IsNoRoot, IsRootName, IsRootNow, IsRootRefusal, RootFault};
-ghost use Rattle.ide_steps.specs.Rooted.{AllAbsent, AllAt, AreSeedEntries, Enters, IsBegun, MarksAll, Queues};
+ghost use Rattle.ide_steps.specs.Rooted.{AllAbsent, AllAt, AreSeedEntries, Enters, IsBegun};
 ghost use Rattle.ide_steps.specs.Steps.{SameTasks};
 
-use crate::changes;
 use crate::machine::Core;
 use ide_graph::Graph;
 use ide_lattice::EdgeFn;
 use ide_problem::Problem;
 use ide_theory::{runs_go_on, sites_make_a_graph, starts_are_seeded};
 use ide_wire::{Fact, Key, Node, Refused};
-use ide_image::Worklist;
 use std::alloc::AllocError;
 
 impl<P: Problem> Core<P> {
@@ -70,7 +67,7 @@ impl<P: Problem> Core<P> {
         requires few { entries ≤ 2 ^ 16 }
         ensures place { IfOk result (λ jumps. AllAt start jumps.items) }
         ensures absent { IfOk result (λ jumps. AllAbsent self.now jumps.items) }
-        ensures entered { IfOk result (λ jumps. AreSeedEntries P.targets P.F.edge self.now start entries jumps.items) }
+        ensures entered { IfOk result (λ jumps. AreSeedEntries P.F.edge P.targets self.now start entries jumps.items) }
     {
         let mut jumps = Vec::new(self.alloc);
         for fact in 0..entries {
@@ -87,7 +84,7 @@ impl<P: Problem> Core<P> {
     fn is_absent(&self, key: Key) -> bool
         ensures { IsTrue result ↔ (found self.now.table key ≡ None) }
     {
-        self.tables.get(key).is_none()
+        self.image.get(key).is_none()
     }
 
     /// Makes the procedure a root, whose jumps at its start have these functions now and are
@@ -98,18 +95,14 @@ impl<P: Problem> Core<P> {
         ensures program { self.new.program ≡ self.old.program }
         ensures graph { self.new.graph ≡ self.old.graph }
         ensures roots { OnOk result (self.new.roots ≡ self.old.roots ++ procedure ∷ []) }
-        ensures state { OnOk result (Enters P.targets P.F.edge self.old self.new jumps.now) }
+        ensures state { OnOk result (Enters P.F.edge P.targets self.old self.new jumps.now) }
         ensures progress { OnOk result (SameTasks self.old.pile self.new.pile) }
         ensures remembers { Remembers self.old self.new }
         ensures refused { IsOkUnless result Refused.NoMemory }
         ensures unchanged { OnErr result (IsUnchanged self.old self.new) }
     {
         self.roots.reserve(1)?;
-        self.worklist.reserve(jumps.len())?;
-        changes::make_room(&mut self.changes, jumps.len())?;
-        self.tables.set_all(jumps)?;
-        changes::note_absent(&mut self.changes, &self.worklist, jumps);
-        push_each(&mut self.worklist, jumps);
+        self.image.set_all(jumps)?;
         self.roots.push_reserved(procedure);
         Ok(())
     }
@@ -131,15 +124,4 @@ fn find_root(graph: &Graph, roots: &[usize], name: &[u8]) -> Result<usize, Refus
         return Err(Refused::Already);
     }
     Ok(procedure)
-}
-
-/// Makes the keys of the entries pending, for which there is room.
-fn push_each<T: Drop, F>(worklist: &mut Worklist<T>, entries: &[(Key, F)])
-    requires { length entries.now ≤ worklist.old.spare }
-    ensures pending { Queues (keys_of entries.now) worklist.old worklist.new }
-    ensures claims { MarksAll (keys_of entries.now) worklist.old worklist.new }
-{
-    for entry in entries {
-        worklist.push(entry.0);
-    }
 }

@@ -13,7 +13,8 @@ use Rattle.ide_batch.specs.Records as records
 use Rattle.ide_batch.specs.Records.{RecordValue}
 use Rattle.ide_journal.specs.Format.{Entry, Head, IsEntry}
 use Rattle.ide_journal.specs.declared.version.Version.{Version}
-use Rattle.ide_steps.specs.Changed.{standing_entry, entry_then, noted}
+use Rattle.ide_image.specs.Notes.{noted}
+use Rattle.ide_steps.specs.Changed.{standing_entry, entry_then}
 use Rattle.ide_steps.specs.Core.{CoreData}
 use Rattle.ide_steps.specs.Items.{AreChangedItems}
 use Rattle.ide_steps.specs.Room.{IsWholeCore}
@@ -207,7 +208,7 @@ module _ {F L : Type 0} (a : Analysis F L) where
             working = rest.failed ∙ works.working;
             version = rest.version ∙ works.version;
             image = has;
-            claims = λ hand. works.claims hand ∙ ap (λ (core : CoreData F). (core_state a.targets a.functions core).claims hand) (sym anew);
+            claims = λ hand. works.claims hand ∙ ap (λ (core : CoreData F). (core_state a.functions a.targets core).claims hand) (sym anew);
             base = record {
               image = works.base.image;
               folded = works.base.folded;
@@ -232,7 +233,7 @@ module _ {F L : Type 0} (a : Analysis F L) where
           working = waits.failed ∙ works.working;
           version = waits.version ∙ works.version;
           image = has;
-          claims = λ hand. works.claims hand ∙ ap (λ (core : CoreData F). (core_state a.targets a.functions core).claims hand) (sym anew);
+          claims = λ hand. works.claims hand ∙ ap (λ (core : CoreData F). (core_state a.functions a.targets core).claims hand) (sym anew);
           base = record {
             image = w.world.image;
             folded = batch_folded knows head w reached old works whole entry spells;

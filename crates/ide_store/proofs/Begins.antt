@@ -9,9 +9,9 @@ use Rattle.ide_journal.specs.Format.{Head, IsEntry}
 use Rattle.ide_journal.specs.Lists.{entries_of, entry_of}
 use Rattle.ide_journal.specs.declared.record.RawRecord.{RawRecord}
 use Rattle.ide_journal.specs.declared.version.Version.{Version}
-use Rattle.ide_steps.specs.Changed.{noted_count}
+use Rattle.ide_image.specs.Notes.{noted_count}
 use Rattle.ide_steps.specs.Core.{CoreData}
-use Rattle.ide_steps.specs.declared.changes.Entry.{Entry as Noted}
+use Rattle.ide_image.specs.declared.entry.Entry.{Entry as Noted}
 use Rattle.ide_wire.specs.declared.key.Key.{Key}
 use Rattle.ide_image.specs.Worklist.{IsFree, Pile}
 use Rattle.ide_store.specs.Engine.{AreNewHalves}

@@ -44,11 +44,11 @@ use Rattle.ide_store.specs.OneDisk.{one_disk}
 use Rattle.ide_store.specs.Table.{Analysis, IsReached, KeepsRest, StoreWorld, TableData, WorksOn, forms_of}
 use Rattle.ide_store.specs.TableCalls.{TakesTask}
 
-module _ {F L : Type 0} (targets : Targets F) (functions : EdgeAlgebra F L) (graph other : Supergraph) (table : Table F)
+module _ {F L : Type 0} (functions : EdgeAlgebra F L) (targets : Targets F) (graph other : Supergraph) (table : Table F)
     (facts : graph.facts ≡ other.facts) where
   -- partners are those over each graph with as many facts
-  partners_on : (key : Key) (site : Site) (partners : Partners F) → ArePartnersOf targets functions graph table key site partners
-      → ArePartnersOf targets functions other table key site partners
+  partners_on : (key : Key) (site : Site) (partners : Partners F) → ArePartnersOf functions targets graph table key site partners
+      → ArePartnersOf functions targets other table key site partners
   partners_on (Jump n from to) (Normal edges) partners are = tt
   partners_on (Jump n from to) (Call calls along) (Entries summaries) are = are
   partners_on (Jump n from to) (Call calls along) (Callers reaching) are = absurd are
@@ -61,7 +61,7 @@ module _ {F L : Type 0} (targets : Targets F) (functions : EdgeAlgebra F L) (gra
   partners_on (Summary c from to) (Exit start callers) partners are = tt
 
   -- and so are tasks, where the sites are the same
-  task_on : (task : TaskData F) → graph.sites ≡ other.sites → IsTaskOf targets functions graph table task → IsTaskOf targets functions other table task
+  task_on : (task : TaskData F) → graph.sites ≡ other.sites → IsTaskOf functions targets graph table task → IsTaskOf functions targets other table task
   task_on task sites is = record {
     function = is.function;
     site = ap (λ all. slice_get all (node_of task.key)) (sym sites) ∙ is.site;
@@ -90,9 +90,9 @@ module _ {F L : Type 0} (a : Analysis F L) (knows : Knows a) where
 
     -- the task of a key that waits owes what a claim of it does, over each graph of the program
     owes_parts : (task : TaskData F) → IsWholeCore table.core → w.world.image.pending task.key ≡ true
-        → ((graph : Supergraph) → IsTaskWhere a.targets a.functions graph table.core task)
+        → ((graph : Supergraph) → IsTaskWhere a.functions a.targets graph table.core task)
         → (v : ProgramValue) → w.world.image.program ≡ Some v → (by : GraphBy v)
-        → ArePartsOf (frame_by a.lattice a.functions a.targets by) w.world.image.get task.key (owed a.targets a.functions task)
+        → ArePartsOf (frame_by a.lattice a.functions a.targets by) w.world.image.get task.key (owed a.functions a.targets task)
     owes_parts task kept_whole waits is_task v is by =
         let whole = reached_whole a knows head w reached in
         let exact = machine_is_exact a.functions a.same (forms_of a) knows.prefix_free head.version in
@@ -109,29 +109,29 @@ module _ {F L : Type 0} (a : Analysis F L) (knows : Knows a) where
         let few : by.graph.facts ≤ 2 ^ 16 = let most = by.graphed.few.1 in omega (arith, most) in
         let there : is_some (found table.core.table task.key) ≡ true = ap is_some (sym (on.image.get task.key) ∙ present.1) in
         let exits = knows.exits kept.program kept.graph kept.graphed kept.edges in
-        subst (λ (g : Key → Option F). ArePartsOf K g task.key (owed a.targets a.functions task)) (sym get)
+        subst (λ (g : Key → Option F). ArePartsOf K g task.key (owed a.functions a.targets task)) (sym get)
         (knows.owed by.graph by.all (knows.joined by.program by.graph by.graphed by.edges) few table.core.table task
-        (task_on a.targets a.functions kept.graph by.graph table.core.table same.facts task same.sites (is_task kept.graph graph.1 exits there))
+        (task_on a.functions a.targets kept.graph by.graph table.core.table same.facts task same.sites (is_task kept.graph graph.1 exits there))
         (subst (λ (g : Key → Option F). AreKeysInRange K g) get reaches.ranged.keys))
 
   pub hands_claim : (hand : ℕ) (old new : TableData F) (task : TaskData F) → IsWholeCore old.core → KeepsRest old new
-      → KeepsAllBut hand old.core new.core → FindsTask a.targets a.functions hand old.core new.core task → TakesTask a hand old new task
+      → KeepsAllBut hand old.core new.core → FindsTask a.functions a.targets hand old.core new.core task → TakesTask a hand old new task
   hands_claim hand old new task kept_whole rest keeps finds head w handed reached on =
       let waits : w.world.image.pending task.key ≡ true = on.image.pending task.key ∙ finds.taken.pending in
       let loaded = loaded_where head w old reached on task.key waits in (
         record {
           running = on.running;
-          free = on.claims hand ∙ ap (option_map (claim_of a.targets a.functions)) finds.taken.free;
+          free = on.claims hand ∙ ap (option_map (claim_of a.functions a.targets)) finds.taken.free;
           pending = waits;
           alone = λ j c mine same.
-              let of = map-tells (claim_of a.targets a.functions) (claim_at old.core.pile j) (sym (on.claims j) ∙ mine) in
+              let of = map-tells (claim_of a.functions a.targets) (claim_at old.core.pile j) (sym (on.claims j) ∙ mine) in
               finds.taken.unclaimed j of.0 of.1 (ap (λ (d : Claim F). d.key) of.2 ∙ same);
           program = loaded.0;
           loaded = loaded.1;
           owes = owes_parts head w old reached on task kept_whole waits finds.is_task loaded.0 loaded.1;
         },
         works_on a head w old new _ _ _ _ on rest keeps.stays refl refl
-            (ap (λ (s : State F). with_claim s hand (Some (new_claim task.key (owed a.targets a.functions task)))) (state_is a head w old on)
+            (ap (λ (s : State F). with_claim s hand (Some (new_claim task.key (owed a.functions a.targets task)))) (state_is a head w old on)
             ∙ sym finds.taken.state)
             (then_stays old.core new.core keeps.table keeps.pending keeps.changes),
       )

@@ -8,7 +8,8 @@ use Rattle.ide_journal.specs.Format.{Entry, Head}
 use Rattle.ide_lattice.specs.Algebra.{EdgeAlgebra}
 use Rattle.ide_problem.specs.Flow.{Targets}
 use Rattle.ide_steps.proofs.Going.{state-unchanged}
-use Rattle.ide_steps.specs.Changed.{Remembers, noted_count}
+use Rattle.ide_image.specs.Notes.{noted_count}
+use Rattle.ide_steps.specs.Changed.{Remembers}
 use Rattle.ide_steps.specs.Claiming.{FindsQuiet, FindsTask, KeepsAllBut}
 use Rattle.ide_steps.specs.Core.{CoreData, IsSameProblem, IsUnchanged}
 use Rattle.ide_steps.proofs.Free.{free-without}
@@ -110,8 +111,8 @@ module _ {F : Type 0} (old new : CoreData F) (same : IsSameCore old new) where
   same_tables = ap (λ (core : CoreData F). core.table) same
 
   -- work of a claim is its work still
-  pub own_still : {L : Type 0} (targets : Targets F) (B : EdgeAlgebra F L) (hand : ℕ) (work : WorkData F) → IsCurrent targets B old hand work → IsCurrent targets B new hand work
-  own_still targets B hand work own = record {
+  pub own_still : {L : Type 0} (B : EdgeAlgebra F L) (targets : Targets F) (hand : ℕ) (work : WorkData F) → IsCurrent B targets old hand work → IsCurrent B targets new hand work
+  own_still B targets hand work own = record {
     claim = ap (λ pile. progress_at pile hand) same_pile ∙ own.claim;
     parts = own.parts;
   }
@@ -173,13 +174,13 @@ module _ {F L : Type 0} (a : Analysis F L) where
   module _ (acts : CallsAreActs a) (old new : TableData F) (rest : KeepsRest old new) where
     -- a task is claimed, or none
     pub takes_works : (result : Result (Option (TaskData F)) Refused) → IsWholeCore old.core → KeepsAllBut 0 old.core new.core
-        → ForTask result (FindsTask a.targets a.functions 0 old.core new.core) → (result ≡ Ok None → FindsQuiet old.core new.core)
+        → ForTask result (FindsTask a.functions a.targets 0 old.core new.core) → (result ≡ Ok None → FindsQuiet old.core new.core)
         → OnErr result (IsUnchanged old.core new.core) → (claims : ℕ) × WorksBy a old new claims 0 × IfOk result (λ task. claims ≡ cond (is_some task) 1 0)
     takes_works (Ok (Some task)) whole keeps finds quiet same = (
       1,
-      works_once a old new 1 0 (λ head. Claims 0 task.key (owed a.targets a.functions task)) (acts.claim 0 old new task whole rest keeps (finds task refl))
+      works_once a old new 1 0 (λ head. Claims 0 task.key (owed a.functions a.targets task)) (acts.claim 0 old new task whole rest keeps (finds task refl))
           (λ head. record {
-            own = All-cons (IsByHand a head 0) (Claims 0 task.key (owed a.targets a.functions task)) [] refl (All-nil (IsByHand a head 0));
+            own = All-cons (IsByHand a head 0) (Claims 0 task.key (owed a.functions a.targets task)) [] refl (All-nil (IsByHand a head 0));
             claimed = refl;
             released = refl;
           }),
@@ -190,9 +191,9 @@ module _ {F L : Type 0} (a : Analysis F L) where
 
     module _ (noting : is_some old.core.changes ≡ true) (problem : IsSameProblem old.core new.core) (remembers : Remembers old.core new.core) where
       -- a part is done, or none is left
-      pub part_works : (result : Result Parted Refused) (work after : WorkData F) → IsCurrent a.targets a.functions old.core 0 work
-          → (result ≡ Ok Lowered → LowersPart a.targets a.functions 0 old.core new.core work after)
-          → (result ≡ Ok Same → SkipsPart a.targets a.functions 0 old.core new.core work after)
+      pub part_works : (result : Result Parted Refused) (work after : WorkData F) → IsCurrent a.functions a.targets old.core 0 work
+          → (result ≡ Ok Lowered → LowersPart a.functions a.targets 0 old.core new.core work after)
+          → (result ≡ Ok Same → SkipsPart a.functions a.targets 0 old.core new.core work after)
           → (result ≡ Ok NoPart → FindsNone old.core new.core work after) → OnErr result (IsUnchanged old.core new.core × (after ≡ work))
           → WorksBy a old new 0 0
       part_works (Ok Lowered) work after own lowers skips none same =
@@ -205,16 +206,16 @@ module _ {F L : Type 0} (a : Analysis F L) where
       part_works (Err e) work after own lowers skips none same = works_unchanged a old new rest same.0
 
       -- the claim ends
-      pub end_works : {T : Type 0} (result : Result T Refused) → OnOk result (EndsDone a.targets a.functions 0 old.core new.core)
+      pub end_works : {T : Type 0} (result : Result T Refused) → OnOk result (EndsDone a.functions a.targets 0 old.core new.core)
           → OnErr result (new.core ≡ old.core) → WorksBy a old new 0 0
       end_works (Ok x) ends same =
           let does = acts.finish 0 old new noting rest problem remembers ends in
-          plain old new (λ head. Ends 0 (claim_of a.targets a.functions does.held)) does.act (λ head. refl) (λ head. refl) (λ head. refl)
+          plain old new (λ head. Ends 0 (claim_of a.functions a.targets does.held)) does.act (λ head. refl) (λ head. refl) (λ head. refl)
       end_works (Err e) ends same = works_unchanged a old new rest (unchanged_equal old.core new.core same)
 
     -- the claim is given back, if there is one
     pub back_works : IsSameProblem old.core new.core → new.core.table ≡ old.core.table → new.core.pile.pending ≡ old.core.pile.pending
-        → new.core.changes ≡ old.core.changes → GivesBack a.targets a.functions 0 old.core new.core → PutsClaim 0 None old.core.pile new.core.pile
+        → new.core.changes ≡ old.core.changes → GivesBack a.functions a.targets 0 old.core new.core → PutsClaim 0 None old.core.pile new.core.pile
         → (n : ℕ) × (n < 2) × WorksBy a old new 0 n
     back_works problem table pending changes gives puts = by (claim_at old.core.pile 0) refl
       where
@@ -310,12 +311,12 @@ stop_names a now _ (full_batch_stays full (not_spelled item there improper)) = i
 stop_names a now _ (full_batch_stays full wants_memory) = inl refl
 
 -- a claim with no part left ends, but for want of memory
-pub end_wants : {T F L : Type 0} (r : Result T Refused) (targets : Targets F) (B : EdgeAlgebra F L) (core : CoreData F) (work : WorkData F)
-    → IsCurrent targets B core 0 work → work.done ≡ length work.parts → IfErr r (IsFinishRefusal targets B core 0 work) → IsOkUnless r NoMemory
-end_wants (Ok x) targets B core work own over why = tt
-end_wants (Err _) targets B core work own over (other_work stale) = absurd (stale own.claim)
-end_wants (Err _) targets B core work own over (part_left claim more) = absurd (omega (arith, over, more))
-end_wants (Err _) targets B core work own over (wanting current over_too noting) = refl
+pub end_wants : {T F L : Type 0} (r : Result T Refused) (B : EdgeAlgebra F L) (targets : Targets F) (core : CoreData F) (work : WorkData F)
+    → IsCurrent B targets core 0 work → work.done ≡ length work.parts → IfErr r (IsFinishRefusal B targets core 0 work) → IsOkUnless r NoMemory
+end_wants (Ok x) B targets core work own over why = tt
+end_wants (Err _) B targets core work own over (other_work stale) = absurd (stale own.claim)
+end_wants (Err _) B targets core work own over (part_left claim more) = absurd (omega (arith, over, more))
+end_wants (Err _) B targets core work own over (wanting current over_too noting) = refl
 
 -- a refusal for want of memory stops it
 pub only_memory : {T F L : Type 0} (a : Analysis F L) (r : Result T Refused) (now : TableData F) → IsOkUnless r NoMemory → IfErr r (IsWorkStop a now)

@@ -10,7 +10,8 @@ use Rattle.ide_journal.specs.Format.{Entry, Head}
 use Rattle.ide_lattice.specs.Algebra.{EdgeAlgebra}
 use Rattle.ide_problem.specs.Flow.{Targets}
 use Rattle.ide_steps.proofs.States.{claim-of-work}
-use Rattle.ide_steps.specs.Changed.{Remembers, entry_then, noted}
+use Rattle.ide_image.specs.Notes.{noted}
+use Rattle.ide_steps.specs.Changed.{Remembers, entry_then}
 use Rattle.ide_steps.specs.Core.{CoreData, IsSameProblem}
 use Rattle.ide_steps.specs.State.{claim_of}
 use Rattle.ide_steps.specs.Steps.{EndsDone, GivesBack, IsKeyBelow, IsCurrent, LowersPart, SkipsPart}
@@ -66,24 +67,24 @@ module _ {F L : Type 0} (functions : EdgeAlgebra F L) (same : F → F → Bool) 
       by false is = absurd (true≢false (sym (ap (same (functions.meet (unwrap_or (s.get key) functions.all_top) g)) (sym met) ∙ is_same.refl _) ∙ is))
 
 -- the claim of a work's hand, whose next part is the work's
-pub record HasNext {F L : Type 0} (targets : Targets F) (functions : EdgeAlgebra F L) (core : CoreData F) (hand : ℕ) (part : Key × F) : Type 0 where
+pub record HasNext {F L : Type 0} (functions : EdgeAlgebra F L) (targets : Targets F) (core : CoreData F) (hand : ℕ) (part : Key × F) : Type 0 where
   pub held : Held (TaskData F)
   pub is : claim_at core.pile hand ≡ Some held
   pub rest : List (Key × F)
-  pub next : (claim_of targets functions held).parts ≡ part ∷ rest
+  pub next : (claim_of functions targets held).parts ≡ part ∷ rest
 
-has_next : {F L : Type 0} (targets : Targets F) (functions : EdgeAlgebra F L) (core : CoreData F) (hand : ℕ) (work : WorkData F) (part : Key × F)
-    → IsCurrent targets functions core hand work → slice_get work.parts work.done ≡ Some part → HasNext targets functions core hand part
-has_next {F = F} targets functions core hand work part own at =
+has_next : {F L : Type 0} (functions : EdgeAlgebra F L) (targets : Targets F) (core : CoreData F) (hand : ℕ) (work : WorkData F) (part : Key × F)
+    → IsCurrent functions targets core hand work → slice_get work.parts work.done ≡ Some part → HasNext functions targets core hand part
+has_next {F = F} functions targets core hand work part own at =
     let of = claim-of-work work (claim_at core.pile hand) own.claim in
     record {
       held = of.0;
       is = of.1;
-      rest = drop (suc work.done) (owed targets functions work.task);
+      rest = drop (suc work.done) (owed functions targets work.task);
       next =
-          ap (λ task. drop of.0.done (owed targets functions task)) of.2
-          ∙ ap (λ done. drop done (owed targets functions work.task)) of.3
-          ∙ drop_at (owed targets functions work.task) work.done part (subst (λ (parts : List (Key × F)). slice_get parts work.done ≡ Some part) own.parts at);
+          ap (λ task. drop of.0.done (owed functions targets task)) of.2
+          ∙ ap (λ done. drop done (owed functions targets work.task)) of.3
+          ∙ drop_at (owed functions targets work.task) work.done part (subst (λ (parts : List (Key × F)). slice_get parts work.done ≡ Some part) own.parts at);
     }
 
 module _ {F L : Type 0} (a : Analysis F L) (head : Head) where
@@ -131,26 +132,26 @@ module _ {F L : Type 0} (a : Analysis F L) (head : Head) where
 module _ {F L : Type 0} (a : Analysis F L) where
   pub hands_finish : (hand : ℕ) (old new : TableData F) → is_some old.core.changes ≡ true → KeepsRest old new
       → IsSameProblem old.core new.core → Remembers old.core new.core
-      → EndsDone a.targets a.functions hand old.core new.core → EndsClaim a hand old new
+      → EndsDone a.functions a.targets hand old.core new.core → EndsClaim a hand old new
   hands_finish hand old new notes rest problem remembers (held, is, over, state) = record {
     held = held;
     is = is;
     act = λ head w handed reached on. (
-      record { running = on.running; mine = on.claims hand ∙ ap (option_map (claim_of a.targets a.functions)) is; over = over },
+      record { running = on.running; mine = on.claims hand ∙ ap (option_map (claim_of a.functions a.targets)) is; over = over },
       works_on a head w old new _ _ _ _ on rest problem refl refl
-          (ap (λ (s : State F). finished s hand (claim_of a.targets a.functions held)) (state_is a head w old on) ∙ sym state) (remembers.entries notes),
+          (ap (λ (s : State F). finished s hand (claim_of a.functions a.targets held)) (state_is a head w old on) ∙ sym state) (remembers.entries notes),
     );
   }
 
   pub hands_release : (hand : ℕ) (old new : TableData F) → KeepsRest old new → IsSameProblem old.core new.core
       → new.core.table ≡ old.core.table → new.core.pile.pending ≡ old.core.pile.pending → new.core.changes ≡ old.core.changes
-      → (claim_at old.core.pile hand ≡ None → ⊥) → GivesBack a.targets a.functions hand old.core new.core → GivesClaimBack a hand old new
+      → (claim_at old.core.pile hand ≡ None → ⊥) → GivesBack a.functions a.targets hand old.core new.core → GivesClaimBack a hand old new
   hands_release hand old new rest problem table pending changes some state head w handed reached on =
       let held = some_of (claim_at old.core.pile hand) some in (
         record {
           running = on.running;
-          claim = claim_of a.targets a.functions held.0;
-          mine = on.claims hand ∙ ap (option_map (claim_of a.targets a.functions)) held.1;
+          claim = claim_of a.functions a.targets held.0;
+          mine = on.claims hand ∙ ap (option_map (claim_of a.functions a.targets)) held.1;
         },
         works_on a head w old new _ _ _ _ on rest problem refl refl
             (ap (λ (s : State F). with_claim s hand None) (state_is a head w old on) ∙ sym state) (then_stays old.core new.core table pending changes),
@@ -158,17 +159,17 @@ module _ {F L : Type 0} (a : Analysis F L) where
 
   -- the next part of a hand's work, where the state is what the part leaves
   does_next : (hand : ℕ) (old new : TableData F) (work : WorkData F) (part : Key × F) → is_some old.core.changes ≡ true → KeepsRest old new
-      → IsSameProblem old.core new.core → Remembers old.core new.core → IsCurrent a.targets a.functions old.core hand work
+      → IsSameProblem old.core new.core → Remembers old.core new.core → IsCurrent a.functions a.targets old.core hand work
       → slice_get work.parts work.done ≡ Some part
       → table_state a new ≡ part_done (received procedures a.functions a.same (table_state a old) part.0 part.1) hand
       → IsAct a old new (λ head. Parts hand part.0 part.1)
   does_next hand old new work part notes rest problem remembers own at state head w handed reached on =
-      let has = has_next a.targets a.functions old.core hand work part own at in (
+      let has = has_next a.functions a.targets old.core hand work part own at in (
         record {
           running = on.running;
-          claim = claim_of a.targets a.functions has.held;
+          claim = claim_of a.functions a.targets has.held;
           rest = has.rest;
-          mine = on.claims hand ∙ ap (option_map (claim_of a.targets a.functions)) has.is;
+          mine = on.claims hand ∙ ap (option_map (claim_of a.functions a.targets)) has.is;
           next = has.next;
         },
         works_on a head w old new _ _ _ _ on rest problem refl refl
@@ -180,8 +181,8 @@ module _ {F L : Type 0} (a : Analysis F L) where
 
   module _ (knows : Knows a) where
     pub hands_lower : (hand : ℕ) (old new : TableData F) (work after : WorkData F) → is_some old.core.changes ≡ true → KeepsRest old new
-        → IsSameProblem old.core new.core → Remembers old.core new.core → IsCurrent a.targets a.functions old.core hand work
-        → LowersPart a.targets a.functions hand old.core new.core work after → DoesPart a hand old new work after
+        → IsSameProblem old.core new.core → Remembers old.core new.core → IsCurrent a.functions a.targets old.core hand work
+        → LowersPart a.functions a.targets hand old.core new.core work after → DoesPart a hand old new work after
     hands_lower hand old new work after notes rest problem remembers own is = record {
       part = is.part;
       next = is.next;
@@ -192,8 +193,8 @@ module _ {F L : Type 0} (a : Analysis F L) where
     }
 
     pub hands_skip : (hand : ℕ) (old new : TableData F) (work after : WorkData F) → is_some old.core.changes ≡ true → KeepsRest old new
-        → IsSameProblem old.core new.core → Remembers old.core new.core → IsCurrent a.targets a.functions old.core hand work
-        → SkipsPart a.targets a.functions hand old.core new.core work after → DoesPart a hand old new work after
+        → IsSameProblem old.core new.core → Remembers old.core new.core → IsCurrent a.functions a.targets old.core hand work
+        → SkipsPart a.functions a.targets hand old.core new.core work after → DoesPart a hand old new work after
     hands_skip hand old new work after notes rest problem remembers own is = record {
       part = is.part;
       next = is.next;

@@ -49,7 +49,7 @@ module _ {F L : Type 0} (a : Analysis F L) (knows : Knows a) where
     working = refl;
     version = sym same;
     image = noting_image (loaded None) core has;
-    claims = λ hand. ap (option_map (claim_of a.targets a.functions)) (sym (free hand));
+    claims = λ hand. ap (option_map (claim_of a.functions a.targets)) (sym (free hand));
     base = record {
       image = loaded None;
       folded = refl;
@@ -89,7 +89,7 @@ module _ {F L : Type 0} (a : Analysis F L) (knows : Knows a) where
         working = refl;
         version = sym same;
         image = noting_image image new has;
-        claims = λ hand. ap (option_map (claim_of a.targets a.functions)) (sym (free hand));
+        claims = λ hand. ap (option_map (claim_of a.functions a.targets)) (sym (free hand));
         base = record {
           image = image;
           folded = is.image image may.1.1;

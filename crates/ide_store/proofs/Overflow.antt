@@ -5,10 +5,11 @@ use Rattle.std.specs.Map.{lookup}
 use Rattle.std.specs.Option.{is_some}
 use Rattle.ide_lattice.specs.Algebra.{EdgeAlgebra}
 use Rattle.ide_problem.specs.Flow.{Targets}
-use Rattle.ide_steps.specs.Changed.{NotesPart, Remembers, grows, noted, noted_count}
+use Rattle.ide_image.specs.Notes.{noted, noted_count}
+use Rattle.ide_steps.specs.Changed.{NotesPart, Remembers, grows}
 use Rattle.ide_steps.specs.Core.{CoreData, IsUnchanged}
 use Rattle.ide_steps.specs.Steps.{FindsNone, IsCurrent, LowersPart}
-use Rattle.ide_steps.specs.declared.changes.Entry.{Entry}
+use Rattle.ide_image.specs.declared.entry.Entry.{Entry}
 use Rattle.ide_steps.specs.declared.part.Parted.{Parted}
 use Rattle.ide_steps.specs.declared.part.Parted.TheVariants.{Lowered, Same, NoPart}
 use Rattle.ide_tasks.specs.Work.{WorkData}
@@ -49,21 +50,21 @@ module _ {F : Type 0} where
   same_count : (old new : CoreData F) → new.changes ≡ old.changes → noted_count old.changes ≤ 65536 → noted_count new.changes ≤ 65536
   same_count old new same few = subst (λ (notes : Option (List (Key × Entry F))). noted_count notes ≤ 65536) (sym same) few
 
-  module _ {L : Type 0} (targets : Targets F) (B : EdgeAlgebra F L) where
+  module _ {L : Type 0} (B : EdgeAlgebra F L) (targets : Targets F) where
     -- it is kept by a part for which there is room
     pub part_keeps : (result : Result Parted Refused) (hand : ℕ) (old new : CoreData F) (work after : WorkData F) (sealed : ℕ) (waiting : List Spelled)
         → IsTable old sealed waiting → Remembers old new
-        → OnOk result (IsCurrent targets B old hand work)
+        → OnOk result (IsCurrent B targets old hand work)
         → (result ≡ Ok Lowered → NotesPart work old new)
-        → (result ≡ Ok Lowered → LowersPart targets B hand old new work after)
+        → (result ≡ Ok Lowered → LowersPart B targets hand old new work after)
         → (result ≡ Ok Same → new.changes ≡ old.changes)
         → (result ≡ Ok NoPart → FindsNone old new work after)
         → OnErr result (IsUnchanged old new × (after ≡ work))
-        → (now : CoreData F) → old ≡ now → HasRoomForPart targets B now hand work → IsTable new sealed waiting
+        → (now : CoreData F) → old ≡ now → HasRoomForPart B targets now hand work → IsTable new sealed waiting
     part_keeps (Ok Lowered) hand old new work after sealed waiting kept remembers own notes lowers same none stays now is room =
         let lowered = lowers refl in
         let noted = notes refl lowered.part lowered.next in
-        let fits = subst (λ (core : CoreData F). HasRoomForPart targets B core hand work) (sym is) room own lowered.part lowered.next lowered.changes.falls kept.few in
+        let fits = subst (λ (core : CoreData F). HasRoomForPart B targets core hand work) (sym is) room own lowered.part lowered.next lowered.changes.falls kept.few in
         table_kept old new sealed waiting kept remembers.noting (omega (arith, noted.count, fits))
     part_keeps (Ok Same) hand old new work after sealed waiting kept remembers own notes lowers same none stays now is room =
         table_kept old new sealed waiting kept remembers.noting (same_count old new (same refl) kept.few)

@@ -67,7 +67,7 @@ module _ {F L : Type 0} (a : Analysis F L) where
           working = waits.failed ∙ works.working;
           version = waits.version ∙ works.version;
           image = has;
-          claims = λ hand. sym (ap (λ claims. option_map (claim_of a.targets a.functions) (slice_index_or claims hand None)) loads.claims);
+          claims = λ hand. sym (ap (λ claims. option_map (claim_of a.functions a.targets) (slice_index_or claims hand None)) loads.claims);
           base = record {
             image = now;
             folded = folded_pushed (rules_at a head) w.world.sealed entry mark works.base.image now works.base.folded does;
@@ -111,13 +111,13 @@ module _ {F L : Type 0} (a : Analysis F L) where
 
     -- the image with the claims of hands is the core's state then
     rooted_state : state_with rooted (entered procedures a.functions a.same w.world.image.program name (state_with w.world.image w.claims)).claims
-        ≡ core_state a.targets a.functions mid
+        ≡ core_state a.functions a.targets mid
     rooted_state =
-        let same : state_with w.world.image w.claims ≡ core_state a.targets a.functions old.core =
+        let same : state_with w.world.image w.claims ≡ core_state a.functions a.targets old.core =
         λ i. record { get = λ key. works.image.get key i; pending = λ key. works.image.pending key i; claims = λ h. works.claims h i } in
         root_is procedures (frame_by a.lattice a.functions a.targets by) a.same w.world.image w.claims v name start loads starts
         ∙ ap (λ (s : State F). seeded_below a.functions s start (procedures.entries v)) same
-        ∙ ap (seeded_below a.functions (core_state a.targets a.functions old.core) start) (sym said.graphed.counts.1)
+        ∙ ap (seeded_below a.functions (core_state a.functions a.targets old.core) start) (sym said.graphed.counts.1)
         ∙ sym begins.state
 
     -- and the new core has it
@@ -172,7 +172,7 @@ module _ {F L : Type 0} (a : Analysis F L) where
           image = has;
           claims = λ hand.
               ap (λ (s : State F). s.claims hand) rooted_state
-              ∙ ap (λ (core : CoreData F). (core_state a.targets a.functions core).claims hand) (sym anew);
+              ∙ ap (λ (core : CoreData F). (core_state a.functions a.targets core).claims hand) (sym anew);
           base = record {
             image = rooted;
             folded = folded_pushed (rules_at a head) w.world.sealed entry mark w.world.image rooted folded does;

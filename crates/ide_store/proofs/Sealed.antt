@@ -10,11 +10,11 @@ use Rattle.ide_batch.specs.Records as records
 use Rattle.ide_journal.specs.Format.{Entry, IsEntry}
 use Rattle.ide_journal.specs.Lists.{entries_of, entry_of}
 use Rattle.ide_journal.specs.declared.record.RawRecord.{RawRecord}
-use Rattle.ide_steps.specs.Changed.{noted_count}
+use Rattle.ide_image.specs.Notes.{noted_count}
 use Rattle.ide_steps.specs.Core.{CoreData}
 use Rattle.ide_steps.specs.Room.{IsWholeCore}
 use Rattle.ide_steps.specs.Rooted.{IsBegun}
-use Rattle.ide_steps.specs.declared.changes.Entry.{Entry as Noted}
+use Rattle.ide_image.specs.declared.entry.Entry.{Entry as Noted}
 use Rattle.ide_text.specs.Parsed.{IsParsed}
 use Rattle.ide_text.specs.Program.{value_of}
 use Rattle.ide_text.specs.declared.program.Program.{Program}

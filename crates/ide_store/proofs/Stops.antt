@@ -8,7 +8,7 @@ use Rattle.ide_batch.specs.Items.{AreWritten, Item, is_proper_item}
 use Rattle.ide_lattice.specs.Algebra.{EdgeAlgebra}
 use Rattle.ide_problem.specs.Flow.{Targets}
 use Rattle.ide_steps.specs.Core.{CoreData}
-use Rattle.ide_steps.specs.Changed.{ended_key, noted, noted_count}
+use Rattle.ide_image.specs.Notes.{ended_key, noted, noted_count}
 use Rattle.ide_steps.specs.Items.{AreChangedItems}
 use Rattle.ide_steps.specs.Refusal.{IsRootRefusal, fault, memory, no_program}
 use Rattle.ide_steps.proofs.Refusing.{not-memory}
@@ -78,13 +78,13 @@ negated : (b : Bool) → IsTrue (not b) → b ≡ false
 negated false is = refl
 negated true is = absurd (cc (is))
 
-module _ {F L : Type 0} (targets : Targets F) (B : EdgeAlgebra F L) (core : CoreData F) (hand : ℕ) (work : WorkData F) where
+module _ {F L : Type 0} (B : EdgeAlgebra F L) (targets : Targets F) (core : CoreData F) (hand : ℕ) (work : WorkData F) where
   -- the work's next part overflows, as it is computed
-  pub part_full : (now : CoreData F) (part : Key × F) (changed received : Bool) → core ≡ now → IsCurrent targets B core hand work → 65536 ≤ noted_count core.changes
+  pub part_full : (now : CoreData F) (part : Key × F) (changed received : Bool) → core ≡ now → IsCurrent B targets core hand work → 65536 ≤ noted_count core.changes
       → slice_get work.parts work.done ≡ Some part → changed ≡ is_some (noted core.changes part.0) → changed ≡ false
-      → (HasReceived targets B now part.0 part.1 → IsTrue received) → IsTrue (not received) → PartOverflows targets B now hand work
+      → (HasReceived B targets now part.0 part.1 → IsTrue received) → IsTrue (not received) → PartOverflows B targets now hand work
   part_full now part changed received is own full next noted_is unnoted tells not_received =
-      subst (λ (c : CoreData F). (HasReceived targets B c part.0 part.1 → IsTrue received) → PartOverflows targets B c hand work) is
+      subst (λ (c : CoreData F). (HasReceived B targets c part.0 part.1 → IsTrue received) → PartOverflows B targets c hand work) is
       (λ told. record {
         own = own;
         full = full;
@@ -95,9 +95,9 @@ module _ {F L : Type 0} (targets : Targets F) (B : EdgeAlgebra F L) (core : Core
       }) tells
 
   -- the end of the hand's claim overflows, as it is computed
-  pub end_full : (held : Held (TaskData F)) (changed : Bool) → IsCurrent targets B core hand work → 65536 ≤ noted_count core.changes → length work.parts ≤ work.done
+  pub end_full : (held : Held (TaskData F)) (changed : Bool) → IsCurrent B targets core hand work → 65536 ≤ noted_count core.changes → length work.parts ≤ work.done
       → claim_at core.pile hand ≡ Some held → held.lowered ≡ false → changed ≡ is_some (noted core.changes held.key) → IsTrue (not changed)
-      → EndOverflows targets B core hand work
+      → EndOverflows B targets core hand work
   end_full held changed own full over is fresh noted_is unnoted = record {
     own = own;
     full = full;

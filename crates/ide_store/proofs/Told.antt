@@ -5,7 +5,7 @@ use Rattle.ide_batch.specs.Items.{Item}
 use Rattle.ide_steps.specs.Changed.{standing_entry, entry_then}
 use Rattle.ide_steps.specs.Core.{CoreData}
 use Rattle.ide_steps.specs.Items.{AreChangedItems}
-use Rattle.ide_steps.specs.declared.changes.Entry.{Entry as Noted}
+use Rattle.ide_image.specs.declared.entry.Entry.{Entry as Noted}
 use Rattle.ide_image.specs.Tables.{found}
 use Rattle.ide_theory.proofs.Laws.Changes.{none-some, some-inj}
 use Rattle.ide_theory.specs.Images.{IsSame}

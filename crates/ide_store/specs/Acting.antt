@@ -55,19 +55,19 @@ module _ {F L : Type 0} (a : Analysis F L) where
 -- each call, by what it says of the core before and after it, is an act of the store
 pub record CallsAreActs {F L : Type 0} (a : Analysis F L) : Type 0 where
   pub claim : (hand : ℕ) (old new : TableData F) (task : TaskData F) → IsWholeCore old.core → KeepsRest old new
-      → KeepsAllBut hand old.core new.core → FindsTask a.targets a.functions hand old.core new.core task → TakesTask a hand old new task
+      → KeepsAllBut hand old.core new.core → FindsTask a.functions a.targets hand old.core new.core task → TakesTask a hand old new task
   pub lower : (hand : ℕ) (old new : TableData F) (work after : WorkData F) → is_some old.core.changes ≡ true → KeepsRest old new
-      → IsSameProblem old.core new.core → Remembers old.core new.core → IsCurrent a.targets a.functions old.core hand work
-      → LowersPart a.targets a.functions hand old.core new.core work after → DoesPart a hand old new work after
+      → IsSameProblem old.core new.core → Remembers old.core new.core → IsCurrent a.functions a.targets old.core hand work
+      → LowersPart a.functions a.targets hand old.core new.core work after → DoesPart a hand old new work after
   pub skip : (hand : ℕ) (old new : TableData F) (work after : WorkData F) → is_some old.core.changes ≡ true → KeepsRest old new
-      → IsSameProblem old.core new.core → Remembers old.core new.core → IsCurrent a.targets a.functions old.core hand work
-      → SkipsPart a.targets a.functions hand old.core new.core work after → DoesPart a hand old new work after
+      → IsSameProblem old.core new.core → Remembers old.core new.core → IsCurrent a.functions a.targets old.core hand work
+      → SkipsPart a.functions a.targets hand old.core new.core work after → DoesPart a hand old new work after
   pub finish : (hand : ℕ) (old new : TableData F) → is_some old.core.changes ≡ true → KeepsRest old new
       → IsSameProblem old.core new.core → Remembers old.core new.core
-      → EndsDone a.targets a.functions hand old.core new.core → EndsClaim a hand old new
+      → EndsDone a.functions a.targets hand old.core new.core → EndsClaim a hand old new
   pub release : (hand : ℕ) (old new : TableData F) → KeepsRest old new → IsSameProblem old.core new.core
       → new.core.table ≡ old.core.table → new.core.pile.pending ≡ old.core.pile.pending → new.core.changes ≡ old.core.changes
-      → (claim_at old.core.pile hand ≡ None → ⊥) → GivesBack a.targets a.functions hand old.core new.core → GivesClaimBack a hand old new
+      → (claim_at old.core.pile hand ≡ None → ⊥) → GivesBack a.functions a.targets hand old.core new.core → GivesClaimBack a hand old new
   pub load : (program : Program) (text : List ℕ) (entry : Entry) (old new : TableData F) → IsWholeCore old.core
       → IsParsed text program → SpellsRecord a old (records.Load text) entry → old.sealed < 4294967295
       → WaitsFor (entry ∷ []) old new → IsLoadedWith program new.core → new.core.changes ≡ Some []

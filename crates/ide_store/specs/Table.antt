@@ -9,10 +9,11 @@ use Rattle.ide_journal.specs.Format.{Entry, Head, IsEntry}
 use Rattle.ide_journal.specs.declared.version.Version.{Version}
 use Rattle.ide_lattice.specs.Algebra.{LatticeAlgebra, EdgeAlgebra}
 use Rattle.ide_problem.specs.Flow.{Targets}
-use Rattle.ide_steps.specs.Changed.{entry_then, noted_count}
+use Rattle.ide_image.specs.Notes.{noted_count}
+use Rattle.ide_steps.specs.Changed.{entry_then}
 use Rattle.ide_steps.specs.Core.{CoreData, IsUnchanged}
 use Rattle.ide_steps.specs.State as core
-use Rattle.ide_steps.specs.declared.changes.Entry.{Entry as Noted}
+use Rattle.ide_image.specs.declared.entry.Entry.{Entry as Noted}
 use Rattle.ide_theory.specs.State.{State}
 use Rattle.ide_wire.specs.declared.key.Key.{Key}
 use Rattle.ide_store.specs.Hands.{Act, Allowed, AreAllowed, Hands, IsCaughtUp, idle, next, worked}
@@ -47,7 +48,7 @@ module _ {F L : Type 0} (a : Analysis F L) where
 
   -- the core as a state of the tabulation
   abbrev pub table_state : TableData F → State F
-  table_state table = core.state_of a.targets a.functions table.core
+  table_state table = core.state_of a.functions a.targets table.core
 
 module _ {F : Type 0} where
   -- all but the core is as it was

@@ -4,7 +4,8 @@ use Rattle.ide_batch.specs.Items.{Item, is_proper_item}
 use Rattle.ide_journal.specs.Format.{Entry, Head}
 use Rattle.ide_lattice.specs.Algebra.{EdgeAlgebra}
 use Rattle.ide_problem.specs.Flow.{Targets}
-use Rattle.ide_steps.specs.Changed.{ended_key, grows, noted, noted_count}
+use Rattle.ide_image.specs.Notes.{ended_key, noted, noted_count}
+use Rattle.ide_steps.specs.Changed.{grows}
 use Rattle.ide_steps.specs.PartRefusal.{IsFinishRefusal, IsPartRefusal}
 use Rattle.ide_steps.specs.Refusal.{IsNoRoot}
 use Rattle.ide_steps.specs.Core.{CoreData}
@@ -37,7 +38,7 @@ behind_first (Some first) entry = first ∷ entry ∷ []
 module _ {F L : Type 0} (a : Analysis F L) where
   -- the hand claims the task's key, and owes its parts
   abbrev pub TakesTask : ℕ → (old new : TableData F) → TaskData F → Type 0
-  TakesTask hand old new task = IsAct a old new (λ head. Claims hand task.key (owed a.targets a.functions task))
+  TakesTask hand old new task = IsAct a old new (λ head. Claims hand task.key (owed a.functions a.targets task))
 
   -- the hand does the next part of the work, which counts it
   pub record DoesPart (hand : ℕ) (old new : TableData F) (work after : WorkData F) : Type 0 where
@@ -50,7 +51,7 @@ module _ {F L : Type 0} (a : Analysis F L) where
   pub record EndsClaim (hand : ℕ) (old new : TableData F) : Type 0 where
     pub held : Held (TaskData F)
     pub is : claim_at old.core.pile hand ≡ Some held
-    pub act : IsAct a old new (λ head. Ends hand (steps.claim_of a.targets a.functions held))
+    pub act : IsAct a old new (λ head. Ends hand (steps.claim_of a.functions a.targets held))
 
   -- the hand's claim is given back
   abbrev pub GivesClaimBack : ℕ → (old new : TableData F) → Type 0
@@ -104,14 +105,14 @@ module _ {F : Type 0} where
     no_number : table.sealed ≡ 4294967295 → IsLoadStop table Limit
     no_memory : table.sealed < 4294967295 → IsLoadStop table NoMemory
 
-module _ {F L : Type 0} (targets : Targets F) (B : EdgeAlgebra F L) (core : CoreData F) (hand : ℕ) (work : WorkData F) where
+module _ {F L : Type 0} (B : EdgeAlgebra F L) (targets : Targets F) (core : CoreData F) (hand : ℕ) (work : WorkData F) where
   -- the work's next part would change its key
   abbrev pub FallsBy : Key × F → Type 0
-  FallsBy part = ¬ (IsKeyBelow B (steps.state_of targets B core) part.0 part.1)
+  FallsBy part = ¬ (IsKeyBelow B (steps.state_of B targets core) part.0 part.1)
 
   -- as many keys are noted as a batch may have, and the work's next part would change another one
   pub record PartOverflows : Type 0 where
-    pub own : IsCurrent targets B core hand work
+    pub own : IsCurrent B targets core hand work
     pub full : IsFull core
     pub part : Key × F
     pub next : slice_get work.parts work.done ≡ Some part
@@ -120,7 +121,7 @@ module _ {F L : Type 0} (targets : Targets F) (B : EdgeAlgebra F L) (core : Core
 
   -- and so would the end of the hand's claim
   pub record EndOverflows : Type 0 where
-    pub own : IsCurrent targets B core hand work
+    pub own : IsCurrent B targets core hand work
     pub full : IsFull core
     pub over : length work.parts ≤ work.done
     pub key : Key
@@ -129,22 +130,22 @@ module _ {F L : Type 0} (targets : Targets F) (B : EdgeAlgebra F L) (core : Core
 
   -- why no part is done: for the core's reason, of which staleness is told first; or a batch has no room for the key
   pub data IsPartStop : Refused → Type 0 where
-    part_refused : {refused : Refused} → IsPartRefusal targets B core hand work refused → IsPartStop refused
+    part_refused : {refused : Refused} → IsPartRefusal B targets core hand work refused → IsPartStop refused
     part_overflows : PartOverflows → IsPartStop Limit
 
   -- and why a claim does not end
   pub data IsFinishStop : Refused → Type 0 where
-    end_refused : {refused : Refused} → IsFinishRefusal targets B core hand work refused → IsFinishStop refused
+    end_refused : {refused : Refused} → IsFinishRefusal B targets core hand work refused → IsFinishStop refused
     end_overflows : EndOverflows → IsFinishStop Limit
 
   -- the notes after the work's next part, if it changes its key, are few enough for a batch
   abbrev pub HasRoomForPart : Type 0
-  HasRoomForPart = IsCurrent targets B core hand work → (part : Key × F) → slice_get work.parts work.done ≡ Some part → FallsBy part
+  HasRoomForPart = IsCurrent B targets core hand work → (part : Key × F) → slice_get work.parts work.done ≡ Some part → FallsBy part
       → noted_count core.changes ≤ 65536 → noted_count core.changes + grows core.changes (Some part.0) ≤ 65536
 
   -- and so they are after the end of the hand's claim
   abbrev pub HasRoomForEnd : Type 0
-  HasRoomForEnd = IsCurrent targets B core hand work → length work.parts ≤ work.done → noted_count core.changes ≤ 65536
+  HasRoomForEnd = IsCurrent B targets core hand work → length work.parts ≤ work.done → noted_count core.changes ≤ 65536
       → noted_count core.changes + grows core.changes (ended_key (claim_at core.pile hand)) ≤ 65536
 
 module _ {F L : Type 0} (a : Analysis F L) (table : TableData F) where

@@ -1,7 +1,7 @@
 //! All that is left, by one hand: what changes is sealed, one full batch after the other.
 ghost use Rattle.std.specs.Prelude.{◌≡◌, ◌<◌, ◌⊎◌, ℕ, [], true, false, None, Ok, IfErr, IfOk, OnOk, IsOkUnless, if◌then◌else◌, length};
 ghost use Rattle.std.specs.Option.{is_some};
-ghost use Rattle.ide_steps.specs.Changed.{noted_count};
+ghost use Rattle.ide_image.specs.Notes.{noted_count};
 ghost use Rattle.ide_steps.specs.Claiming.{FindsQuiet, FindsTask, KeepsAllBut};
 ghost use Rattle.ide_steps.specs.Core.{IsSameProblem};
 ghost use Rattle.ide_steps.specs.Drain.{AreOthersFree, ForTask, HasDonePart, HasLess, HasNoMore, StayOthersFree, TakesOut};
@@ -105,7 +105,7 @@ impl<P: Problem> TableHalf<P> {
         requires { MayDrain self.old.core }
         ensures works { IfOk result (λ task. WorksBy ⟦<P as Kept>⟧.analysis self.old self.new (if is_some task then 1 else 0) 0) }
         ensures worked { (claims : ℕ) × WorksBy ⟦<P as Kept>⟧.analysis self.old self.new claims 0 }
-        ensures task { ForTask result (FindsTask P.targets P.F.edge 0 self.old.core self.new.core) }
+        ensures task { ForTask result (FindsTask P.F.edge P.targets 0 self.old.core self.new.core) }
         ensures quiet { result ≡ Ok None → FindsQuiet self.old.core self.new.core }
         ensures keeps { KeepsAllBut 0 self.old.core self.new.core }
         ensures others { AreOthersFree 0 self.new.core.pile }
@@ -118,7 +118,7 @@ impl<P: Problem> TableHalf<P> {
 
     /// Does all parts of the work that was claimed last, and ends the claim.
     fn run(&mut self, mut work: Work<P>) -> Result<bool, Refused>
-        requires own { IsCurrent P.targets P.F.edge self.old.core 0 work }
+        requires own { IsCurrent P.F.edge P.targets self.old.core 0 work }
         requires fresh { ends_key (claim_at self.old.core.pile 0) ≡ true }
         ensures more { IfOk result (λ more. more ≡ true) }
         ensures works { WorksBy ⟦<P as Kept>⟧.analysis self.old self.new 0 0 }
@@ -135,9 +135,9 @@ impl<P: Problem> TableHalf<P> {
 
     /// Does the next part of hand 0's work.
     fn next_part(&mut self, work: &mut Work<P>) -> Result<Parted, Refused>
-        requires { IsCurrent P.targets P.F.edge self.old.core 0 work.old }
+        requires { IsCurrent P.F.edge P.targets self.old.core 0 work.old }
         ensures works { WorksBy ⟦<P as Kept>⟧.analysis self.old self.new 0 0 }
-        ensures own { OnOk result (IsCurrent P.targets P.F.edge self.new.core 0 work.new) }
+        ensures own { OnOk result (IsCurrent P.F.edge P.targets self.new.core 0 work.new) }
         ensures less { OnOk result (HasNoMore P.F.edge 0 self.old.core self.new.core) }
         ensures next { HasDonePart result → DoesNext work.old work.new }
         ensures over { result ≡ Ok Parted.NoPart → work.new.done ≡ length work.new.parts }
@@ -151,10 +151,10 @@ impl<P: Problem> TableHalf<P> {
 
     /// Does the next part of hand 0's work, where there is room for a note.
     fn do_part(&mut self, work: &mut Work<P>) -> Result<Parted, Refused>
-        requires own { IsCurrent P.targets P.F.edge self.old.core 0 work.old }
+        requires own { IsCurrent P.F.edge P.targets self.old.core 0 work.old }
         requires room { noted_count self.old.core.changes < 65536 }
         ensures works { WorksBy ⟦<P as Kept>⟧.analysis self.old self.new 0 0 }
-        ensures own { OnOk result (IsCurrent P.targets P.F.edge self.new.core 0 work.new) }
+        ensures own { OnOk result (IsCurrent P.F.edge P.targets self.new.core 0 work.new) }
         ensures less { OnOk result (HasNoMore P.F.edge 0 self.old.core self.new.core) }
         ensures next { HasDonePart result → DoesNext work.old work.new }
         ensures over { result ≡ Ok Parted.NoPart → work.new.done ≡ length work.new.parts }
@@ -168,7 +168,7 @@ impl<P: Problem> TableHalf<P> {
 
     /// Ends hand 0's claim, of which all parts are done.
     fn end(&mut self, work: &Work<P>) -> Result<(), Refused>
-        requires own { IsCurrent P.targets P.F.edge self.old.core 0 work.now }
+        requires own { IsCurrent P.F.edge P.targets self.old.core 0 work.now }
         requires over { work.now.done ≡ length work.now.parts }
         ensures works { WorksBy ⟦<P as Kept>⟧.analysis self.old self.new 0 0 }
         ensures table { self.new.core.table ≡ self.old.core.table }
@@ -184,7 +184,7 @@ impl<P: Problem> TableHalf<P> {
 
     /// Ends hand 0's claim, of which all parts are done, where there is room for a note.
     fn do_end(&mut self, work: &Work<P>) -> Result<(), Refused>
-        requires own { IsCurrent P.targets P.F.edge self.old.core 0 work.now }
+        requires own { IsCurrent P.F.edge P.targets self.old.core 0 work.now }
         requires over { work.now.done ≡ length work.now.parts }
         requires room { noted_count self.old.core.changes < 65536 }
         ensures works { WorksBy ⟦<P as Kept>⟧.analysis self.old self.new 0 0 }

@@ -1,6 +1,6 @@
 //! The half of a store that works: the core, and the records of what it did that wait for the writer.
 ghost use Rattle.std.specs.Prelude.{◌≡◌, ◌≤◌, ◌↔◌, [], None, Some, length, slice_get, false, true, Ok, IfErr, IfOk, IsTrue, OnErr, OnOk};
-ghost use Rattle.ide_steps.specs.Changed.{ended_key};
+ghost use Rattle.ide_image.specs.Notes.{ended_key};
 ghost use Rattle.ide_steps.specs.ClaimRefusal.{IsClaimRefusal};
 ghost use Rattle.ide_steps.specs.Claiming.{FindsIdle, FindsQuiet, IfTask};
 ghost use Rattle.ide_steps.specs.CloseRefusal.{IsFreezeRefusal};
@@ -88,13 +88,13 @@ impl<P: Problem> TableHalf<P> {
     /// Refusals, in this order: `Failed`; `Stale`, as of [`Core::part`]; `Limit`, where the part would
     /// change a key beyond 65,536 changed ones: seal, then repeat it; `NoMemory`.
     pub fn part(&mut self, hand: usize, work: &mut Work<P>) -> Result<Parted, Refused>
-        ensures lowered { result ≡ Ok Parted.Lowered → LowersPart P.targets P.F.edge hand self.old.core self.new.core work.old work.new }
-        ensures same { result ≡ Ok Parted.Same → SkipsPart P.targets P.F.edge hand self.old.core self.new.core work.old work.new }
+        ensures lowered { result ≡ Ok Parted.Lowered → LowersPart P.F.edge P.targets hand self.old.core self.new.core work.old work.new }
+        ensures same { result ≡ Ok Parted.Same → SkipsPart P.F.edge P.targets hand self.old.core self.new.core work.old work.new }
         ensures part { HasDonePart result → DoesPart ⟦<P as Kept>⟧.analysis hand self.old self.new work.old work.new }
         ensures no_part { result ≡ Ok Parted.NoPart → FindsNone self.old.core self.new.core work.old work.new }
         ensures rest { KeepsRest self.old self.new }
         ensures working { OnOk result (self.old.failed ≡ false) }
-        ensures refused { IfErr result (IsRefusal self.old (IsPartStop P.targets P.F.edge self.old.core hand work.old)) }
+        ensures refused { IfErr result (IsRefusal self.old (IsPartStop P.F.edge P.targets self.old.core hand work.old)) }
         ensures unchanged { OnErr result (IsSameTable self.old self.new × (work.new ≡ work.old)) }
     {
         calls_are_acts::<P>();
@@ -116,7 +116,7 @@ impl<P: Problem> TableHalf<P> {
         ensures free { OnOk result (claim_at self.new.core.pile hand ≡ None) }
         ensures rest { KeepsRest self.old self.new }
         ensures working { OnOk result (self.old.failed ≡ false) }
-        ensures refused { IfErr result (IsRefusal self.old (IsFinishStop P.targets P.F.edge self.old.core hand work.now)) }
+        ensures refused { IfErr result (IsRefusal self.old (IsFinishStop P.F.edge P.targets self.old.core hand work.now)) }
         ensures unchanged { OnErr result (IsSameTable self.old self.new) }
     {
         calls_are_acts::<P>();
@@ -169,8 +169,8 @@ impl<P: Problem> TableHalf<P> {
     /// Whether as many keys are noted as a batch may have, and the work's next part would change another
     /// one. Staleness is told first, and only then: it takes time.
     fn part_overflows(&self, hand: usize, work: &Work<P>) -> bool
-        ensures yes { IsTrue result → PartOverflows P.targets P.F.edge self.now.core hand work.now }
-        ensures no { result ≡ false → HasRoomForPart P.targets P.F.edge self.now.core hand work.now }
+        ensures yes { IsTrue result → PartOverflows P.F.edge P.targets self.now.core hand work.now }
+        ensures no { result ≡ false → HasRoomForPart P.F.edge P.targets self.now.core hand work.now }
     {
         if self.core.changed_count() < MOST_CHANGED {
             return false;
@@ -189,7 +189,7 @@ impl<P: Problem> TableHalf<P> {
 
     /// Whether to meet the key's function with this one changes nothing.
     fn has_received(&self, key: Key, function: P::F) -> bool
-        ensures { IsTrue result ↔ HasReceived P.targets P.F.edge self.now.core key function }
+        ensures { IsTrue result ↔ HasReceived P.F.edge P.targets self.now.core key function }
     {
         let before = self.core.get(key).unwrap_or(P::F::all_top());
         before.meet(function) == before
@@ -198,8 +198,8 @@ impl<P: Problem> TableHalf<P> {
     /// Whether as many keys are noted as a batch may have, and the end of the hand's claim would change
     /// another one.
     fn end_overflows(&self, hand: usize, work: &Work<P>) -> bool
-        ensures yes { IsTrue result → EndOverflows P.targets P.F.edge self.now.core hand work.now }
-        ensures no { result ≡ false → HasRoomForEnd P.targets P.F.edge self.now.core hand work.now }
+        ensures yes { IsTrue result → EndOverflows P.F.edge P.targets self.now.core hand work.now }
+        ensures no { result ≡ false → HasRoomForEnd P.F.edge P.targets self.now.core hand work.now }
     {
         if self.core.changed_count() < MOST_CHANGED {
             return false;

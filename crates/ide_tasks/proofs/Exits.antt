@@ -46,10 +46,10 @@ is_current (Some k) index other is same =
     let e : k ≡ index = grind (arith, nat_tests) in
     ap (λ (j : ℕ). Some j) e
 
-module _ {F L : Type 0} (targets : Targets F) (B : EdgeAlgebra F L) (to : ℕ) (function : F) (callers : List Caller) where
+module _ {F L : Type 0} (B : EdgeAlgebra F L) (targets : Targets F) (to : ℕ) (function : F) (callers : List Caller) where
   -- what a source owes
   abbrev pub from_source : Reaching F → List (Key × F)
-  from_source source = exit_parts targets B to function source (slice_get callers source.caller)
+  from_source source = exit_parts B targets to function source (slice_get callers source.caller)
 
   -- a source with no caller owes nothing
   pub none_more : (reaching : List (Reaching F)) (i : ℕ) (source : Reaching F) (before after : List (Key × F))
@@ -58,7 +58,7 @@ module _ {F L : Type 0} (targets : Targets F) (B : EdgeAlgebra F L) (to : ℕ) (
       → after ≡ before ++ flat_map from_source (take (i + 1) reaching)
   none_more reaching i source before after within is none so_far =
       one_more from_source before after after reaching i source within is so_far
-      (sym (ap (λ found. after ++ exit_parts targets B to function source found) none ∙ append-nil after))
+      (sym (ap (λ found. after ++ exit_parts B targets to function source found) none ∙ append-nil after))
 
   -- a source with a caller, where the targets are those of its way back
   pub some_more : (reaching : List (Reaching F)) (i : ℕ) (source : Reaching F) (caller : Caller) (before after all : List (Key × F))
@@ -73,7 +73,7 @@ module _ {F L : Type 0} (targets : Targets F) (B : EdgeAlgebra F L) (to : ℕ) (
       (more
       ∙ ap (λ ts. after ++ map (λ t. (Summary caller.call_node source.fact t.0, B.compose through t.1)) ts) are
       ∙ ap (λ g. after ++ map (λ t. (Summary caller.call_node source.fact t.0, B.compose g t.1)) (targets caller.back to)) composed
-      ∙ ap (λ c. after ++ exit_parts targets B to function source c) (sym some))
+      ∙ ap (λ c. after ++ exit_parts B targets to function source c) (sym some))
 
   -- the targets of the caller that was just looked up are those of the current one
   pub still_current : (current : Option ℕ) (index : ℕ) (caller : Caller) (found : List (ℕ × F))

@@ -14,7 +14,7 @@ use Rattle.ide_tasks.specs.declared.partners.Partners.TheVariants.{Entries, Call
 use Rattle.ide_tasks.specs.declared.partners.Reaching.{Reaching}
 use Rattle.ide_tasks.specs.Task.{TaskData}
 
-module _ {F L : Type 0} (targets : Targets F) (B : EdgeAlgebra F L) where
+module _ {F L : Type 0} (B : EdgeAlgebra F L) (targets : Targets F) where
   -- over an edge: the function goes on to each target of the fact
   abbrev pub flat_parts : ℕ → ℕ → F → EdgeData → List (Key × F)
   flat_parts from to function edge = map (λ t. (Jump edge.end from t.0, B.compose function t.1)) (targets edge to)

@@ -13,7 +13,7 @@ use std::alloc::{AllocError, Global};
 
 /// The parts of the task, in their order.
 pub fn parts_of<P: Problem>(alloc: Global, task: &Task<P>) -> Result<Vec<(Key, P::F)>, AllocError>
-    ensures { IfOk result (λ parts. parts.items ≡ owed P.targets P.F.edge task.now) }
+    ensures { IfOk result (λ parts. parts.items ≡ owed P.F.edge P.targets task.now) }
 {
     let mut parts: Parts<P> = Parts {
         list: Vec::new(alloc),
@@ -40,7 +40,7 @@ impl<P: Problem> Parts<P> {
         site: &Site,
         partners: &Partners<P::F>,
     ) -> Result<(), AllocError>
-        ensures { OnOk result (self.new.list.items ≡ self.old.list.items ++ parts_at P.targets P.F.edge key function site.now partners.now) }
+        ensures { OnOk result (self.new.list.items ≡ self.old.list.items ++ parts_at P.F.edge P.targets key function site.now partners.now) }
     {
         match (key, site, partners) {
             (Key::Jump(_, from, to), Site::Normal(edges), _) => {
@@ -69,7 +69,7 @@ impl<P: Problem> Parts<P> {
         from: Fact,
         to: Fact,
     ) -> Result<(), AllocError>
-        ensures { OnOk result (self.new.list.items ≡ self.old.list.items ++ flat_map (flat_parts P.targets P.F.edge from to function) edges.now) }
+        ensures { OnOk result (self.new.list.items ≡ self.old.list.items ++ flat_map (flat_parts P.F.edge P.targets from to function) edges.now) }
     {
         for edge in edges {
             self.add_edge(edge, function, from, to)?;
@@ -85,7 +85,7 @@ impl<P: Problem> Parts<P> {
         from: Fact,
         to: Fact,
     ) -> Result<(), AllocError>
-        ensures { OnOk result (self.new.list.items ≡ self.old.list.items ++ flat_parts P.targets P.F.edge from to function edge.now) }
+        ensures { OnOk result (self.new.list.items ≡ self.old.list.items ++ flat_parts P.F.edge P.targets from to function edge.now) }
     {
         self.flow(edge, to)?;
         let Parts { list, targets } = self;
@@ -98,7 +98,7 @@ impl<P: Problem> Parts<P> {
 
     /// At a call node: the facts at each callee's start that `to` reaches.
     fn add_starts(&mut self, calls: &[EdgeData], to: Fact) -> Result<(), AllocError>
-        ensures { OnOk result (self.new.list.items ≡ self.old.list.items ++ flat_map (seed_parts P.targets P.F.edge to) calls.now) }
+        ensures { OnOk result (self.new.list.items ≡ self.old.list.items ++ flat_map (seed_parts P.F.edge P.targets to) calls.now) }
     {
         for edge in calls {
             self.add_start(edge, to)?;
@@ -114,7 +114,7 @@ impl<P: Problem> Parts<P> {
         function: P::F,
         from: Fact,
     ) -> Result<(), AllocError>
-        ensures { OnOk result (self.new.list.items ≡ self.old.list.items ++ after_parts P.targets P.F.edge return_site from function summaries.now) }
+        ensures { OnOk result (self.new.list.items ≡ self.old.list.items ++ after_parts P.F.edge P.targets return_site from function summaries.now) }
     {
         for (fact, summary) in summaries {
             let key = Key::Jump(return_site, from, *fact);
@@ -125,7 +125,7 @@ impl<P: Problem> Parts<P> {
 
     /// The facts at a callee's start that `to` reaches: each begins a jump by the identity.
     fn add_start(&mut self, edge: &EdgeData, to: Fact) -> Result<(), AllocError>
-        ensures { OnOk result (self.new.list.items ≡ self.old.list.items ++ seed_parts P.targets P.F.edge to edge.now) }
+        ensures { OnOk result (self.new.list.items ≡ self.old.list.items ++ seed_parts P.F.edge P.targets to edge.now) }
     {
         self.flow(edge, to)?;
         let Parts { list, targets } = self;
@@ -144,7 +144,7 @@ impl<P: Problem> Parts<P> {
         function: P::F,
         to: Fact,
     ) -> Result<(), AllocError>
-        ensures { OnOk result (self.new.list.items ≡ self.old.list.items ++ returned_parts P.targets P.F.edge to function callers.now reaching.now) }
+        ensures { OnOk result (self.new.list.items ≡ self.old.list.items ++ returned_parts P.F.edge P.targets to function callers.now reaching.now) }
     {
         let mut current = None;
         for source in reaching {
@@ -176,7 +176,7 @@ impl<P: Problem> Parts<P> {
         summary: P::F,
         to: Fact,
     ) -> Result<(), AllocError>
-        ensures { OnOk result (self.new.list.items ≡ self.old.list.items ++ resumed_parts P.targets P.F.edge return_site to summary jumps.now) }
+        ensures { OnOk result (self.new.list.items ≡ self.old.list.items ++ resumed_parts P.F.edge P.targets return_site to summary jumps.now) }
     {
         for (from, jump) in jumps {
             let key = Key::Jump(return_site, *from, to);

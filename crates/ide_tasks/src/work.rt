@@ -26,7 +26,7 @@ impl<P: Problem> Model for Work<P> {
 
     ghost view = { λ w. record { task = w.task; parts = w.parts.items; done = w.done } };
 
-    ghost invariant = { λ w. (w.done ≤ length w.parts.items) × (w.parts.items ≡ owed P.targets P.F.edge w.task) };
+    ghost invariant = { λ w. (w.done ≤ length w.parts.items) × (w.parts.items ≡ owed P.F.edge P.targets w.task) };
 }
 
 impl<P: Problem> Work<P> {
@@ -34,7 +34,7 @@ impl<P: Problem> Work<P> {
     /// then. Where memory is wanting, the task comes back.
     pub fn of(alloc: Global, task: Task<P>) -> Result<Work<P>, (Refused, Task<P>)>
         ensures task { IfOk result (λ work. work.task ≡ task) }
-        ensures parts { IfOk result (λ work. work.parts ≡ owed P.targets P.F.edge task) }
+        ensures parts { IfOk result (λ work. work.parts ≡ owed P.F.edge P.targets task) }
         ensures none_done { IfOk result (λ work. work.done ≡ 0) }
         ensures refused { IfErr result (λ e. (e.0 ≡ Refused.NoMemory) × (e.1 ≡ task)) }
     {
@@ -51,7 +51,7 @@ impl<P: Problem> Work<P> {
     /// The task that the parts are of.
     pub fn task(&self) -> &Task<P>
         ensures task { result.now ≡ self.now.task }
-        ensures owed { self.now.parts ≡ owed P.targets P.F.edge self.now.task }
+        ensures owed { self.now.parts ≡ owed P.F.edge P.targets self.now.task }
     {
         &self.task
     }
@@ -60,7 +60,7 @@ impl<P: Problem> Work<P> {
     /// function that its entry is met with.
     pub fn parts(&self) -> &[(Key, P::F)]
         ensures parts { result.now ≡ self.now.parts }
-        ensures owed { result.now ≡ owed P.targets P.F.edge self.now.task }
+        ensures owed { result.now ≡ owed P.F.edge P.targets self.now.task }
     {
         self.parts.as_slice()
     }
@@ -75,7 +75,7 @@ impl<P: Problem> Work<P> {
     /// The first part that is not done.
     pub fn next(&self) -> Option<(Key, P::F)>
         ensures next { result ≡ slice_get self.now.parts self.now.done }
-        ensures owed { self.now.parts ≡ owed P.targets P.F.edge self.now.task }
+        ensures owed { self.now.parts ≡ owed P.F.edge P.targets self.now.task }
         ensures all_done { IfNone result (self.now.done ≡ length self.now.parts) }
     {
         self.parts.get(self.done).copied()

@@ -27,7 +27,7 @@ reaching-append fact xs ys =
 module _ {F L : Type 0} (A : LatticeAlgebra L) (B : EdgeAlgebra F L) (targets : Targets F) (G : Edges) (get : Key → Option F) (n a b : ℕ) (f : F) where
   -- what a source owes, by the callers that its index finds
   abbrev from_source : (ℕ → Option Caller) → Reaching F → List (Key × F)
-  from_source caller_of source = exit_parts targets B b f source (caller_of source.caller)
+  from_source caller_of source = exit_parts B targets b f source (caller_of source.caller)
 
   -- what a target of the call flow from a fact owes, if it is the first fact of the jump
   abbrev from_target : Caller → ℕ → ℕ × F → List (Key × F)
@@ -45,7 +45,7 @@ module _ {F L : Type 0} (A : LatticeAlgebra L) (B : EdgeAlgebra F L) (targets : 
   targets-same caller_of index x caller same [] = refl
   targets-same caller_of index x caller same (t ∷ ts) =
       one-more caller_of (nat_eq t.0 a) (source_of index x t) (filter (λ source. nat_eq source.reached a) (map (source_of index x) ts))
-      ∙ ap (λ found. cond (nat_eq t.0 a) (exit_parts targets B b f (source_of index x t).from found) []
+      ∙ ap (λ found. cond (nat_eq t.0 a) (exit_parts B targets b f (source_of index x t).from found) []
       ++ flat_map (from_source caller_of) (reaching_of a (map (source_of index x) ts))) same
       ∙ ap (λ rest. from_target caller x t ++ rest) (targets-same caller_of index x caller same ts)
 

@@ -14,7 +14,7 @@ returns g c =
     record {
       claim = λ hand old new task same taken owes. goes-claim A B targets old new hand task same taken (λ graph is all fit run.
           let made = c.sites_make_a_graph.ensures graph.facts graph.sites all (start_at graph) fit.joined in
-          let sound = c.runs_are_sound.ensures (edges_of graph.facts graph.sites all (start_at graph)) made.0 (state_of targets B old) run in
+          let sound = c.runs_are_sound.ensures (edges_of graph.facts graph.sites all (start_at graph)) made.0 (state_of B targets old) run in
           let present = sound.present task.key taken.pending in
           c.tasks_owe_their_parts.ensures graph all fit.joined fit.few old.table task (owes graph is fit.exits (ap is_some present.1)) sound.ranged.keys);
       lower = λ hand old new work after task same progress parts is. goes-lowered A B targets old new hand work after task same progress parts is;

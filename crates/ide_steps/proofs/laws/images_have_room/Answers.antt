@@ -9,7 +9,7 @@ use Rattle.ide_steps.proofs.laws.images_have_room.Goals as goal
 pub returns : goal.returns
 returns g c core whole graph is all fit run =
     let B = g.P.F.EdgeFn.edge in
-    let state = state_of g.P.Problem.targets B core in
+    let state = state_of B g.P.Problem.targets core in
     let made = c.sites_make_a_graph.ensures graph.facts graph.sites all (start_at graph) fit.joined in
     let sound = c.runs_are_sound.ensures (edges_of graph.facts graph.sites all (start_at graph)) made.0 state run in
     let within = c.keys_stand_at_nodes.ensures graph fit.joined fit.ends all state run in

@@ -13,7 +13,7 @@ use Rattle.ide_steps.proofs.machine.Core.absent_jumps.Goals.{then-is_absent+in_o
 
 pub loop-fact-init : goal.loop-fact-init
 loop-fact-init g c =
-    let s = state_of g.P.Problem.targets g.P.F.EdgeFn.edge c.args.self.now in
+    let s = state_of g.P.F.EdgeFn.edge g.P.Problem.targets c.args.self.now in
     record {
       entered = sym (ap (with_entries s) c.new-jumps.ensures.items ∙ with-none s);
       before = λ d less. ap (λ entries. list_any (same_key (Jump c.args.start d d)) (keys_of entries)) c.new-jumps.ensures.items;
@@ -25,7 +25,7 @@ pub loop-fact-preserved : goal.loop-fact-preserved
 loop-fact-preserved g c =
     let B = g.P.F.EdgeFn.edge in
     let targets = g.P.Problem.targets in
-    let s = state_of targets B c.args.self.now in
+    let s = state_of B targets c.args.self.now in
     let start = c.args.start in
     let fact = c.loop-fact.fact in
     let entries = c.loop-fact.jumps.items in

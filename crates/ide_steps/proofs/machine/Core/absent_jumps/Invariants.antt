@@ -9,8 +9,8 @@ use Rattle.ide_steps.proofs.machine.Core.absent_jumps.Given as goal
 abbrev pub invariant-loop-fact : goal.invariant-loop-fact
 invariant-loop-fact g l = record {
   entered :
-      seeded_below g.P.F.EdgeFn.edge (state_of g.P.Problem.targets g.P.F.EdgeFn.edge l.self) l.start l.fact
-      ≡ with_entries (state_of g.P.Problem.targets g.P.F.EdgeFn.edge l.self) l.jumps.items;
+      seeded_below g.P.F.EdgeFn.edge (state_of g.P.F.EdgeFn.edge g.P.Problem.targets l.self) l.start l.fact
+      ≡ with_entries (state_of g.P.F.EdgeFn.edge g.P.Problem.targets l.self) l.jumps.items;
   before : AreBefore l.start l.fact l.jumps.items;
   place : AllAt l.start l.jumps.items;
   absent : AllAbsent l.self l.jumps.items;

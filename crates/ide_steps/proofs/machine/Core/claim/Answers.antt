@@ -20,7 +20,7 @@ pub invariant_of-self : goal.invariant_of-self
 invariant_of-self g c = λ loaded is.
     let kept = c.self.invariant loaded is in (
       kept.0,
-      kept-unchanged g.P.Problem.targets g.P.F.EdgeFn.edge loaded.graph c.self.inside.worklist c.take_task.new.worklist kept.1
+      kept-unchanged g.P.F.EdgeFn.edge g.P.Problem.targets loaded.graph c.self.inside.image.pile c.take_task.new.image.pile kept.1
           c.take_task.ensures.pending c.in_err-task.ensures.err,
     )
 
@@ -33,9 +33,9 @@ invariant_of-self-2 g c = λ loaded is.
     let there : _ ≡ Some c.deref.result.now = search rules in
     let same : c.deref.result.now ≡ loaded = same_Some _ _ (sym there ∙ is) in (
       kept.0,
-      kept-put g.P.Problem.targets g.P.F.EdgeFn.edge loaded.graph c.self.inside.worklist c.take_task.new.worklist kept.1 c.args.hand (Some held)
+      kept-put g.P.F.EdgeFn.edge g.P.Problem.targets loaded.graph c.self.inside.image.pile c.take_task.new.image.pile kept.1 c.args.hand (Some held)
           c.take_task.ensures.pending
-          (parts-within g.P.Problem.targets g.P.F.EdgeFn.edge loaded.graph.nodes task.key task.function task.site task.partners
+          (parts-within g.P.F.EdgeFn.edge g.P.Problem.targets loaded.graph.nodes task.key task.function task.site task.partners
           (subst (λ l. EdgesWithin l.graph.nodes task.site) same c.in_ok-task.ensures.edges))
           c.in_ok-task.ensures.claims,
     )
@@ -44,26 +44,27 @@ pub returns-clause-task : goal.returns-clause-task
 returns-clause-task g c = λ task is.
     let same : c.in_ok-task.task ≡ task = cc (is) in
     let key : c.in_ok-task.task.key ≡ c.in-Some-unclaimed.key = c.in_ok-task.ensures.key in
-    let before = state-at g.P.Problem.targets g.P.F.EdgeFn.edge c.self.inside.tables c.self.inside.worklist in
+    let before = state-at g.P.F.EdgeFn.edge g.P.Problem.targets c.self.inside.image.table c.self.inside.image.pile in
     let held : Held (TaskData g.row.P-F.Denot) = record { key = c.in-Some-unclaimed.key; task = c.in_ok-task.task; done = 0; lowered = false } in
     rw (← same) (record {
-      fresh = taken-ends {F = g.row.P-F.Denot} c.self.inside.worklist c.take_task.new.worklist c.args.hand held c.in_ok-task.ensures.claims;
+      fresh = taken-ends {F = g.row.P-F.Denot} c.self.inside.image.pile c.take_task.new.image.pile c.args.hand held c.in_ok-task.ensures.claims;
       taken = rw (← c.self.view_is) (record {
         free = search rules;
         pending = rw key c.in-Some-unclaimed.ensures.pending;
         unclaimed = rw key c.in-Some-unclaimed.ensures.free;
         state =
-            state-claimed g.P.Problem.targets g.P.F.EdgeFn.edge c.self.inside.tables c.self.inside.worklist c.take_task.new.worklist c.args.hand
-            (Some held) c.take_task.ensures.pending c.in_ok-task.ensures.claims
-            ∙ ap (λ k. with_claim before c.args.hand (Some (new_claim k (owed g.P.Problem.targets g.P.F.EdgeFn.edge c.in_ok-task.task)))) (sym key);
+            state-claimed g.P.F.EdgeFn.edge g.P.Problem.targets c.self.inside.image.table c.take_task.new.image.table c.self.inside.image.pile c.take_task.new.image.pile c.args.hand
+            (Some held) c.take_task.ensures.table c.take_task.ensures.pending c.in_ok-task.ensures.claims
+            ∙ ap (λ k. with_claim before c.args.hand (Some (new_claim k (owed g.P.F.EdgeFn.edge g.P.Problem.targets c.in_ok-task.task)))) (sym key);
       });
       is_task = λ graph here exits present. search rules;
-      progress = taken-progress {F = g.row.P-F.Denot} c.self.inside.worklist c.take_task.new.worklist c.args.hand held c.in_ok-task.ensures.claims;
+      progress = taken-progress {F = g.row.P-F.Denot} c.self.inside.image.pile c.take_task.new.image.pile c.args.hand held c.in_ok-task.ensures.claims;
     })
 
 pub returns-in_err-task-clause-unchanged : goal.returns-in_err-task-clause-unchanged
 returns-in_err-task-clause-unchanged g c =
-    unchanged-err {F = g.row.P-F.Denot} c.from_residual.result _ c.args.self.now c.take_task.new.worklist c.self.view_is c.take_task.ensures.pending c.in_err-task.ensures.err
+    unchanged-err {F = g.row.P-F.Denot} c.from_residual.result _ c.args.self.now c.take_task.new.image.table c.take_task.new.image.pile c.take_task.new.image.changes
+    c.self.view_is c.take_task.ensures.table c.take_task.ensures.pending c.in_err-task.ensures.err c.take_task.ensures.changes
 
 pub returns-then-hand-ge-HANDS-clause-refused : goal.returns-then-hand-ge-HANDS-clause-refused
 returns-then-hand-ge-HANDS-clause-refused g c = limit (search rules)

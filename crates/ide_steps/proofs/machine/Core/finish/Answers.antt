@@ -21,10 +21,10 @@ returns-clause-finished g c =
     let done = there.3 in
     let all = ap length c.next.ensures.owed in
     let over : work.done ≡ length work.parts = search rules in
-    let none : drop work.done (owed targets B work.task) ≡ [] = drop_all work.done (owed targets B work.task) (omega (arith, over, all)) in (
+    let none : drop work.done (owed B targets work.task) ≡ [] = drop_all work.done (owed B targets work.task) (omega (arith, over, all)) in (
       there.0,
       there.1,
-      ap (λ n. drop n (owed targets B there.0.task)) done ∙ (ap (λ task. drop work.done (owed targets B task)) task ∙ none),
+      ap (λ n. drop n (owed B targets there.0.task)) done ∙ (ap (λ task. drop work.done (owed B targets task)) task ∙ none),
       c.in_ok-end_claim.ensures.finished there.0 there.1,
     )
 
@@ -44,7 +44,7 @@ returns-in_err-end_claim-clause-refused g c =
     let p = err_from_is_err_and c.from_residual.result c.from_residual.ensures.1 in
     let done : c.args.work.now.done ≡ length c.args.work.now.parts = search rules in
     let unless : c.args.self.now.changes ≡ None → ⊥ = search rules in
-    handed-on (IsFinishRefusal g.P.Problem.targets g.P.F.EdgeFn.edge c.args.self.now c.args.hand c.args.work.now) c.from_residual.result NoMemory p.0 p.1
+    handed-on (IsFinishRefusal g.P.F.EdgeFn.edge g.P.Problem.targets c.args.self.now c.args.hand c.args.work.now) c.from_residual.result NoMemory p.0 p.1
     (p.2 ∙ c.in_err-end_claim.ensures.refused)
     (wanting (record { claim = c.is_current.ensures.current.0 c.if-not-is_current.false; parts = c.is_current.ensures.owed c.if-not-is_current.false })
     (omega (arith, done)) (some-unless c.args.self.now.changes unless))

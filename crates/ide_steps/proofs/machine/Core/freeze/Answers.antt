@@ -21,7 +21,7 @@ returns-in_err-from_slice-clause-refused g c =
     let p = err_from_is_err_and c.from_residual-in_err-from_slice.result c.from_residual-in_err-from_slice.ensures.1 in
     handed-on (IsFreezeRefusal {F = g.row.P-F.Denot} c.args.self.now) c.from_residual-in_err-from_slice.result NoMemory p.0 p.1 p.2 (memory (search rules) (search rules))
 
-pub returns-in_err-copy-clause-refused : goal.returns-in_err-copy-clause-refused
-returns-in_err-copy-clause-refused g c =
-    let p = err_from_is_err_and c.from_residual-in_err-copy.result c.from_residual-in_err-copy.ensures.1 in
-    handed-on (IsFreezeRefusal {F = g.row.P-F.Denot} c.args.self.now) c.from_residual-in_err-copy.result NoMemory p.0 p.1 (p.2 ∙ c.in_err-copy.ensures.refused) (memory (search rules) (search rules))
+pub returns-in_err-copy_tables-clause-refused : goal.returns-in_err-copy_tables-clause-refused
+returns-in_err-copy_tables-clause-refused g c =
+    let p = err_from_is_err_and c.from_residual-in_err-copy_tables.result c.from_residual-in_err-copy_tables.ensures.1 in
+    handed-on (IsFreezeRefusal {F = g.row.P-F.Denot} c.args.self.now) c.from_residual-in_err-copy_tables.result NoMemory p.0 p.1 (p.2 ∙ c.in_err-copy_tables.ensures.refused) (memory (search rules) (search rules))

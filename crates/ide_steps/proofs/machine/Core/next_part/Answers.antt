@@ -26,9 +26,9 @@ returns-clause-lowered g c = λ is task at.
       next = next;
       changes = c.in_ok-change.ensures.changes (ap Ok change);
       state =
-          state-counted g.P.Problem.targets g.P.F.EdgeFn.edge c.self.inside.tables c.self.inside.worklist c.set_done.new.self c.args.hand task
+          state-counted g.P.F.EdgeFn.edge g.P.Problem.targets c.self.inside.image.table c.set_done.new.self.table c.self.inside.image.pile c.set_done.new.self.pile c.args.hand task
           c.args.work.now.done c.done.result (rw (← c.self.view_is) at (c.in_ok-change.ensures.progress c.args.hand ∙ at)) (done_there ∙ add-one c.args.work.now.done)
-          c.set_done.ensures.pending c.set_done.ensures.claims
+          c.set_done.ensures.table c.set_done.ensures.pending c.set_done.ensures.claims
           ∙ ap (λ s. part_done s c.args.hand) (rw (← c.self.view_is) at (c.in_ok-change.ensures.lowered (ap Ok change)));
       counted = record { task = c.advance.ensures.task; parts = c.advance.ensures.parts; done = done };
     }
@@ -46,9 +46,9 @@ returns-clause-same g c = λ is task at.
       next = next;
       met = c.in_ok-change.ensures.met (ap Ok change);
       state =
-          state-counted g.P.Problem.targets g.P.F.EdgeFn.edge c.self.inside.tables c.self.inside.worklist c.set_done.new.self c.args.hand task
+          state-counted g.P.F.EdgeFn.edge g.P.Problem.targets c.self.inside.image.table c.set_done.new.self.table c.self.inside.image.pile c.set_done.new.self.pile c.args.hand task
           c.args.work.now.done c.done.result (rw (← c.self.view_is) at (c.in_ok-change.ensures.progress c.args.hand ∙ at)) (done_there ∙ add-one c.args.work.now.done)
-          c.set_done.ensures.pending c.set_done.ensures.claims
+          c.set_done.ensures.table c.set_done.ensures.pending c.set_done.ensures.claims
           ∙ ap (λ s. part_done s c.args.hand) (rw (← c.self.view_is) at (c.in_ok-change.ensures.same (ap Ok change)));
       counted = record { task = c.advance.ensures.task; parts = c.advance.ensures.parts; done = done };
     }
@@ -78,8 +78,8 @@ returns-in_err-change-clause-left g c = at-err c.from_residual.result (slice_get
 
 pub returns-clause-tasks : goal.returns-clause-tasks
 returns-clause-tasks g c = λ _.
-    subst (λ n. KeepTasks c.args.hand n c.args.self.now.pile c.set_done.new.self) c.done.ensures
-    (tasks-counted {F = g.row.P-F.Denot} c.args.hand c.done.result c.args.self.now.pile c.self.inside.worklist c.set_done.new.self
+    subst (λ n. KeepTasks c.args.hand n c.args.self.now.pile c.set_done.new.self.pile) c.done.ensures
+    (tasks-counted {F = g.row.P-F.Denot} c.args.hand c.done.result c.args.self.now.pile c.self.inside.image.pile c.set_done.new.self.pile
     (rw (← c.self.view_is) at c.in_ok-change.ensures.progress) c.set_done.ensures.claims)
 
 pub lower-requires : goal.lower-requires
@@ -89,27 +89,27 @@ lower-requires g c = λ graph is.
 pub invariant_of-self : goal.invariant_of-self
 invariant_of-self g c = λ loaded is.
     let kept = c.self.invariant loaded is in
-    (kept.0, kept-done g.P.Problem.targets g.P.F.EdgeFn.edge loaded.graph c.self.inside.worklist c.set_done.new.self kept.1 c.args.hand c.done.result c.set_done.ensures.pending c.set_done.ensures.claims)
+    (kept.0, kept-done g.P.F.EdgeFn.edge g.P.Problem.targets loaded.graph c.self.inside.image.pile c.set_done.new.self.pile kept.1 c.args.hand c.done.result c.set_done.ensures.pending c.set_done.ensures.claims)
 
 pub returns-clause-notes : goal.returns-clause-notes
 returns-clause-notes g c = λ is part at.
     let change : c.in_ok-change.change ≡ Change.Lowered =
     elim c.match-change.branch [ in-Lowered w ↦ w.in-Lowered.is | in-Same w ↦ absurd (cc (is, w.result-is)) ] in
     let same : c.in-Some.part ≡ part = same_Some _ _ (c.in-Some.ensures.next ∙ at) in
-    notes-on _ c.lower.new.self _ (Some part.0) (ap (λ (core : CoreData g.row.P-F.Denot). core.changes) c.self.view_is)
+    notes-on _ c.lower.new.self _ (Some part.0) (c.set_done.ensures.changes ∙ ap (λ (core : CoreData g.row.P-F.Denot). core.changes) c.self.view_is)
     (subst (λ p. Notes c.args.self.now c.lower.new.self (Some p.0)) same (c.in_ok-change.ensures.notes (ap Ok change)))
 
 pub returns-clause-notes_none : goal.returns-clause-notes_none
 returns-clause-notes_none g c = λ is.
     let change : c.in_ok-change.change ≡ Change.Same =
     elim c.match-change.branch [ in-Lowered w ↦ absurd (cc (is, w.result-is)) | in-Same w ↦ w.in-Same.is ] in
-    ap (λ (core : CoreData g.row.P-F.Denot). core.changes) c.self.view_is ∙ (c.in_ok-change.ensures.still (ap Ok change)).changes
+    c.set_done.ensures.changes ∙ (ap (λ (core : CoreData g.row.P-F.Denot). core.changes) c.self.view_is ∙ (c.in_ok-change.ensures.still (ap Ok change)).changes)
 
 pub returns-clause-remembers : goal.returns-clause-remembers
 returns-clause-remembers g c =
     remembers-on _ c.lower.new.self _
-    (ap (λ (core : CoreData g.row.P-F.Denot). core.changes) c.self.view_is)
-    (ap (λ (core : CoreData g.row.P-F.Denot). core.table) c.self.view_is)
+    (c.set_done.ensures.changes ∙ ap (λ (core : CoreData g.row.P-F.Denot). core.changes) c.self.view_is)
+    (c.set_done.ensures.table ∙ ap (λ (core : CoreData g.row.P-F.Denot). core.table) c.self.view_is)
     (c.set_done.ensures.pending ∙ ap (λ (core : CoreData g.row.P-F.Denot). core.pile.pending) c.self.view_is)
     c.lower.ensures.remembers
 

@@ -71,7 +71,7 @@ loop-count-preserved g c =
       progress = λ task at. ensures.progress task (c.loop-count.invariant.progress task at);
       parts = λ task at.
           let now = c.loop-count.invariant.progress task at in
-          parts-more B c.args.hand (state_of targets B c.args.self.now) (state_of targets B c.loop-count.self) (state_of targets B c.next_part.new.self)
+          parts-more B c.args.hand (state_of B targets c.args.self.now) (state_of B targets c.loop-count.self) (state_of B targets c.next_part.new.self)
           start before c.next_part.new.work parted (λ is. ensures.lowered (ap Ok is) task now) (λ is. ensures.same (ap Ok is) task now) some
           (c.loop-count.invariant.parts task at);
       tasks = λ task at.
@@ -107,8 +107,8 @@ returns-in_err-next_part-clause-parts g c = λ task at.
     let targets = g.P.Problem.targets in
     let unchanged = c.in_err-next_part.ensures.unchanged in
     let same = state-unchanged A B targets c.loop-count.self c.next_part.new.self unchanged.0 in
-    subst (λ t. ArePartsDone B c.args.hand (state_of targets B c.args.self.now) c.args.work.now t c.next_part.new.work) (sym same)
-    (subst (ArePartsDone B c.args.hand (state_of targets B c.args.self.now) c.args.work.now (state_of targets B c.loop-count.self)) (sym unchanged.1)
+    subst (λ t. ArePartsDone B c.args.hand (state_of B targets c.args.self.now) c.args.work.now t c.next_part.new.work) (sym same)
+    (subst (ArePartsDone B c.args.hand (state_of B targets c.args.self.now) c.args.work.now (state_of B targets c.loop-count.self)) (sym unchanged.1)
     (c.loop-count.invariant.parts task at))
 
 -- where no part was left, nothing changed

@@ -16,8 +16,8 @@ invariant-loop-count g l = record {
   progress : (task : TaskData g.row.P-F.Denot) → progress_at l.initial.self.pile l.hand ≡ Some (task, l.initial.work.done)
       → progress_at l.self.pile l.hand ≡ Some (task, l.work.done);
   parts : (task : TaskData g.row.P-F.Denot) → progress_at l.initial.self.pile l.hand ≡ Some (task, l.initial.work.done)
-      → ArePartsDone g.P.F.EdgeFn.edge l.hand (state_of g.P.Problem.targets g.P.F.EdgeFn.edge l.initial.self) l.initial.work
-      (state_of g.P.Problem.targets g.P.F.EdgeFn.edge l.self) l.work;
+      → ArePartsDone g.P.F.EdgeFn.edge l.hand (state_of g.P.F.EdgeFn.edge g.P.Problem.targets l.initial.self) l.initial.work
+      (state_of g.P.F.EdgeFn.edge g.P.Problem.targets l.self) l.work;
   tasks : (task : TaskData g.row.P-F.Denot) → progress_at l.initial.self.pile l.hand ≡ Some (task, l.initial.work.done)
       → KeepTasks l.hand l.work.done l.initial.self.pile l.self.pile;
   same : IsSameProblem l.initial.self l.self;

@@ -49,7 +49,7 @@ returns-clause-own g c =
     ])
     (λ none.
     let kept = c.next_part.ensures.no_part none in
-    subst (IsCurrent targets B new hand) (sym kept.2) (subst (λ core. IsCurrent targets B core hand work) (sym kept.1) c.requires))
+    subst (IsCurrent B targets new hand) (sym kept.2) (subst (λ core. IsCurrent B targets core hand work) (sym kept.1) c.requires))
 
 -- there is as much to do where nothing changed
 pub returns-clause-less : goal.returns-clause-less

@@ -15,7 +15,7 @@ returns-then-not-is_current-clause-refused g c = stale (λ is. let yes = c.is_cu
 
 pub returns-clause-refused : goal.returns-clause-refused
 returns-clause-refused g c =
-    wants-memory g.P.Problem.targets g.P.F.EdgeFn.edge c.args.self.now c.args.hand c.args.work.now c.own_part.result c.own_part.ensures.refused c.own_part.ensures.left
+    wants-memory g.P.F.EdgeFn.edge g.P.Problem.targets c.args.self.now c.args.hand c.args.work.now c.own_part.result c.own_part.ensures.refused c.own_part.ensures.left
     (record { claim = c.is_current.ensures.current.0 c.if-not-is_current.false; parts = c.is_current.ensures.owed c.if-not-is_current.false })
 
 pub own_part-requires : goal.own_part-requires

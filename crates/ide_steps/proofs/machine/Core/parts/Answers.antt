@@ -17,7 +17,7 @@ returns-else-is_current-clause-tasks g c = λ task at. tasks-here c.args.hand c.
 
 pub returns-then-is_current-clause-refused : goal.returns-then-is_current-clause-refused
 returns-then-is_current-clause-refused g c =
-    wants-memory g.P.Problem.targets g.P.F.EdgeFn.edge c.args.self.now c.args.hand c.args.work.now c.next_parts.result c.next_parts.ensures.refused c.next_parts.ensures.left
+    wants-memory g.P.F.EdgeFn.edge g.P.Problem.targets c.args.self.now c.args.hand c.args.work.now c.next_parts.result c.next_parts.ensures.refused c.next_parts.ensures.left
     (record { claim = c.is_current.ensures.current.0 c.if-is_current.true; parts = c.is_current.ensures.owed c.if-is_current.true })
 
 pub returns-else-is_current-clause-refused : goal.returns-else-is_current-clause-refused

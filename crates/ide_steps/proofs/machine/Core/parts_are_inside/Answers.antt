@@ -7,4 +7,4 @@ returns g c =
     rw (← c.self.view_is)
     (λ work current. of-loaded _ c.self.inside.loaded c.self.invariant (λ l. l.graph) (λ graph. AllStandIn graph work.parts)
     (λ l kept.
-    work-inside g.P.Problem.targets g.P.F.EdgeFn.edge l.graph c.self.inside.worklist c.args.hand work work.task kept.1 current.claim current.parts))
+    work-inside g.P.F.EdgeFn.edge g.P.Problem.targets l.graph c.self.inside.image.pile c.args.hand work work.task kept.1 current.claim current.parts))

@@ -66,7 +66,7 @@ returns-clause-begun g c =
     is (subst (λ rs. IsRootName graph rs c.args.name.now c.in_ok-procedure.procedure) roots c.in_ok-procedure.ensures.root)
     c.in_ok-procedure.ensures.within (search rules) (search rules)
     c.in_ok-begin.ensures.program c.in_ok-begin.ensures.graph c.in_ok-begin.ensures.progress
-    (c.in_ok-begin.ensures.state ∙ (ap (with_entries (state_of targets B c.args.self.now)) c.deref-2.ensures.value ∙ sym c.in_ok-jumps.ensures.entered))
+    (c.in_ok-begin.ensures.state ∙ (ap (with_entries (state_of B targets c.args.self.now)) c.deref-2.ensures.value ∙ sym c.in_ok-jumps.ensures.entered))
     c.in_ok-begin.ensures.roots
 
 pub begin-requires-clause-absent : goal.begin-requires-clause-absent

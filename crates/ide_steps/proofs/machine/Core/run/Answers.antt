@@ -70,7 +70,7 @@ returns-clause-goes g c =
           goes-then A B targets start core over
           (subst (GoesOnByHand A B targets 0 0 c.loop-work.invariant.0 0 start) (sym done.1) now.1)
           (goes-finish A B targets core over 0 work c.end_claim.ensures.stays
-          (subst (λ s. IsCurrent targets B s 0 work) (sym done.1) now.0) done.0 c.in_ok-end_claim.ensures.finished),
+          (subst (λ s. IsCurrent B targets s 0 work) (sym done.1) now.0) done.0 c.in_ok-end_claim.ensures.finished),
       record { keys = omega (arith, paid); ranks = omega (arith, ranks, same) },
     )
 

@@ -14,8 +14,8 @@ invariant-loop-work g l =
     (lowerings : ℕ)
     × ((potential g.P.F.EdgeFn.edge l.self < potential g.P.F.EdgeFn.edge l.initial.self)
     ⊎ ((potential g.P.F.EdgeFn.edge l.self ≡ potential g.P.F.EdgeFn.edge l.initial.self) × (ends_key (claim_at l.self.pile 0) ≡ true)))
-    × (IsCurrent g.P.Problem.targets g.P.F.EdgeFn.edge l.initial.self 0 l.initial.work
-    → IsCurrent g.P.Problem.targets g.P.F.EdgeFn.edge l.self 0 l.work
+    × (IsCurrent g.P.F.EdgeFn.edge g.P.Problem.targets l.initial.self 0 l.initial.work
+    → IsCurrent g.P.F.EdgeFn.edge g.P.Problem.targets l.self 0 l.work
     × GoesOnByHand g.P.L.Lattice.algebra g.P.F.EdgeFn.edge g.P.Problem.targets 0 0 lowerings 0 l.initial.self l.self)
     × IsPaidBy g.P.F.EdgeFn.edge 0 lowerings l.initial.self l.self
     × ((h : ℕ) → nat_eq 0 h ≡ false → claim_at l.initial.self.pile h ≡ None → claim_at l.self.pile h ≡ None)

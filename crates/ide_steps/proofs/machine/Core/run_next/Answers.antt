@@ -27,7 +27,7 @@ returns-in-Ok-clause-claims g c =
     (subst (λ o. GoesOnByHand A B targets 0 (cond (is_some o) 1 0) 0 0 c.args.self.now c.take_next.new.self) c.in-Some.is c.in_ok-task.ensures.claims)
     (ran.1 (record {
       claim = progress ∙ (λ i. Some (sym task i, sym c.in-Ok.ensures.none_done i));
-      parts = c.in-Ok.ensures.parts ∙ ap (owed targets B) (sym task);
+      parts = c.in-Ok.ensures.parts ∙ ap (owed B targets) (sym task);
     }))
     ran.2)
 
@@ -41,7 +41,7 @@ returns-in-Ok-clause-goes g c =
     goes-on-then A B targets c.args.self.now c.take_next.new.self c.run.new.self c.take_next.ensures.goes
     (goes-on A B targets c.take_next.new.self c.run.new.self (c.run.ensures.goes.1 (record {
       claim = progress ∙ (λ i. Some (sym task i, sym c.in-Ok.ensures.none_done i));
-      parts = c.in-Ok.ensures.parts ∙ ap (owed targets B) (sym task);
+      parts = c.in-Ok.ensures.parts ∙ ap (owed B targets) (sym task);
     })))
 
 pub run-requires-clause-inside : goal.run-requires-clause-inside
@@ -50,7 +50,7 @@ run-requires-clause-inside g c =
     let progress = c.in_ok-task.ensures.progress c.in-Some.task (ap Ok c.in-Some.is) in
     c.parts_are_inside.ensures c.in-Ok.work (record {
       claim = progress ∙ (λ i. Some (sym task i, sym c.in-Ok.ensures.none_done i));
-      parts = c.in-Ok.ensures.parts ∙ ap (owed g.P.Problem.targets g.P.F.EdgeFn.edge) (sym task);
+      parts = c.in-Ok.ensures.parts ∙ ap (owed g.P.F.EdgeFn.edge g.P.Problem.targets) (sym task);
     })
 
 pub returns-in-Ok-clause-remembers : goal.returns-in-Ok-clause-remembers

@@ -12,6 +12,6 @@ returns-clause-works g c =
 
 pub returns-clause-refused : goal.returns-clause-refused
 returns-clause-refused g c =
-    end_wants c.finish.result g.P.Problem.targets g.P.F.EdgeFn.edge c.self.inside.core c.args.work.now
-    (subst (λ (table : TableData g.row.P-F.Denot). IsCurrent g.P.Problem.targets g.P.F.EdgeFn.edge table.core 0 c.args.work.now) (sym c.self.view_is) c.requires.own)
+    end_wants c.finish.result g.P.F.EdgeFn.edge g.P.Problem.targets c.self.inside.core c.args.work.now
+    (subst (λ (table : TableData g.row.P-F.Denot). IsCurrent g.P.F.EdgeFn.edge g.P.Problem.targets table.core 0 c.args.work.now) (sym c.self.view_is) c.requires.own)
     c.requires.over c.finish.ensures.refused

@@ -3,7 +3,7 @@ use Rattle.ide_store.proofs.table.TableHalf.end.Goals as goal
 
 pub do_end-requires-clause-own : goal.do_end-requires-clause-own
 do_end-requires-clause-own g c =
-    own_still _ _ c.make_room.ensures.core g.P.Problem.targets g.P.F.EdgeFn.edge 0 c.args.work.now c.requires.own
+    own_still _ _ c.make_room.ensures.core g.P.F.EdgeFn.edge g.P.Problem.targets 0 c.args.work.now c.requires.own
 
 pub returns-clause-works : goal.returns-clause-works
 returns-clause-works g c =

@@ -15,7 +15,7 @@ returns-then-end_overflows-clause-refused g c =
 
 pub invariant_of-self : goal.invariant_of-self
 invariant_of-self g c =
-    end_keeps g.P.Problem.targets g.P.F.EdgeFn.edge c.finish.result c.args.hand c.self.inside.core c.finish.new.self c.args.work.now c.self.inside.outbox.sealed _
+    end_keeps g.P.F.EdgeFn.edge g.P.Problem.targets c.finish.result c.args.hand c.self.inside.core c.finish.new.self c.args.work.now c.self.inside.outbox.sealed _
     c.self.invariant c.finish.ensures.remembers c.finish.ensures.current c.finish.ensures.finished c.finish.ensures.notes c.finish.ensures.unchanged
     c.args.self.now.core (ap (λ table. table.core) c.self.view_is) (c.if-end_overflows.ensures.no refl)
 

@@ -1,7 +1,7 @@
 use Rattle.std.proofs.Common.{ap, arith}
 use Rattle.std.proofs.lemmas.Result.{err_from_is_err_and}
 use Rattle.ide_steps.proofs.States.{handed-on}
-use Rattle.ide_steps.specs.Changed.{noted_count}
+use Rattle.ide_image.specs.Notes.{noted_count}
 use Rattle.ide_store.specs.Draining.{IsWorkStop, full_batch_stays}
 use Rattle.ide_store.specs.Table.{TableData}
 use Rattle.ide_store.proofs.Drained.{anew_core, equal_core, seal_works, stop_stays, works_still}

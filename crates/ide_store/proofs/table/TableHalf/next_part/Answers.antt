@@ -3,7 +3,7 @@ use Rattle.ide_store.proofs.table.TableHalf.next_part.Goals as goal
 
 pub do_part-requires-clause-own : goal.do_part-requires-clause-own
 do_part-requires-clause-own g c =
-    own_still _ _ c.make_room.ensures.core g.P.Problem.targets g.P.F.EdgeFn.edge 0 c.args.work.now c.requires
+    own_still _ _ c.make_room.ensures.core g.P.F.EdgeFn.edge g.P.Problem.targets 0 c.args.work.now c.requires
 
 pub returns-clause-works : goal.returns-clause-works
 returns-clause-works g c =

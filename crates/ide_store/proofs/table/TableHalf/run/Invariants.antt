@@ -21,7 +21,7 @@ invariant-loop-work g l =
     } in
     WorksBy a l.initial.self l.self 0 0
     × IsLeft g.P.F.EdgeFn.edge l.initial.self.core l.self.core
-    × IsCurrent g.P.Problem.targets g.P.F.EdgeFn.edge l.self.core 0 l.work
+    × IsCurrent g.P.F.EdgeFn.edge g.P.Problem.targets l.self.core 0 l.work
     × StayOthersFree 0 l.initial.self.core.pile l.self.core.pile
     × IsSameProblem l.initial.self.core l.self.core
 

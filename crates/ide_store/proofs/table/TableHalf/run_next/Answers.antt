@@ -13,7 +13,7 @@ run-requires-clause-own g c =
     let progress = (c.in_ok-task.ensures.task c.in-Some.task (ap Ok c.in-Some.is)).progress in
     record {
       claim = progress ∙ (λ i. Some (sym task i, sym c.in-Ok.ensures.none_done i));
-      parts = c.in-Ok.ensures.parts ∙ ap (owed g.P.Problem.targets g.P.F.EdgeFn.edge) (sym task);
+      parts = c.in-Ok.ensures.parts ∙ ap (owed g.P.F.EdgeFn.edge g.P.Problem.targets) (sym task);
     }
 
 pub run-requires-clause-fresh : goal.run-requires-clause-fresh

@@ -7,7 +7,7 @@ use Rattle.ide_tasks.proofs.parts.Parts.add_exit.Goals.{then-ne+in_ok-flow, else
 
 pub loop-source-preserved-in_default : goal.loop-source-preserved-in_default
 loop-source-preserved-in_default g c = record {
-  parts = none_more g.P.Problem.targets g.P.F.EdgeFn.edge c.args.to c.args.function c.args.callers.now c.args.reaching.now c.loop-source.source-index
+  parts = none_more g.P.F.EdgeFn.edge g.P.Problem.targets c.args.to c.args.function c.args.callers.now c.args.reaching.now c.loop-source.source-index
       c.source-item.result _ _ c.loop-source-test.true c.source-item.is
       (slice_get_past c.args.callers.now c.source-item.result.caller c.in_default.ensures.lookup.3) c.loop-source.invariant.parts;
   targets = c.loop-source.invariant.targets;
@@ -23,12 +23,12 @@ loop-source-preserved g c =
           let are : c.if-ne.self.targets.list.items ≡ g.P.Problem.targets c.in-Some.caller.now.back c.args.to =
           ap (λ parts. parts.targets.list.items) w.self-is ∙ w.in_ok-flow.ensures.targets in
           record {
-            parts = some_more g.P.Problem.targets g.P.F.EdgeFn.edge c.args.to c.args.function c.args.callers.now c.args.reaching.now c.loop-source.source-index
+            parts = some_more g.P.F.EdgeFn.edge g.P.Problem.targets c.args.to c.args.function c.args.callers.now c.args.reaching.now c.loop-source.source-index
                 c.source-item.result c.in-Some.caller.now _ c.if-ne.self.list.items _ c.as_slice-targets.result.now c.compose-through.result
                 c.loop-source-test.true c.source-item.is caller
                 (ap (λ parts. parts.list.items) w.self-is ∙ ap (λ list. list.items) w.in_ok-flow.ensures.parts ∙ c.loop-source.invariant.parts)
                 (c.as_slice-targets.ensures.value ∙ are) c.compose-through.ensures c.in_ok-add_summaries.ensures;
-            targets = still_current g.P.Problem.targets g.P.F.EdgeFn.edge c.args.to c.args.function c.args.callers.now
+            targets = still_current g.P.F.EdgeFn.edge g.P.Problem.targets c.args.to c.args.function c.args.callers.now
                 c.if-ne.current c.source-item.result.caller c.in-Some.caller.now c.if-ne.self.targets.list.items w.current-is caller are;
           }
       | else-ne w ↦
@@ -38,17 +38,17 @@ loop-source-preserved g c =
           ap (λ parts. parts.targets.list.items) w.self-is
           ∙ c.loop-source.invariant.targets c.source-item.result.caller c.in-Some.caller.now (sym w.current-is ∙ current) caller in
           record {
-            parts = some_more g.P.Problem.targets g.P.F.EdgeFn.edge c.args.to c.args.function c.args.callers.now c.args.reaching.now c.loop-source.source-index
+            parts = some_more g.P.F.EdgeFn.edge g.P.Problem.targets c.args.to c.args.function c.args.callers.now c.args.reaching.now c.loop-source.source-index
                 c.source-item.result c.in-Some.caller.now _ c.if-ne.self.list.items _ c.as_slice-targets.result.now c.compose-through.result
                 c.loop-source-test.true c.source-item.is caller
                 (ap (λ parts. parts.list.items) w.self-is ∙ c.loop-source.invariant.parts)
                 (c.as_slice-targets.ensures.value ∙ are) c.compose-through.ensures c.in_ok-add_summaries.ensures;
-            targets = still_current g.P.Problem.targets g.P.F.EdgeFn.edge c.args.to c.args.function c.args.callers.now
+            targets = still_current g.P.F.EdgeFn.edge g.P.Problem.targets c.args.to c.args.function c.args.callers.now
                 c.if-ne.current c.source-item.result.caller c.in-Some.caller.now c.if-ne.self.targets.list.items current caller are;
           }
     ]
 
 pub returns : goal.returns
 returns g c =
-    at_end g.P.Problem.targets g.P.F.EdgeFn.edge c.args.to c.args.function c.args.callers.now c.args.reaching.now c.loop-source.source-index _ _
+    at_end g.P.F.EdgeFn.edge g.P.Problem.targets c.args.to c.args.function c.args.callers.now c.args.reaching.now c.loop-source.source-index _ _
     (omega arith) c.loop-source.invariant.parts

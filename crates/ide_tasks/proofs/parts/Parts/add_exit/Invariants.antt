@@ -10,7 +10,7 @@ use Rattle.ide_tasks.proofs.parts.Parts.add_exit.Given as goal
 abbrev pub invariant-loop-source : goal.invariant-loop-source
 invariant-loop-source g l = record {
   parts : l.self.list.items ≡ l.initial.self.list.items
-      ++ flat_map (λ source. exit_parts g.P.Problem.targets g.P.F.EdgeFn.edge l.to l.function source (slice_get l.callers source.caller)) (take l.source-index l.reaching);
+      ++ flat_map (λ source. exit_parts g.P.F.EdgeFn.edge g.P.Problem.targets l.to l.function source (slice_get l.callers source.caller)) (take l.source-index l.reaching);
   targets : (k : ℕ) (caller : Caller) → l.current ≡ Some k → slice_get l.callers k ≡ Some caller
       → l.self.targets.list.items ≡ g.P.Problem.targets caller.back l.to;
 }

@@ -1,0 +1,173 @@
+//! Each public call of what an image has at each key, at a task that is a number.
+use ide_image::{Change, KeyedImage};
+use ide_instances::ConstFn;
+use ide_lattice::EdgeFn;
+use ide_wire::Key;
+use std::process::Abort;
+use std::test::Fail;
+
+const FIRST: Key = Key::Jump(1, 0, 2);
+
+const SECOND: Key = Key::Summary(1, 0, 2);
+
+type Image = KeyedImage<ConstFn, u8>;
+
+/// Lowers a key, and answers whether that changed it.
+fn lower(image: &mut Image, key: Key, function: ConstFn) -> Result<bool, Fail> {
+    let change = image.lower(key, function)?;
+    Ok(change == Change::Lowered)
+}
+
+/// Lowers both keys to the identity, the second last.
+fn lower_both(rt: &impl Abort, image: &mut Image) -> Result<(), Fail> {
+    assert!(rt; lower(image, FIRST, ConstFn::id())?);
+    assert!(rt; lower(image, SECOND, ConstFn::id())?);
+    assert!(rt; !lower(image, FIRST, ConstFn::id())?);
+    Ok(())
+}
+
+/// Claims the next key for a hand that has no claim, with a task, and answers the key.
+fn take_next(image: &mut Image, hand: usize, task: u8) -> Result<Key, Fail> {
+    let Some(key) = image.unclaimed() else {
+        return Err("no unclaimed key".into());
+    };
+    if hand >= 64 || image.claim(hand).is_some() {
+        return Err("no such hand".into());
+    }
+    image.take(hand, key, task)?;
+    Ok(key)
+}
+
+/// Asserts that a key is kept once, however often it is lowered.
+fn expect_kept_once(rt: &impl Abort, image: &mut Image) -> Result<(), Fail> {
+    assert!(rt; image.is_quiet());
+    assert!(rt; image.unclaimed().is_none());
+    lower_both(rt, image)?;
+    assert!(rt; !image.is_quiet());
+    assert!(rt; image.pending_count() == 2);
+    assert!(rt; image.key_count() == 2);
+    assert!(rt; image.is_pending(FIRST));
+    assert!(rt; !image.is_pending(Key::Jump(1, 2, 0)));
+    assert!(rt; image.get(SECOND) == Some(ConstFn::id()));
+    Ok(())
+}
+
+#[test]
+fn keeps_a_key_once(rt: HostRuntime) -> Result<(), Fail> {
+    let mut image = KeyedImage::new(rt.alloc());
+    expect_kept_once(&rt, &mut image)
+}
+
+/// Asserts the task of a hand's claim, how many of its parts are done, and whether its key fell.
+fn expect_task(rt: &impl Abort, image: &Image, hand: usize, task: u8, done: usize) {
+    match image.claim(hand) {
+        Some(claim) => {
+            assert!(rt; claim.task == task);
+            assert!(rt; claim.done == done);
+            assert!(rt; !claim.lowered);
+        }
+        None => assert!(rt; false, "no claim"),
+    }
+}
+
+/// Ends a hand's claim, and answers whether its key fell since it was claimed, if there was one.
+fn finish(image: &mut Image, hand: usize) -> Result<Option<bool>, Fail> {
+    match image.finish(hand)? {
+        Some(claim) => Ok(Some(claim.lowered)),
+        None => Ok(None),
+    }
+}
+
+/// Asserts that a key that falls while it is claimed is kept after the claim, and that the key that
+/// fell last is claimed first.
+fn expect_kept_after_fall(rt: &impl Abort, image: &mut Image) -> Result<(), Fail> {
+    lower_both(rt, image)?;
+    assert!(rt; take_next(image, 3, 7)? == SECOND);
+    assert!(rt; image.unclaimed() == Some(FIRST));
+    image.set_done(3, 2);
+    expect_task(rt, image, 3, 7, 2);
+    assert!(rt; lower(image, SECOND, ConstFn::Bottom)?);
+    assert!(rt; finish(image, 3)? == Some(true));
+    assert!(rt; image.is_pending(SECOND));
+    assert!(rt; finish(image, 3)?.is_none());
+    Ok(())
+}
+
+#[test]
+fn keeps_a_key_that_fell_while_claimed(rt: HostRuntime) -> Result<(), Fail> {
+    let mut image = KeyedImage::new(rt.alloc());
+    expect_kept_after_fall(&rt, &mut image)
+}
+
+/// Whether a hand had a claim, which it has no more.
+fn release(image: &mut Image, hand: usize) -> bool {
+    image.release(hand).is_some()
+}
+
+/// Asserts that claims end, and that a key whose claim is released is claimed again.
+fn expect_ends_and_releases(rt: &impl Abort, image: &mut Image) -> Result<(), Fail> {
+    lower_both(rt, image)?;
+    take_next(image, 0, 1)?;
+    take_next(image, 63, 2)?;
+    assert!(rt; image.unclaimed().is_none());
+    assert!(rt; finish(image, 0)? == Some(false));
+    assert!(rt; !image.is_pending(SECOND));
+    assert!(rt; image.claimed_elsewhere(0));
+    assert!(rt; !image.claimed_elsewhere(63));
+    assert!(rt; release(image, 63));
+    assert!(rt; image.unclaimed() == Some(FIRST));
+    Ok(())
+}
+
+#[test]
+fn ends_and_releases_claims(rt: HostRuntime) -> Result<(), Fail> {
+    let mut image = KeyedImage::new(rt.alloc());
+    expect_ends_and_releases(&rt, &mut image)?;
+    image.clear(rt.alloc());
+    assert!(rt; image.is_quiet());
+    assert!(rt; image.key_count() == 0);
+    Ok(())
+}
+
+/// Sets the second key to the identity, where no hand has claimed it.
+fn set_second(image: &mut Image, pending: bool) -> Result<(), Fail> {
+    if image.unclaimed() != Some(SECOND) {
+        return Err("no such key".into());
+    }
+    image.set(SECOND, ConstFn::id(), pending)?;
+    Ok(())
+}
+
+/// Asserts that a key is pending no more where it was said so.
+fn expect_set(rt: &impl Abort, image: &mut Image) -> Result<(), Fail> {
+    lower_both(rt, image)?;
+    set_second(image, false)?;
+    assert!(rt; !image.is_pending(SECOND));
+    assert!(rt; image.is_pending(FIRST));
+    assert!(rt; image.key_count() == 2);
+    Ok(())
+}
+
+#[test]
+fn sets_what_is_pending(rt: HostRuntime) -> Result<(), Fail> {
+    let mut image = KeyedImage::new(rt.alloc());
+    expect_set(&rt, &mut image)
+}
+
+/// Asserts that the tables have both keys, the first of them as its first entry, and no third one.
+fn expect_tables(rt: &impl Abort, image: Image) {
+    let tables = image.into_tables();
+    assert!(rt; tables.key_count() == 2);
+    assert!(rt; tables.entry_at(0) == Some((FIRST, ConstFn::id())));
+    assert!(rt; tables.entry_at(2).is_none());
+    assert!(rt; tables.nodes().len() == 2);
+    assert!(rt; tables.get(SECOND) == Some(ConstFn::id()));
+}
+
+#[test]
+fn leaves_its_tables(rt: HostRuntime) -> Result<(), Fail> {
+    let mut image = KeyedImage::new(rt.alloc());
+    lower_both(&rt, &mut image)?;
+    expect_tables(&rt, image);
+    Ok(())
+}
