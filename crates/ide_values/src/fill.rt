@@ -5,8 +5,8 @@ ghost use Rattle.ide_values.specs.Start.{AreTops};
 
 use crate::rows::{lower, place_of, tops, value_before};
 use ide_graph::Graph;
-use ide_lattice::EdgeFn;
 use ide_image::Tables;
+use ide_lattice::EdgeFn;
 use ide_wire::{Key, Node};
 use std::alloc::{AllocError, Global};
 

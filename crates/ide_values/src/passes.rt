@@ -8,9 +8,9 @@ ghost use Rattle.ide_values.specs.Passing.{LowersAt, Marks, PassesAll, PassesOve
 
 use crate::rows::{procedure_at, start_place, value_at_place, value_before};
 use ide_graph::{EdgeData, Graph, Site};
+use ide_image::Tables;
 use ide_lattice::{EdgeFn, Lattice};
 use ide_problem::{Problem, TargetList};
-use ide_image::Tables;
 use ide_wire::{Fact, Key, Node};
 use std::alloc::{AllocError, Global};
 

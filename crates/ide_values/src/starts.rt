@@ -8,9 +8,9 @@ use crate::enter::entered_rows;
 use crate::passes::{JumpAt, Starts, calls_at};
 use crate::rows::{procedure_at, start_place};
 use ide_graph::Graph;
+use ide_image::Tables;
 use ide_lattice::EdgeFn;
 use ide_problem::{Problem, TargetList};
-use ide_image::Tables;
 use ide_wire::Key;
 use std::alloc::{AllocError, Global};
 
