@@ -2,8 +2,8 @@
 ghost use Rattle.std.specs.Prelude.{◌≡◌, length};
 
 use ide_graph::Graph;
-use ide_lattice::EdgeFn;
 use ide_image::Tables;
+use ide_lattice::EdgeFn;
 
 /// How large a program's graph, its tables and the work on them are.
 #[derive(Clone, Copy)]

@@ -13,6 +13,6 @@ mod cores;
 #[cfg(test)]
 mod hands;
 #[cfg(test)]
-mod tables;
-#[cfg(test)]
 mod image;
+#[cfg(test)]
+mod tables;
