@@ -7,4 +7,4 @@ use Rattle.ide_plain.proofs.effect.environment_after.Given as goal
 abbrev pub invariant-loop-fact : goal.invariant-loop-fact
 invariant-loop-fact g l =
     (length l.after.items ≡ l.fact)
-    × (l.after.items ≡ map (effect_at g.P.L.Lattice.algebra g.P.F.EdgeFn.edge (l.fn.edge g.P.Problem.targets) (length l.fn.environment) (value_in g.P.L.Lattice.algebra.top l.fn.environment)) (range_with_len 0 l.fact))
+    × (l.after.items ≡ map (effect_at g.P.L.Lattice.algebra g.P.F.EdgeFn.edge (g.P.Problem.targets l.fn.edge) (length l.fn.environment) (value_in g.P.L.Lattice.algebra.top l.fn.environment)) (range_with_len 0 l.fact))
