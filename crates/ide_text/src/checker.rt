@@ -2,8 +2,8 @@
 //!
 //! The lines of a draft are walked in the order of its text, so that the first fault that is
 //! found stands on the least line.
-ghost use Rattle.std.specs.Prelude.{◌≡◌, ◌+◌, ◌<◌, ◌^◌, ℕ, [], vec_len, length, IfErr};
-ghost use Rattle.ide_text.specs.First.{Checked};
+ghost use Rattle.std.specs.Prelude.{◌≡◌, ◌+◌, ◌<◌, ◌^◌, ℕ, [], vec_len, length, IfErr, IfOk, OnOk};
+ghost use Rattle.ide_text.specs.First.{Checked, TellsFirst};
 ghost use Rattle.ide_text.specs.NameFault.{NameFault, ProcedureFault, StatementsFault};
 ghost use Rattle.ide_text.specs.Names.{IsRepeated};
 ghost use Rattle.ide_text.specs.Draft.{globals_of, procedures_of, lines_of, lines_of_procedure};
@@ -27,14 +27,46 @@ pub(crate) fn check(alloc: Global, draft: &Draft) -> Result<(), Refused>
     // before the globals no name is taken
     let none = Names::new(alloc);
     let mut globals = Names::new(alloc);
-    if let Some(place) = globals.declare(&none, draft.globals())? {
-        return Err(Refused::Text {
+    check_lines(alloc, &none, &mut globals, draft)
+}
+
+/// Checks the names of a draft, whose globals are to be declared beside those, both none.
+fn check_lines<'p>(
+    alloc: Global,
+    none: &Names<'_>,
+    globals: &mut Names<'p>,
+    draft: &'p Draft,
+) -> Result<(), Refused>
+    requires taken { none.now ≡ [] }
+    requires declared { globals.old ≡ [] }
+    requires few { lines_of draft.now + 1 < 2 ^ 32 }
+    ensures { Checked (NameFault draft.now) result }
+{
+    declare_globals(none, globals, draft)?;
+    let procedures = Procedures::of(alloc, draft.procedures())?;
+    check_procedures(alloc, globals, &procedures, draft)
+}
+
+/// Declares the globals of a draft. Refused is the first that is declared already.
+fn declare_globals<'p>(
+    none: &Names<'_>,
+    globals: &mut Names<'p>,
+    draft: &'p Draft,
+) -> Result<(), Refused>
+    requires taken { none.now ≡ [] }
+    requires declared { globals.old ≡ [] }
+    requires few { lines_of draft.now + 1 < 2 ^ 32 }
+    ensures repeated { IfErr result (TellsFirst (NameFault draft.now)) }
+    ensures distinct { IfOk result (λ _. (k : ℕ) → ¬ IsRepeated [] (globals_of draft.now) k) }
+    ensures declared { OnOk result (globals.new ≡ globals_of draft.now) }
+{
+    match globals.declare(none, draft.globals())? {
+        Some(place) => Err(Refused::Text {
             line: place as u32 + 1,
             fault: Fault::DeclaredTwice,
-        });
+        }),
+        None => Ok(()),
     }
-    let procedures = Procedures::of(alloc, draft.procedures())?;
-    check_procedures(alloc, &globals, &procedures, draft)
 }
 
 /// Checks the names of a draft, whose globals and procedures those are, beside the globals.
@@ -76,6 +108,20 @@ fn check_procedure(
     ensures { Checked (ProcedureFault globals.now procedures.now procedure.now line) result }
 {
     let mut scope = Scope::new(alloc, globals, procedures, &procedure.statements)?;
+    check_in_scope(&mut scope, procedure, line)
+}
+
+/// Checks the names of a procedure but its own, in the scope of its statements.
+fn check_in_scope<'p>(
+    scope: &mut Scope<'_, 'p>,
+    procedure: &'p Procedure,
+    line: u32,
+) -> Result<(), Refused>
+    requires none { scope.old.variables ≡ [] }
+    requires labels { scope.old.labels ≡ procedure.now.statements.items }
+    requires few { line + lines_of_procedure procedure.now < 2 ^ 32 }
+    ensures { Checked (ProcedureFault scope.old.globals.now scope.old.procedures.now procedure.now line) result }
+{
     if scope.declare(&procedure.parameters)?.is_some() {
         return Err(Refused::Text {
             line,
@@ -88,7 +134,7 @@ fn check_procedure(
             fault: Fault::DeclaredTwice,
         });
     }
-    check_statements(&scope, line + 1 + procedure.locals.len() as u32)
+    check_statements(scope, line + 1 + procedure.locals.len() as u32)
 }
 
 /// Checks the statements of a procedure, the first of them on that line.
