@@ -1,9 +1,9 @@
 -- The keys of the slots that are marked: which these are, how many, and what a mark or an entry more changes.
 use Rattle.std.proofs.Common.{◌≡◌, ℕ, zero, suc, ◌+◌, ◌≤◌, refl, sym, ap, ◌∙◌, arith, List, [], ◌∷◌, length, Bool, true, false, cond}
-use Rattle.std.specs.Prelude.{◌||◌}
+use Rattle.std.specs.Prelude.{◌||◌, nat_eq}
 use Rattle.std.specs.List.{AllByRecursion, IsDistinct, list_any}
 use Rattle.std.specs.Map.{keys_of}
-use Rattle.std.proofs.lemmas.Bool.{both_ways, eq-eqb, ne_eqb}
+use Rattle.std.proofs.lemmas.Bool.{both_ways, eq-eqb, eqb-true, ne_eqb}
 use Rattle.std.proofs.lemmas.Map.Keys.{IsDistinct-head, IsDistinct-tail}
 use Rattle.std.proofs.lemmas.List.Sums.{sum_by-cons}
 use Rattle.ide_wire.specs.declared.key.Key.{Key}
@@ -40,6 +40,14 @@ none-pending (m ∷ ms) none =
 long-step : (b : Bool) (key : Key) (ks : List Key) → length (cond b (key ∷ ks) ks) ≡ one_if b + length ks
 long-step true key ks = omega arith
 long-step false key ks = omega arith
+
+-- a slot that is made what it was is as it was
+pub same-set : (slot : ℕ) (b : Bool) (mark after : ℕ → Bool) → mark slot ≡ b → SetsMark slot b mark after → (n : ℕ) → after n ≡ mark n
+same-set slot b mark after is sets n =
+    sets n ∙ (elim (nat_eq slot n) as (λ own. nat_eq slot n ≡ own → cond own b (mark n) ≡ mark n) [
+      | true ↦ λ one. sym is ∙ ap mark (eqb-true slot n one)
+      | false ↦ λ other. refl
+    ] refl)
 
 pub covers-same : (count : ℕ) (mark after : ℕ → Bool) → ((n : ℕ) → after n ≡ mark n) → Covers count mark → Covers count after
 covers-same count mark after same covered n more = same n ∙ covered n more

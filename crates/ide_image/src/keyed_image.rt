@@ -328,11 +328,30 @@ impl<F: EdgeFn, T: Drop> KeyedImage<F, T> {
         ensures nobody { self.old.changes ≡ None → IsOk result }
         ensures refused { IsOkUnless result NoMemory }
     {
-        let Some(key) = claims::ended_key(&self.claims, hand) else {
+        let Some(ended) = claims::ended_key(&self.claims, hand) else {
             return Ok(self.release(hand));
         };
-        parts::end_slot(&self.indexed, &mut self.queue, &mut self.changes, key)?;
+        parts::end_slot(&self.indexed, &mut self.queue, &mut self.changes, ended)?;
         Ok(claims::take_claim(&mut self.claims, hand))
+    }
+
+    /// Makes the key, which is pending and which no hand has claimed, pending no longer, and notes the
+    /// entry of before if changes are noted. It takes memory only for the note. `NoMemory` leaves all as
+    /// it was. One look-up.
+    pub fn settle(&mut self, key: Key) -> Result<(), Refused>
+        requires pending { is_pending self.old.pile key ≡ true }
+        requires unclaimed { is_claimed self.old.pile key ≡ false }
+        ensures pending { OnOk result ((q : Key) → is_pending self.new.pile q ≡ (not (same_key key q) && is_pending self.old.pile q)) }
+        ensures count { OnOk result (length self.new.pile.pending + 1 ≡ length self.old.pile.pending) }
+        ensures noted { OnOk result (self.new.changes ≡ with_note self.old.changes key (entry_now self.old key)) }
+        ensures table { self.new.table ≡ self.old.table }
+        ensures claims { self.new.pile.claims ≡ self.old.pile.claims }
+        ensures err { OnErr result (self.new ≡ self.old) }
+        ensures nobody { self.old.changes ≡ None → IsOk result }
+        ensures refused { IsOkUnless result NoMemory }
+    {
+        parts::end_slot(&self.indexed, &mut self.queue, &mut self.changes, key)?;
+        Ok(())
     }
 
     /// Makes `f` the function of the key, which no hand has claimed, whatever that was, and the key

@@ -10,7 +10,7 @@ ghost use Rattle.ide_wire.specs.declared.refused.Refused.TheVariants.{NoMemory};
 ghost use Rattle.ide_wire.specs.Key.{same_key};
 ghost use Rattle.ide_image.specs.Worklist.{claim_in, is_claim_of, marked};
 ghost use Rattle.ide_image.specs.ChangeLog.{MayNote, noted_at};
-ghost use Rattle.ide_image.specs.KeyedImage.{AddsKeys, AreParts, Covers, HasRoomFor, SameParts, marked_at, entry_by, held_by_slot, marked_all, pending_by_slot, SetsAt};
+ghost use Rattle.ide_image.specs.KeyedImage.{AddsKeys, AreParts, Covers, HasRoomFor, SameParts, marked_at, entry_by, marked_all, pending_by_slot, SetsAt};
 ghost use Rattle.ide_image.specs.Indexed.{IsSpot, MayTake, place_of_key};
 ghost use Rattle.ide_image.specs.Notes.{NotesAll, noted, with_note};
 ghost use Rattle.ide_image.specs.Queue.{SetsMark, held_at, one_if, pending_at, pending_count};
@@ -58,15 +58,15 @@ pub(crate) fn make_room<F: EdgeFn>(
     Ok(())
 }
 
-/// Makes the key, which a hand has claimed, pending no longer, and notes the entry of before. Only the
-/// note takes memory.
+/// Makes the key, which is pending, pending no longer, and notes the entry of before. Only the note
+/// takes memory.
 pub(crate) fn end_slot<F: EdgeFn>(
     indexed: &Indexed<F>,
     queue: &mut Queue,
     changes: &mut ChangeLog<F>,
     key: Key,
 ) -> Result<(), Refused>
-    requires held { held_by_slot indexed.now queue.old key ≡ true }
+    requires pending { pending_by_slot indexed.now queue.old key ≡ true }
     requires listed { marked_at (noted_at changes.old) (place_of_key indexed.now key) ≡ is_some (noted changes.old.list key) }
     ensures pending { OnOk result (SetsAt (place_of_key indexed.now key) false (pending_at queue.old.list) (pending_at queue.new.list)) }
     ensures held { OnOk result (SetsAt (place_of_key indexed.now key) false (held_at queue.old.list) (held_at queue.new.list)) }

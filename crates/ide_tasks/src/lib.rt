@@ -10,12 +10,14 @@
 //! caller that reach a fact at the procedure's start.
 #![tactic(auto)]
 
+mod part_list;
 mod partners;
 mod parts;
 mod sources;
 mod task;
 mod work;
 
+pub use part_list::PartList;
 pub use partners::{Partners, Reaching};
 pub use sources::{Source, Sources};
 pub use task::Task;

@@ -1,8 +1,9 @@
 //! The parts that a task owes: by edge in the site's order, then by partner, then by target.
-ghost use Rattle.std.specs.Prelude.{◌≡◌, ◌++◌, IfOk, OnOk, map};
+ghost use Rattle.std.specs.Prelude.{◌≡◌, ◌++◌, [], IfOk, OnOk, map};
 ghost use Rattle.std.specs.List.{flat_map};
 ghost use Rattle.ide_tasks.specs.Parts.{owed, parts_at, flat_parts, seed_parts, after_parts, resumed_parts, summary_parts, returned_parts};
 
+use crate::part_list::PartList;
 use crate::partners::{Partners, Reaching};
 use crate::task::Task;
 use ide_graph::{Caller, EdgeData, Site};
@@ -15,25 +16,31 @@ use std::alloc::{AllocError, Global};
 pub fn parts_of<P: Problem>(alloc: Global, task: &Task<P>) -> Result<Vec<(Key, P::F)>, AllocError>
     ensures { IfOk result (λ parts. parts.items ≡ owed P.F.edge P.targets task.now) }
 {
-    let mut parts: Parts<P> = Parts {
-        list: Vec::new(alloc),
-        targets: TargetList::new(alloc),
-    };
-    parts.add_all(task.key, task.function, &task.site, &task.partners)?;
-    let Parts { list, targets: _ } = parts;
-    Ok(list)
+    let mut parts: PartList<P> = PartList::new(alloc);
+    parts.fill(task.key, task.function, &task.site, &task.partners)?;
+    Ok(parts.into_vec())
 }
 
-/// The parts of one task as they are gathered, and the list that flow fills.
+/// The parts of one key as they are gathered, and the list that flow fills.
 #[derive(Drop)]
-struct Parts<P: Problem> {
-    list: Vec<(Key, P::F)>,
-    targets: TargetList<P::F>,
+pub(crate) struct Parts<P: Problem> {
+    pub(crate) list: Vec<(Key, P::F)>,
+    pub(crate) targets: TargetList<P::F>,
 }
 
 impl<P: Problem> Parts<P> {
-    /// The parts of a key with that function, at its site and with its partners.
-    fn add_all(
+    /// No part yet. It allocates nothing.
+    pub(crate) fn new(alloc: Global) -> Self
+        ensures { result.list.items ≡ [] }
+    {
+        Parts {
+            list: Vec::new(alloc),
+            targets: TargetList::new(alloc),
+        }
+    }
+
+    /// Adds the parts of a key with that function, at its site and with its partners.
+    pub(crate) fn add_all(
         &mut self,
         key: Key,
         function: P::F,

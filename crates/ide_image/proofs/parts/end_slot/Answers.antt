@@ -7,18 +7,19 @@ use Rattle.ide_image.specs.Indexed.{place_of_key}
 use Rattle.ide_image.specs.Notes.{noted}
 use Rattle.ide_image.specs.Queue.{SetsMark, held_at, one_if, pending_at}
 use Rattle.ide_image.proofs.Agree.{at-index}
-use Rattle.ide_image.proofs.Before.{at-open, at-some, held-there}
+use Rattle.ide_image.proofs.Before.{at-some}
+use Rattle.ide_image.proofs.Stack.{pending-there}
 use Rattle.ide_image.proofs.parts.end_slot.Goals as goal
 
 pub overflow_sub-slot : goal.overflow_sub-slot
 overflow_sub-slot g c =
-    let some = at-some (held_at c.args.queue.now.list) (place_of_key c.args.indexed.now c.args.key) c.requires.held in
+    let some = at-some (pending_at c.args.queue.now.list) (place_of_key c.args.indexed.now c.args.key) c.requires.pending in
     omega (arith, some, c.place-place.ensures.place)
 
 pub note-requires-clause-mark : goal.note-requires-clause-mark
 note-requires-clause-mark g c =
     let place = place_of_key c.args.indexed.now c.args.key in
-    let some = at-some (held_at c.args.queue.now.list) place c.requires.held in
+    let some = at-some (pending_at c.args.queue.now.list) place c.requires.pending in
     let stands : (c.place-place.result - 1) + 1 ≡ place = omega (arith, some, c.place-place.ensures.place) in
     c.make_room.ensures.marks (c.place-place.result - 1)
     ∙ sym (at-index (noted_at c.args.changes.now) place (c.place-place.result - 1) stands)
@@ -28,42 +29,42 @@ note-requires-clause-mark g c =
 pub settle-requires : goal.settle-requires
 settle-requires g c =
     let place = place_of_key c.args.indexed.now c.args.key in
-    let some = at-some (held_at c.args.queue.now.list) place c.requires.held in
+    let some = at-some (pending_at c.args.queue.now.list) place c.requires.pending in
     let stands : (c.place-place.result - 1) + 1 ≡ place = omega (arith, some, c.place-place.ensures.place) in
-    record { there = held-there c.args.queue.now.list (c.place-place.result - 1) (sym (at-index (held_at c.args.queue.now.list) place (c.place-place.result - 1) stands) ∙ c.requires.held) }
+    record { there = pending-there c.args.queue.now.list (c.place-place.result - 1) (sym (at-index (pending_at c.args.queue.now.list) place (c.place-place.result - 1) stands) ∙ c.requires.pending) }
 
 pub returns-clause-pending : goal.returns-clause-pending
 returns-clause-pending g c = λ slot is.
-    let some = at-some (held_at c.args.queue.now.list) (place_of_key c.args.indexed.now c.args.key) c.requires.held in
+    let some = at-some (pending_at c.args.queue.now.list) (place_of_key c.args.indexed.now c.args.key) c.requires.pending in
     let same : c.place-place.result - 1 ≡ slot = omega (arith, is, some, c.place-place.ensures.place) in
     subst (λ s. SetsMark s false (pending_at c.args.queue.now.list) (pending_at c.settle.new.self.list)) same c.settle.ensures.pending
 
 pub returns-clause-held : goal.returns-clause-held
 returns-clause-held g c = λ slot is.
-    let some = at-some (held_at c.args.queue.now.list) (place_of_key c.args.indexed.now c.args.key) c.requires.held in
+    let some = at-some (pending_at c.args.queue.now.list) (place_of_key c.args.indexed.now c.args.key) c.requires.pending in
     let same : c.place-place.result - 1 ≡ slot = omega (arith, is, some, c.place-place.ensures.place) in
     subst (λ s. SetsMark s false (held_at c.args.queue.now.list) (held_at c.settle.new.self.list)) same c.settle.ensures.held
 
 pub returns-clause-count : goal.returns-clause-count
 returns-clause-count g c =
     let place = place_of_key c.args.indexed.now c.args.key in
-    let some = at-some (held_at c.args.queue.now.list) place c.requires.held in
+    let some = at-some (pending_at c.args.queue.now.list) place c.requires.pending in
     let stands : (c.place-place.result - 1) + 1 ≡ place = omega (arith, some, c.place-place.ensures.place) in
     let one : one_if (pending_at c.args.queue.now.list (c.place-place.result - 1)) ≡ 1 =
-    ap one_if (sym (at-index (pending_at c.args.queue.now.list) place (c.place-place.result - 1) stands) ∙ at-open c.args.queue.now.list place c.requires.held) in
+    ap one_if (sym (at-index (pending_at c.args.queue.now.list) place (c.place-place.result - 1) stands) ∙ c.requires.pending) in
     omega (arith, one, c.settle.ensures.count)
 
 pub returns-clause-list : goal.returns-clause-list
 returns-clause-list g c =
     let function : c.function_at.result ≡ found c.args.indexed.now.table c.args.key = c.function_at.ensures c.args.key c.place-place.ensures.place in
-    let pending = at-open c.args.queue.now.list (place_of_key c.args.indexed.now c.args.key) c.requires.held in
+    let pending = c.requires.pending in
     let list = c.make_room.ensures.list in
     let noted = c.note.ensures.list in
     cc (function, pending, list, noted)
 
 pub returns-clause-marks : goal.returns-clause-marks
 returns-clause-marks g c = λ slot is n.
-    let some = at-some (held_at c.args.queue.now.list) (place_of_key c.args.indexed.now c.args.key) c.requires.held in
+    let some = at-some (pending_at c.args.queue.now.list) (place_of_key c.args.indexed.now c.args.key) c.requires.pending in
     let same : c.place-place.result - 1 ≡ slot = omega (arith, is, some, c.place-place.ensures.place) in
     c.note.ensures.marks n
     ∙ ap (λ b. cond (nat_eq (c.place-place.result - 1) n) b (noted_at c.make_room.new.self n)) (ap is_some c.make_room.ensures.list)

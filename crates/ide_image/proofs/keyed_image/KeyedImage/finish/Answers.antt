@@ -11,7 +11,7 @@ use Rattle.ide_image.specs.Indexed.{place_of_key}
 use Rattle.ide_image.specs.Notes.{ended_key, with_change}
 use Rattle.ide_image.specs.Queue.{held_at, one_if, pending_at}
 use Rattle.ide_image.proofs.Agree.{is-pending, is-worklist, pending-long, same-spot, whole-gone, whole-noted, whole-same}
-use Rattle.ide_image.proofs.Before.{at-some, ended-claim, ended-ends, ended-out, not-cond, note-before}
+use Rattle.ide_image.proofs.Before.{at-open, at-some, ended-claim, ended-ends, ended-out, not-cond, note-before}
 use Rattle.ide_image.proofs.Marked.{at-set, covers-set}
 use Rattle.ide_image.proofs.keyed_image.KeyedImage.finish.Goals as goal
 
@@ -30,15 +30,15 @@ returns-clause-held g c =
     let inside = c.self.inside in
     rw (← c.self.view_is) (is-worklist inside.indexed inside.queue inside.claims.items inside.changes c.self.invariant)
 
-pub end_slot-requires-clause-held : goal.end_slot-requires-clause-held
-end_slot-requires-clause-held g c =
+pub end_slot-requires-clause-pending : goal.end_slot-requires-clause-pending
+end_slot-requires-clause-pending g c =
     let inside = c.self.inside in
     let hand = c.args.hand in
-    let key = c.in-Some.key in
+    let key = c.in-Some.ended in
     let ended = sym (c.in-Some.ensures ∙ ap (λ cs. ended_key (claim_in cs hand)) c.deref.ensures.value) in
     let claim = ended-claim (claim_in inside.claims.items hand) key ended in
     let held = c.self.invariant.marked hand key (ap (is_claim_of key) claim.1 ∙ ap (λ k. same_key k key) claim.2 ∙ same_key_refl key) in
-    held
+    at-open inside.queue.list (place_of_key inside.indexed key) held
 
 pub invariant_of-self : goal.invariant_of-self
 invariant_of-self g c =
@@ -49,7 +49,7 @@ pub invariant_of-self-2 : goal.invariant_of-self-2
 invariant_of-self-2 g c =
     let inside = c.self.inside in
     let hand = c.args.hand in
-    let key = c.in-Some.key in
+    let key = c.in-Some.ended in
     let ended = sym (c.in-Some.ensures ∙ ap (λ cs. ended_key (claim_in cs hand)) c.deref.ensures.value) in
     let claim = ended-claim (claim_in inside.claims.items hand) key ended in
     let held = c.self.invariant.marked hand key (ap (is_claim_of key) claim.1 ∙ ap (λ k. same_key k key) claim.2 ∙ same_key_refl key) in
@@ -76,7 +76,7 @@ pub returns-clause-pending : goal.returns-clause-pending
 returns-clause-pending g c =
     let inside = c.self.inside in
     let hand = c.args.hand in
-    let key = c.in-Some.key in
+    let key = c.in-Some.ended in
     let ended = sym (c.in-Some.ensures ∙ ap (λ cs. ended_key (claim_in cs hand)) c.deref.ensures.value) in
     let claim = ended-claim (claim_in inside.claims.items hand) key ended in
     let held = c.self.invariant.marked hand key (ap (is_claim_of key) claim.1 ∙ ap (λ k. same_key k key) claim.2 ∙ same_key_refl key) in
@@ -107,7 +107,7 @@ pub returns-clause-count : goal.returns-clause-count
 returns-clause-count g c =
     let inside = c.self.inside in
     let hand = c.args.hand in
-    let key = c.in-Some.key in
+    let key = c.in-Some.ended in
     let ended = sym (c.in-Some.ensures ∙ ap (λ cs. ended_key (claim_in cs hand)) c.deref.ensures.value) in
     let claim = ended-claim (claim_in inside.claims.items hand) key ended in
     let held = c.self.invariant.marked hand key (ap (is_claim_of key) claim.1 ∙ ap (λ k. same_key k key) claim.2 ∙ same_key_refl key) in
@@ -137,7 +137,7 @@ pub returns-clause-noted : goal.returns-clause-noted
 returns-clause-noted g c =
     let inside = c.self.inside in
     let hand = c.args.hand in
-    let key = c.in-Some.key in
+    let key = c.in-Some.ended in
     let ended = sym (c.in-Some.ensures ∙ ap (λ cs. ended_key (claim_in cs hand)) c.deref.ensures.value) in
     let claim = ended-claim (claim_in inside.claims.items hand) key ended in
     let held = c.self.invariant.marked hand key (ap (is_claim_of key) claim.1 ∙ ap (λ k. same_key k key) claim.2 ∙ same_key_refl key) in

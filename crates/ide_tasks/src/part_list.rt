@@ -1,0 +1,70 @@
+//! The parts of one key after another, in one list.
+ghost use Rattle.std.specs.Prelude.{◌≡◌, [], OnOk};
+ghost use Rattle.ide_tasks.specs.Parts.{parts_at};
+
+use crate::partners::Partners;
+use crate::parts::Parts;
+use ide_graph::Site;
+use ide_problem::Problem;
+use ide_wire::Key;
+use std::alloc::{AllocError, Global};
+use std::marker::Model;
+
+/// The parts of a key: each a key and the function that its entry is met with. A list that is filled
+/// again keeps its room, and allocates only where it has to grow.
+#[derive(Drop)]
+pub struct PartList<P: Problem> {
+    parts: Parts<P>,
+}
+
+impl<P: Problem> Model for PartList<P> {
+    ghost use Rattle.std.specs.Prelude.{List};
+    ghost use Rattle.ide_wire.specs.declared.key.Key.{Key};
+
+    ghost Value = { List (Key × P.F) };
+
+    ghost view = { λ list. list.parts.list.items };
+}
+
+impl<P: Problem> PartList<P> {
+    /// A list with no part. It allocates nothing.
+    pub fn new(alloc: Global) -> Self
+        ensures { result ≡ [] }
+    {
+        PartList {
+            parts: Parts::new(alloc),
+        }
+    }
+
+    /// Makes it the parts that a key with that function owes, at its site and with its partners, in the
+    /// order in which they are owed. What was in it before is gone. Where memory is wanting, it has some of
+    /// them.
+    pub fn fill(
+        &mut self,
+        key: Key,
+        function: P::F,
+        site: &Site,
+        partners: &Partners<P::F>,
+    ) -> Result<(), AllocError>
+        ensures { OnOk result (self.new ≡ parts_at P.F.edge P.targets key function site.now partners.now) }
+    {
+        self.parts.list.clear();
+        self.parts.add_all(key, function, site, partners)
+    }
+
+    /// The parts, in their order.
+    pub fn as_slice(&self) -> &[(Key, P::F)]
+        ensures { result.now ≡ self.now }
+    {
+        self.parts.list.as_slice()
+    }
+
+    /// The parts, in their order, alone.
+    pub(crate) fn into_vec(self) -> Vec<(Key, P::F)>
+        ensures { result.items ≡ self }
+    {
+        let PartList { parts } = self;
+        let Parts { list, targets: _ } = parts;
+        list
+    }
+}
