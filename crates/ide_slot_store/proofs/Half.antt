@@ -1,0 +1,435 @@
+-- What the writing half of a store on two disks does is what the store allows.
+use Rattle.std.proofs.Common.{◌≡◌, ◌≢◌, ◌∙◌, ◌⊎◌, ◌≤◌, ◌<◌, ◌+◌, ℕ, zero, suc, All, Bool, true, false, List, [], ◌∷◌, ◌++◌, Option, Some, None, Result, Ok, Err, length, map, take, drop, refl, ap, sym, subst, arith, inl, inr}
+use Rattle.std.specs.List.{AllByRecursion}
+use Rattle.std.specs.Prelude.{OnErr, OnOk, slice_get}
+use Rattle.std.proofs.lemmas.Bool.{cases_lt}
+use Rattle.std.proofs.lemmas.List.Elements.{All-append, All-from_recursion, All-nil, recursion_from_All}
+use Rattle.std.proofs.lemmas.List.{drop-append-le, drop_all, length-append}
+use Rattle.ide_disk.specs.Disk.{CrashLeaves, DiskState}
+use Rattle.ide_disk.specs.declared.disk.Disk.{Ghosts}
+use Rattle.ide_journal.specs.Format.{Entry, IsEntry, head_of}
+use Rattle.ide_journal.specs.Lists.{entries_of, entry_of}
+use Rattle.ide_journal.specs.declared.record.RawRecord.{RawRecord}
+use Rattle.ide_journal.specs.declared.stage.Phase.{Phase}
+use Rattle.ide_journal.specs.declared.version.Version.TheVariants.{Two}
+use Rattle.ide_slot_journal.specs.Checkpoints.{IsCheckpointRefusal, LeavesWithOther, MakesCheckpointStep, checkpoint_after_failure, checkpoint_device}
+use Rattle.ide_slot_journal.specs.Making.{StandsEmpty}
+use Rattle.ide_slot_journal.specs.Moments.{LeavesOnlyTwo}
+use Rattle.ide_slot_journal.specs.Opened.{OpensOn, states_of}
+use Rattle.ide_slot_journal.specs.Plans.{Plans}
+use Rattle.ide_slot_journal.specs.Records.{LeavesWithNext, MakesRecordStep, PutsNext, PutsNone}
+use Rattle.ide_slot_journal.specs.Stages.{IsFillingAt, IsTurnAt, checkpoint_at, filling_at}
+use Rattle.ide_slot_journal.specs.Stands.{AreHonest, HasNoNext, IsCheckpointing, IsFilling, IsTurn, StandsOn, checkpoint_of, disks_of, filling_of, sides_of, slot_writer, todo_of}
+use Rattle.ide_slot_journal.specs.declared.filler.Filler.{Filler}
+use Rattle.ide_slot_journal.specs.declared.journal.SlotJournal.{SlotJournal}
+use Rattle.ide_slot_journal.specs.declared.stage.FillStage.{FillStage}
+use Rattle.ide_slot_journal.specs.declared.stage.FillStage.TheVariants as fills
+use Rattle.ide_slots.specs.Sides.{Shows, Sides, two_sides}
+use Rattle.ide_slots.specs.Slot.{Slot, first_slot, slot_count, with_more}
+use Rattle.ide_slots.specs.Two.{Checkpoint, IsOfCheckpoint, LeavesTwo, MayBeFound, ShowsOne, SlotWriter, StandsTwo, UnderWay, reads_two}
+use Rattle.ide_slots.specs.TwoCalls.{StoresRecord}
+use Rattle.ide_slots.specs.declared.record.NumberedRecord.{NumberedRecord}
+use Rattle.ide_slots.specs.declared.side.Side.{Side}
+use Rattle.ide_slots.specs.declared.side.Side.TheVariants.{First, Second}
+use Rattle.ide_slots.proofs.Standing.{standing_is_safe}
+use Rattle.ide_wire.specs.declared.refused.Refused.{Refused}
+use Rattle.ide_wire.specs.declared.refused.Refused.TheVariants.{Disk}
+use Rattle.ide_store.proofs.Half.{front_next, none_waits, sealed_waits}
+use Rattle.ide_store.proofs.OneDisk.{kept_get, next_taken}
+use Rattle.ide_store.specs.TwoDisks.{CallsTwo, FailsTwo, StoresTwo}
+use Rattle.ide_slot_store.specs.Half.{CallsOver, CallsTo, CrashesStep, HasStoredAll, IsBeginRefusal, IsNewHalf, IsQuiet, KeepsWriting, OpensStore, PlansWriting, StepsOver, StepsTo, Writes, calls, fails, limit, makes, memory, stores, waits}
+use Rattle.ide_slot_store.specs.Writing.{BeginsFirst, DidCall, DidFail, DidStore, IsFirstLeft, StandsBehind}
+use Rattle.ide_slot_store.specs.declared.writer.SlotWriterHalf.{SlotWriterHalf}
+use Rattle.ide_slot_store.proofs.Writing.{CheckpointThen, RecordThen, busy_next, checkpoint_then, idle_none, next_first, put_behind, record_then, still_behind, then_called, then_failed, then_filled, then_stored, then_turned, then_unfilled}
+
+-- ---- whose turn it is
+pub filling_some : (stage : FillStage) (base count : ℕ) → IsFillingAt stage base count → stage ≢ fills.Rests
+filling_some fills.Rests base count turn = absurd turn
+filling_some fills.Waits base count turn = λ no. cc
+filling_some fills.Settles base count turn = λ no. cc
+filling_some fills.Trims base count turn = λ no. cc
+filling_some fills.Heads base count turn = λ no. cc
+filling_some fills.Fills base count turn = λ no. cc
+filling_some fills.OpensGate base count turn = λ no. cc
+filling_some fills.Lasts base count turn = λ no. cc
+
+pub turn_then : (stage : FillStage) (base count : ℕ) → (IsFillingAt stage base count → ⊥) → IsTurnAt stage base count
+turn_then fills.Rests base count none = tt
+turn_then fills.Waits base count none = elim (cases_lt count base) [ | inl less ↦ less | inr more ↦ absurd (none more) ]
+turn_then fills.Settles base count none = absurd (none tt)
+turn_then fills.Trims base count none = absurd (none tt)
+turn_then fills.Heads base count none = absurd (none tt)
+turn_then fills.Fills base count none = absurd (none tt)
+turn_then fills.OpensGate base count none = absurd (none tt)
+turn_then fills.Lasts base count none = absurd (none tt)
+
+-- ---- what is found of a checkpoint
+found_of : (stage : FillStage) (other : Slot) (closed : Bool) (at : ℕ) (todo : List (List ℕ)) (found : Slot)
+    → IsOfCheckpoint (UnderWay other (filling_at stage closed at todo)) found
+    → IsOfCheckpoint (checkpoint_at stage other (filling_at stage closed at todo)) found
+found_of fills.Rests other closed at todo found is = absurd is.0
+found_of fills.Waits other closed at todo found is = absurd is.0
+found_of fills.Settles other closed at todo found is = is
+found_of fills.Trims other closed at todo found is = is
+found_of fills.Heads other closed at todo found is = is
+found_of fills.Fills other closed at todo found is = is
+found_of fills.OpensGate other closed at todo found is = is
+found_of fills.Lasts other closed at todo found is = is
+
+-- what shows one of them shows one where the first of those to be stored is the next
+shows_first : (slot : Slot) (records : List Entry) (stored : ℕ) (next : Option Entry) (one other : Checkpoint) (left : Sides (List ℕ))
+    → IsFirstLeft records stored next → ((found : Slot) → IsOfCheckpoint one found → IsOfCheckpoint other found)
+    → ShowsOne slot next one left → ShowsOne slot (slice_get records stored) other left
+shows_first slot records stored next one other left first turn shows = record {
+  found = shows.found;
+  may = elim shows.may [
+    | inl same ↦ inl same
+    | inr (inl more) ↦ inr (inl (record { entry = more.entry; next_is = next_first records stored next more.entry more.next_is first; is = more.is }))
+    | inr (inr turned) ↦ inr (inr (turn shows.found turned))
+  ];
+  shows = shows.shows;
+}
+
+-- what was answered
+abbrev pub answered : {T : Type 0} → Result T Refused → Result Bool Refused
+answered (Ok value) = Ok true
+answered (Err refused) = Err refused
+
+-- what waits behind the first
+rest_waits : (records : List Entry) (stored : ℕ) (entry : Entry) (items : List RawRecord) → stored ≤ length records
+    → slice_get records stored ≡ Some entry → map entry_of items ≡ drop stored records
+    → map entry_of (drop 1 items) ≡ drop (stored + 1) records
+rest_waits records stored entry [] some is wait =
+    let less = (next_taken records stored entry is).0 in
+    let all = none_waits stored records some wait in
+    absurd (omega (arith, less, all))
+rest_waits records stored entry (raw ∷ items) some is wait = (front_next stored records (entry_of raw) (map entry_of items) wait).1
+
+first_item : {X : Type 0} (xs : List X) (x : X) → slice_get xs 0 ≡ Some x → (rest : List X) × (xs ≡ x ∷ rest)
+first_item [] x is = cc
+first_item (y ∷ ys) x is = (ys, let same : y ≡ x = cc in ap (λ z. z ∷ ys) same)
+
+-- the oldest that waits is the first to be stored
+first_waits : (records : List Entry) (stored : ℕ) (items : List RawRecord) (raw : RawRecord) → map entry_of items ≡ drop stored records
+    → slice_get items 0 ≡ Some raw → slice_get records stored ≡ Some (entry_of raw)
+first_waits records stored items raw wait found =
+    let behind = first_item items raw found in
+    (front_next stored records (entry_of raw) (map entry_of behind.0) (sym (ap (map entry_of) behind.1) ∙ wait)).0
+
+-- a crash at this moment leaves what the disks say
+two_now : {D : Type 0} (G : Ghosts D) (side : Side) (current other : D) (left : Sides (List ℕ))
+    → ((bytes : List ℕ) → G.left_since current (G.moment current) bytes → CrashLeaves (G.state current) bytes)
+    → ((bytes : List ℕ) → G.left_since other (G.moment other) bytes → CrashLeaves (G.state other) bytes)
+    → G.left_since (two_sides side current other).a (G.moment (two_sides side current other).a) left.a
+    → G.left_since (two_sides side current other).b (G.moment (two_sides side current other).b) left.b
+    → LeavesTwo (two_sides side (G.state current) (G.state other)) left
+two_now G First current other left current_now other_now a b = (current_now left.a a, other_now left.b b)
+two_now G Second current other left current_now other_now a b = (other_now left.a a, current_now left.b b)
+
+module _ {D : Type 0} {G : Ghosts D} where
+  -- ---- a journal on which no call was made
+  quiet_disks : (old new : SlotJournal D G) → IsQuiet old new → disks_of new ≡ disks_of old
+  quiet_disks old new quiet = λ i. two_sides (quiet.side i) (G.state (quiet.current i)) (G.state (quiet.other i))
+
+  pub quiet_sides : (old new : SlotJournal D G) → IsQuiet old new → sides_of new ≡ sides_of old
+  quiet_sides old new quiet = λ i. two_sides (quiet.side i) (quiet.current i) (quiet.other i)
+
+  module _ (slot other : Slot) (records : List Entry) (stored : ℕ) (old mid new : SlotWriterHalf D G) (quiet : IsQuiet old.journal mid.journal) where
+    first_too : (work : SlotWriter) → BeginsFirst records stored (slot_writer other mid.journal) (disks_of mid.journal) work
+        → BeginsFirst records stored (slot_writer other old.journal) (disks_of old.journal) work
+    first_too work first =
+        subst (λ (w : SlotWriter). BeginsFirst records stored w (disks_of old.journal) work) (quiet.work other)
+        (subst (λ (d : Sides DiskState). BeginsFirst records stored (slot_writer other mid.journal) d work) (quiet_disks old.journal mid.journal quiet) first)
+
+    -- a call behind it is one of the journal as it was
+    calls_too : (result : Result Bool Refused) → CallsTo slot other records stored mid new result → CallsTo slot other records stored old new result
+    calls_too _ (calls call) = calls (record {
+      event = record {
+        mid = call.event.mid;
+        first = first_too call.event.mid call.event.first;
+        event = subst (λ (d : Sides DiskState). CallsTwo records stored call.event.mid d (slot_writer other new.journal) (disks_of new.journal))
+            (quiet_disks old.journal mid.journal quiet) call.event.event;
+      };
+      now = call.now;
+      now_is = call.now_is;
+      writes = call.writes;
+    })
+    calls_too _ (stores store) = stores (record {
+      event = record {
+        slot = store.event.slot;
+        entry = store.event.entry;
+        next = store.event.next;
+        stores =
+            subst (λ (w : SlotWriter). StoresRecord store.event.slot store.event.entry w (disks_of old.journal) (slot_writer other new.journal) (disks_of new.journal))
+            (quiet.work other)
+            (subst (λ (d : Sides DiskState). StoresRecord store.event.slot store.event.entry (slot_writer other mid.journal) d (slot_writer other new.journal) (disks_of new.journal))
+            (quiet_disks old.journal mid.journal quiet) store.event.stores);
+      };
+      writes = store.writes;
+    })
+    calls_too _ (fails fail) = fails (record {
+      mid = fail.mid;
+      first = first_too fail.mid fail.first;
+      event = subst (λ (d : Sides DiskState). FailsTwo records stored fail.mid d (disks_of new.journal))
+          (quiet_disks old.journal mid.journal quiet) fail.event;
+    })
+
+  pub quiet_honest : (old new : SlotJournal D G) → IsQuiet old new → AreHonest old → AreHonest new
+  quiet_honest old new quiet honest = (subst G.honest (sym quiet.current) honest.0, subst G.honest (sym quiet.other) honest.1)
+
+  -- what is refused before any call
+  pub refused_first : (old new : SlotWriterHalf D G) (refused : Refused) → IsBeginRefusal old refused → IsQuiet old.journal new.journal
+      → KeepsWriting old new → StepsOver old new (Err refused)
+  refused_first old new _ memory quiet keeps slot other records stored writes =
+      waits (record { quiet = quiet; writes = keeps slot other records stored writes })
+  refused_first old new _ (limit never) quiet keeps slot other records stored writes = absurd (never slot other records stored writes)
+
+  -- a step makes such a call
+  pub stepped : (old mid new : SlotWriterHalf D G) (result : Result Bool Refused) → IsQuiet old.journal mid.journal → KeepsWriting old mid
+      → CallsOver mid new result → StepsOver old new result
+  stepped old mid new result quiet keeps call slot other records stored writes =
+      makes (calls_too slot other records stored old mid new quiet result (call slot other records stored (keeps slot other records stored writes)))
+
+  -- ---- a call for the record under way, and one of a checkpoint
+  module _ (old new : SlotWriterHalf D G) (result : Result Phase Refused) (busy : HasNoNext old.journal → ⊥)
+      (step : MakesRecordStep old.journal new.journal result) where
+    -- one after which a record is under way
+    pub called_on : (HasNoNext new.journal → ⊥) → new.waiting.items ≡ old.waiting.items → CallsOver old new (answered result)
+    called_on more same slot other records stored writes =
+        go result (record_then slot other records stored old.journal new.journal result writes.behind busy step)
+      where
+        go : (result : Result Phase Refused) → RecordThen slot other records stored old.journal new.journal result
+            → CallsTo slot other records stored old new (answered result)
+        go _ (then_called event behind still filler) = calls (record {
+          event = event;
+          now = slot;
+          now_is = inl refl;
+          writes = record { behind = behind; waiting = ap (map entry_of) same ∙ writes.waiting };
+        })
+        go _ (then_stored event behind idle filler) = absurd (more idle)
+        go _ (then_failed event) = fails event
+
+    -- one after which none is
+    pub called_last : HasNoNext new.journal → new.waiting.items ≡ drop 1 old.waiting.items → CallsOver old new (answered result)
+    called_last idle rest slot other records stored writes =
+        go result (record_then slot other records stored old.journal new.journal result writes.behind busy step)
+      where
+        go : (result : Result Phase Refused) → RecordThen slot other records stored old.journal new.journal result
+            → CallsTo slot other records stored old new (answered result)
+        go _ (then_called event behind still filler) = absurd (still idle)
+        go _ (then_stored event behind none filler) = stores (record {
+          event = event;
+          writes = record {
+            behind = behind;
+            waiting = ap (map entry_of) rest
+                ∙ rest_waits records stored event.entry old.waiting.items writes.behind.some event.next.next_is writes.waiting;
+          };
+        })
+        go _ (then_failed event) = fails event
+
+  -- a call that is refused
+  pub refused_call : (old new : SlotWriterHalf D G) (refused : Refused) → (HasNoNext old.journal → ⊥)
+      → MakesRecordStep old.journal new.journal (Err refused) → CallsOver old new (Err refused)
+  refused_call old new refused busy step slot other records stored writes =
+      go (Err refused) (record_then slot other records stored old.journal new.journal (Err refused) writes.behind busy step)
+    where
+      Told : Result Phase Refused → Type 0
+      Told (Ok phase) = Unit {0}
+      Told (Err e) = CallsTo slot other records stored old new (Err e)
+
+      go : (result : Result Phase Refused) → RecordThen slot other records stored old.journal new.journal result → Told result
+      go _ (then_called event behind still filler) = tt
+      go _ (then_stored event behind none filler) = tt
+      go _ (then_failed event) = fails event
+
+  pub filled : (old new : SlotWriterHalf D G) (result : Result Bool Refused) → new.waiting.items ≡ old.waiting.items → IsFilling old.journal
+      → MakesCheckpointStep old.journal new.journal result → CallsOver old new (answered result)
+  filled old new result same turn step slot other records stored writes =
+      go result (checkpoint_then slot other records stored old.journal new.journal result writes.behind
+      (filling_some old.journal.filler.stage old.journal.filler.base old.journal.count turn) step)
+    where
+      waits : map entry_of new.waiting.items ≡ drop stored records
+      waits = ap (map entry_of) same ∙ writes.waiting
+
+      go : (result : Result Bool Refused) → CheckpointThen slot other records stored old.journal new.journal result
+          → CallsTo slot other records stored old new (answered result)
+      go _ (then_filled event behind) =
+          calls (record { event = event; now = slot; now_is = inl refl; writes = record { behind = behind; waiting = waits } })
+      go _ (then_turned event behind base tag) =
+          calls (record { event = event; now = other; now_is = inr refl; writes = record { behind = behind; waiting = waits } })
+      go _ (then_unfilled event) = fails event
+
+  -- ---- crashes
+  -- within a call for the next record
+  pub record_crashes : (old mid new : SlotWriterHalf D G) → IsQuiet old.journal mid.journal → KeepsWriting old mid
+      → (HasNoNext mid.journal → ⊥) → LeavesWithNext mid.journal new.journal → CrashesStep old new
+  record_crashes old mid new quiet keeps busy leaves slot other records stored writes left a b =
+      let there = keeps slot other records stored writes in
+      let has = busy_next slot other there.behind.next mid.journal there.behind.stands busy in
+      let stands : StandsOn slot (Some has.0) other mid.journal =
+      subst (λ (o : Option Entry). StandsOn slot o other mid.journal) has.1 there.behind.stands in
+      let same = quiet_sides old.journal mid.journal quiet in
+      let shows = leaves slot has.0 other stands left
+      (subst (λ (s : Sides D). G.left_since (sides_of new.journal).a (G.moment s.a) left.a) (sym same) a)
+      (subst (λ (s : Sides D). G.left_since (sides_of new.journal).b (G.moment s.b) left.b) (sym same) b) in
+      shows_first slot records stored (Some has.0) (checkpoint_of other mid.journal.filler) (checkpoint_of other old.journal.filler) left
+      (next_first records stored there.behind.next has.0 has.1 there.behind.is_next)
+      (λ found is. subst (λ (f : Filler). IsOfCheckpoint (checkpoint_of other f) found) quiet.filler is) shows
+
+  -- within one of a checkpoint
+  pub checkpoint_crashes : (old new : SlotWriterHalf D G) → LeavesWithOther old.journal new.journal → CrashesStep old new
+  checkpoint_crashes old new leaves slot other records stored writes left a b =
+      let filler = old.journal.filler in
+      shows_first slot records stored writes.behind.next (UnderWay other (filling_of filler)) (checkpoint_of other filler) left writes.behind.is_next
+      (found_of filler.stage other filler.closed filler.at (todo_of filler))
+      (leaves slot writes.behind.next other writes.behind.stands left a b)
+
+  -- where no call is made
+  pub still_crashes : (old new : SlotWriterHalf D G) → IsQuiet old.journal new.journal
+      → ((bytes : List ℕ) → G.left_since old.journal.current (G.moment old.journal.current) bytes → CrashLeaves (G.state old.journal.current) bytes)
+      → ((bytes : List ℕ) → G.left_since old.journal.other (G.moment old.journal.other) bytes → CrashLeaves (G.state old.journal.other) bytes)
+      → CrashesStep old new
+  still_crashes old new quiet current_now other_now slot other records stored writes left a b =
+      let same = quiet_sides old.journal new.journal quiet in
+      let leaves = two_now G old.journal.side old.journal.current old.journal.other left current_now other_now
+      (subst (λ (s : Sides D). G.left_since s.a (G.moment (sides_of old.journal).a) left.a) same a)
+      (subst (λ (s : Sides D). G.left_since s.b (G.moment (sides_of old.journal).b) left.b) same b) in
+      shows_first slot records stored writes.behind.next (checkpoint_of other old.journal.filler) (checkpoint_of other old.journal.filler) left
+      writes.behind.is_next (λ found is. is)
+      ((standing_is_safe slot writes.behind.next (slot_writer other old.journal) (disks_of old.journal) writes.behind.stands.two).each left leaves)
+
+  -- ---- records that are put under way
+  -- the journal has fewer records than there may be, where one waits
+  pub within_limit : (old : SlotWriterHalf D G) (slot other : Slot) (records : List Entry) (stored : ℕ) → Writes slot other records stored old
+      → (raw : RawRecord) → slice_get old.waiting.items 0 ≡ Some raw → old.journal.count < 4294967295
+  within_limit old slot other records stored writes raw found =
+      let next = first_waits records stored old.waiting.items raw writes.waiting found in
+      let less = (next_taken records stored (entry_of raw) next).0 in
+      let count = writes.behind.stands.count ∙ writes.behind.count in
+      let few = writes.behind.few in
+      omega (arith, count, less, few)
+
+  -- all are stored, where none waits
+  pub all_stored : (half : SlotWriterHalf D G) → half.waiting.items ≡ [] → HasStoredAll half
+  all_stored half none slot other records stored writes =
+      none_waits stored records writes.behind.some (ap (map entry_of) (sym none) ∙ writes.waiting)
+
+  pub put_writes : (old new : SlotWriterHalf D G) (raw : RawRecord) → new.waiting.items ≡ old.waiting.items → HasNoNext old.journal
+      → slice_get old.waiting.items 0 ≡ Some raw → PutsNext (entry_of raw) old.journal new.journal → KeepsWriting old new
+  put_writes old new raw same idle found puts slot other records stored writes = record {
+    behind = put_behind slot other records stored old.journal new.journal (entry_of raw) writes.behind idle
+        (first_waits records stored old.waiting.items raw writes.waiting found) puts;
+    waiting = ap (map entry_of) same ∙ writes.waiting;
+  }
+
+  pub none_writes : (old new : SlotWriterHalf D G) → new.waiting.items ≡ old.waiting.items → HasNoNext old.journal
+      → PutsNone old.journal new.journal → KeepsWriting old new
+  none_writes old new same idle puts slot other records stored writes =
+      let none = idle_none slot other writes.behind.next old.journal writes.behind.stands idle in
+      record {
+        behind = still_behind slot other records stored old.journal new.journal writes.behind
+            (subst (λ (o : Option Entry). StandsOn slot o other new.journal) (sym none)
+            (puts slot other (subst (λ (o : Option Entry). StandsOn slot o other old.journal) none writes.behind.stands)));
+        waiting = ap (map entry_of) same ∙ writes.waiting;
+      }
+
+  -- ---- a checkpoint that is planned
+  pub plan_writes : (old new : SlotWriterHalf D G) (planned : Slot) → new.waiting.items ≡ old.waiting.items
+      → Plans planned old.journal new.journal → PlansWriting planned old new
+  plan_writes old new planned same plans slot other records stored writes = record {
+    behind = record {
+      next = writes.behind.next;
+      stands = (plans slot writes.behind.next other writes.behind.stands).stands;
+      is_next = writes.behind.is_next;
+      count = writes.behind.count;
+      some = writes.behind.some;
+      few = writes.behind.few;
+      proper = writes.behind.proper;
+    };
+    waiting = ap (map entry_of) same ∙ writes.waiting;
+  }
+
+  pub if_planned : (old new : SlotWriterHalf D G) (planned : Slot) {T : Type 0} (result : Result T Refused) → new.waiting.items ≡ old.waiting.items
+      → OnOk result (Plans planned old.journal new.journal) → OnOk result (PlansWriting planned old new)
+  if_planned old new planned (Ok value) same plans = plan_writes old new planned same plans
+  if_planned old new planned (Err refused) same plans = tt
+
+  -- ---- a record more
+  pub seal_writes : (old new : SlotWriterHalf D G) (raw : RawRecord) (slot other : Slot) (records : List Entry) (stored : ℕ)
+      → new.journal ≡ old.journal → new.waiting.items ≡ old.waiting.items ++ raw ∷ [] → IsEntry (entry_of raw) → length records < 4294967295
+      → Writes slot other records stored old → Writes slot other (records ++ entry_of raw ∷ []) stored new
+  seal_writes old new raw slot other records stored same items proper room writes =
+      let entry = entry_of raw in
+      let some = writes.behind.some in
+      let longer = length-append records (entry ∷ []) in
+      record {
+        behind = record {
+          next = writes.behind.next;
+          stands = subst (λ (j : SlotJournal D G). StandsOn slot writes.behind.next other j) (sym same) writes.behind.stands;
+          is_next = first_still writes.behind.next writes.behind.is_next;
+          count = writes.behind.count;
+          some = omega (arith, longer, some);
+          few = omega (arith, longer, room);
+          proper = subst (λ (rs : List Entry). All IsEntry rs) (sym (drop-append-le stored records (entry ∷ []) some))
+              (All-append IsEntry (drop stored records) (entry ∷ []) writes.behind.proper (one_entry entry proper));
+        };
+        waiting = ap (map entry_of) items ∙ sealed_waits records stored old.waiting.items raw some writes.waiting;
+      }
+    where
+      first_still : (next : Option Entry) → IsFirstLeft records stored next → IsFirstLeft (records ++ entry_of raw ∷ []) stored next
+      first_still None is = tt
+      first_still (Some entry) is = kept_get records (entry_of raw) entry stored is
+
+      one_entry : (r : Entry) → IsEntry r → All IsEntry (r ∷ [])
+      one_entry r is zero d inside = is
+      one_entry r is (suc k) d inside = absurd (omega (arith, inside))
+
+  -- ---- a store with no record, and one that was opened
+  pub made : (tag : ℕ) (half : SlotWriterHalf D G) → StandsEmpty (head_of Two tag) half.journal → half.journal.filler.stage ≡ fills.Rests
+      → half.waiting.items ≡ [] → IsNewHalf tag half
+  made tag half empty rests none = record {
+    writes = λ other. record {
+      behind = record {
+        next = None;
+        stands = empty other;
+        is_next = tt;
+        count = refl;
+        some = omega arith;
+        few = omega arith;
+        proper = All-nil IsEntry;
+      };
+      waiting = ap (map entry_of) none;
+    };
+    rests = λ some. some rests;
+  }
+
+  pub opened_store : (tag : ℕ) (a b : D) (half : SlotWriterHalf D G) (found : List NumberedRecord)
+      → OpensOn tag (states_of G a b) half.journal found → half.journal.filler.stage ≡ fills.Rests → half.waiting.items ≡ []
+      → OpensStore tag a b half found
+  opened_store tag a b half found opens rests none = record {
+    opens = opens;
+    writes = λ shows other records count.
+        let nothing : drop (length records) records ≡ [] = drop_all (length records) records (omega arith) in
+        let most = shows.holds.whole.proper.few in
+        record {
+          behind = record {
+            next = None;
+            stands = opens.stands shows other;
+            is_next = tt;
+            count = sym count;
+            some = omega arith;
+            few = omega (arith, count, most);
+            proper = subst (λ (rs : List Entry). All IsEntry rs) (sym nothing) (All-nil IsEntry);
+          };
+          waiting = ap (map entry_of) none ∙ sym nothing;
+        };
+    rests = λ some. some rests;
+  }
+
+-- ---- records that are taken over
+pub raws_proper : (items : List RawRecord) → All IsEntry (entries_of items) → All (λ raw. IsEntry (entry_of raw)) items
+raws_proper items all = All-from_recursion (λ raw. IsEntry (entry_of raw)) items (each items (recursion_from_All IsEntry (entries_of items) all))
+  where
+    each : (raws : List RawRecord) → AllByRecursion IsEntry (entries_of raws) → AllByRecursion (λ raw. IsEntry (entry_of raw)) raws
+    each [] all_of = tt
+    each (raw ∷ raws) all_of = (all_of.0, each raws all_of.1)

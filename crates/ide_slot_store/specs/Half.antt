@@ -1,0 +1,151 @@
+-- What the writing half of a store on two disks does to the records that were sealed.
+use Rattle.std.specs.Prelude.{◌≡◌, ◌⊎◌, ℕ, ◌+◌, ◌<◌, Bool, true, false, List, [], ◌∷◌, ◌++◌, Result, Ok, Err, drop, length, map, slice_get}
+use Rattle.ide_disk.specs.OneCall.{FailsOnce}
+use Rattle.ide_disk.specs.declared.disk.Disk.{Ghosts}
+use Rattle.ide_journal.specs.Format.{Entry, head_of}
+use Rattle.ide_journal.specs.Lists.{entry_of}
+use Rattle.ide_journal.specs.declared.record.RawRecord.{RawRecord}
+use Rattle.ide_journal.specs.declared.version.Version.TheVariants.{Two}
+use Rattle.ide_slot_journal.specs.Moments.{LeavesOnlyTwo}
+use Rattle.ide_slot_journal.specs.Opened.{OpensOn, states_of}
+use Rattle.ide_slot_journal.specs.Stands.{IsCheckpointing, IsFilling, checkpoint_of, sides_of, slot_writer}
+use Rattle.ide_slot_journal.specs.declared.journal.SlotJournal.{SlotJournal}
+use Rattle.ide_slots.specs.Sides.{Shows, Sides}
+use Rattle.ide_slots.specs.Slot.{Slot, first_slot, slot_count, with_more}
+use Rattle.ide_slots.specs.Two.{ShowsOne, reads_two}
+use Rattle.ide_slots.specs.declared.record.NumberedRecord.{NumberedRecord}
+use Rattle.ide_wire.specs.declared.refused.Refused.{Refused}
+use Rattle.ide_wire.specs.declared.refused.Refused.TheVariants.{Disk, Limit, NoMemory}
+use Rattle.ide_slot_store.specs.Writing.{DidCall, DidFail, DidStore, StandsBehind}
+use Rattle.ide_slot_store.specs.declared.writer.SlotWriterHalf.{SlotWriterHalf}
+
+-- no disk was called, and the writer stands where it did
+pub record IsQuiet {D : Type 0} {G : Ghosts D} (old new : SlotJournal D G) : Type 0 where
+  pub work : (other : Slot) → slot_writer other new ≡ slot_writer other old
+  pub side : new.side ≡ old.side
+  pub current : new.current ≡ old.current
+  pub other : new.other ≡ old.other
+  pub filler : new.filler ≡ old.filler
+
+-- no call of a disk failed
+abbrev pub FailsNone : {D : Type 0} {G : Ghosts D} → (old new : SlotJournal D G) → Type 0
+FailsNone {G = G} old new =
+    let before = sides_of old in
+    let after = sides_of new in
+    (G.failures after.a ≡ G.failures before.a) × (G.failures after.b ≡ G.failures before.b)
+
+-- one did, of the current disk or of the other
+abbrev pub FailsOne : {D : Type 0} {G : Ghosts D} → (old new : SlotJournal D G) → Type 0
+FailsOne {G = G} old new = FailsOnce G old.current new.current ⊎ FailsOnce G old.other new.other
+
+module _ {D : Type 0} {G : Ghosts D} where
+  -- these are all that were sealed; so many of them are stored, in this current slot, and the others wait
+  pub record Writes (slot other : Slot) (records : List Entry) (stored : ℕ) (half : SlotWriterHalf D G) : Type 0 where
+    pub behind : StandsBehind slot other records stored half.journal
+    pub waiting : map entry_of half.waiting.items ≡ drop stored records
+
+  -- no record was sealed, and no checkpoint is planned
+  pub record IsNewHalf (tag : ℕ) (half : SlotWriterHalf D G) : Type 0 where
+    pub writes : (other : Slot) → Writes (first_slot (head_of Two tag) []) other [] 0 half
+    pub rests : IsCheckpointing half.journal → ⊥
+
+  -- it was opened with the slot that is current, and writes behind the records of that slot, where it is shown
+  pub record OpensStore (tag : ℕ) (a b : D) (half : SlotWriterHalf D G) (found : List NumberedRecord) : Type 0 where
+    pub opens : OpensOn tag (states_of G a b) half.journal found
+    pub writes : Shows opens.slot (reads_two (states_of G a b)) → (other : Slot) (records : List Entry)
+        → length records ≡ slot_count opens.slot → Writes opens.slot other records (length records) half
+    pub rests : IsCheckpointing half.journal → ⊥
+
+  -- the disks after an opening, in the half or beside the refusal
+  abbrev pub half_sides_after : {R : Type 0} → Result (SlotWriterHalf D G × R) (Refused × D × D) → Sides D
+  half_sides_after (Ok pair) = sides_of pair.0.journal
+  half_sides_after (Err all) = record { a = all.1; b = all.2 }
+
+  -- the journal is as it was, and the records that wait
+  pub record IsSameHalf (old new : SlotWriterHalf D G) : Type 0 where
+    pub journal : new.journal ≡ old.journal
+    pub waiting : new.waiting.items ≡ old.waiting.items
+
+  -- one record more is sealed, if there may be one
+  abbrev pub Seals : Entry → (old new : SlotWriterHalf D G) → Type 0
+  Seals entry old new = (slot other : Slot) (records : List Entry) (stored : ℕ) → length records < 4294967295
+      → Writes slot other records stored old → Writes slot other (records ++ entry ∷ []) stored new
+
+  -- the records that were sealed are handed over, where none waited with the writer; or one did, and they wait on
+  pub data HandsOver (old new : SlotWriterHalf D G) (sealed left : List RawRecord) : Type 0 where
+    took : old.waiting.items ≡ [] → new.waiting.items ≡ sealed → left ≡ [] → new.journal ≡ old.journal → HandsOver old new sealed left
+    kept : new.waiting.items ≡ old.waiting.items → left ≡ sealed → new.journal ≡ old.journal → (old.waiting.items ≡ [] → ⊥)
+        → HandsOver old new sealed left
+
+  module _ (slot other : Slot) (records : List Entry) (stored : ℕ) (old new : SlotWriterHalf D G) where
+    -- a good call was made that stored no record; the same slot is current, or that of the checkpoint
+    pub record HasCalled : Type 0 where
+      pub event : DidCall other records stored old.journal new.journal
+      pub now : Slot
+      pub now_is : (now ≡ slot) ⊎ (now ≡ other)
+      pub writes : Writes now other records stored new
+
+    -- one that stored a record
+    pub record HasStored : Type 0 where
+      pub event : DidStore other records stored old.journal new.journal
+      pub writes : Writes (with_more slot event.entry) other records (stored + 1) new
+
+    -- no call was made, since all are stored, and it is not a checkpoint's turn
+    pub record HasRested : Type 0 where
+      pub all : stored ≡ length records
+      pub no_turn : IsFilling old.journal → ⊥
+      pub same : IsSameHalf old new
+
+    -- no call was made, for want of memory
+    pub record HasWaited : Type 0 where
+      pub quiet : IsQuiet old.journal new.journal
+      pub writes : Writes slot other records stored new
+
+    -- what a call of a disk comes to: a good one, one that stores a record, or one that failed
+    pub data CallsTo : Result Bool Refused → Type 0 where
+      calls : HasCalled → CallsTo (Ok true)
+      stores : HasStored → CallsTo (Ok true)
+      fails : DidFail other records stored old.journal new.journal → CallsTo (Err Disk)
+
+    -- and what a step does: such a call, or none
+    pub data StepsTo : Result Bool Refused → Type 0 where
+      makes : {result : Result Bool Refused} → CallsTo result → StepsTo result
+      rests : HasRested → StepsTo (Ok false)
+      waits : HasWaited → StepsTo (Err NoMemory)
+
+  -- over whatever records it writes, with whatever slot for its checkpoint
+  abbrev pub StepsOver : (old new : SlotWriterHalf D G) → Result Bool Refused → Type 0
+  StepsOver old new result = (slot other : Slot) (records : List Entry) (stored : ℕ) → Writes slot other records stored old
+      → StepsTo slot other records stored old new result
+
+  abbrev pub CallsOver : (old new : SlotWriterHalf D G) → Result Bool Refused → Type 0
+  CallsOver old new result = (slot other : Slot) (records : List Entry) (stored : ℕ) → Writes slot other records stored old
+      → CallsTo slot other records stored old new result
+
+  -- and a crash at any moment of the step leaves the current slot, the same with the next record, or that of the
+  -- checkpoint, once its first gate is being opened
+  abbrev pub CrashesStep : (old new : SlotWriterHalf D G) → Type 0
+  CrashesStep old new = (slot other : Slot) (records : List Entry) (stored : ℕ) → Writes slot other records stored old
+      → LeavesOnlyTwo G (sides_of old.journal) (sides_of new.journal)
+      (ShowsOne slot (slice_get records stored) (checkpoint_of other old.journal.filler))
+
+  -- it writes the records that it wrote
+  abbrev pub KeepsWriting : (old new : SlotWriterHalf D G) → Type 0
+  KeepsWriting old new = (slot other : Slot) (records : List Entry) (stored : ℕ) → Writes slot other records stored old
+      → Writes slot other records stored new
+
+  -- and with this slot for its checkpoint
+  abbrev pub PlansWriting : Slot → (old new : SlotWriterHalf D G) → Type 0
+  PlansWriting planned old new = (slot other : Slot) (records : List Entry) (stored : ℕ) → Writes slot other records stored old
+      → Writes slot planned records stored new
+
+  -- all records are stored
+  abbrev pub HasStoredAll : SlotWriterHalf D G → Type 0
+  HasStoredAll half = (slot other : Slot) (records : List Entry) (stored : ℕ) → Writes slot other records stored half
+      → stored ≡ length records
+
+  -- why none is put under way: want of memory, or more records than there may be, which it never writes
+  pub data IsBeginRefusal (old : SlotWriterHalf D G) : Refused → Type 0 where
+    memory : IsBeginRefusal old NoMemory
+    limit : ((slot other : Slot) (records : List Entry) (stored : ℕ) → Writes slot other records stored old → ⊥)
+        → IsBeginRefusal old Limit

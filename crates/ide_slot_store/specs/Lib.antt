@@ -1,0 +1,2 @@
+pub mod Half
+pub mod Writing

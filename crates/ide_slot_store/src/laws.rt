@@ -1,0 +1,17 @@
+//! The law of a store on two disks. The function does nothing: its clause is the law.
+ghost use Rattle.ide_slot_store.specs.Writing.{JournalsWriteTwo};
+ghost use Rattle.ide_store.specs.TwoDisksLaws.{slots_of};
+
+use ide_disk::Disk;
+use ide_problem::Problem;
+use ide_store::Kept;
+
+/// A journal on two disks that stands behind the stored records is a writer of a store on two disks. Each
+/// call that it makes, for the next record or of a checkpoint, is an event of the store, after which it
+/// stands behind the records again: a good one, one that stores a record, or one that failed. So is the
+/// plan of a checkpoint that has all the records. One that was opened stands behind whatever records the
+/// disks hold, and a new one behind none. What a crash leaves, within a call too, holds the stored
+/// records, and perhaps the next one.
+pub fn slot_journals_write_stores<P: Problem, D: Disk>()
+    ensures { JournalsWriteTwo D.Disk (slots_of ⟦<P as Kept>⟧.analysis) }
+{}

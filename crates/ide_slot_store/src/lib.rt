@@ -1,0 +1,14 @@
+//! A store on two disks: the writer that keeps it.
+//!
+//! The world of a store on two disks (`ide_store`'s `specs/TwoDisks`) says what may happen to two slots
+//! and their writer, and what an opening gives back. Each call of a journal on two disks is an event of
+//! that world, after which the journal stands behind the records again (`specs/Writing`). The half of a
+//! store that writes, [`SlotWriterHalf`], takes sealed records to the current disk and checkpoints to
+//! the other, and each of its steps is such an event (`specs/Half`).
+#![tactic(auto)]
+
+mod laws;
+mod writer;
+
+pub use laws::slot_journals_write_stores;
+pub use writer::SlotWriterHalf;

@@ -1,0 +1,265 @@
+//! The half of a store on two disks that writes: it takes sealed records to the current disk, and a
+//! checkpoint to the other, one disk call at a time.
+ghost use Rattle.std.specs.Prelude.{◌≡◌, ◌⊎◌, ◌+◌, ◌<◌, ◌∷◌, ◌++◌, [], true, false, Err, Ok, IfErr, IfOk, OnErr, OnOk};
+ghost use Rattle.std.specs.List.{All};
+ghost use Rattle.ide_journal.specs.Format.{IsEntry};
+ghost use Rattle.ide_journal.specs.Lists.{entries_of, entry_of};
+ghost use Rattle.ide_slots.specs.Records.{all_numbered};
+ghost use Rattle.ide_slots.specs.Two.{IsUpTo};
+ghost use Rattle.ide_slot_journal.specs.Stages.{stage_of};
+
+use ide_disk::Disk;
+use ide_journal::{RawRecord, Version};
+use ide_slot_journal::SlotJournal;
+use ide_slots::NumberedRecord;
+use ide_store::MOST_RECORDS;
+use ide_wire::Refused;
+use std::alloc::Global;
+use std::collections::VecDeque;
+use std::mem;
+
+/// A journal on two disks, and the sealed records that it does not have yet.
+#[derive(Drop)]
+pub struct SlotWriterHalf<D: Disk> {
+    pub(crate) journal: SlotJournal<D>,
+    /// The oldest first: the one under way, where one is.
+    waiting: VecDeque<RawRecord>,
+    ghost proper: { All (λ raw. IsEntry (entry_of raw)) waiting.items },
+}
+
+impl<D: Disk> SlotWriterHalf<D> {
+    ghost use Rattle.ide_disk.specs.OneCall.{FailsOnce};
+    ghost use Rattle.ide_slot_journal.specs.Checkpoints.{LeavesWithOther};
+    ghost use Rattle.ide_slot_journal.specs.Making.{FailsNever, IsMakingRefusal};
+    ghost use Rattle.ide_slot_journal.specs.Opened.{IsOpeningRefusal, StopsAnywhere};
+    ghost use Rattle.ide_slot_journal.specs.Opening.{now_of};
+    ghost use Rattle.ide_slot_journal.specs.Planning.{MakeUpCheckpoint};
+    ghost use Rattle.ide_slot_journal.specs.Plans.{IsPlanRefusal, Plans, planned_slot};
+    ghost use Rattle.ide_slot_journal.specs.Records.{LeavesWithNext};
+    ghost use Rattle.ide_slot_journal.specs.Stands.{AreHonest, HasFaulted, HasNoNext, IsCheckpointing, IsFilling, IsTurn, pair_of, records_stored, sides_of};
+    ghost use Rattle.ide_slot_store.specs.Half.{CallsOver, CrashesStep, FailsNone, FailsOne, HandsOver, HasStoredAll, IsBeginRefusal, IsNewHalf, IsQuiet, IsSameHalf, KeepsWriting, OpensStore, PlansWriting, Seals, StepsOver, half_sides_after};
+
+    /// Makes a store with no record on the disks A and B, whatever they held.
+    ///
+    /// Refusals: those of [`SlotJournal::create`]; the disks come back.
+    pub fn create(alloc: Global, a: D, b: D, tag: u8) -> Result<Self, (Refused, D, D)>
+        requires { 0 < tag }
+        ensures made { D.honest a → D.honest b → IfOk result (IsNewHalf tag) }
+        ensures honest { D.honest a → D.honest b → IfOk result (λ half. AreHonest half.journal) }
+        ensures failures { IfOk result (λ half. FailsNever D.Disk a b half.journal) }
+        ensures back { D.honest a → D.honest b → IfErr result (λ all. D.honest all.1 × D.honest all.2) }
+        ensures refused { IfErr result (λ all. IsMakingRefusal D.Disk a b all.1 all.2 all.0) }
+    {
+        match SlotJournal::create(alloc, a, b, tag) {
+            Ok(journal) => Ok(SlotWriterHalf {
+                journal,
+                waiting: VecDeque::new(alloc),
+            }),
+            Err(all) => Err(all),
+        }
+    }
+
+    /// Opens the store with that tag that the disks A and B hold, and gives the records of its current slot:
+    /// the commands of its checkpoint under their old numbers, its parts, numbered from 0 on, and the records
+    /// behind it.
+    ///
+    /// Refusals: those of [`SlotJournal::open`]; the disks come back.
+    pub fn open(
+        alloc: Global,
+        a: D,
+        b: D,
+        tag: u8,
+    ) -> Result<(Self, Vec<NumberedRecord>), (Refused, D, D)>
+        ensures opened { D.honest a → D.honest b → IfOk result (λ pair. OpensStore tag a b pair.0 pair.1.items) }
+        ensures first_honest { D.honest a → D.honest b → D.honest (half_sides_after result).a }
+        ensures second_honest { D.honest a → D.honest b → D.honest (half_sides_after result).b }
+
+        // What a crash at any moment leaves of both is something that an opening may have stopped with.
+        ensures any_moment { D.honest a → D.honest b → StopsAnywhere D.Disk a b (half_sides_after result) }
+        // `Disk` is answered where a call of one of the disks failed, and at Ok none did.
+        ensures fault { IfErr result (λ all. all.0 ≡ Refused.Disk → FailsOnce D.Disk a all.1 ⊎ FailsOnce D.Disk b all.2) }
+        ensures first_failures { OnOk result (D.failures (half_sides_after result).a ≡ D.failures a) }
+        ensures second_failures { OnOk result (D.failures (half_sides_after result).b ≡ D.failures b) }
+        ensures refused { D.honest a → D.honest b → IfErr result (λ all. IsOpeningRefusal tag (now_of D.Disk a b) all.0) }
+    {
+        match SlotJournal::open(alloc, a, b, tag) {
+            Ok((journal, records)) => {
+                let waiting = VecDeque::new(alloc);
+                Ok((SlotWriterHalf { journal, waiting }, records))
+            }
+            Err(all) => Err(all),
+        }
+    }
+
+    /// The version of the current slot.
+    pub fn version(&self) -> Version
+        ensures { result ≡ self.now.journal.version }
+    {
+        self.journal.version()
+    }
+
+    /// The generation of the current slot.
+    pub fn generation(&self) -> u32
+        ensures { result ≡ self.now.journal.generation }
+    {
+        self.journal.generation()
+    }
+
+    /// How many records are stored, those below the checkpoint too.
+    pub fn stored(&self) -> u64
+        ensures { result ≡ records_stored self.now.journal }
+    {
+        self.journal.count()
+    }
+
+    /// Seals a record: it is stored behind those sealed before it.
+    ///
+    /// Refusal: `NoMemory`, and nothing is sealed.
+    pub fn seal(&mut self, raw: RawRecord) -> Result<(), Refused>
+        requires { IsEntry (entry_of raw) }
+        ensures sealed { OnOk result (Seals (entry_of raw) self.old self.new) }
+        ensures unchanged { OnErr result (IsSameHalf self.old self.new) }
+        ensures refused { IfErr result (λ e. e ≡ Refused.NoMemory) }
+    {
+        if self.waiting.push_back(raw).is_err() {
+            return Err(Refused::NoMemory);
+        }
+        Ok(())
+    }
+
+    /// Plans a checkpoint that stands for the records below the base: these commands, under their old
+    /// numbers, and these parts of an image. Its calls come once the records below the base are stored.
+    ///
+    /// Refusals: `NoMemory`; `Failed`, where a disk call failed before. Nothing is changed then.
+    pub fn plan(
+        &mut self,
+        alloc: Global,
+        base: u32,
+        commands: &[NumberedRecord],
+        parts: &[RawRecord],
+    ) -> Result<(), Refused>
+        requires none { IsCheckpointing self.old.journal → ⊥ }
+        requires generation { self.old.journal.generation < 4294967295 }
+        requires up_to { IsUpTo (records_stored self.old.journal) base (stage_of self.old.journal.stage) }
+        requires proper { MakeUpCheckpoint base (all_numbered commands.now) (entries_of parts.now) }
+        ensures planned { OnOk result (Plans (planned_slot self.old.journal base commands.now parts.now) self.old.journal self.new.journal) }
+        ensures writes { OnOk result (PlansWriting (planned_slot self.old.journal base commands.now parts.now) self.old self.new) }
+        ensures disks { sides_of self.new.journal ≡ sides_of self.old.journal }
+        ensures unchanged { OnErr result (KeepsWriting self.old self.new) }
+        ensures quiet { OnErr result (IsQuiet self.old.journal self.new.journal) }
+        ensures failed { HasFaulted self.old.journal → result ≡ Err Refused.Failed }
+        ensures refused { IfErr result (IsPlanRefusal self.old.journal) }
+    {
+        self.journal.plan(alloc, base, commands, parts)
+    }
+
+    /// Makes the next disk call, for the oldest record that is not stored or, where it is its turn, of the
+    /// checkpoint, and answers whether there was one to make. After four for it a record is stored.
+    ///
+    /// Refusals: `Disk`, where the call failed; `Failed`, where one failed before; `NoMemory`, before the
+    /// first call of a record.
+    pub fn disk_step(&mut self) -> Result<bool, Refused>
+        ensures steps { AreHonest self.old.journal → StepsOver self.old self.new result }
+        ensures honest { AreHonest self.old.journal → AreHonest self.new.journal }
+
+        // A crash at any moment of the call leaves the current slot, the same with the next record, or that
+        // of the checkpoint, once its first gate is being opened.
+        ensures any_moment { AreHonest self.old.journal → CrashesStep self.old self.new }
+        ensures failures { OnOk result (FailsNone self.old.journal self.new.journal) }
+        ensures fault { result ≡ Err Refused.Disk → FailsOne self.old.journal self.new.journal }
+        ensures failed { HasFaulted self.old.journal → result ≡ Err Refused.Failed }
+    {
+        if self.journal.is_checkpoints_turn() {
+            return self.fill();
+        }
+        match self.begin_next() {
+            Ok(true) => self.advance(),
+            Ok(false) => Ok(false),
+            Err(refused) => Err(refused),
+        }
+    }
+
+    /// Puts the oldest record that waits under way, if none is, and answers whether one is then.
+    #[tactic(auto, using(crate::specs::Half::memory, crate::specs::Half::limit))]
+    fn begin_next(&mut self) -> Result<bool, Refused>
+        ensures writes { KeepsWriting self.old self.new }
+        ensures quiet { IsQuiet self.old.journal self.new.journal }
+        ensures turn { IsTurn self.old.journal → IsTurn self.new.journal }
+        ensures busy { result ≡ Ok true → (HasNoNext self.new.journal → ⊥) }
+        ensures rests { result ≡ Ok false → HasStoredAll self.old }
+        ensures same { result ≡ Ok false → IsSameHalf self.old self.new }
+        ensures failed { HasFaulted self.old.journal → (result ≡ Ok true) × HasFaulted self.new.journal }
+        ensures refused { IfErr result (IsBeginRefusal self.old) }
+    {
+        if !self.journal.is_idle() {
+            return Ok(true);
+        }
+        let Some(next) = self.waiting.front() else {
+            return Ok(false);
+        };
+        if self.journal.count() >= MOST_RECORDS {
+            return Err(Refused::Limit);
+        }
+        match self.journal.begin(next) {
+            Ok(()) => Ok(true),
+            Err(refused) => Err(refused),
+        }
+    }
+
+    /// Makes the next disk call for the record under way, and answers that there was one to make. Once
+    /// none is under way any more, the oldest is stored.
+    fn advance(&mut self) -> Result<bool, Refused>
+        requires busy { HasNoNext self.old.journal → ⊥ }
+        requires turn { IsTurn self.old.journal }
+        ensures calls { AreHonest self.old.journal → CallsOver self.old self.new result }
+        ensures honest { AreHonest self.old.journal → AreHonest self.new.journal }
+        ensures any_moment { AreHonest self.old.journal → LeavesWithNext self.old.journal self.new.journal }
+        ensures failures { OnOk result (FailsNone self.old.journal self.new.journal) }
+        ensures fault { result ≡ Err Refused.Disk → FailsOne self.old.journal self.new.journal }
+        ensures failed { HasFaulted self.old.journal → result ≡ Err Refused.Failed }
+    {
+        match self.journal.advance() {
+            Ok(_) => {
+                if self.journal.is_idle() {
+                    self.waiting.pop_front();
+                }
+                Ok(true)
+            }
+            Err(refused) => Err(refused),
+        }
+    }
+
+    /// Makes the next disk call of the checkpoint, and answers that there was one to make.
+    fn fill(&mut self) -> Result<bool, Refused>
+        requires { IsFilling self.old.journal }
+        ensures calls { AreHonest self.old.journal → CallsOver self.old self.new result }
+        ensures honest { AreHonest self.old.journal → AreHonest self.new.journal }
+        ensures any_moment { AreHonest self.old.journal → LeavesWithOther self.old.journal self.new.journal }
+        ensures failures { OnOk result (FailsNone self.old.journal self.new.journal) }
+        ensures fault { result ≡ Err Refused.Disk → FailsOne self.old.journal self.new.journal }
+        ensures failed { HasFaulted self.old.journal → result ≡ Err Refused.Failed }
+    {
+        match self.journal.advance_checkpoint() {
+            Ok(_) => Ok(true),
+            Err(refused) => Err(refused),
+        }
+    }
+
+    /// Takes over the sealed records that wait elsewhere, where none waits here. It takes no memory.
+    pub fn take_over(&mut self, sealed: &mut VecDeque<RawRecord>)
+        requires { All IsEntry (entries_of sealed.old.items) }
+        ensures { HandsOver self.old self.new sealed.old.items sealed.new.items }
+    {
+        if self.waiting.is_empty() {
+            mem::swap(&mut self.waiting, sealed);
+        }
+    }
+
+    /// The disks A and B, as the writer leaves them.
+    pub fn into_disks(self) -> (D, D)
+        ensures { result ≡ pair_of (sides_of self.journal) }
+    {
+        let SlotWriterHalf { journal, .. } = self;
+        journal.into_disks()
+    }
+}
