@@ -1,7 +1,7 @@
 -- What the writing half of a store on two disks does is what the store allows.
-use Rattle.std.proofs.Common.{◌≡◌, ◌≢◌, ◌∙◌, ◌⊎◌, ◌≤◌, ◌<◌, ◌+◌, ℕ, zero, suc, All, Bool, true, false, List, [], ◌∷◌, ◌++◌, Option, Some, None, Result, Ok, Err, length, map, take, drop, refl, ap, sym, subst, arith, inl, inr}
+use Rattle.std.proofs.Common.{◌≡◌, ◌≢◌, ◌∙◌, ◌≤◌, ◌<◌, ◌+◌, ℕ, zero, suc, All, Bool, true, List, [], ◌∷◌, ◌++◌, Option, Some, None, Result, Ok, Err, length, map, drop, refl, ap, sym, subst, arith, inl, inr}
 use Rattle.std.specs.List.{AllByRecursion}
-use Rattle.std.specs.Prelude.{OnErr, OnOk, slice_get}
+use Rattle.std.specs.Prelude.{OnOk, slice_get}
 use Rattle.std.proofs.lemmas.Bool.{cases_lt}
 use Rattle.std.proofs.lemmas.List.Elements.{All-append, All-from_recursion, All-nil, recursion_from_All}
 use Rattle.std.proofs.lemmas.List.{drop-append-le, drop_all, length-append}
@@ -12,33 +12,31 @@ use Rattle.ide_journal.specs.Lists.{entries_of, entry_of}
 use Rattle.ide_journal.specs.declared.record.RawRecord.{RawRecord}
 use Rattle.ide_journal.specs.declared.stage.Phase.{Phase}
 use Rattle.ide_journal.specs.declared.version.Version.TheVariants.{Two}
-use Rattle.ide_slot_journal.specs.Checkpoints.{IsCheckpointRefusal, LeavesWithOther, MakesCheckpointStep, checkpoint_after_failure, checkpoint_device}
+use Rattle.ide_slot_journal.specs.Checkpoints.{LeavesWithOther, MakesCheckpointStep}
 use Rattle.ide_slot_journal.specs.Making.{StandsEmpty}
-use Rattle.ide_slot_journal.specs.Moments.{LeavesOnlyTwo}
 use Rattle.ide_slot_journal.specs.Opened.{OpensOn, states_of}
 use Rattle.ide_slot_journal.specs.Plans.{Plans}
 use Rattle.ide_slot_journal.specs.Records.{LeavesWithNext, MakesRecordStep, PutsNext, PutsNone}
 use Rattle.ide_slot_journal.specs.Stages.{IsFillingAt, IsTurnAt, checkpoint_at, filling_at}
-use Rattle.ide_slot_journal.specs.Stands.{AreHonest, HasNoNext, IsCheckpointing, IsFilling, IsTurn, StandsOn, checkpoint_of, disks_of, filling_of, sides_of, slot_writer, todo_of}
+use Rattle.ide_slot_journal.specs.Stands.{AreHonest, HasNoNext, IsFilling, StandsOn, checkpoint_of, disks_of, filling_of, sides_of, slot_writer, todo_of}
 use Rattle.ide_slot_journal.specs.declared.filler.Filler.{Filler}
 use Rattle.ide_slot_journal.specs.declared.journal.SlotJournal.{SlotJournal}
 use Rattle.ide_slot_journal.specs.declared.stage.FillStage.{FillStage}
 use Rattle.ide_slot_journal.specs.declared.stage.FillStage.TheVariants as fills
-use Rattle.ide_slots.specs.Sides.{Shows, Sides, two_sides}
-use Rattle.ide_slots.specs.Slot.{Slot, first_slot, slot_count, with_more}
-use Rattle.ide_slots.specs.Two.{Checkpoint, IsOfCheckpoint, LeavesTwo, MayBeFound, ShowsOne, SlotWriter, StandsTwo, UnderWay, reads_two}
+use Rattle.ide_slots.specs.Sides.{Sides, two_sides}
+use Rattle.ide_slots.specs.Slot.{Slot}
+use Rattle.ide_slots.specs.Two.{Checkpoint, IsOfCheckpoint, LeavesTwo, ShowsOne, SlotWriter, UnderWay}
 use Rattle.ide_slots.specs.TwoCalls.{StoresRecord}
 use Rattle.ide_slots.specs.declared.record.NumberedRecord.{NumberedRecord}
 use Rattle.ide_slots.specs.declared.side.Side.{Side}
 use Rattle.ide_slots.specs.declared.side.Side.TheVariants.{First, Second}
 use Rattle.ide_slots.proofs.Standing.{standing_is_safe}
 use Rattle.ide_wire.specs.declared.refused.Refused.{Refused}
-use Rattle.ide_wire.specs.declared.refused.Refused.TheVariants.{Disk}
 use Rattle.ide_store.proofs.Half.{front_next, none_waits, sealed_waits}
 use Rattle.ide_store.proofs.OneDisk.{kept_get, next_taken}
-use Rattle.ide_store.specs.TwoDisks.{CallsTwo, FailsTwo, StoresTwo}
-use Rattle.ide_slot_store.specs.Half.{CallsOver, CallsTo, CrashesStep, HasStoredAll, IsBeginRefusal, IsNewHalf, IsQuiet, KeepsWriting, OpensStore, PlansWriting, StepsOver, StepsTo, Writes, calls, fails, limit, makes, memory, stores, waits}
-use Rattle.ide_slot_store.specs.Writing.{BeginsFirst, DidCall, DidFail, DidStore, IsFirstLeft, StandsBehind}
+use Rattle.ide_store.specs.TwoDisks.{CallsTwo, FailsTwo}
+use Rattle.ide_slot_store.specs.Half.{CallsOver, CallsTo, CrashesStep, HasStoredAll, IsBeginRefusal, IsNewHalf, IsQuiet, KeepsWriting, OpensStore, PlansWriting, StepsOver, Writes, calls, fails, limit, makes, memory, stores, waits}
+use Rattle.ide_slot_store.specs.Writing.{BeginsFirst, IsFirstLeft}
 use Rattle.ide_slot_store.specs.declared.writer.SlotWriterHalf.{SlotWriterHalf}
 use Rattle.ide_slot_store.proofs.Writing.{CheckpointThen, RecordThen, busy_next, checkpoint_then, idle_none, next_first, put_behind, record_then, still_behind, then_called, then_failed, then_filled, then_stored, then_turned, then_unfilled}
 
@@ -55,7 +53,7 @@ filling_some fills.Lasts base count turn = λ no. cc
 
 pub turn_then : (stage : FillStage) (base count : ℕ) → (IsFillingAt stage base count → ⊥) → IsTurnAt stage base count
 turn_then fills.Rests base count none = tt
-turn_then fills.Waits base count none = elim (cases_lt count base) [ | inl less ↦ less | inr more ↦ absurd (none more) ]
+turn_then fills.Waits base count none = elim (cases_lt count base) [ inl less ↦ less | inr more ↦ absurd (none more) ]
 turn_then fills.Settles base count none = absurd (none tt)
 turn_then fills.Trims base count none = absurd (none tt)
 turn_then fills.Heads base count none = absurd (none tt)

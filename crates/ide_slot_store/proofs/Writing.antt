@@ -1,13 +1,12 @@
 -- A journal's calls are those of a store on two disks.
-use Rattle.std.proofs.Common.{◌≡◌, ◌≢◌, ◌∙◌, ◌≤◌, ◌<◌, ◌+◌, ℕ, zero, suc, All, Bool, true, false, List, [], ◌∷◌, ◌++◌, Option, Some, None, Result, Ok, Err, length, take, drop, map, refl, ap, sym, subst, arith, inl, inr}
+use Rattle.std.proofs.Common.{◌≡◌, ◌≢◌, ◌∙◌, ◌≤◌, ◌+◌, ℕ, zero, suc, All, Bool, true, false, List, [], ◌∷◌, ◌++◌, Option, Some, None, Result, Ok, Err, length, take, drop, map, refl, ap, sym, subst, arith, inl, inr}
 use Rattle.std.specs.Prelude.{slice_get}
 use Rattle.std.proofs.lemmas.List.Elements.{All-drop, All-nil}
-use Rattle.std.proofs.lemmas.List.{drop-append-le, drop-drop, drop_all, length-append, length-drop, length-take, length-take-le, take-append-le, take_all}
+use Rattle.std.proofs.lemmas.List.{drop-append-le, drop-drop, drop_all, length-append, length-drop, take-append-le, take_all}
 use Rattle.ide_disk.specs.Disk.{DiskState}
 use Rattle.ide_disk.specs.declared.disk.Disk.{Ghosts}
 use Rattle.ide_journal.specs.Format.{Entry, Head, IsEntry}
 use Rattle.ide_journal.specs.declared.stage.Phase.{Phase}
-use Rattle.ide_journal.specs.declared.stage.Phase.TheVariants as phases
 use Rattle.ide_slot_journal.specs.Checkpoints.{BeginsIfWaiting, CheckpointStep, MakesCheckpointStep, checkpoint_called, checkpoint_ended, checkpoint_failed, filling_writer}
 use Rattle.ide_slot_journal.specs.Making.{StandsEmpty}
 use Rattle.ide_slot_journal.specs.Opened.{OpensOn, states_of}
@@ -19,12 +18,12 @@ use Rattle.ide_slot_journal.specs.declared.filler.Filler.{Filler}
 use Rattle.ide_slot_journal.specs.declared.journal.SlotJournal.{SlotJournal}
 use Rattle.ide_slot_journal.specs.declared.stage.FillStage.{FillStage}
 use Rattle.ide_slot_journal.specs.declared.stage.FillStage.TheVariants as fills
-use Rattle.ide_slots.specs.Filling.{Closes, Filling, Fills, Heads, Lasts, OpensGate, Settles, Trims}
+use Rattle.ide_slots.specs.Filling.{Filling, Lasts}
 use Rattle.ide_slots.specs.Records.{all_numbered}
 use Rattle.ide_slots.specs.Sides.{Shows, Sides, off}
-use Rattle.ide_slots.specs.Slot.{NumberedEntry, Slot, first_slot, records_of, slot_count, with_more}
+use Rattle.ide_slots.specs.Slot.{NumberedEntry, Slot, first_slot, slot_count, with_more}
 use Rattle.ide_slots.specs.Two.{Beside, CanBeNext, Checkpoint, IsMade, IsOfCheckpoint, NotBegun, Planned, ShowsOne, SlotWriter, StandsTwo, UnderWay, reads_two}
-use Rattle.ide_slots.specs.TwoCalls.{BeginsCheckpoint, CallsRecord, OpensTwo, PlansCheckpoint, StoresRecord}
+use Rattle.ide_slots.specs.TwoCalls.{OpensTwo}
 use Rattle.ide_slots.specs.declared.record.NumberedRecord.{NumberedRecord}
 use Rattle.ide_slots.proofs.Openings.{openings_find}
 use Rattle.ide_slots.proofs.Writers.{records_keep_standing}
@@ -33,7 +32,7 @@ use Rattle.ide_wire.specs.declared.refused.Refused.TheVariants.{Disk}
 use Rattle.ide_store.proofs.OneDisk.{next_taken}
 use Rattle.ide_store.proofs.TwoDisksPlans.{slots_give_back}
 use Rattle.ide_store.specs.Store.{IsFoundOf}
-use Rattle.ide_store.specs.TwoDisks.{AtCheckpoint, AtRecord, BeginsCalls, BeginsTwo, CallsTwo, ForRecord, GiveTheSame, HasPlan, HoldsTwo, InCheckpoint, IsListOf, IsLiveTwo, IsNextBehind, LastInCheckpoint, StoresTwo, commands_of, unnumbered}
+use Rattle.ide_store.specs.TwoDisks.{AtCheckpoint, AtRecord, BeginsCalls, BeginsTwo, ForRecord, GiveTheSame, HasPlan, HoldsTwo, InCheckpoint, IsListOf, IsLiveTwo, IsNextBehind, LastInCheckpoint, commands_of, unnumbered}
 use Rattle.ide_store.specs.World.{Rules}
 use Rattle.ide_slot_store.specs.Writing.{BeginsFirst, BeginsTwoDisks, DidCall, DidFail, DidStore, IsEvent, IsFirstLeft, JournalsWriteTwo, StandsBehind, StandsBehindTwo, WritesTwoDisks, is_call, is_fail, is_store}
 
@@ -500,8 +499,7 @@ module _ {Image Step D : Type 0} {G : Ghosts D} (rules : Rules Image Step Entry)
       let within = list.within in
       let short : length (drop planned.base records) ≡ 0 = ap length (sym list.rest) ∙ ap (λ (s : Slot). length s.rest) (sym next) ∙ bare in
       let whole : records ≡ take planned.base records =
-      sym (take_all planned.base records (omega (arith, within, short, length-drop planned.base records))) in
-      (
+      sym (take_all planned.base records (omega (arith, within, short, length-drop planned.base records))) in (
         record {
           slot = stands.slot;
           tag_is = stands.tag_is;
@@ -561,8 +559,7 @@ module _ {Image Step D : Type 0} (G : Ghosts D) (rules : Rules Image Step Entry)
       let count = list_count rules records opens.slot list in
       let few : length records ≤ 4294967295 = let most = holds.shows.holds.whole.proper.few in
       let held = list_count rules records holds.slot holds.list in omega (arith, most, held) in
-      let none : drop (length records) records ≡ [] = drop_all (length records) records (omega arith) in
-      (
+      let none : drop (length records) records ≡ [] = drop_all (length records) records (omega arith) in (
         opens.opens other,
         record {
           slot = opens.slot;
