@@ -10,7 +10,7 @@ use Rattle.ide_batch.specs.Fold.{procedures}
 use Rattle.ide_graph.proofs.PlaceLemmas.{position_within}
 use Rattle.ide_graph.specs.Numbers.{procedure_of, start_of}
 use Rattle.ide_graph.specs.Supergraph.{Supergraph}
-use Rattle.ide_journal.specs.Format.{Entry, Head}
+use Rattle.ide_journal.specs.Format.{Entry}
 use Rattle.ide_lattice.specs.Algebra.{LatticeAlgebra, EdgeAlgebra}
 use Rattle.ide_problem.specs.Flow.{Targets}
 use Rattle.ide_steps.specs.Frozen.{graph_in, program_in}
@@ -18,14 +18,12 @@ use Rattle.ide_steps.specs.Room.{IsGraphSaid, IsWholeCore}
 use Rattle.ide_steps.specs.declared.closed.Closed.{Closed}
 use Rattle.ide_store.proofs.Good.{IsGood, has_roots}
 use Rattle.ide_store.proofs.Hands.{good_now}
-use Rattle.ide_store.proofs.Machine.{machine_is_exact}
-use Rattle.ide_store.proofs.OneDisk.{one_disk_keeps}
+use Rattle.ide_store.proofs.Places.{exact_at, laws_at}
 use Rattle.ide_store.proofs.Reached.{Knows, reached_whole}
 use Rattle.ide_store.specs.Answers.{GraphBy, frame_by, roots_by}
 use Rattle.ide_store.specs.Freezing.{IsImageOf, IsImageOver}
-use Rattle.ide_store.specs.Machine.{machine}
-use Rattle.ide_store.specs.OneDisk.{one_disk}
-use Rattle.ide_store.specs.Table.{Analysis, StoreWorld, TableData, WorksOn, forms_of}
+use Rattle.ide_store.specs.Places.{Place, version_at}
+use Rattle.ide_store.specs.Table.{Analysis, StoreWorld, TableData, WorksOn, forms_of, store_at}
 use Rattle.ide_text.specs.Names.{is_named}
 use Rattle.ide_text.specs.Program.{procedures_of}
 use Rattle.ide_text.specs.Value.{ProgramValue}
@@ -92,7 +90,7 @@ module _ {v : ProgramValue} (by : GraphBy v) (names : List (List ℕ)) (roots : 
 
 module _ (P : Type 0) {F L : Type 0} (a : Analysis F L) (knows : Knows a) (graphs : GraphsAreSupergraphs a.lattice a.functions a.targets) where
   pub values_are_best : ValuesOfRunsAreBest P a
-  values_are_best closed values said program graph roots best head w reached image = record {
+  values_are_best closed values said program graph roots best place w reached image = record {
     program = image.program ∙ ap (λ u. Some u) (sym program);
     graphed = graphed;
     roots = named;
@@ -133,10 +131,10 @@ module _ (P : Type 0) {F L : Type 0} (a : Analysis F L) (knows : Knows a) (graph
 
       good : IsGood procedures (frame_by a.lattice a.functions a.targets by) values.program w.world.image
       good =
-          let exact = machine_is_exact a.functions a.same (forms_of a) knows.prefix_free head.version in
-          let laws = one_disk_keeps (machine a.functions a.same (forms_of a) head.version) head in
-          let whole = reached_whole a knows head w reached in
-          good_now a.lattice a.functions a.targets a.same (forms_of a) head.version (one_disk head) knows.is_same exact laws knows.known w whole.held
+          let exact = exact_at a knows.prefix_free place in
+          let laws = laws_at a place in
+          let whole = reached_whole a knows place w reached in
+          good_now a.lattice a.functions a.targets a.same (forms_of a) (version_at place) (store_at a place) knows.is_same exact laws knows.known w whole.held
           values.program (image.program ∙ ap (λ u. Some u) (sym program)) by
 
       at_rest : TablesRest a.lattice a.functions a.targets values.graph all values.roots closed.tables
@@ -152,9 +150,9 @@ module _ (P : Type 0) {F L : Type 0} (a : Analysis F L) (knows : Knows a) (graph
 module _ {P F L : Type 0} (a : Analysis F L) (table : TableData F) (closed : Closed P L F) (whole : IsWholeCore table.core)
     (at : table.core.graph ≡ Some (graph_in closed)) where
   -- the graph of a frozen half is that of its program
-  pub said_in : (head : Head) (w : StoreWorld a head) (handed : List Entry) → WorksOn a head w table handed → IsImageOf a head w closed
+  pub said_in : (place : Place) (w : StoreWorld a place) (handed : List Entry) → WorksOn a place w table handed → IsImageOf a place w closed
       → IsGraphSaid (Some (program_in closed)) (graph_in closed)
-  said_in head w handed works image =
+  said_in place w handed works image =
       subst (λ (o : Option ProgramValue). IsGraphSaid o (graph_in closed)) (sym works.image.program ∙ image.program) (whole.said (graph_in closed) at)
 
   -- so the values of its image are best in each world on which it works
@@ -165,6 +163,6 @@ module _ {P F L : Type 0} (a : Analysis F L) (table : TableData F) (closed : Clo
       → IfOk result (AreBestOf a.lattice a.functions a.targets closed.tables)
       → IfOk result (AreAnswersOver a table)
   answers_over law result frozen programs graphs rooted bests =
-      if-ok {S = AreAnswersOver a table} result programs graphs rooted bests (λ values program graph roots best head w handed reached works.
-      let image = frozen head w handed reached works in
-      law closed values (said_in head w handed works image) program graph roots best head w reached image)
+      if-ok {S = AreAnswersOver a table} result programs graphs rooted bests (λ values program graph roots best place w handed reached works.
+      let image = frozen place w handed reached works in
+      law closed values (said_in place w handed works image) program graph roots best place w reached image)

@@ -2,13 +2,14 @@
 -- half does not answer them.
 use Rattle.std.specs.Prelude.{◌≡◌, ℕ, ◌<◌, false, true, List, [], Some, map}
 use Rattle.ide_batch.specs.Applied.{named_in}
-use Rattle.ide_journal.specs.Format.{Entry, Head}
+use Rattle.ide_journal.specs.Format.{Entry}
 use Rattle.ide_steps.specs.CloseRefusal.{IsFreezeRefusal}
 use Rattle.ide_steps.specs.Core.{is_loaded}
 use Rattle.ide_steps.specs.Frozen.{graph_in, program_in}
 use Rattle.ide_steps.specs.Room.{IsGraphSaid}
 use Rattle.ide_steps.specs.declared.closed.Closed.{Closed}
 use Rattle.ide_store.specs.Freezing.{IsImageOf}
+use Rattle.ide_store.specs.Places.{Place}
 use Rattle.ide_store.specs.Table.{Analysis, IsReached, StoreWorld, TableData, WorksOn}
 use Rattle.ide_store.specs.TableCalls.{IsRefusal}
 use Rattle.ide_theory.specs.Best.{IsBest}
@@ -23,7 +24,7 @@ use Rattle.ide_wire.specs.declared.refused.Refused.{Refused}
 module _ {F L : Type 0} (a : Analysis F L) where
   -- the values are those of the world's image, where nothing is pending: over a graph of its program, for its roots, each
   -- is the best one of its fact at its node
-  pub record AreAnswersOf (head : Head) (w : StoreWorld a head) (values : ValuesData L) : Type 0 where
+  pub record AreAnswersOf (place : Place) (w : StoreWorld a place) (values : ValuesData L) : Type 0 where
     pub program : w.world.image.program ≡ Some values.program
     pub graphed : IsGraphSaid (Some values.program) values.graph
     pub roots : map (named_in (Some values.graph)) w.world.image.roots ≡ map (λ root. Some root) values.roots
@@ -35,15 +36,15 @@ module _ {F L : Type 0} (a : Analysis F L) where
 
   -- of some world that acts led to
   pub record AreAnswersOfRun (values : ValuesData L) : Type 0 where
-    pub head : Head
-    pub world : StoreWorld a head
-    pub reached : IsReached a head world
-    pub answers : AreAnswersOf head world values
+    pub place : Place
+    pub world : StoreWorld a place
+    pub reached : IsReached a place world
+    pub answers : AreAnswersOf place world values
 
   -- of each world that acts led to, and on which the half works
   abbrev pub AreAnswersOver : TableData F → ValuesData L → Type 0
-  AreAnswersOver table values = (head : Head) (w : StoreWorld a head) (handed : List Entry) → IsReached a head w → WorksOn a head w table handed
-      → AreAnswersOf head w values
+  AreAnswersOver table values = (place : Place) (w : StoreWorld a place) (handed : List Entry) → IsReached a place w → WorksOn a place w table handed
+      → AreAnswersOf place w values
 
 module _ (P : Type 0) {F L : Type 0} (a : Analysis F L) where
   -- where a frozen image is that of a world that acts led to, with the graph of its program, values that are best over the
@@ -53,7 +54,7 @@ module _ (P : Type 0) {F L : Type 0} (a : Analysis F L) where
       (closed : Closed P L F) (values : ValuesData L) → IsGraphSaid (Some (program_in closed)) (graph_in closed)
       → values.program ≡ program_in closed → values.graph ≡ graph_in closed → values.roots ≡ closed.roots.items
       → AreBestOf a.lattice a.functions a.targets closed.tables values
-      → (head : Head) (w : StoreWorld a head) → IsReached a head w → IsImageOf a head w closed → AreAnswersOf a head w values
+      → (place : Place) (w : StoreWorld a place) → IsReached a place w → IsImageOf a place w closed → AreAnswersOf a place w values
 
 module _ {F : Type 0} (table : TableData F) where
   -- a program is loaded, no key is pending, and no call of the writer failed

@@ -1,35 +1,35 @@
 -- Lists of acts: they are done one behind the other, and lead from worlds that acts led to to such worlds.
 use Rattle.std.proofs.Common.{◌≡◌, ◌∙◌, ◌+◌, ◌++◌, Bool, List, [], ◌∷◌, refl, ap, sym, subst, arith}
-use Rattle.ide_journal.specs.Format.{Head}
 use Rattle.ide_store.specs.Draining.{count_of}
+use Rattle.ide_store.specs.Places.{Place}
 use Rattle.ide_store.specs.Table.{Analysis, IsReached, MayDoAll, StoreAct, StoreWorld, after_act, after_acts, new_store}
 
-module _ {F L : Type 0} (a : Analysis F L) (head : Head) where
+module _ {F L : Type 0} (a : Analysis F L) (place : Place) where
   -- acts may be done behind others
-  pub may_more : (w : StoreWorld a head) (first more : List (StoreAct a head)) → MayDoAll a head w first
-      → MayDoAll a head (after_acts a head w first) more → MayDoAll a head w (first ++ more)
+  pub may_more : (w : StoreWorld a place) (first more : List (StoreAct a place)) → MayDoAll a place w first
+      → MayDoAll a place (after_acts a place w first) more → MayDoAll a place w (first ++ more)
   may_more w [] more can then = then
-  may_more w (act ∷ first) more can then = (can.0, may_more (after_act a head w act) first more can.1 then)
+  may_more w (act ∷ first) more can then = (can.0, may_more (after_act a place w act) first more can.1 then)
 
-  pub after_more : (w : StoreWorld a head) (first more : List (StoreAct a head))
-      → after_acts a head w (first ++ more) ≡ after_acts a head (after_acts a head w first) more
+  pub after_more : (w : StoreWorld a place) (first more : List (StoreAct a place))
+      → after_acts a place w (first ++ more) ≡ after_acts a place (after_acts a place w first) more
   after_more w [] more = refl
-  after_more w (act ∷ first) more = after_more (after_act a head w act) first more
+  after_more w (act ∷ first) more = after_more (after_act a place w act) first more
 
-  pub count_more : (is : StoreAct a head → Bool) (first more : List (StoreAct a head)) → count_of a head is (first ++ more) ≡ count_of a head is first + count_of a head is more
+  pub count_more : (is : StoreAct a place → Bool) (first more : List (StoreAct a place)) → count_of a place is (first ++ more) ≡ count_of a place is first + count_of a place is more
   count_more is [] more = omega arith
   count_more is (act ∷ first) more =
       let rest = count_more is first more in omega (arith, rest)
 
   -- where they lead from a world that acts led to, acts led to
-  pub reached_more : (w : StoreWorld a head) (acts : List (StoreAct a head)) → IsReached a head w → MayDoAll a head w acts → IsReached a head (after_acts a head w acts)
+  pub reached_more : (w : StoreWorld a place) (acts : List (StoreAct a place)) → IsReached a place w → MayDoAll a place w acts → IsReached a place (after_acts a place w acts)
   reached_more w acts reached can =
-      let begun = new_store a head reached.work reached.disk in
+      let begun = new_store a place reached.work reached.disks in
       record {
         work = reached.work;
-        disk = reached.disk;
+        disks = reached.disks;
         live = reached.live;
         acts = reached.acts ++ acts;
-        can = may_more begun reached.acts acts reached.can (subst (λ (u : StoreWorld a head). MayDoAll a head u acts) (sym reached.is) can);
-        is = after_more begun reached.acts acts ∙ ap (λ (u : StoreWorld a head). after_acts a head u acts) reached.is;
+        can = may_more begun reached.acts acts reached.can (subst (λ (u : StoreWorld a place). MayDoAll a place u acts) (sym reached.is) can);
+        is = after_more begun reached.acts acts ∙ ap (λ (u : StoreWorld a place). after_acts a place u acts) reached.is;
       }

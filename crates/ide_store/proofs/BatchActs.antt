@@ -11,7 +11,7 @@ use Rattle.ide_batch.specs.Fold.{IsBatch, ProgramImage, SaysChange, image_entry,
 use Rattle.ide_batch.specs.Items.{Item}
 use Rattle.ide_batch.specs.Records as records
 use Rattle.ide_batch.specs.Records.{RecordValue}
-use Rattle.ide_journal.specs.Format.{Entry, Head, IsEntry}
+use Rattle.ide_journal.specs.Format.{Entry, IsEntry}
 use Rattle.ide_journal.specs.declared.version.Version.{Version}
 use Rattle.ide_image.specs.Notes.{noted}
 use Rattle.ide_steps.specs.Changed.{standing_entry, entry_then}
@@ -26,9 +26,7 @@ use Rattle.ide_theory.proofs.Laws.Reached.{present-run}
 use Rattle.ide_wire.specs.declared.key.Key.{Key}
 use Rattle.ide_store.proofs.Good.{IsGood}
 use Rattle.ide_store.proofs.Hands.{good_now}
-use Rattle.ide_store.proofs.Machine.{machine_is_exact}
 use Rattle.ide_store.proofs.Marks.{folded_pushed, pushed}
-use Rattle.ide_store.proofs.OneDisk.{one_disk_keeps}
 use Rattle.ide_store.proofs.Reached.{Knows, reached_whole}
 use Rattle.ide_store.proofs.Said.{graph_kept}
 use Rattle.ide_store.proofs.Told.{says_change}
@@ -37,8 +35,9 @@ use Rattle.ide_store.specs.Acting.{BeginsAnew, SpellsChanges, SpellsRecord, Wait
 use Rattle.ide_store.specs.Answers.{GraphBy, frame_by}
 use Rattle.ide_store.specs.Hands.{Batches}
 use Rattle.ide_store.specs.Machine.{Does}
-use Rattle.ide_store.specs.OneDisk.{one_disk}
-use Rattle.ide_store.specs.Table.{Analysis, HasNothingNew, IsAct, IsReached, KeepsRest, MayDo, StoreWorld, TableData, WorksOn, forms_of, rules_at, told}
+use Rattle.ide_store.proofs.Places.{does_at, exact_at, fits_at, laws_at}
+use Rattle.ide_store.specs.Places.{Place, version_at}
+use Rattle.ide_store.specs.Table.{Analysis, HasNothingNew, IsAct, IsReached, KeepsRest, MayDo, StoreWorld, TableData, WorksOn, forms_of, rules_at, told, store_at}
 use Rattle.ide_store.specs.TableCalls.{FindsNothing}
 use Rattle.ide_store.specs.World.{IsFolded, Sealed, contents}
 
@@ -95,30 +94,31 @@ module _ {F L : Type 0} (a : Analysis F L) where
       let longer = length-append sealed (record { content = r; mark = mark } ∷ []) in omega arith
 
   -- a record may be the next one
-  pub fits_next : (sealed : List (Sealed Entry)) (r : Entry) (most : ℕ) → IsEntry r → length sealed ≤ most
-      → IsEntry r × (length (contents sealed) ≤ most)
-  fits_next sealed r most proper less = (proper, let long = length-map sealed (λ (s : Sealed Entry). s.content) in omega arith)
+  pub fits_next : (place : Place) (sealed : List (Sealed Entry)) (r : Entry) → IsEntry r → length sealed ≤ 4294967294
+      → (store_at a place).Fits (length (contents sealed)) r
+  fits_next place sealed r proper less =
+      fits_at a place (length (contents sealed)) r proper (let long = length-map sealed (λ (s : Sealed Entry). s.content) in omega (arith, long, less))
 
   -- a record in the version of the half is one in that of the store
-  pub spelled_at : (head : Head) (table : TableData F) (value : RecordValue F) (entry : Entry) → table.version ≡ head.version
-      → SpellsRecord a table value entry → IsEntryOf (forms_of a) head.version value entry
-  spelled_at head table value entry same spells = subst (λ (version : Version). IsEntryOf (forms_of a) version value entry) same spells.spelled
+  pub spelled_at : (place : Place) (table : TableData F) (value : RecordValue F) (entry : Entry) → table.version ≡ version_at place
+      → SpellsRecord a table value entry → IsEntryOf (forms_of a) (version_at place) value entry
+  spelled_at place table value entry same spells = subst (λ (version : Version). IsEntryOf (forms_of a) version value entry) same spells.spelled
 
-  module _ (knows : Knows a) (head : Head) (w : StoreWorld a head) (reached : IsReached a head w) (table : TableData F)
-      {handed : List Entry} (works : WorksOn a head w table handed) (whole : IsWholeCore table.core) where
+  module _ (knows : Knows a) (place : Place) (w : StoreWorld a place) (reached : IsReached a place w) (table : TableData F)
+      {handed : List Entry} (works : WorksOn a place w table handed) (whole : IsWholeCore table.core) where
     -- the image is good
     now_good : IsGoodImage w.world.image
     now_good =
-        good_now a.lattice a.functions a.targets a.same (forms_of a) head.version (one_disk head) knows.is_same
-        (machine_is_exact a.functions a.same (forms_of a) knows.prefix_free head.version) (one_disk_keeps (rules_at a head) head) knows.known
-        w (reached_whole a knows head w reached).held
+        good_now a.lattice a.functions a.targets a.same (forms_of a) (version_at place) (store_at a place) knows.is_same
+        (exact_at a knows.prefix_free place) (laws_at a place) knows.known
+        w (reached_whole a knows place w reached).held
 
     -- and so is what the records give back
     base_good : IsGoodImage works.base.image
     base_good =
         let all = take_all (length w.world.sealed) w.world.sealed (omega arith) in
-        (reached_whole a knows head w reached).held.stored (length w.world.sealed) works.base.image
-        (subst (λ (sealed : List (Sealed Entry)). IsFolded (rules_at a head) (contents sealed) works.base.image) (sym all) works.base.folded)
+        (reached_whole a knows place w reached).held.stored (length w.world.sealed) works.base.image
+        (subst (λ (sealed : List (Sealed Entry)). IsFolded (rules_at a place) (contents sealed) works.base.image) (sym all) works.base.folded)
 
     -- an absent key was absent, and did not wait
     was_absent : (key : Key) → found table.core.table key ≡ None → told (entry_then table.core key) ≡ told (standing_entry table.core key)
@@ -135,18 +135,18 @@ module _ {F L : Type 0} (a : Analysis F L) where
             by : (o : Option F) → works.base.image.get key ≡ o → works.base.image.get key ≡ None
             by None is = is
             by (Some f) is =
-                let noted = (reached_whole a knows head w reached).noted works.base.image works.base.folded in
+                let noted = (reached_whole a knows place w reached).noted works.base.image works.base.folded in
                 absurd (true≢false (sym (noted.present key (ap is_some is)) ∙ ap is_some now_none))
 
         now_waits : w.world.image.pending key ≡ false
         now_waits =
             absent_still knows w.world.image table.core whole works.image.graphed works.image.program
-            (image_still a head knows w reached works.running) now_good key now_none
+            (image_still a place knows w reached works.running) now_good key now_none
 
         base_waits : works.base.image.pending key ≡ false
         base_waits =
             absent_still knows works.base.image table.core whole works.image.graphed (works.base.program ∙ works.image.program)
-            (base_still a head knows w reached works.base.image works.base.folded) base_good key base_none
+            (base_still a place knows w reached works.base.image works.base.folded) base_good key base_none
 
     -- the items that changed lead from what the records give back to the image
     pub changes_told : (items : List (Item F)) → AreChangedItems table.core items → IsBatch items works.base.image w.world.image
@@ -157,41 +157,42 @@ module _ {F L : Type 0} (a : Analysis F L) where
         (says_change a.same knows.is_same table.core items key changed (was_absent key)))
 
     -- a record of them may be the next one
-    pub can_batch : (entry : Entry) → SpellsChanges a table entry → table.sealed < 4294967295 → MayDo a head w (Batches entry)
+    pub can_batch : (entry : Entry) → SpellsChanges a table entry → table.sealed < 4294967295 → MayDo a place w (Batches entry)
     can_batch entry spells less = record {
       running = works.running;
       base = works.base.image;
       folded = works.base.folded;
       items = spells.items;
       exact = changes_told spells.items spells.changed;
-      spelled = spelled_at head table (records.Batch spells.items) entry works.version spells.spells;
-      fits = fits_next w.world.sealed entry 4294967294 spells.spells.proper (let sealed = works.sealed in omega arith);
+      spelled = spelled_at place table (records.Batch spells.items) entry works.version spells.spells;
+      fits = fits_next place w.world.sealed entry spells.spells.proper (let sealed = works.sealed in omega arith);
     }
 
     -- and its record gives back the image
     pub batch_folded : (entry : Entry) → SpellsChanges a table entry
-        → IsFolded (rules_at a head) (contents (pushed w.world.sealed entry (length w.world.history))) w.world.image
+        → IsFolded (rules_at a place) (contents (pushed w.world.sealed entry (length w.world.history))) w.world.image
     batch_folded entry spells =
-        let does : Does a.functions a.same (forms_of a) head.version entry works.base.image w.world.image = record {
+        let does : Does a.functions a.same (forms_of a) (version_at place) entry works.base.image w.world.image = record {
           value = records.Batch spells.items;
-          spelled = spelled_at head table (records.Batch spells.items) entry works.version spells.spells;
+          spelled = spelled_at place table (records.Batch spells.items) entry works.version spells.spells;
           leads = sym (lead spells.items works.base.image w.world.image works.base.program works.base.roots (changes_told spells.items spells.changed));
         } in
-        folded_pushed (rules_at a head) w.world.sealed entry (length w.world.history) works.base.image w.world.image works.base.folded does
+        folded_pushed (rules_at a place) w.world.sealed entry (length w.world.history) works.base.image w.world.image works.base.folded
+        (does_at a place entry works.base.image w.world.image does)
 
   -- where no item changed, entries are as the records give them back
   still_entries : Knows a → (table : TableData F) → IsWholeCore table.core → AreChangedItems table.core []
-      → (head : Head) (w : StoreWorld a head) {handed : List Entry} → IsReached a head w → (works : WorksOn a head w table handed)
+      → (place : Place) (w : StoreWorld a place) {handed : List Entry} → IsReached a place w → (works : WorksOn a place w table handed)
       → (key : Key) → image_entry works.base.image key ≡ image_entry w.world.image key
-  still_entries knows table whole unchanged head w reached works key = changes_told knows head w reached table works whole [] unchanged key
+  still_entries knows table whole unchanged place w reached works key = changes_told knows place w reached table works whole [] unchanged key
 
   -- so nothing is new
   pub finds_nothing : Knows a → (table : TableData F) → IsWholeCore table.core → AreChangedItems table.core []
-      → (head : Head) (w : StoreWorld a head) {handed : List Entry} → IsReached a head w → WorksOn a head w table handed → HasNothingNew a head w
-  finds_nothing knows table whole unchanged head w reached works = record {
+      → (place : Place) (w : StoreWorld a place) {handed : List Entry} → IsReached a place w → WorksOn a place w table handed → HasNothingNew a place w
+  finds_nothing knows table whole unchanged place w reached works = record {
     base = works.base.image;
     folded = works.base.folded;
-    entries = still_entries knows table whole unchanged head w reached works;
+    entries = still_entries knows table whole unchanged place w reached works;
   }
 
   -- and notes may begin anew
@@ -199,8 +200,8 @@ module _ {F L : Type 0} (a : Analysis F L) where
       → BeginsAnew old.core new.core → FindsNothing a old new
   forgets_nothing knows old new whole unchanged rest anew = record {
     rest = rest;
-    caught_up = λ head w handed reached works.
-        let still = still_entries knows old whole unchanged head w reached works in
+    caught_up = λ place w handed reached works.
+        let still = still_entries knows old whole unchanged place w reached works in
         let has : HasImage w.world.image new.core = has_anew w.world.image old.core new.core anew works.image in (
           record { base = works.base.image; folded = works.base.folded; entries = still },
           record {
@@ -224,10 +225,10 @@ module _ {F L : Type 0} (a : Analysis F L) where
 
   -- the record of the items that changed is sealed
   pub seals_batch : Knows a → (entry : Entry) (old new : TableData F) → IsWholeCore old.core → SpellsChanges a old entry → old.sealed < 4294967295
-      → WaitsFor (entry ∷ []) old new → BeginsAnew old.core new.core → IsAct a old new (λ head. Batches entry)
-  seals_batch knows entry old new whole spells less waits anew head w handed reached works =
+      → WaitsFor (entry ∷ []) old new → BeginsAnew old.core new.core → IsAct a old new (λ place. Batches entry)
+  seals_batch knows entry old new whole spells less waits anew place w handed reached works =
       let has : HasImage w.world.image new.core = has_anew w.world.image old.core new.core anew works.image in (
-        can_batch knows head w reached old works whole entry spells less,
+        can_batch knows place w reached old works whole entry spells less,
         record {
           running = works.running;
           working = waits.failed ∙ works.working;
@@ -236,7 +237,7 @@ module _ {F L : Type 0} (a : Analysis F L) where
           claims = λ hand. works.claims hand ∙ ap (λ (core : CoreData F). (core_state a.functions a.targets core).claims hand) (sym anew);
           base = record {
             image = w.world.image;
-            folded = batch_folded knows head w reached old works whole entry spells;
+            folded = batch_folded knows place w reached old works whole entry spells;
             program = refl;
             roots = refl;
             entries = entries_anew w.world.image new.core has (ap (λ (core : CoreData F). core.changes) anew);

@@ -17,6 +17,7 @@ use Rattle.ide_image.specs.Worklist.{IsFree, Pile}
 use Rattle.ide_store.specs.Engine.{AreNewHalves}
 use Rattle.ide_store.specs.Half.{Writes}
 use Rattle.ide_store.specs.Opening.{BeginsOn, half_over}
+use Rattle.ide_store.specs.Places.{OnOneDisk}
 use Rattle.ide_store.specs.Table.{Analysis, IsTable, TableData}
 use Rattle.ide_store.specs.Writing.{JournalsWriteStores}
 use Rattle.ide_store.specs.declared.writer.WriterHalf.{WriterHalf}
@@ -56,5 +57,5 @@ pub new_halves : {F L : Type 0} (a : Analysis F L) {D : Type 0} {G : Ghosts D} (
     → BeginsOn a table → head.version ≡ table.version → Writes head [] 0 writer → AreNewHalves a head table writer
 new_halves a head table writer stores begins version writes = record {
   live = (stores head [] 0).live writer.journal writes.behind;
-  at_work = record { handed = []; works = begins head version _ _; writes = writes; work = refl; disk = refl };
+  at_work = record { handed = []; works = begins (OnOneDisk head) version _ _; writes = writes; work = refl; disk = refl };
 }

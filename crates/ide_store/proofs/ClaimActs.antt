@@ -5,7 +5,7 @@ use Rattle.ide_graph.specs.SameGraphs.{AreSameGraphs}
 use Rattle.ide_graph.specs.Supergraph.{Supergraph}
 use Rattle.ide_graph.specs.declared.site.Site.{Site}
 use Rattle.ide_graph.specs.declared.site.Site.TheVariants.{Normal, Call, Exit}
-use Rattle.ide_journal.specs.Format.{Entry, Head}
+use Rattle.ide_journal.specs.Format.{Entry}
 use Rattle.ide_lattice.specs.Algebra.{EdgeAlgebra}
 use Rattle.ide_problem.specs.Flow.{Targets}
 use Rattle.ide_steps.specs.Claiming.{FindsTask, KeepsAllBut}
@@ -33,15 +33,13 @@ use Rattle.ide_wire.specs.declared.key.Key.TheVariants.{Jump, Summary}
 use Rattle.ide_image.specs.Worklist.{claim_at}
 use Rattle.ide_store.proofs.HandActs.{some_of, state_is, then_stays, works_on}
 use Rattle.ide_store.proofs.Hands.{run_now}
-use Rattle.ide_store.proofs.Machine.{machine_is_exact}
-use Rattle.ide_store.proofs.OneDisk.{one_disk_keeps}
 use Rattle.ide_store.proofs.Reached.{Knows, reached_whole}
 use Rattle.ide_store.proofs.Said.{graph_kept}
 use Rattle.ide_store.proofs.Unloaded.{image_still}
 use Rattle.ide_store.specs.Answers.{GraphBy, frame_by}
-use Rattle.ide_store.specs.Machine.{machine}
-use Rattle.ide_store.specs.OneDisk.{one_disk}
-use Rattle.ide_store.specs.Table.{Analysis, IsReached, KeepsRest, StoreWorld, TableData, WorksOn, forms_of}
+use Rattle.ide_store.proofs.Places.{exact_at, laws_at}
+use Rattle.ide_store.specs.Places.{Place, version_at}
+use Rattle.ide_store.specs.Table.{Analysis, IsReached, KeepsRest, StoreWorld, TableData, WorksOn, forms_of, store_at}
 use Rattle.ide_store.specs.TableCalls.{TakesTask}
 
 module _ {F L : Type 0} (functions : EdgeAlgebra F L) (targets : Targets F) (graph other : Supergraph) (table : Table F)
@@ -82,11 +80,11 @@ module _ {F L : Type 0} (a : Analysis F L) (knows : Knows a) where
         edges = other.edges;
       })
 
-  module _ (head : Head) (w : StoreWorld a head) (table : TableData F) {handed : List Entry} (reached : IsReached a head w) (on : WorksOn a head w table handed) where
+  module _ (place : Place) (w : StoreWorld a place) (table : TableData F) {handed : List Entry} (reached : IsReached a place w) (on : WorksOn a place w table handed) where
     -- where a key waits, a program is loaded
     loaded_where : (key : Key) → w.world.image.pending key ≡ true → (v : ProgramValue) × (w.world.image.program ≡ Some v)
     loaded_where key waits =
-        some_of w.world.image.program (λ none. true≢false (sym waits ∙ image_still a head knows w reached on.running none key))
+        some_of w.world.image.program (λ none. true≢false (sym waits ∙ image_still a place knows w reached on.running none key))
 
     -- the task of a key that waits owes what a claim of it does, over each graph of the program
     owes_parts : (task : TaskData F) → IsWholeCore table.core → w.world.image.pending task.key ≡ true
@@ -94,12 +92,12 @@ module _ {F L : Type 0} (a : Analysis F L) (knows : Knows a) where
         → (v : ProgramValue) → w.world.image.program ≡ Some v → (by : GraphBy v)
         → ArePartsOf (frame_by a.lattice a.functions a.targets by) w.world.image.get task.key (owed a.functions a.targets task)
     owes_parts task kept_whole waits is_task v is by =
-        let whole = reached_whole a knows head w reached in
-        let exact = machine_is_exact a.functions a.same (forms_of a) knows.prefix_free head.version in
-        let laws = one_disk_keeps (machine a.functions a.same (forms_of a) head.version) head in
+        let whole = reached_whole a knows place w reached in
+        let exact = exact_at a knows.prefix_free place in
+        let laws = laws_at a place in
         let K = frame_by a.lattice a.functions a.targets by in
         let run =
-        run_now a.lattice a.functions a.targets a.same (forms_of a) head.version (one_disk head) knows.is_same exact laws knows.known w whole.held v is by in
+        run_now a.lattice a.functions a.targets a.same (forms_of a) (version_at place) (store_at a place) knows.is_same exact laws knows.known w whole.held v is by in
         let reaches = run-reached K (knows.known.lawful by) run in
         let graph = graph_kept table.core kept_whole on.image.graphed v (sym on.image.program ∙ is) in
         let kept : GraphBy v = graph.0 in
@@ -116,9 +114,9 @@ module _ {F L : Type 0} (a : Analysis F L) (knows : Knows a) where
 
   pub hands_claim : (hand : ℕ) (old new : TableData F) (task : TaskData F) → IsWholeCore old.core → KeepsRest old new
       → KeepsAllBut hand old.core new.core → FindsTask a.functions a.targets hand old.core new.core task → TakesTask a hand old new task
-  hands_claim hand old new task kept_whole rest keeps finds head w handed reached on =
+  hands_claim hand old new task kept_whole rest keeps finds place w handed reached on =
       let waits : w.world.image.pending task.key ≡ true = on.image.pending task.key ∙ finds.taken.pending in
-      let loaded = loaded_where head w old reached on task.key waits in (
+      let loaded = loaded_where place w old reached on task.key waits in (
         record {
           running = on.running;
           free = on.claims hand ∙ ap (option_map (claim_of a.functions a.targets)) finds.taken.free;
@@ -128,10 +126,10 @@ module _ {F L : Type 0} (a : Analysis F L) (knows : Knows a) where
               finds.taken.unclaimed j of.0 of.1 (ap (λ (d : Claim F). d.key) of.2 ∙ same);
           program = loaded.0;
           loaded = loaded.1;
-          owes = owes_parts head w old reached on task kept_whole waits finds.is_task loaded.0 loaded.1;
+          owes = owes_parts place w old reached on task kept_whole waits finds.is_task loaded.0 loaded.1;
         },
-        works_on a head w old new _ _ _ _ on rest keeps.stays refl refl
-            (ap (λ (s : State F). with_claim s hand (Some (new_claim task.key (owed a.functions a.targets task)))) (state_is a head w old on)
+        works_on a place w old new _ _ _ _ on rest keeps.stays refl refl
+            (ap (λ (s : State F). with_claim s hand (Some (new_claim task.key (owed a.functions a.targets task)))) (state_is a place w old on)
             ∙ sym finds.taken.state)
             (then_stays old.core new.core keeps.table keeps.pending keeps.changes),
       )

@@ -4,7 +4,7 @@ use Rattle.std.specs.Prelude.{IfErr, IfOk, IfSome, IsOkUnless, OnErr, OnOk, nat_
 use Rattle.std.specs.Option.{is_some}
 use Rattle.std.proofs.lemmas.Bool.{eqb-true}
 use Rattle.std.proofs.lemmas.List.Elements.{All-append, All-cons, All-nil}
-use Rattle.ide_journal.specs.Format.{Entry, Head}
+use Rattle.ide_journal.specs.Format.{Entry}
 use Rattle.ide_lattice.specs.Algebra.{EdgeAlgebra}
 use Rattle.ide_problem.specs.Flow.{Targets}
 use Rattle.ide_steps.proofs.Going.{state-unchanged}
@@ -35,6 +35,7 @@ use Rattle.ide_image.specs.declared.claim.Claim.{Claim as Held}
 use Rattle.ide_store.specs.Acting.{BeginsAnew, CallsAreActs}
 use Rattle.ide_store.specs.Draining.{AreByDrainer, IsByHand, IsDrainStop, IsSameCore, IsWorkStop, WorksBy, count_of, full_batch_stays, is_claim, is_release, memory_is_wanting, stops}
 use Rattle.ide_store.specs.Hands.{Batches, Claims, Ends, Parts, Releases}
+use Rattle.ide_store.specs.Places.{Place}
 use Rattle.ide_store.specs.Table.{Analysis, IsAct, IsReached, IsSameTable, KeepsRest, StoreAct, StoreWorld, TableData, WorksOn, after_acts}
 use Rattle.ide_store.specs.TableCalls.{FindsNothing, IsRefusal, IsSealStop, by_itself, SealsBatch, no_number_left, not_spelled, wants_memory}
 use Rattle.ide_store.specs.declared.outbox.Ticket.{Ticket}
@@ -46,41 +47,41 @@ module _ {F L : Type 0} (a : Analysis F L) where
   -- one hand goes on from where it came to
   pub works_then : (old mid new : TableData F) (claims releases more_claims more_releases : ℕ) → WorksBy a old mid claims releases
       → WorksBy a mid new more_claims more_releases → WorksBy a old new (claims + more_claims) (releases + more_releases)
-  works_then old mid new claims releases more_claims more_releases first then head w handed reached works =
-      let one = first head w handed reached works in
-      let two = then head (after_acts a head w one.0) handed (reached_more a head w one.0 reached one.2) one.3 in (
+  works_then old mid new claims releases more_claims more_releases first then place w handed reached works =
+      let one = first place w handed reached works in
+      let two = then place (after_acts a place w one.0) handed (reached_more a place w one.0 reached one.2) one.3 in (
         one.0 ++ two.0,
         record {
-          own = All-append (IsByHand a head 0) one.0 two.0 one.1.own two.1.own;
+          own = All-append (IsByHand a place 0) one.0 two.0 one.1.own two.1.own;
           claimed =
-              let here = one.1.claimed in let there = two.1.claimed in let sum = count_more a head (is_claim a head) one.0 two.0 in omega (arith, here, there, sum);
+              let here = one.1.claimed in let there = two.1.claimed in let sum = count_more a place (is_claim a place) one.0 two.0 in omega (arith, here, there, sum);
           released =
-              let here = one.1.released in let there = two.1.released in let sum = count_more a head (is_release a head) one.0 two.0 in omega (arith, here, there, sum);
+              let here = one.1.released in let there = two.1.released in let sum = count_more a place (is_release a place) one.0 two.0 in omega (arith, here, there, sum);
         },
-        may_more a head w one.0 two.0 one.2 two.2,
-        subst (λ (u : StoreWorld a head). WorksOn a head u new handed) (sym (after_more a head w one.0 two.0)) two.3,
+        may_more a place w one.0 two.0 one.2 two.2,
+        subst (λ (u : StoreWorld a place). WorksOn a place u new handed) (sym (after_more a place w one.0 two.0)) two.3,
       )
 
   -- by one act
-  pub works_once : (old new : TableData F) (claims releases : ℕ) (act : (head : Head) → StoreAct a head) → IsAct a old new act
-      → ((head : Head) → AreByDrainer a head claims releases (act head ∷ [])) → WorksBy a old new claims releases
-  works_once old new claims releases act is by head w handed reached works =
-      let done = is head w handed reached works in (act head ∷ [], by head, (done.0, tt), done.1)
+  pub works_once : (old new : TableData F) (claims releases : ℕ) (act : (place : Place) → StoreAct a place) → IsAct a old new act
+      → ((place : Place) → AreByDrainer a place claims releases (act place ∷ [])) → WorksBy a old new claims releases
+  works_once old new claims releases act is by place w handed reached works =
+      let done = is place w handed reached works in (act place ∷ [], by place, (done.0, tt), done.1)
 
   -- by none, where the half works on the same worlds
   pub works_still : (old new : TableData F)
-      → ((head : Head) (w : StoreWorld a head) (handed : List Entry) → IsReached a head w → WorksOn a head w old handed → WorksOn a head w new handed)
+      → ((place : Place) (w : StoreWorld a place) (handed : List Entry) → IsReached a place w → WorksOn a place w old handed → WorksOn a place w new handed)
       → WorksBy a old new 0 0
-  works_still old new still head w handed reached works =
-      ([], record { own = All-nil (IsByHand a head 0); claimed = refl; released = refl }, tt, still head w handed reached works)
+  works_still old new still place w handed reached works =
+      ([], record { own = All-nil (IsByHand a place 0); claimed = refl; released = refl }, tt, still place w handed reached works)
 
   -- as it does where all stays
   pub works_unchanged : (old new : TableData F) → KeepsRest old new → IsUnchanged old.core new.core → WorksBy a old new 0 0
   works_unchanged old new rest same =
-      works_still old new (λ head w handed reached on.
-      works_on a head w old new w.world.image w.claims w.world.history w.tally on rest
+      works_still old new (λ place w handed reached on.
+      works_on a place w old new w.world.image w.claims w.world.history w.tally on rest
       (record { program = same.program; graph = same.graph; roots = same.roots }) refl refl
-      (state_is a head w old on ∙ sym (state-unchanged a.lattice a.functions a.targets old.core new.core same))
+      (state_is a place w old on ∙ sym (state-unchanged a.lattice a.functions a.targets old.core new.core same))
       (then_stays old.core new.core same.table same.pending same.changes))
 
   -- what stops it where a batch is full, stops it where all stays
@@ -152,14 +153,14 @@ put_nothing old new none puts h = puts h ∙ by (nat_eq 0 h) refl
 
 module _ {F L : Type 0} (a : Analysis F L) where
   -- one act of the hand that is neither a claim nor one that gives it back
-  plain : (old new : TableData F) (act : (head : Head) → StoreAct a head) → IsAct a old new act → ((head : Head) → IsByHand a head 0 (act head))
-      → ((head : Head) → count_of a head (is_claim a head) (act head ∷ []) ≡ 0) → ((head : Head) → count_of a head (is_release a head) (act head ∷ []) ≡ 0)
+  plain : (old new : TableData F) (act : (place : Place) → StoreAct a place) → IsAct a old new act → ((place : Place) → IsByHand a place 0 (act place))
+      → ((place : Place) → count_of a place (is_claim a place) (act place ∷ []) ≡ 0) → ((place : Place) → count_of a place (is_release a place) (act place ∷ []) ≡ 0)
       → WorksBy a old new 0 0
   plain old new act is own claimed released =
-      works_once a old new 0 0 act is (λ head. record {
-        own = All-cons (IsByHand a head 0) (act head) [] (own head) (All-nil (IsByHand a head 0));
-        claimed = claimed head;
-        released = released head;
+      works_once a old new 0 0 act is (λ place. record {
+        own = All-cons (IsByHand a place 0) (act place) [] (own place) (All-nil (IsByHand a place 0));
+        claimed = claimed place;
+        released = released place;
       })
 
   -- a seal, where something changed or nothing did
@@ -167,8 +168,8 @@ module _ {F L : Type 0} (a : Analysis F L) where
       → IfOk result (λ sealed. IfSome sealed (λ ticket. SealsBatch a old new ticket.number)) → (result ≡ Ok None → FindsNothing a old new)
       → OnErr result ((new.core ≡ old.core) × KeepsRest old new) → WorksBy a old new 0 0
   seal_works (Ok (Some ticket)) old new seals nothing same =
-      plain old new (λ head. Batches seals.entry) seals.act (λ head. tt) (λ head. refl) (λ head. refl)
-  seal_works (Ok None) old new seals nothing same = works_still a old new (λ head w handed reached on. ((nothing refl).caught_up head w handed reached on).1)
+      plain old new (λ place. Batches seals.entry) seals.act (λ place. tt) (λ place. refl) (λ place. refl)
+  seal_works (Ok None) old new seals nothing same = works_still a old new (λ place w handed reached on. ((nothing refl).caught_up place w handed reached on).1)
   seal_works (Err e) old new seals nothing same = works_unchanged a old new same.1 (unchanged_equal old.core new.core same.0)
 
   module _ (acts : CallsAreActs a) (old new : TableData F) (rest : KeepsRest old new) where
@@ -178,9 +179,9 @@ module _ {F L : Type 0} (a : Analysis F L) where
         → OnErr result (IsUnchanged old.core new.core) → (claims : ℕ) × WorksBy a old new claims 0 × IfOk result (λ task. claims ≡ cond (is_some task) 1 0)
     takes_works (Ok (Some task)) whole keeps finds quiet same = (
       1,
-      works_once a old new 1 0 (λ head. Claims 0 task.key (owed a.functions a.targets task)) (acts.claim 0 old new task whole rest keeps (finds task refl))
-          (λ head. record {
-            own = All-cons (IsByHand a head 0) (Claims 0 task.key (owed a.functions a.targets task)) [] refl (All-nil (IsByHand a head 0));
+      works_once a old new 1 0 (λ place. Claims 0 task.key (owed a.functions a.targets task)) (acts.claim 0 old new task whole rest keeps (finds task refl))
+          (λ place. record {
+            own = All-cons (IsByHand a place 0) (Claims 0 task.key (owed a.functions a.targets task)) [] refl (All-nil (IsByHand a place 0));
             claimed = refl;
             released = refl;
           }),
@@ -198,10 +199,10 @@ module _ {F L : Type 0} (a : Analysis F L) where
           → WorksBy a old new 0 0
       part_works (Ok Lowered) work after own lowers skips none same =
           let does = acts.lower 0 old new work after noting rest problem remembers own (lowers refl) in
-          plain old new (λ head. Parts 0 does.part.0 does.part.1) does.act (λ head. refl) (λ head. refl) (λ head. refl)
+          plain old new (λ place. Parts 0 does.part.0 does.part.1) does.act (λ place. refl) (λ place. refl) (λ place. refl)
       part_works (Ok Same) work after own lowers skips none same =
           let does = acts.skip 0 old new work after noting rest problem remembers own (skips refl) in
-          plain old new (λ head. Parts 0 does.part.0 does.part.1) does.act (λ head. refl) (λ head. refl) (λ head. refl)
+          plain old new (λ place. Parts 0 does.part.0 does.part.1) does.act (λ place. refl) (λ place. refl) (λ place. refl)
       part_works (Ok NoPart) work after own lowers skips none same = works_unchanged a old new rest (unchanged_equal old.core new.core (none refl).1)
       part_works (Err e) work after own lowers skips none same = works_unchanged a old new rest same.0
 
@@ -210,7 +211,7 @@ module _ {F L : Type 0} (a : Analysis F L) where
           → OnErr result (new.core ≡ old.core) → WorksBy a old new 0 0
       end_works (Ok x) ends same =
           let does = acts.finish 0 old new noting rest problem remembers ends in
-          plain old new (λ head. Ends 0 (claim_of a.functions a.targets does.held)) does.act (λ head. refl) (λ head. refl) (λ head. refl)
+          plain old new (λ place. Ends 0 (claim_of a.functions a.targets does.held)) does.act (λ place. refl) (λ place. refl) (λ place. refl)
       end_works (Err e) ends same = works_unchanged a old new rest (unchanged_equal old.core new.core same)
 
     -- the claim is given back, if there is one
@@ -236,10 +237,10 @@ module _ {F L : Type 0} (a : Analysis F L) where
         by (Some held) is = (
           1,
           omega arith,
-          works_once a old new 0 1 (λ head. Releases 0)
+          works_once a old new 0 1 (λ place. Releases 0)
               (acts.release 0 old new rest problem table pending changes (λ none. none-some (sym none ∙ is)) gives)
-              (λ head. record {
-                own = All-cons (IsByHand a head 0) (Releases 0) [] refl (All-nil (IsByHand a head 0));
+              (λ place. record {
+                own = All-cons (IsByHand a place 0) (Releases 0) [] refl (All-nil (IsByHand a place 0));
                 claimed = refl;
                 released = refl;
               }),

@@ -19,7 +19,7 @@ pub image_of : {P F L : Type 0} (a : Analysis F L) (result : Result (Closed P L 
     → IfOk result (λ closed. closed.roots.items ≡ table.core.roots)
     → IfOk result (λ _. table.core.pile.pending ≡ [])
     → IfOk result (IsImageOver a table)
-image_of a (Ok closed) table program graph functions roots quiet = λ head w handed reached works. record {
+image_of a (Ok closed) table program graph functions roots quiet = λ place w handed reached works. record {
   program = works.image.program ∙ program;
   roots =
       ap (λ (o : Option Supergraph). map (named_in o) w.world.image.roots) (sym graph) ∙ works.image.roots

@@ -6,7 +6,7 @@ use Rattle.std.specs.Option.{is_some}
 use Rattle.std.proofs.lemmas.Option.{same_Some}
 use Rattle.ide_batch.specs.Applied.{IsGraphed, named_in}
 use Rattle.ide_batch.specs.Fold.{ProgramImage, procedures}
-use Rattle.ide_journal.specs.Format.{Entry, Head}
+use Rattle.ide_journal.specs.Format.{Entry}
 use Rattle.ide_lattice.specs.Algebra.{EdgeAlgebra}
 use Rattle.ide_problem.specs.Flow.{Targets}
 use Rattle.ide_steps.proofs.States.{claim-of-work}
@@ -29,6 +29,7 @@ use Rattle.ide_store.proofs.Reached.{Knows}
 use Rattle.ide_store.proofs.Working.{part_is}
 use Rattle.ide_store.specs.Hands.{Parts}
 use Rattle.ide_store.specs.Machine.{ProgramStep}
+use Rattle.ide_store.specs.Places.{Place}
 use Rattle.ide_store.specs.Table.{Analysis, IsAct, KeepsRest, StoreWorld, TableData, WorksOn, table_state, told}
 use Rattle.ide_store.specs.TableCalls.{DoesPart, EndsClaim, GivesClaimBack}
 use Rattle.ide_store.specs.Tally.{Tally, state_with}
@@ -87,9 +88,9 @@ has_next {F = F} functions targets core hand work part own at =
           ∙ drop_at (owed functions targets work.task) work.done part (subst (λ (parts : List (Key × F)). slice_get parts work.done ≡ Some part) own.parts at);
     }
 
-module _ {F L : Type 0} (a : Analysis F L) (head : Head) where
+module _ {F L : Type 0} (a : Analysis F L) (place : Place) where
   -- the image and the claims of a world are those of the core that works on it
-  pub state_is : (w : StoreWorld a head) (table : TableData F) {handed : List Entry} → WorksOn a head w table handed → state_with w.world.image w.claims ≡ table_state a table
+  pub state_is : (w : StoreWorld a place) (table : TableData F) {handed : List Entry} → WorksOn a place w table handed → state_with w.world.image w.claims ≡ table_state a table
   state_is w table on = λ i. record {
     get = λ key. on.image.get key i;
     pending = λ key. on.image.pending key i;
@@ -97,11 +98,11 @@ module _ {F L : Type 0} (a : Analysis F L) (head : Head) where
   }
 
   -- the half works on the world of its new state, where nothing is sealed and entries of then stay
-  pub works_on : (w : StoreWorld a head) (old new : TableData F) (image : ProgramImage F) (claims : ℕ → Option (Claim F)) (history : List (ProgramStep F))
-      (tally : Tally F) {handed : List Entry} → WorksOn a head w old handed → KeepsRest old new → IsSameProblem old.core new.core
+  pub works_on : (w : StoreWorld a place) (old new : TableData F) (image : ProgramImage F) (claims : ℕ → Option (Claim F)) (history : List (ProgramStep F))
+      (tally : Tally F) {handed : List Entry} → WorksOn a place w old handed → KeepsRest old new → IsSameProblem old.core new.core
       → image.program ≡ w.world.image.program → image.roots ≡ w.world.image.roots → state_with image claims ≡ table_state a new
       → ((key : Key) → entry_then new.core key ≡ entry_then old.core key)
-      → WorksOn a head (record { world = record w.world { image = image; history = history }; claims = claims; tally = tally }) new handed
+      → WorksOn a place (record { world = record w.world { image = image; history = history }; claims = claims; tally = tally }) new handed
   works_on w old new image claims history tally {handed} on rest problem program roots state entries = record {
     running = on.running;
     working = rest.failed ∙ on.working;
@@ -136,25 +137,25 @@ module _ {F L : Type 0} (a : Analysis F L) where
   hands_finish hand old new notes rest problem remembers (held, is, over, state) = record {
     held = held;
     is = is;
-    act = λ head w handed reached on. (
+    act = λ place w handed reached on. (
       record { running = on.running; mine = on.claims hand ∙ ap (option_map (claim_of a.functions a.targets)) is; over = over },
-      works_on a head w old new _ _ _ _ on rest problem refl refl
-          (ap (λ (s : State F). finished s hand (claim_of a.functions a.targets held)) (state_is a head w old on) ∙ sym state) (remembers.entries notes),
+      works_on a place w old new _ _ _ _ on rest problem refl refl
+          (ap (λ (s : State F). finished s hand (claim_of a.functions a.targets held)) (state_is a place w old on) ∙ sym state) (remembers.entries notes),
     );
   }
 
   pub hands_release : (hand : ℕ) (old new : TableData F) → KeepsRest old new → IsSameProblem old.core new.core
       → new.core.table ≡ old.core.table → new.core.pile.pending ≡ old.core.pile.pending → new.core.changes ≡ old.core.changes
       → (claim_at old.core.pile hand ≡ None → ⊥) → GivesBack a.functions a.targets hand old.core new.core → GivesClaimBack a hand old new
-  hands_release hand old new rest problem table pending changes some state head w handed reached on =
+  hands_release hand old new rest problem table pending changes some state place w handed reached on =
       let held = some_of (claim_at old.core.pile hand) some in (
         record {
           running = on.running;
           claim = claim_of a.functions a.targets held.0;
           mine = on.claims hand ∙ ap (option_map (claim_of a.functions a.targets)) held.1;
         },
-        works_on a head w old new _ _ _ _ on rest problem refl refl
-            (ap (λ (s : State F). with_claim s hand None) (state_is a head w old on) ∙ sym state) (then_stays old.core new.core table pending changes),
+        works_on a place w old new _ _ _ _ on rest problem refl refl
+            (ap (λ (s : State F). with_claim s hand None) (state_is a place w old on) ∙ sym state) (then_stays old.core new.core table pending changes),
       )
 
   -- the next part of a hand's work, where the state is what the part leaves
@@ -162,8 +163,8 @@ module _ {F L : Type 0} (a : Analysis F L) where
       → IsSameProblem old.core new.core → Remembers old.core new.core → IsCurrent a.functions a.targets old.core hand work
       → slice_get work.parts work.done ≡ Some part
       → table_state a new ≡ part_done (received procedures a.functions a.same (table_state a old) part.0 part.1) hand
-      → IsAct a old new (λ head. Parts hand part.0 part.1)
-  does_next hand old new work part notes rest problem remembers own at state head w handed reached on =
+      → IsAct a old new (λ place. Parts hand part.0 part.1)
+  does_next hand old new work part notes rest problem remembers own at state place w handed reached on =
       let has = has_next a.functions a.targets old.core hand work part own at in (
         record {
           running = on.running;
@@ -172,9 +173,9 @@ module _ {F L : Type 0} (a : Analysis F L) where
           mine = on.claims hand ∙ ap (option_map (claim_of a.functions a.targets)) has.is;
           next = has.next;
         },
-        works_on a head w old new _ _ _ _ on rest problem refl refl
+        works_on a place w old new _ _ _ _ on rest problem refl refl
             (part_is procedures a.functions a.same w.world.image w.claims hand part.0 part.1
-            ∙ ap (λ (s : State F). part_done (received procedures a.functions a.same s part.0 part.1) hand) (state_is a head w old on)
+            ∙ ap (λ (s : State F). part_done (received procedures a.functions a.same s part.0 part.1) hand) (state_is a place w old on)
             ∙ sym state)
             (remembers.entries notes),
       )

@@ -9,6 +9,7 @@ pub mod TwoDisks
 pub mod TwoDisksBegin
 pub mod TwoDisksPlans
 pub mod Overflow
+pub mod Places
 pub mod Reached
 pub mod Working
 pub mod World

@@ -17,13 +17,14 @@ use Rattle.ide_wire.specs.declared.refused.Refused.TheVariants.{Disk}
 use Rattle.ide_store.specs.Engine.{CrashesOpening, CrashesOver, HandsOver, MayCrash, StopsOpening, at_once, within_call, within_opening}
 use Rattle.ide_store.specs.Half.{CrashesStep, LeavesStep, as_before, next_or_not}
 use Rattle.ide_store.specs.Opening.{IsOpenStop, fold_stops, too_many}
+use Rattle.ide_store.specs.Places.{OnOneDisk}
 use Rattle.ide_store.specs.Table.{Analysis, IsTable, StoreWorld, TableData, forms_of}
 use Rattle.ide_store.specs.World.{Running, contents}
 use Rattle.ide_store.specs.Writing.{IsHonestAfter}
 use Rattle.ide_store.specs.declared.writer.WriterHalf.{WriterHalf}
 use Rattle.ide_store.proofs.Stepping.{AreHanded, fails_over, handed_journal, handed_over}
 
-module _ {F L : Type 0} (a : Analysis F L) (head : Head) (w : StoreWorld a head) where
+module _ {F L : Type 0} (a : Analysis F L) (head : Head) (w : StoreWorld a (OnOneDisk head)) where
   -- what a crash of the disk may leave, one of the world may
   crash_before : (disk : DiskState) (left : List ℕ) → w.world.disks ≡ disk → CrashLeaves disk left → MayCrash a head w left
   crash_before disk left on leaves = at_once (tt, subst (λ (d : DiskState). CrashLeaves d left) (sym on) leaves)

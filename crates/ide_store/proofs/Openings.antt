@@ -8,9 +8,8 @@ use Rattle.ide_batch.specs.Fold.{ProgramImage}
 use Rattle.ide_batch.specs.Fold as fold
 use Rattle.ide_batch.specs.Items.{Functions}
 use Rattle.ide_batch.specs.Records.{RecordValue}
-use Rattle.ide_journal.specs.Format.{Entry, Head}
+use Rattle.ide_journal.specs.Format.{Entry}
 use Rattle.ide_journal.specs.declared.version.Version.{Version}
-use Rattle.ide_journal.proofs.OneList.{holds_one_list}
 use Rattle.ide_lattice.specs.Algebra.{EdgeAlgebra}
 use Rattle.ide_steps.specs.Core.{CoreData}
 use Rattle.ide_steps.specs.State.{claim_of}
@@ -18,12 +17,13 @@ use Rattle.ide_theory.specs.Images.{loaded}
 use Rattle.ide_image.specs.Worklist.{IsFree}
 use Rattle.ide_store.specs.Machine.{machine}
 use Rattle.ide_store.specs.Opening.{HaveFold, BeginsOn, GoesOnFrom, HalvesBegin, half_over}
+use Rattle.ide_store.specs.Places.{Place, version_at}
 use Rattle.ide_store.specs.Table.{Analysis, forms_of, rules_at}
+use Rattle.ide_store.specs.TwoDisks.{GiveTheSame}
 use Rattle.ide_store.specs.World.{IsFolded, LeadTo, contents}
-use Rattle.ide_store.proofs.Machine.{machine_is_exact}
-use Rattle.ide_store.proofs.OneDisk.{one_disk_keeps}
+use Rattle.ide_store.proofs.Places.{does_at, exact_at, laws_at}
 use Rattle.ide_store.proofs.Reached.{Knows, reached_whole}
-use Rattle.ide_store.proofs.World.{one_image, read}
+use Rattle.ide_store.proofs.World.{IsRead, one_image, read}
 
 -- what values lead to, the records that spell them lead to
 spelled_lead : {F L : Type 0} (functions : EdgeAlgebra F L) (same : F → F → Bool) (forms : Functions F) (version : Version)
@@ -42,9 +42,17 @@ spelled_lead functions same forms version (value ∷ values) (entry ∷ entries)
 noting_image : {F : Type 0} (image : ProgramImage F) (core : CoreData F) → HasImage image core → HasImage image (record core { changes = Some [] })
 noting_image image core has = record { program = has.program; graphed = has.graphed; roots = has.roots; get = has.get; pending = has.pending }
 
+module _ {F L : Type 0} (a : Analysis F L) where
+  -- what records lead to on one disk of that version, they lead to wherever the version is that one
+  leads_there : (place : Place) (entries : List Entry) (before now : ProgramImage F)
+      → LeadTo (machine a.functions a.same (forms_of a) (version_at place)) entries before now → LeadTo (rules_at a place) entries before now
+  leads_there place [] before now same = same
+  leads_there place (entry ∷ entries) before now (between, first, rest) =
+      (between, does_at a place entry before between first, leads_there place entries between now rest)
+
 module _ {F L : Type 0} (a : Analysis F L) (knows : Knows a) where
   begins : (core : CoreData F) (version : Version) → HasImage (loaded None) core → IsFree core.pile → BeginsOn a (half_over core version 0)
-  begins core version has free head same work disk = record {
+  begins core version has free place same work disks = record {
     running = refl;
     working = refl;
     version = sym same;
@@ -61,30 +69,28 @@ module _ {F L : Type 0} (a : Analysis F L) (knows : Knows a) where
     waits = refl;
   }
 
-  -- what the records fold to is the image of a core to which they were applied
-  found_image : (old new : CoreData F) (head : Head) (found : List Entry) (image : ProgramImage F) → HasImage (loaded None) old
-      → LeadOver (forms_of a) head.version a.functions a.same found old new
-      → IsFolded (rules_at a head) found image → HasImage image new
-  found_image old new head found image has over folded =
-      let by = machine a.functions a.same (forms_of a) head.version in
+  -- what the records that were found fold to is the image of a core to which others were applied that give back the same
+  found_image : (old new : CoreData F) (place : Place) (given found : List Entry) (image : ProgramImage F) → HasImage (loaded None) old
+      → LeadOver (forms_of a) (version_at place) a.functions a.same given old new → GiveTheSame (rules_at a place) given found
+      → IsFolded (rules_at a place) found image → HasImage image new
+  found_image old new place given found image has over alike folded =
       let now = over.leads (loaded None) has in
-      let leads = spelled_lead a.functions a.same (forms_of a) head.version over.values found (loaded None) now.0 over.spelled now.1 in
-      let exact = machine_is_exact a.functions a.same (forms_of a) knows.prefix_free head.version in
-      let one : now.0 ≡ image = one_image by exact (one_disk_keeps by head) found (loaded None) now.0 image leads folded in
+      let leads = leads_there a place given (loaded None) now.0
+      (spelled_lead a.functions a.same (forms_of a) (version_at place) over.values given (loaded None) now.0 over.spelled now.1) in
+      let one : now.0 ≡ image =
+      one_image (rules_at a place) (exact_at a knows.prefix_free place) (laws_at a place) found (loaded None) now.0 image ((alike now.0).0 leads) folded in
       subst (λ (i : ProgramImage F). HasImage i new) one now.2
 
-  goes_on : (old new : CoreData F) (version : Version) (found : List Entry) → HasImage (loaded None) old
-      → LeadOver (forms_of a) version a.functions a.same found old new → IsFree new.pile → GoesOnFrom a found (half_over new version (length found))
-  goes_on old new version found empty over free head same w reached image work disk may =
-      let by = machine a.functions a.same (forms_of a) head.version in
-      let exact = machine_is_exact a.functions a.same (forms_of a) knows.prefix_free head.version in
-      let held = (reached_whole a knows head w reached).held.world in
-      let is = read by exact (one_disk_keeps by head) w.world found held may.1.0 in
-      let first : contents (take (length found) w.world.sealed) ≡ found =
-      (holds_one_list head head (contents (take (length found) w.world.sealed)) found w.world.disks.now is.holds may.1.0).1 in
+  goes_on : (old new : CoreData F) (version : Version) (given : List Entry) (sealed : ℕ) → HasImage (loaded None) old
+      → LeadOver (forms_of a) version a.functions a.same given old new → IsFree new.pile → GoesOnFrom a given (half_over new version sealed)
+  goes_on old new version given sealed empty over free place same w reached found count alike image work disks may =
+      let held = (reached_whole a knows place w reached).held.world in
+      let is : IsRead (rules_at a place) w.world found = read (rules_at a place) (exact_at a knows.prefix_free place) (laws_at a place) w.world found held may.1.0 in
       let has : HasImage image new =
-      found_image old new head found image empty (subst (λ (v : Version). LeadOver (forms_of a) v a.functions a.same found old new) (sym same) over) may.1.1 in
-      record {
+      found_image old new place given found image empty (subst (λ (v : Version). LeadOver (forms_of a) v a.functions a.same given old new) (sym same) over)
+      alike may.1.1 in (
+        is.holds,
+        record {
         running = refl;
         working = refl;
         version = sym same;
@@ -97,19 +103,21 @@ module _ {F L : Type 0} (a : Analysis F L) (knows : Knows a) where
           roots = refl;
           entries = λ key. λ i. (has.get key i, has.pending key i);
         };
-        sealed = length-take-le (length found) w.world.sealed is.most;
-        waits = first ∙ sym (append-nil found);
-      }
+        sealed = length-take-le (length found) w.world.sealed is.most ∙ count;
+        waits = sym (append-nil (contents (take (length found) w.world.sealed)));
+        },
+      )
 
   -- they give an image back
-  have_fold : (old new : CoreData F) (version : Version) (found : List Entry) → HasImage (loaded None) old
-      → LeadOver (forms_of a) version a.functions a.same found old new → HaveFold a version found
-  have_fold old new version found empty over =
+  have_fold : (old new : CoreData F) (version : Version) (given : List Entry) → HasImage (loaded None) old
+      → LeadOver (forms_of a) version a.functions a.same given old new → HaveFold a version given
+  have_fold old new version given empty over =
       let now = over.leads (loaded None) empty in
-      record { image = now.0; folded = spelled_lead a.functions a.same (forms_of a) version over.values found (loaded None) now.0 over.spelled now.1 }
+      record { image = now.0; folded = spelled_lead a.functions a.same (forms_of a) version over.values given (loaded None) now.0 over.spelled now.1 }
 
   pub halves_begin : HalvesBegin a
   halves_begin = record {
     begins = begins;
-    goes_on = λ old new version found empty over free. (have_fold old new version found empty over, goes_on old new version found empty over free);
+    goes_on = λ old new version given sealed empty over free.
+        (have_fold old new version given empty over, goes_on old new version given sealed empty over free);
   }

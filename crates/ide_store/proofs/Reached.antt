@@ -3,16 +3,13 @@ use Rattle.std.proofs.Common.{subst}
 use Rattle.ide_graph.specs.Exits.{ExitsOfProgramsAreOwned}
 use Rattle.ide_graph.specs.Joined.{SitesOfProgramsAreJoined}
 use Rattle.ide_graph.specs.SameGraphs.{GraphsOfOneTextAreSame}
-use Rattle.ide_journal.specs.Format.{Head}
 use Rattle.ide_steps.specs.Owed.{TasksOweTheirParts}
 use Rattle.ide_theory.specs.Images.{IsSame}
 use Rattle.ide_wire.specs.Form.{IsPrefixFree}
 use Rattle.ide_store.proofs.Hands.{IsWhole, Known, all_held, idle_held}
-use Rattle.ide_store.proofs.Machine.{machine_is_exact}
-use Rattle.ide_store.proofs.OneDisk.{one_disk_keeps}
-use Rattle.ide_store.specs.Machine.{machine}
-use Rattle.ide_store.specs.OneDisk.{one_disk}
-use Rattle.ide_store.specs.Table.{Analysis, IsReached, StoreWorld, forms_of, new_store}
+use Rattle.ide_store.proofs.Places.{does_at, exact_at, laws_at}
+use Rattle.ide_store.specs.Places.{Place, version_at}
+use Rattle.ide_store.specs.Table.{Analysis, IsReached, StoreWorld, forms_of, new_store, store_at}
 
 -- the laws of its functions, of its records and of the graphs of programs
 pub record Knows {F L : Type 0} (a : Analysis F L) : Type 0 where
@@ -24,19 +21,19 @@ pub record Knows {F L : Type 0} (a : Analysis F L) : Type 0 where
   pub exits : ExitsOfProgramsAreOwned
   pub same_graphs : GraphsOfOneTextAreSame
 
-module _ {F L : Type 0} (a : Analysis F L) (knows : Knows a) (head : Head) where
+module _ {F L : Type 0} (a : Analysis F L) (knows : Knows a) (place : Place) where
   -- what is kept by acts is so of it
-  pub reached_whole : (w : StoreWorld a head) → IsReached a head w
-      → IsWhole a.lattice a.functions a.targets a.same (forms_of a) head.version (one_disk head) knows.is_same
-      (machine_is_exact a.functions a.same (forms_of a) knows.prefix_free head.version)
-      (one_disk_keeps (machine a.functions a.same (forms_of a) head.version) head) knows.known w
+  pub reached_whole : (w : StoreWorld a place) → IsReached a place w
+      → IsWhole a.lattice a.functions a.targets a.same (forms_of a) (version_at place) (store_at a place) knows.is_same
+      (exact_at a knows.prefix_free place)
+      (laws_at a place) knows.known w
   reached_whole w reached =
-      let exact = machine_is_exact a.functions a.same (forms_of a) knows.prefix_free head.version in
-      let laws = one_disk_keeps (machine a.functions a.same (forms_of a) head.version) head in
-      let begun = new_store a head reached.work reached.disk in
-      let idles = idle_held a.lattice a.functions a.targets a.same (forms_of a) head.version (one_disk head) knows.is_same exact laws knows.known
-      reached.work reached.disk reached.live in
-      subst (λ (u : StoreWorld a head). IsWhole a.lattice a.functions a.targets a.same (forms_of a) head.version (one_disk head) knows.is_same exact laws knows.known u)
+      let exact = exact_at a knows.prefix_free place in
+      let laws = laws_at a place in
+      let begun = new_store a place reached.work reached.disks in
+      let idles = idle_held a.lattice a.functions a.targets a.same (forms_of a) (version_at place) (store_at a place) knows.is_same exact laws knows.known
+      reached.work reached.disks reached.live in
+      subst (λ (u : StoreWorld a place). IsWhole a.lattice a.functions a.targets a.same (forms_of a) (version_at place) (store_at a place) knows.is_same exact laws knows.known u)
       reached.is
-      (all_held a.lattice a.functions a.targets a.same (forms_of a) head.version (one_disk head) knows.is_same exact laws knows.known
-      (λ r before now does. does) begun reached.acts idles reached.can)
+      (all_held a.lattice a.functions a.targets a.same (forms_of a) (version_at place) (store_at a place) knows.is_same exact laws knows.known
+      (does_at a place) begun reached.acts idles reached.can)

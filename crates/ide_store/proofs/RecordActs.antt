@@ -9,7 +9,7 @@ use Rattle.ide_batch.specs.Bodies.{IsEntryOf}
 use Rattle.ide_batch.specs.Fold.{ProgramImage, procedures}
 use Rattle.ide_batch.specs.Records as records
 use Rattle.ide_graph.specs.Numbers.{start_of}
-use Rattle.ide_journal.specs.Format.{Entry, Head}
+use Rattle.ide_journal.specs.Format.{Entry}
 use Rattle.ide_steps.specs.Core.{CoreData}
 use Rattle.ide_steps.specs.Room.{IsGraphSaid, IsWholeCore}
 use Rattle.ide_steps.specs.Rooted.{IsBegun}
@@ -30,8 +30,9 @@ use Rattle.ide_store.specs.Acting.{BeginsAnew, SpellsFirst, SpellsRecord, WaitsF
 use Rattle.ide_store.specs.Answers.{GraphBy, frame_by}
 use Rattle.ide_store.specs.Hands.{Batches, CanGoFirst, FitsNext, Loads, Roots, sealing_first}
 use Rattle.ide_store.specs.Machine.{Does}
-use Rattle.ide_store.specs.OneDisk.{one_disk}
-use Rattle.ide_store.specs.Table.{Analysis, IsAct, MayDo, StoreWorld, TableData, WorksOn, after_act, forms_of, rules_at}
+use Rattle.ide_store.proofs.Places.{does_at}
+use Rattle.ide_store.specs.Places.{Place, version_at}
+use Rattle.ide_store.specs.Table.{Analysis, IsAct, MayDo, StoreWorld, TableData, WorksOn, after_act, forms_of, rules_at, store_at}
 use Rattle.ide_store.specs.TableCalls.{behind_first}
 use Rattle.ide_store.specs.Tally.{state_with}
 use Rattle.ide_store.specs.World.{IsFolded, after_all, contents}
@@ -41,13 +42,13 @@ module _ {F L : Type 0} (a : Analysis F L) where
   pub seals_load : (program : Program) (text : List ℕ) (entry : Entry) (old new : TableData F) → IsWholeCore old.core
       → IsParsed text program → SpellsRecord a old (records.Load text) entry → old.sealed < 4294967295
       → WaitsFor (entry ∷ []) old new → IsLoadedWith program new.core → new.core.changes ≡ Some []
-      → IsAct a old new (λ head. Loads (value_of program) entry)
-  seals_load program text entry old new whole parsed spells less waits loads anew head w handed reached works =
+      → IsAct a old new (λ place. Loads (value_of program) entry)
+  seals_load program text entry old new whole parsed spells less waits loads anew place w handed reached works =
       let v : ProgramValue = value_of program in
       let now : ProgramImage F = loaded (Some v) in
       let mark : ℕ = length (w.world.history ++ Load v ∷ []) in
-      let spelled = spelled_at a head old (records.Load text) entry works.version spells in
-      let does : Does a.functions a.same (forms_of a) head.version entry works.base.image now = record {
+      let spelled = spelled_at a place old (records.Load text) entry works.version spells in
+      let does : Does a.functions a.same (forms_of a) (version_at place) entry works.base.image now = record {
         value = records.Load text;
         spelled = spelled;
         leads = (program, parsed, refl);
@@ -60,7 +61,7 @@ module _ {F L : Type 0} (a : Analysis F L) where
           parsed = parsed;
           says = refl;
           spelled = spelled;
-          fits = fits_next a w.world.sealed entry 4294967294 spells.proper (let sealed = works.sealed in omega arith);
+          fits = fits_next a place w.world.sealed entry spells.proper (let sealed = works.sealed in omega arith);
         },
         record {
           running = works.running;
@@ -70,7 +71,8 @@ module _ {F L : Type 0} (a : Analysis F L) where
           claims = λ hand. sym (ap (λ claims. option_map (claim_of a.functions a.targets) (slice_index_or claims hand None)) loads.claims);
           base = record {
             image = now;
-            folded = folded_pushed (rules_at a head) w.world.sealed entry mark works.base.image now works.base.folded does;
+            folded = folded_pushed (rules_at a place) w.world.sealed entry mark works.base.image now works.base.folded
+                (does_at a place entry works.base.image now does);
             program = refl;
             roots = refl;
             entries = entries_anew a now new.core has anew;
@@ -81,7 +83,7 @@ module _ {F L : Type 0} (a : Analysis F L) where
       )
 
   -- ---- a procedure becomes a root
-  module _ (head : Head) (w : StoreWorld a head) (old : TableData F) {handed : List Entry} (works : WorksOn a head w old handed) (whole : IsWholeCore old.core)
+  module _ (place : Place) (w : StoreWorld a place) (old : TableData F) {handed : List Entry} (works : WorksOn a place w old handed) (whole : IsWholeCore old.core)
       (mid : CoreData F) (name : List ℕ) (begins : IsBegun a.lattice a.functions a.targets old.core mid name) where
     -- the program of the graph, and where the procedure begins
     abbrev said : IsGraphSaid old.core.program begins.graph
@@ -138,10 +140,10 @@ module _ {F L : Type 0} (a : Analysis F L) where
 
     -- it may become one, where what changed is sealed first, if anything did
     can_begin : (first : Option Entry) (entry : Entry) → SpellsRecord a old (records.Root name) entry
-        → CanGoFirst a.lattice a.functions a.targets a.same (forms_of a) head.version (rules_at a head) (one_disk head) w first
-        → FitsNext a.lattice a.functions a.targets a.same (forms_of a) head.version (rules_at a head) (one_disk head)
-        (after_all (rules_at a head) w.world (sealing_first first [])) entry
-        → MayDo a head w (Roots name first entry)
+        → CanGoFirst a.lattice a.functions a.targets a.same (forms_of a) (version_at place) (rules_at a place) (store_at a place) w first
+        → FitsNext a.lattice a.functions a.targets a.same (forms_of a) (version_at place) (rules_at a place) (store_at a place)
+        (after_all (rules_at a place) w.world (sealing_first first [])) entry
+        → MayDo a place w (Roots name first entry)
     can_begin first entry spells goes fits = record {
       running = works.running;
       program = v;
@@ -149,17 +151,17 @@ module _ {F L : Type 0} (a : Analysis F L) where
       start = start;
       starts = starts;
       first = goes;
-      spelled = spelled_at a head old (records.Root name) entry works.version spells;
+      spelled = spelled_at a place old (records.Root name) entry works.version spells;
       fits = fits;
     }
 
     -- where the records give back the image, the half works on the world in which the procedure is a root
-    works_rooted : IsFolded (rules_at a head) (contents w.world.sealed) w.world.image → (entry : Entry) (new : TableData F)
-        → IsEntryOf (forms_of a) head.version (records.Root name) entry → BeginsAnew mid new.core → WaitsFor (entry ∷ []) old new
-        → WorksOn a head (after_act a head w (Roots name None entry)) new handed
+    works_rooted : IsFolded (rules_at a place) (contents w.world.sealed) w.world.image → (entry : Entry) (new : TableData F)
+        → IsEntryOf (forms_of a) (version_at place) (records.Root name) entry → BeginsAnew mid new.core → WaitsFor (entry ∷ []) old new
+        → WorksOn a place (after_act a place w (Roots name None entry)) new handed
     works_rooted folded entry new spelled anew waits =
         let mark : ℕ = length (w.world.history ++ Root name ∷ []) in
-        let does : Does a.functions a.same (forms_of a) head.version entry w.world.image rooted = record {
+        let does : Does a.functions a.same (forms_of a) (version_at place) entry w.world.image rooted = record {
           value = records.Root name;
           spelled = spelled;
           leads = refl;
@@ -175,7 +177,7 @@ module _ {F L : Type 0} (a : Analysis F L) where
               ∙ ap (λ (core : CoreData F). (core_state a.functions a.targets core).claims hand) (sym anew);
           base = record {
             image = rooted;
-            folded = folded_pushed (rules_at a head) w.world.sealed entry mark w.world.image rooted folded does;
+            folded = folded_pushed (rules_at a place) w.world.sealed entry mark w.world.image rooted folded (does_at a place entry w.world.image rooted does);
             program = refl;
             roots = refl;
             entries = entries_anew a rooted new.core has (ap (λ (core : CoreData F). core.changes) anew);
@@ -217,10 +219,10 @@ module _ {F L : Type 0} (a : Analysis F L) where
   pub seals_root : Knows a → (name : List ℕ) (first : Option Entry) (entry : Entry) (old new : TableData F) (mid : CoreData F) → IsWholeCore old.core
       → SpellsFirst a old first → SpellsRecord a old (records.Root name) entry → old.sealed < 4294967294
       → IsBegun a.lattice a.functions a.targets old.core mid name → BeginsAnew mid new.core
-      → WaitsFor (behind_first first entry) old new → IsAct a old new (λ head. Roots name first entry)
-  seals_root knows name None entry old new mid whole unchanged spells less begins anew waits head w handed reached works =
-      let nothing = finds_nothing a knows old whole unchanged head w reached works in
-      let noted = (reached_whole a knows head w reached).noted nothing.base nothing.folded in
+      → WaitsFor (behind_first first entry) old new → IsAct a old new (λ place. Roots name first entry)
+  seals_root knows name None entry old new mid whole unchanged spells less begins anew waits place w handed reached works =
+      let nothing = finds_nothing a knows old whole unchanged place w reached works in
+      let noted = (reached_whole a knows place w reached).noted nothing.base nothing.folded in
       let same : nothing.base ≡ w.world.image =
       λ i. record {
         program = noted.program i;
@@ -228,17 +230,17 @@ module _ {F L : Type 0} (a : Analysis F L) where
         get = λ key. (nothing.entries key i).0;
         pending = λ key. (nothing.entries key i).1;
       } in
-      let folded = subst (λ (image : ProgramImage F). IsFolded (rules_at a head) (contents w.world.sealed) image) same nothing.folded in
-      let fits = fits_next a w.world.sealed entry 4294967294 spells.proper (let sealed = works.sealed in omega arith) in (
-        can_begin head w old works whole mid name begins None entry spells nothing fits,
-        works_rooted head w old works whole mid name begins folded entry new (spelled_at a head old (records.Root name) entry works.version spells) anew waits,
+      let folded = subst (λ (image : ProgramImage F). IsFolded (rules_at a place) (contents w.world.sealed) image) same nothing.folded in
+      let fits = fits_next a place w.world.sealed entry spells.proper (let sealed = works.sealed in omega arith) in (
+        can_begin place w old works whole mid name begins None entry spells nothing fits,
+        works_rooted place w old works whole mid name begins folded entry new (spelled_at a place old (records.Root name) entry works.version spells) anew waits,
       )
-  seals_root knows name (Some batch) entry old new mid whole changed spells less begins anew waits head w handed reached works =
+  seals_root knows name (Some batch) entry old new mid whole changed spells less begins anew waits place w handed reached works =
       let between : TableData F = half_between batch old in
-      let can = can_batch a knows head w reached old works whole batch changed (omega arith) in
-      let folded = batch_folded a knows head w reached old works whole batch changed in
+      let can = can_batch a knows place w reached old works whole batch changed (omega arith) in
+      let folded = batch_folded a knows place w reached old works whole batch changed in
       let first : WaitsFor (batch ∷ []) old between = record { version = refl; failed = refl; waiting = refl; sealed = refl } in
-      let before = seals_batch a knows batch old between whole changed (omega arith) first refl head w handed reached works in
+      let before = seals_batch a knows batch old between whole changed (omega arith) first refl place w handed reached works in
       let rest : WaitsFor (entry ∷ []) between new = record {
         version = waits.version;
         failed = waits.failed;
@@ -246,9 +248,9 @@ module _ {F L : Type 0} (a : Analysis F L) where
         sealed = waits.sealed ∙ omega arith;
       } in
       let mark : ℕ = length w.world.history in
-      let fits = fits_next a (pushed w.world.sealed batch mark) entry 4294967294 spells.proper (let sealed = before.1.sealed in omega arith) in (
-        can_begin head w old works whole mid name begins (Some batch) entry spells can fits,
-        works_rooted head (after_act a head w (Batches batch)) between before.1
+      let fits = fits_next a place (pushed w.world.sealed batch mark) entry spells.proper (let sealed = before.1.sealed in omega arith) in (
+        can_begin place w old works whole mid name begins (Some batch) entry spells can fits,
+        works_rooted place (after_act a place w (Batches batch)) between before.1
             (record { distinct = whole.distinct; sited = whole.sited; said = whole.said }) mid name (begins_between batch old mid name begins)
-            folded entry new (spelled_at a head old (records.Root name) entry works.version spells) anew rest,
+            folded entry new (spelled_at a place old (records.Root name) entry works.version spells) anew rest,
       )

@@ -6,7 +6,7 @@ use Rattle.std.proofs.lemmas.List.Elements.{All-cons, All-nil, All-from_recursio
 use Rattle.std.specs.List.{AllByRecursion}
 use Rattle.ide_disk.specs.Disk.{DiskState, settled}
 use Rattle.ide_disk.specs.declared.disk.Disk.{Ghosts}
-use Rattle.ide_journal.specs.Format.{Head}
+use Rattle.ide_journal.specs.Format.{Entry, Head}
 use Rattle.ide_steps.specs.Frozen.{program_in}
 use Rattle.ide_steps.specs.declared.closed.Closed.{Closed}
 use Rattle.ide_image.specs.Tables.{found}
@@ -16,13 +16,14 @@ use Rattle.ide_wire.specs.declared.key.Key.{Key}
 use Rattle.ide_wire.specs.declared.refused.Refused.{Refused}
 use Rattle.ide_store.specs.Answers.{GraphBy, frame_by, roots_by}
 use Rattle.ide_store.specs.Draining.{AreByDrainer, IsByHand, WorksBy}
-use Rattle.ide_store.specs.Engine.{AreOpened, MayCrash, StepsDisk, StepsDiskOver, all_stored, at_once, did_call, did_fail, no_memory, within_call, within_opening}
+use Rattle.ide_store.specs.Engine.{AreAtWork, AreOpened, MayCrash, StepsDisk, StepsDiskOver, all_stored, at_once, did_call, did_fail, no_memory, within_call, within_opening}
 use Rattle.ide_store.specs.Half.{Writes}
 use Rattle.ide_store.specs.Hands.{Batches, Claims, Ends, Happens, IsSoundWorld, Loads, Parts, Releases, Roots}
-use Rattle.ide_store.specs.OneDisk.{IsLive, Writer, one_disk}
-use Rattle.ide_store.specs.Recovery.{OneDiskAnswers}
+use Rattle.ide_store.specs.Places.{OnOneDisk, OnTwoDisks, Place, version_at}
+use Rattle.ide_store.specs.Recovery.{OneDiskAnswers, PlaceAnswers}
 use Rattle.ide_store.specs.Runs.{AreOnRun, AreOnRunUnlessFailed, EnginesStayOnRuns, IsBestImage, IsImageOfRun, IsLeftByRun, IsOfTable}
-use Rattle.ide_store.specs.Table.{Analysis, AreActs, IsAct, IsReached, MayDoAll, StoreAct, StoreWorld, TableData, after_act, after_acts, forms_of, new_store, rules_at}
+use Rattle.ide_store.specs.Table.{Analysis, AreActs, IsAct, IsReached, MayDoAll, StoreAct, StoreWorld, TableData, WorksOn, after_act, after_acts, forms_of, new_store, rules_at, store_at}
+use Rattle.ide_store.specs.TwoDisksLaws.{TwoDisksAnswers}
 use Rattle.ide_store.specs.World.{Closed as Shut, Crashes, Fails, Opens, Stops}
 use Rattle.ide_store.specs.Writing.{work_of}
 use Rattle.ide_store.specs.declared.writer.WriterHalf.{WriterHalf}
@@ -30,15 +31,15 @@ use Rattle.ide_store.proofs.Acts.{reached_more}
 use Rattle.ide_store.proofs.Drained.{works_still, works_unchanged}
 
 -- ---- the disk beneath the half that works
-module _ {F L : Type 0} (a : Analysis F L) (head : Head) where
+module _ {F L : Type 0} (a : Analysis F L) (place : Place) where
   -- the writer stands as it did, on the disk as it was, with as much stored
-  record IsSameBelow (old new : StoreWorld a head) : Type 0 where
+  record IsSameBelow (old new : StoreWorld a place) : Type 0 where
     pub stored : new.world.stored ≡ old.world.stored
     pub work : new.world.work ≡ old.world.work
     pub disks : new.world.disks ≡ old.world.disks
 
   -- so it does behind an act of the half that works
-  act_below : (w : StoreWorld a head) (act : StoreAct a head) → IsOfTable a head act → IsSameBelow w (after_act a head w act)
+  act_below : (w : StoreWorld a place) (act : StoreAct a place) → IsOfTable a place act → IsSameBelow w (after_act a place w act)
   act_below w (Claims h q parts) of = record { stored = refl; work = refl; disks = refl }
   act_below w (Parts h key g) of = record { stored = refl; work = refl; disks = refl }
   act_below w (Ends h c) of = record { stored = refl; work = refl; disks = refl }
@@ -50,16 +51,16 @@ module _ {F L : Type 0} (a : Analysis F L) (head : Head) where
   act_below w (Happens e) of = absurd of
 
   -- and behind some, one after the other
-  acts_below : (w : StoreWorld a head) (acts : List (StoreAct a head)) → AllByRecursion (IsOfTable a head) acts
-      → IsSameBelow w (after_acts a head w acts)
+  acts_below : (w : StoreWorld a place) (acts : List (StoreAct a place)) → AllByRecursion (IsOfTable a place) acts
+      → IsSameBelow w (after_acts a place w acts)
   acts_below w [] of = record { stored = refl; work = refl; disks = refl }
   acts_below w (act ∷ acts) of =
       let one = act_below w act of.0 in
-      let more = acts_below (after_act a head w act) acts of.1 in
+      let more = acts_below (after_act a place w act) acts of.1 in
       record { stored = more.stored ∙ one.stored; work = more.work ∙ one.work; disks = more.disks ∙ one.disks }
 
   -- what one hand does is of that half
-  own_of_table : (act : StoreAct a head) → IsByHand a head 0 act → IsOfTable a head act
+  own_of_table : (act : StoreAct a place) → IsByHand a place 0 act → IsOfTable a place act
   own_of_table (Claims h q parts) own = tt
   own_of_table (Parts h key g) own = tt
   own_of_table (Ends h c) own = tt
@@ -70,70 +71,104 @@ module _ {F L : Type 0} (a : Analysis F L) (head : Head) where
   own_of_table (Happens e) own = own
 
   -- a new store is a world that acts led to
-  reached_new : (work : Writer) (disk : DiskState) → IsLive head [] 0 work disk → IsReached a head (new_store a head work disk)
-  reached_new work disk live = record { work = work; disk = disk; live = live; acts = []; can = tt; is = refl }
+  reached_new : (work : (store_at a place).Work) (disks : (store_at a place).Disks) → (store_at a place).Live [] 0 work disks
+      → IsReached a place (new_store a place work disks)
+  reached_new work disks live = record { work = work; disks = disks; live = live; acts = []; can = tt; is = refl }
 
   -- what acts lead to leaves a disk
-  left_by : (w : StoreWorld a head) → IsReached a head w → (acts : List (StoreAct a head)) → MayDoAll a head w acts
-      → IsLeftByRun a head (after_acts a head w acts).world.disks
-  left_by w reached acts can = record { world = after_acts a head w acts; reached = reached_more a head w acts reached can; stands = refl }
+  left_by : (w : StoreWorld a place) → IsReached a place w → (acts : List (StoreAct a place)) → MayDoAll a place w acts
+      → IsLeftByRun a place (after_acts a place w acts).world.disks
+  left_by w reached acts can = record { world = after_acts a place w acts; reached = reached_more a place w acts reached can; stands = refl }
 
+module _ {F L : Type 0} (a : Analysis F L) (head : Head) where
   -- a crash leaves the disk of a world that acts led to
-  crash_leaves : (w : StoreWorld a head) → IsReached a head w → (left : List ℕ) → MayCrash a head w left → IsLeftByRun a head (settled left)
-  crash_leaves w reached left (at_once can) = left_by w reached (Happens (Crashes left) ∷ []) (can, tt)
-  crash_leaves w reached left (within_call can) = left_by w reached (Happens (Fails (settled left)) ∷ Happens (Crashes left) ∷ []) can
-  crash_leaves w reached left (within_opening can) = left_by w reached (Happens (Stops (settled left) Shut) ∷ Happens (Crashes left) ∷ []) can
+  crash_leaves : (w : StoreWorld a (OnOneDisk head)) → IsReached a (OnOneDisk head) w → (left : List ℕ) → MayCrash a head w left → IsLeftByRun a (OnOneDisk head) (settled left)
+  crash_leaves w reached left (at_once can) = left_by a (OnOneDisk head) w reached (Happens (Crashes left) ∷ []) (can, tt)
+  crash_leaves w reached left (within_call can) = left_by a (OnOneDisk head) w reached (Happens (Fails (settled left)) ∷ Happens (Crashes left) ∷ []) can
+  crash_leaves w reached left (within_opening can) = left_by a (OnOneDisk head) w reached (Happens (Stops (settled left) Shut) ∷ Happens (Crashes left) ∷ []) can
+
+
+module _ {F L : Type 0} (a : Analysis F L) where
+  -- the half works on a world to which acts of its own led from that one, with the same records handed over
+  pub record WorksFrom (place : Place) (w : StoreWorld a place) (new : TableData F) (handed : List Entry) : Type 0 where
+    pub world : StoreWorld a place
+    pub reached : IsReached a place world
+    pub works : WorksOn a place world new handed
+    pub below : IsSameBelow a place w world
+
+  module _ (old new : TableData F) where
+    pub acts_go : (Are : (place : Place) → List (StoreAct a place) → Type 0)
+        → ((place : Place) (acts : List (StoreAct a place)) → Are place acts → All (IsOfTable a place) acts) → AreActs a old new Are
+        → (place : Place) (w : StoreWorld a place) (handed : List Entry) → IsReached a place w → WorksOn a place w old handed
+        → WorksFrom place w new handed
+    acts_go Are own acts place w handed reached works =
+        let done = acts place w handed reached works in
+        record {
+          world = after_acts a place w done.0;
+          reached = reached_more a place w done.0 reached done.2;
+          works = done.3;
+          below = acts_below a place w done.0 (recursion_from_All (IsOfTable a place) done.0 (own place done.0 done.1));
+        }
+
+    pub act_goes : (act : (place : Place) → StoreAct a place) → ((place : Place) → IsOfTable a place (act place)) → IsAct a old new act
+        → (place : Place) (w : StoreWorld a place) (handed : List Entry) → IsReached a place w → WorksOn a place w old handed
+        → WorksFrom place w new handed
+    act_goes act of is =
+        acts_go (λ place acts. acts ≡ act place ∷ [])
+        (λ place acts same. subst (All (IsOfTable a place)) (sym same)
+        (All-cons (IsOfTable a place) (act place) [] (of place) (All-nil (IsOfTable a place))))
+        (λ place w handed reached works. let done = is place w handed reached works in (act place ∷ [], refl, (done.0, tt), done.1))
+
+    pub works_go : (claims releases : ℕ) → WorksBy a old new claims releases
+        → (place : Place) (w : StoreWorld a place) (handed : List Entry) → IsReached a place w → WorksOn a place w old handed
+        → WorksFrom place w new handed
+    works_go claims releases =
+        acts_go (λ place. AreByDrainer a place claims releases)
+        (λ place acts by. All-from_recursion (IsOfTable a place) acts (all_own place acts (recursion_from_All (IsByHand a place 0) acts by.own)))
+      where
+        all_own : (place : Place) (acts : List (StoreAct a place)) → AllByRecursion (IsByHand a place 0) acts → AllByRecursion (IsOfTable a place) acts
+        all_own place [] own = tt
+        all_own place (act ∷ acts) own = (own_of_table a place act own.0, all_own place acts own.1)
 
 module _ {F L : Type 0} (a : Analysis F L) {D : Type 0} {G : Ghosts D} where
   -- ---- calls of the half that works
-  acts_stay : (old new : TableData F) (writer : WriterHalf D G) (Are : (head : Head) → List (StoreAct a head) → Type 0)
-      → ((head : Head) (acts : List (StoreAct a head)) → Are head acts → All (IsOfTable a head) acts) → AreActs a old new Are
-      → AreOnRun a old writer → AreOnRun a new writer
-  acts_stay old new writer Are own acts on =
-      let head = on.head in
-      let at = on.at_work in
-      let done = acts head on.world at.handed on.reached at.works in
-      let same = acts_below a head on.world done.0 (recursion_from_All (IsOfTable a head) done.0 (own head done.0 done.1)) in
-      record {
-        head = head;
-        world = after_acts a head on.world done.0;
-        reached = reached_more a head on.world done.0 on.reached done.2;
-        at_work = record {
-          handed = at.handed;
-          works = done.3;
-          writes = subst (λ (n : ℕ). Writes head at.handed n writer) (sym same.stored) at.writes;
-          work = same.work ∙ at.work;
-          disk = same.disks ∙ at.disk;
-        };
-      }
+  stay : (new : TableData F) (writer : WriterHalf D G) (head : Head) (w : StoreWorld a (OnOneDisk head)) (table : TableData F)
+      (at : AreAtWork a head w table writer) → WorksFrom a (OnOneDisk head) w new at.handed → AreOnRun a new writer
+  stay new writer head w table at goes = record {
+    head = head;
+    world = goes.world;
+    reached = goes.reached;
+    at_work = record {
+      handed = at.handed;
+      works = goes.works;
+      writes = subst (λ (n : ℕ). Writes head at.handed n writer) (sym goes.below.stored) at.writes;
+      work = goes.below.work ∙ at.work;
+      disk = goes.below.disks ∙ at.disk;
+    };
+  }
 
-  act_stays : (old new : TableData F) (writer : WriterHalf D G) (act : (head : Head) → StoreAct a head)
-      → ((head : Head) → IsOfTable a head (act head)) → IsAct a old new act → AreOnRun a old writer → AreOnRun a new writer
-  act_stays old new writer act of is =
-      acts_stay old new writer (λ head acts. acts ≡ act head ∷ [])
-      (λ head acts same. subst (All (IsOfTable a head)) (sym same) (All-cons (IsOfTable a head) (act head) [] (of head) (All-nil (IsOfTable a head))))
-      (λ head w handed reached works. let done = is head w handed reached works in (act head ∷ [], refl, (done.0, tt), done.1))
+  act_stays : (old new : TableData F) (writer : WriterHalf D G) (act : (place : Place) → StoreAct a place)
+      → ((place : Place) → IsOfTable a place (act place)) → IsAct a old new act → AreOnRun a old writer → AreOnRun a new writer
+  act_stays old new writer act of is on =
+      let at = on.at_work in
+      stay new writer on.head on.world old at (act_goes a old new act of is (OnOneDisk on.head) on.world at.handed on.reached at.works)
 
   works_stay : (old new : TableData F) (writer : WriterHalf D G) (claims releases : ℕ) → WorksBy a old new claims releases
       → AreOnRun a old writer → AreOnRun a new writer
-  works_stay old new writer claims releases =
-      acts_stay old new writer (λ head. AreByDrainer a head claims releases)
-      (λ head acts by. All-from_recursion (IsOfTable a head) acts (all_own head acts (recursion_from_All (IsByHand a head 0) acts by.own)))
-    where
-      all_own : (head : Head) (acts : List (StoreAct a head)) → AllByRecursion (IsByHand a head 0) acts → AllByRecursion (IsOfTable a head) acts
-      all_own head [] own = tt
-      all_own head (act ∷ acts) own = (own_of_table a head act own.0, all_own head acts own.1)
+  works_stay old new writer claims releases by on =
+      let at = on.at_work in
+      stay new writer on.head on.world old at (works_go a old new claims releases by (OnOneDisk on.head) on.world at.handed on.reached at.works)
 
   -- ---- a call of the disk
   step_stays : (old new : TableData F) (writer after : WriterHalf D G) (result : Result Bool Refused)
-      → ((head : Head) → StepsDiskOver a head old new writer after result) → AreOnRun a old writer → AreOnRunUnlessFailed a new after
+      → ((place : Place) → StepsDiskOver a head old new writer after result) → AreOnRun a old writer → AreOnRunUnlessFailed a new after
   step_stays old new writer after result steps on = made result (steps on.head on.world on.reached on.at_work)
     where
       made : (result : Result Bool Refused) → StepsDisk a on.head on.world old new after result → AreOnRunUnlessFailed a new after
       made _ (did_call call) working = record {
         head = on.head;
-        world = after_act a on.head on.world (Happens call.event);
-        reached = reached_more a on.head on.world (Happens call.event ∷ []) on.reached (call.can, tt);
+        world = after_act a (OnOneDisk on.head) on.world (Happens call.event);
+        reached = reached_more a (OnOneDisk on.head) on.world (Happens call.event ∷ []) on.reached (call.can, tt);
         at_work = call.at_work;
       }
       made _ (did_fail fault) working =
@@ -143,26 +178,33 @@ module _ {F L : Type 0} (a : Analysis F L) {D : Type 0} {G : Ghosts D} where
       made _ (no_memory at_work) working = record { head = on.head; world = on.world; reached = on.reached; at_work = at_work }
 
   -- ---- an opening
-  opening_stays : (head : Head) (before : DiskState) (table : TableData F) (writer : WriterHalf D G) → IsLeftByRun a head before
+  opening_stays : (head : Head) (before : DiskState) (table : TableData F) (writer : WriterHalf D G) → IsLeftByRun a (OnOneDisk head) before
       → AreOpened a head before table writer → AreOnRun a table writer
   opening_stays head before table writer left opens =
       let is = opens left.world left.reached left.stands in
-      let act : StoreAct a head = Happens (Opens is.0 is.1 (work_of writer.journal) (G.state writer.journal.disk)) in
+      let act : StoreAct a (OnOneDisk head) = Happens (Opens is.0 is.1 (work_of writer.journal) (G.state writer.journal.disk)) in
       record {
         head = head;
-        world = after_act a head left.world act;
-        reached = reached_more a head left.world (act ∷ []) left.reached (is.2.0, tt);
+        world = after_act a (OnOneDisk head) left.world act;
+        reached = reached_more a (OnOneDisk head) left.world (act ∷ []) left.reached (is.2.0, tt);
         at_work = is.2.1;
       }
 
-module _ {F L : Type 0} (a : Analysis F L) (answers : OneDiskAnswers a.lattice a.functions a.targets a.same a.proper a.form) where
+-- what is so of every run on one disk, and of every run on two, is so wherever the store stands
+pub places_answer : {F L : Type 0} (a : Analysis F L) → OneDiskAnswers a.lattice a.functions a.targets a.same a.proper a.form → TwoDisksAnswers a
+    → (place : Place) → PlaceAnswers a place
+places_answer a one two (OnOneDisk head) = one head
+places_answer a one two (OnTwoDisks tag) = two tag
+
+module _ {F L : Type 0} (a : Analysis F L) (answers : (place : Place) → PlaceAnswers a place) where
   -- what is so of every run is so of the world
-  sound : (head : Head) (w : StoreWorld a head) → IsReached a head w
-      → IsSoundWorld a.lattice a.functions a.targets a.same (forms_of a) head.version (rules_at a head) (one_disk head) w
-  sound head w reached =
-      subst (λ (u : StoreWorld a head). IsSoundWorld a.lattice a.functions a.targets a.same (forms_of a) head.version (rules_at a head) (one_disk head) u)
+  sound : (place : Place) (w : StoreWorld a place) → IsReached a place w
+      → IsSoundWorld a.lattice a.functions a.targets a.same (forms_of a) (version_at place) (rules_at a place) (store_at a place) w
+  sound place w reached =
+      subst (λ (u : StoreWorld a place).
+      IsSoundWorld a.lattice a.functions a.targets a.same (forms_of a) (version_at place) (rules_at a place) (store_at a place) u)
       reached.is
-      (answers head reached.work reached.disk reached.live reached.acts reached.can)
+      (answers place reached.work reached.disks reached.live reached.acts reached.can)
 
   -- so the frozen image of a run answers with best values
   best_image : {P : Type 0} (closed : Closed P L F) → IsImageOfRun a closed → (by : GraphBy (program_in closed)) → IsBestImage a closed by
@@ -171,7 +213,7 @@ module _ {F L : Type 0} (a : Analysis F L) (answers : OneDiskAnswers a.lattice a
       let names = on.world.world.image.roots in
       let R = roots_by a.lattice a.functions a.targets by names in
       let get : on.world.world.image.get ≡ found closed.tables = λ i key. on.image.functions key i in
-      let said = (sound on.head on.world on.reached).answers (program_in closed) on.image.program by in
+      let said = (sound on.place on.world on.reached).answers (program_in closed) on.image.program by in
       record {
         names = names;
         named = on.image.roots;
@@ -186,17 +228,22 @@ module _ {F L : Type 0} (a : Analysis F L) (answers : OneDiskAnswers a.lattice a
     made = λ head table writer new.
         let work = work_of writer.journal in
         let disk = G.state writer.journal.disk in
-        record { head = head; world = new_store a head work disk; reached = reached_new a head work disk new.live; at_work = new.at_work };
+        record { head = head; world = new_store a (OnOneDisk head) work disk; reached = reached_new a (OnOneDisk head) work disk new.live; at_work = new.at_work };
     opened = opening_stays a;
     leaves = λ table writer on. record { world = on.world; reached = on.reached; stands = on.at_work.disk };
     crashes = crash_leaves a;
     act = act_stays a;
     works = works_stay a;
     nothing = λ old new writer finds.
-        works_stay a old new writer 0 0 (works_still a old new (λ head w handed reached works. (finds.caught_up head w handed reached works).1));
+        works_stay a old new writer 0 0 (works_still a old new (λ place w handed reached works. (finds.caught_up place w handed reached works).1));
     same = λ old new writer same. works_stay a old new writer 0 0 (works_unchanged a old new same.rest same.core);
     step = step_stays a;
     frozen = λ table writer closed image on.
-        record { head = on.head; world = on.world; reached = on.reached; image = image on.head on.world on.at_work.handed on.reached on.at_work.works };
+        record {
+          place = OnOneDisk on.head;
+          world = on.world;
+          reached = on.reached;
+          image = image (OnOneDisk on.head) on.world on.at_work.handed on.reached on.at_work.works;
+        };
     best = best_image;
   }

@@ -18,6 +18,7 @@ use Rattle.ide_wire.specs.declared.refused.Refused.TheVariants.{Disk, NoMemory}
 use Rattle.ide_store.specs.Engine.{AreAtWork, DidCall, DidFail, HandsOver, StepsDisk, StepsDiskOver, all_stored, did_call, did_fail, kept, no_memory, took}
 use Rattle.ide_store.specs.Half.{HasCalled, HasStored, IsSameHalf, StepsOver, StepsTo, Writes, calls, fails, rests, stores, waits}
 use Rattle.ide_store.specs.OneDisk.{DoesGoodCall, Fails, Stores, Writer}
+use Rattle.ide_store.specs.Places.{OnOneDisk}
 use Rattle.ide_store.specs.Table.{Analysis, IsTable, StoreWorld, TableData, WorksOn}
 use Rattle.ide_store.specs.World as world
 use Rattle.ide_store.specs.World.{contents}
@@ -106,9 +107,9 @@ module _ (handed more : List Entry) (stored : ℕ) where
 
 module _ {F L : Type 0} (a : Analysis F L) (head : Head) where
   -- the half works on a world of which others are stored, where other records are left with it
-  abbrev works_after : (w : StoreWorld a head) (table : TableData F) (stored : ℕ) (work : Writer) (disks : DiskState) (handed left : List Entry)
-      {before : List Entry} → WorksOn a head w table before → contents w.world.sealed ≡ handed ++ left
-      → WorksOn a head (record w { world = record w.world { stored = stored; work = work; disks = disks } }) (record table { waiting = left }) handed
+  abbrev works_after : (w : StoreWorld a (OnOneDisk head)) (table : TableData F) (stored : ℕ) (work : Writer) (disks : DiskState) (handed left : List Entry)
+      {before : List Entry} → WorksOn a (OnOneDisk head) w table before → contents w.world.sealed ≡ handed ++ left
+      → WorksOn a (OnOneDisk head) (record w { world = record w.world { stored = stored; work = work; disks = disks } }) (record table { waiting = left }) handed
   works_after w table stored work disks handed left works split = record {
     running = works.running;
     working = works.working;
@@ -128,7 +129,7 @@ module _ {F L : Type 0} (a : Analysis F L) (head : Head) where
 
 module _ {F L : Type 0} (a : Analysis F L) {D : Type 0} {G : Ghosts D} (head : Head) where
   -- these records were handed over, behind which the others are left: none where all are stored
-  pub record AreHanded (w : StoreWorld a head) (mid : WriterHalf D G) (left : List Entry) : Type 0 where
+  pub record AreHanded (w : StoreWorld a (OnOneDisk head)) (mid : WriterHalf D G) (left : List Entry) : Type 0 where
     pub handed : List Entry
     pub split : contents w.world.sealed ≡ handed ++ left
     pub writes : Writes head handed w.world.stored mid
@@ -137,7 +138,7 @@ module _ {F L : Type 0} (a : Analysis F L) {D : Type 0} {G : Ghosts D} (head : H
     pub disk : w.world.disks ≡ G.state mid.journal.disk
 
   -- all that were sealed are handed over, or those that wait are, as before
-  pub handed_over : (w : StoreWorld a head) (table : TableData F) (old mid : WriterHalf D G) (sealed left : List RawRecord)
+  pub handed_over : (w : StoreWorld a (OnOneDisk head)) (table : TableData F) (old mid : WriterHalf D G) (sealed left : List RawRecord)
       → IsTable table.core table.sealed table.waiting → table.waiting ≡ entries_of sealed → HandsOver old mid sealed left
       → AreAtWork a head w table old → AreHanded w mid (entries_of left)
   handed_over w table old mid sealed left is waiting (took none items over journal) at =
@@ -176,7 +177,7 @@ module _ {F L : Type 0} (a : Analysis F L) {D : Type 0} {G : Ghosts D} (head : H
     disk = at.disk ∙ ap (λ (j : Journal D G). G.state j.disk) (sym journal);
   }
 
-  module _ (w : StoreWorld a head) (table : TableData F) (mid new : WriterHalf D G) (left : List Entry) {before : List Entry} (works : WorksOn a head w table before)
+  module _ (w : StoreWorld a (OnOneDisk head)) (table : TableData F) (mid new : WriterHalf D G) (left : List Entry) {before : List Entry} (works : WorksOn a (OnOneDisk head) w table before)
       (has : AreHanded w mid left) where
     -- the half works on as it did, with what is left
     abbrev now : TableData F

@@ -8,6 +8,7 @@ use Rattle.ide_store.specs.Engine.{StepsDisk, StepsDiskOver, all_stored, did_cal
 use Rattle.ide_store.specs.Hands.{Happens, ProgramEvent}
 use Rattle.ide_store.specs.OneDisk.{Writer, one_disk}
 use Rattle.ide_store.specs.Storing.{AreWorking}
+use Rattle.ide_store.specs.Places.{OnOneDisk}
 use Rattle.ide_store.specs.Table.{Analysis, StoreWorld, TableData, after_act}
 use Rattle.ide_store.specs.World.{Calls, Sealed, Stores}
 use Rattle.ide_store.specs.declared.writer.WriterHalf.{WriterHalf}
@@ -15,10 +16,10 @@ use Rattle.ide_store.proofs.Acts.{reached_more}
 
 module _ {F L : Type 0} (a : Analysis F L) (head : Head) where
   -- a call of the disk seals nothing
-  sealed_stays : (w : StoreWorld a head) (event : ProgramEvent F (one_disk head)) (work : Writer) (disk : DiskState)
-      → (event ≡ Calls work disk) ⊎ (event ≡ Stores work disk) → (after_act a head w (Happens event)).world.sealed ≡ w.world.sealed
-  sealed_stays w event work disk (inl is) = ap (λ (e : ProgramEvent F (one_disk head)). (after_act a head w (Happens e)).world.sealed) is
-  sealed_stays w event work disk (inr is) = ap (λ (e : ProgramEvent F (one_disk head)). (after_act a head w (Happens e)).world.sealed) is
+  sealed_stays : (w : StoreWorld a (OnOneDisk head)) (event : ProgramEvent F (one_disk head)) (work : Writer) (disk : DiskState)
+      → (event ≡ Calls work disk) ⊎ (event ≡ Stores work disk) → (after_act a (OnOneDisk head) w (Happens event)).world.sealed ≡ w.world.sealed
+  sealed_stays w event work disk (inl is) = ap (λ (e : ProgramEvent F (one_disk head)). (after_act a (OnOneDisk head) w (Happens e)).world.sealed) is
+  sealed_stays w event work disk (inr is) = ap (λ (e : ProgramEvent F (one_disk head)). (after_act a (OnOneDisk head) w (Happens e)).world.sealed) is
 
   module _ {D : Type 0} {G : Ghosts D} (sealed : List (Sealed Entry)) (table new_table : TableData F) (old new : WriterHalf D G) where
     -- the halves work on behind a call
@@ -28,8 +29,8 @@ module _ {F L : Type 0} (a : Analysis F L) (head : Head) where
       where
         made : (result : Result Bool Refused) → StepsDisk a head on.world table new_table new result → result ≡ Ok true → AreWorking a head sealed new_table new
         made _ (did_call call) same = record {
-          world = after_act a head on.world (Happens call.event);
-          reached = reached_more a head on.world (Happens call.event ∷ []) on.reached (call.can, tt);
+          world = after_act a (OnOneDisk head) on.world (Happens call.event);
+          reached = reached_more a (OnOneDisk head) on.world (Happens call.event ∷ []) on.reached (call.can, tt);
           at_work = call.at_work;
           honest = honest;
           same = sealed_stays on.world call.event _ _ call.is ∙ on.same;

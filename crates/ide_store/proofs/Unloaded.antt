@@ -4,31 +4,30 @@ use Rattle.std.proofs.lemmas.Bool.{cases_lt}
 use Rattle.std.proofs.lemmas.List.{length-append, take-append-le, take-take, take_all}
 use Rattle.std.proofs.lemmas.List.Sums.{fold-append}
 use Rattle.ide_batch.specs.Fold.{ProgramImage}
-use Rattle.ide_journal.specs.Format.{Entry, Head}
+use Rattle.ide_journal.specs.Format.{Entry}
 use Rattle.ide_text.specs.Value.{ProgramValue}
 use Rattle.ide_theory.specs.Images.{Finish, Load, Part, Root}
 use Rattle.ide_theory.specs.State.{Claim}
 use Rattle.ide_theory.proofs.Laws.Changes.{none-some}
 use Rattle.ide_wire.specs.declared.key.Key.{Key}
 use Rattle.ide_store.proofs.Hands.{IsWhole, all_held, idle_held}
-use Rattle.ide_store.proofs.Machine.{machine_is_exact}
 use Rattle.ide_store.proofs.Marks.{mark_at, take_more}
-use Rattle.ide_store.proofs.OneDisk.{one_disk_keeps}
 use Rattle.ide_store.proofs.Reached.{Knows, reached_whole}
 use Rattle.ide_store.proofs.World.{IsKept, one_image}
 use Rattle.ide_store.specs.Hands.{Batches, Claims, Ends, Happens, Loads, Parts, ProgramEvent, Releases, Roots, IsOfStore}
 use Rattle.ide_store.specs.Machine.{ProgramStep, machine}
-use Rattle.ide_store.specs.OneDisk.{one_disk}
-use Rattle.ide_store.specs.Table.{Analysis, IsReached, MayDo, MayDoAll, StoreAct, StoreWorld, after_act, after_acts, forms_of, new_store}
+use Rattle.ide_store.proofs.Places.{does_at, exact_at, laws_at}
+use Rattle.ide_store.specs.Places.{Place, version_at}
+use Rattle.ide_store.specs.Table.{Analysis, IsReached, MayDo, MayDoAll, StoreAct, StoreWorld, after_act, after_acts, forms_of, new_store, rules_at, store_at}
 use Rattle.ide_store.specs.World.{Acks, Begins, Calls, Crashes, Fails, IsFolded, Opens, Rules, Running, Seals, Steps, Stops, Stores, contents, image_after}
 
 -- with no program no key waits
 abbrev pub IsStill : {F : Type 0} → ProgramImage F → Type 0
 IsStill image = image.program ≡ None → (key : Key) → image.pending key ≡ false
 
-module _ {F L : Type 0} (a : Analysis F L) (head : Head) where
+module _ {F L : Type 0} (a : Analysis F L) (place : Place) where
   abbrev acts_by : Rules (ProgramImage F) (ProgramStep F) Entry
-  acts_by = machine a.functions a.same (forms_of a) head.version
+  acts_by = rules_at a place
 
   -- the image after each beginning of the steps is still, and with no program no hand has a claim
   record AreStill (history : List (ProgramStep F)) (held : ℕ → Option (Claim F)) : Type 0 where
@@ -84,11 +83,11 @@ module _ {F L : Type 0} (a : Analysis F L) (head : Head) where
   has_program history image v is some none = none-some (sym (ap (λ (i : ProgramImage F). i.program) is ∙ none) ∙ some)
 
   -- so it is of a world
-  abbrev IsStillIn : StoreWorld a head → Type 0
+  abbrev IsStillIn : StoreWorld a place → Type 0
   IsStillIn w = AreStill w.world.history w.claims
 
   -- what happens to the store keeps it
-  happens_still : (w : StoreWorld a head) (e : ProgramEvent F (one_disk head)) → IsStillIn w → IsOfStore e → IsStillIn (after_act a head w (Happens e))
+  happens_still : (w : StoreWorld a place) (e : ProgramEvent F (store_at a place)) → IsStillIn w → IsOfStore e → IsStillIn (after_act a place w (Happens e))
   happens_still w (Steps s) still own = absurd own
   happens_still w (Seals r) still own = absurd own
   happens_still w (Begins work) still own = still
@@ -101,7 +100,7 @@ module _ {F L : Type 0} (a : Analysis F L) (head : Head) where
   happens_still w (Stops disks mode) still own = still
 
   -- and so does each act
-  act_still : (w : StoreWorld a head) (act : StoreAct a head) → IsKept acts_by w.world → IsStillIn w → MayDo a head w act → IsStillIn (after_act a head w act)
+  act_still : (w : StoreWorld a place) (act : StoreAct a place) → IsKept acts_by w.world → IsStillIn w → MayDo a place w act → IsStillIn (after_act a place w act)
   act_still w (Claims h q parts) kept still can =
       claims_change w.world.history w.claims _ still (has_program w.world.history w.world.image can.program (kept.image can.running) can.loaded)
   act_still w (Parts h key g) kept still can =
@@ -120,21 +119,21 @@ module _ {F L : Type 0} (a : Analysis F L) (head : Head) where
 
   module _ (knows : Knows a) where
     -- what acts keep besides
-    abbrev IsWholeIn : StoreWorld a head → Type 0
+    abbrev IsWholeIn : StoreWorld a place → Type 0
     IsWholeIn w =
-        IsWhole a.lattice a.functions a.targets a.same (forms_of a) head.version (one_disk head) knows.is_same
-        (machine_is_exact a.functions a.same (forms_of a) knows.prefix_free head.version) (one_disk_keeps acts_by head) knows.known w
+        IsWhole a.lattice a.functions a.targets a.same (forms_of a) (version_at place) (store_at a place) knows.is_same
+        (exact_at a knows.prefix_free place) (laws_at a place) knows.known w
 
     -- acts, one after the other
-    acts_still : (w : StoreWorld a head) (acts : List (StoreAct a head)) → IsWholeIn w → IsStillIn w → MayDoAll a head w acts
-        → IsStillIn (after_acts a head w acts)
+    acts_still : (w : StoreWorld a place) (acts : List (StoreAct a place)) → IsWholeIn w → IsStillIn w → MayDoAll a place w acts
+        → IsStillIn (after_acts a place w acts)
     acts_still w [] whole still can = still
     acts_still w (act ∷ acts) whole still can =
-        let exact = machine_is_exact a.functions a.same (forms_of a) knows.prefix_free head.version in
-        let next : IsWholeIn (after_act a head w act) =
-        all_held a.lattice a.functions a.targets a.same (forms_of a) head.version (one_disk head) knows.is_same exact (one_disk_keeps acts_by head)
-        knows.known (λ r before now does. does) w (act ∷ []) whole (can.0, tt) in
-        acts_still (after_act a head w act) acts next (act_still w act whole.held.world still can.0) can.1
+        let exact = exact_at a knows.prefix_free place in
+        let next : IsWholeIn (after_act a place w act) =
+        all_held a.lattice a.functions a.targets a.same (forms_of a) (version_at place) (store_at a place) knows.is_same exact (laws_at a place)
+        knows.known (does_at a place) w (act ∷ []) whole (can.0, tt) in
+        acts_still (after_act a place w act) acts next (act_still w act whole.held.world still can.0) can.1
 
     -- of no step
     idle_still : (n : ℕ) → IsStill (image_after acts_by (take n []))
@@ -142,32 +141,32 @@ module _ {F L : Type 0} (a : Analysis F L) (head : Head) where
     idle_still (suc n) = λ none key. refl
 
     -- so it is of each world that acts led to
-    reached_still : (w : StoreWorld a head) → IsReached a head w → IsStillIn w
+    reached_still : (w : StoreWorld a place) → IsReached a place w → IsStillIn w
     reached_still w reached =
-        let exact = machine_is_exact a.functions a.same (forms_of a) knows.prefix_free head.version in
-        let begun = new_store a head reached.work reached.disk in
+        let exact = exact_at a knows.prefix_free place in
+        let begun = new_store a place reached.work reached.disks in
         let whole : IsWholeIn begun =
-        idle_held a.lattice a.functions a.targets a.same (forms_of a) head.version (one_disk head) knows.is_same exact (one_disk_keeps acts_by head)
-        knows.known reached.work reached.disk reached.live in
+        idle_held a.lattice a.functions a.targets a.same (forms_of a) (version_at place) (store_at a place) knows.is_same exact (laws_at a place)
+        knows.known reached.work reached.disks reached.live in
         subst IsStillIn reached.is (acts_still begun reached.acts whole (record { images = idle_still; claims = λ none h. refl }) reached.can)
 
     -- while it runs, the image is still
-    pub image_still : (w : StoreWorld a head) → IsReached a head w → w.world.mode ≡ Running → IsStill w.world.image
+    pub image_still : (w : StoreWorld a place) → IsReached a place w → w.world.mode ≡ Running → IsStill w.world.image
     image_still w reached running =
         let history = w.world.history in
-        let kept = (reached_whole a knows head w reached).held.world in
+        let kept = (reached_whole a knows place w reached).held.world in
         subst IsStill (ap (image_after acts_by) (take_all (length history) history (omega arith)) ∙ sym (kept.image running))
         ((reached_still w reached).images (length history))
 
     -- and so is what the sealed records give back
-    pub base_still : (w : StoreWorld a head) → IsReached a head w → (base : ProgramImage F) → IsFolded acts_by (contents w.world.sealed) base
+    pub base_still : (w : StoreWorld a place) → IsReached a place w → (base : ProgramImage F) → IsFolded acts_by (contents w.world.sealed) base
         → IsStill base
     base_still w reached base folded =
         let n : ℕ = length w.world.sealed in
-        let marks = (reached_whole a knows head w reached).held.world.marks in
-        let exact = machine_is_exact a.functions a.same (forms_of a) knows.prefix_free head.version in
+        let marks = (reached_whole a knows place w reached).held.world.marks in
+        let exact = exact_at a knows.prefix_free place in
         let image : ProgramImage F = image_after acts_by (take (mark_at w.world.sealed n) w.world.history) in
         let all : IsFolded acts_by (contents w.world.sealed) image =
         subst (λ sealed. IsFolded acts_by (contents sealed) image) (take_all n w.world.sealed (omega arith)) (marks.images n) in
-        subst IsStill (one_image acts_by exact (one_disk_keeps acts_by head) (contents w.world.sealed) acts_by.empty image base all folded)
+        subst IsStill (one_image acts_by exact (laws_at a place) (contents w.world.sealed) acts_by.empty image base all folded)
         ((reached_still w reached).images (mark_at w.world.sealed n))

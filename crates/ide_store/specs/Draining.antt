@@ -1,18 +1,18 @@
 -- What draining does: acts of hand 0, and batches where one is full.
 use Rattle.std.specs.Prelude.{◌≡◌, ◌≤◌, ℕ, ◌+◌, ◌-◌, ◌^◌, Bool, true, false, List, [], ◌∷◌, if◌then◌else◌, min}
 use Rattle.std.specs.List.{All}
-use Rattle.ide_journal.specs.Format.{Head}
 use Rattle.ide_steps.specs.Core.{CoreData}
 use Rattle.ide_steps.specs.DrainRefusal.{IsNoDrain, MayDrain}
 use Rattle.ide_wire.specs.declared.refused.Refused.{Refused}
 use Rattle.ide_wire.specs.declared.refused.Refused.TheVariants.{NoMemory}
 use Rattle.ide_store.specs.Hands.{Batches, Claims, Ends, Happens, Loads, Parts, Releases, Roots}
+use Rattle.ide_store.specs.Places.{Place}
 use Rattle.ide_store.specs.Table.{Analysis, AreActs, StoreAct, TableData}
 use Rattle.ide_store.specs.TableCalls.{IsFull, IsSealStop}
 
-module _ {F L : Type 0} (a : Analysis F L) (head : Head) where
+module _ {F L : Type 0} (a : Analysis F L) (place : Place) where
   -- the hand claims a key, does a part, ends its claim or gives it back; or what changed is sealed
-  abbrev pub IsByHand : ℕ → StoreAct a head → Type 0
+  abbrev pub IsByHand : ℕ → StoreAct a place → Type 0
   IsByHand hand (Claims h q parts) = h ≡ hand
   IsByHand hand (Parts h key g) = h ≡ hand
   IsByHand hand (Ends h c) = h ≡ hand
@@ -22,21 +22,21 @@ module _ {F L : Type 0} (a : Analysis F L) (head : Head) where
   IsByHand hand (Batches r) = Unit {0}
   IsByHand hand (Happens e) = ⊥
 
-  abbrev pub is_claim : StoreAct a head → Bool
+  abbrev pub is_claim : StoreAct a place → Bool
   is_claim (Claims h q parts) = true
   is_claim act = false
 
-  abbrev pub is_release : StoreAct a head → Bool
+  abbrev pub is_release : StoreAct a place → Bool
   is_release (Releases h) = true
   is_release act = false
 
   -- how many of the acts are such
-  abbrev pub count_of : (StoreAct a head → Bool) → List (StoreAct a head) → ℕ
+  abbrev pub count_of : (StoreAct a place → Bool) → List (StoreAct a place) → ℕ
   count_of is [] = 0
   count_of is (act ∷ acts) = (if is act then 1 else 0) + count_of is acts
 
   -- acts of hand 0 and batches, so many of which are claims, and so many give one back
-  pub record AreByDrainer (claims releases : ℕ) (acts : List (StoreAct a head)) : Type 0 where
+  pub record AreByDrainer (claims releases : ℕ) (acts : List (StoreAct a place)) : Type 0 where
     pub own : All (IsByHand 0) acts
     pub claimed : count_of is_claim acts ≡ claims
     pub released : count_of is_release acts ≡ releases
@@ -44,7 +44,7 @@ module _ {F L : Type 0} (a : Analysis F L) (head : Head) where
 module _ {F L : Type 0} (a : Analysis F L) (old new : TableData F) where
   -- with so many claims hand 0 came from the one to the other
   abbrev pub WorksBy : (claims releases : ℕ) → Type 0
-  WorksBy claims releases = AreActs a old new (λ head. AreByDrainer a head claims releases)
+  WorksBy claims releases = AreActs a old new (λ place. AreByDrainer a place claims releases)
 
   -- it claimed so many keys, told up to the largest number of 64 bits, and ended each claim
   abbrev pub DrainsBy : ℕ → Type 0

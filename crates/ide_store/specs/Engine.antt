@@ -14,6 +14,7 @@ use Rattle.ide_store.specs.Half.{OpensStore, Writes}
 use Rattle.ide_store.specs.Hands.{Happens, ProgramEvent}
 use Rattle.ide_store.specs.OneDisk.{IsLive, one_disk}
 use Rattle.ide_store.specs.Opening.{GoesOnFrom, HaveFold, IsOpenStop}
+use Rattle.ide_store.specs.Places.{OnOneDisk}
 use Rattle.ide_store.specs.Table.{Analysis, IsReached, MayDo, MayDoAll, StoreWorld, TableData, WorksOn, after_act, new_store}
 use Rattle.ide_store.specs.World.{Calls, Closed, Crashes, Fails, Mode, Opens, Running, Stops, Stores}
 use Rattle.ide_store.specs.Writing.{work_of}
@@ -27,9 +28,9 @@ pub data HandsOver {D : Type 0} {G : Ghosts D} (old new : WriterHalf D G) (seale
 
 module _ {F L : Type 0} (a : Analysis F L) {D : Type 0} {G : Ghosts D} (head : Head) where
   -- the two halves are at work on the world: the one works on it, and the other writes the records that it was handed
-  pub record AreAtWork (w : StoreWorld a head) (table : TableData F) (writer : WriterHalf D G) : Type 0 where
+  pub record AreAtWork (w : StoreWorld a (OnOneDisk head)) (table : TableData F) (writer : WriterHalf D G) : Type 0 where
     pub handed : List Entry
-    pub works : WorksOn a head w table handed
+    pub works : WorksOn a (OnOneDisk head) w table handed
     pub writes : Writes head handed w.world.stored writer
     pub work : w.world.work ≡ work_of writer.journal
     pub disk : w.world.disks ≡ G.state writer.journal.disk
@@ -37,25 +38,25 @@ module _ {F L : Type 0} (a : Analysis F L) {D : Type 0} {G : Ghosts D} (head : H
   -- they are at work on a new store
   pub record AreNewHalves (table : TableData F) (writer : WriterHalf D G) : Type 0 where
     pub live : IsLive head [] 0 (work_of writer.journal) (G.state writer.journal.disk)
-    pub at_work : AreAtWork (new_store a head (work_of writer.journal) (G.state writer.journal.disk)) table writer
+    pub at_work : AreAtWork (new_store a (OnOneDisk head) (work_of writer.journal) (G.state writer.journal.disk)) table writer
 
   -- over each world that acts led to and that stood on the disk as it was: the opening happens, and they are at work
   abbrev pub AreOpened : DiskState → TableData F → WriterHalf D G → Type 0
-  AreOpened before table writer = (w : StoreWorld a head) → IsReached a head w → w.world.disks ≡ before
+  AreOpened before table writer = (w : StoreWorld a (OnOneDisk head)) → IsReached a (OnOneDisk head) w → w.world.disks ≡ before
       → (found : List Entry) × (image : ProgramImage F) × (let act = Happens (Opens found image (work_of writer.journal) (G.state writer.journal.disk)) in
-      MayDo a head w act × AreAtWork (after_act a head w act) table writer)
+      MayDo a (OnOneDisk head) w act × AreAtWork (after_act a (OnOneDisk head) w act) table writer)
 
-  module _ (w : StoreWorld a head) (table new_table : TableData F) (new : WriterHalf D G) where
+  module _ (w : StoreWorld a (OnOneDisk head)) (table new_table : TableData F) (new : WriterHalf D G) where
     -- a good call of the disk happened, which stored the oldest record or not
     pub record DidCall : Type 0 where
       pub event : ProgramEvent F (one_disk head)
       pub is : (event ≡ Calls (work_of new.journal) (G.state new.journal.disk)) ⊎ (event ≡ Stores (work_of new.journal) (G.state new.journal.disk))
-      pub can : MayDo a head w (Happens event)
-      pub at_work : AreAtWork (after_act a head w (Happens event)) new_table new
+      pub can : MayDo a (OnOneDisk head) w (Happens event)
+      pub at_work : AreAtWork (after_act a (OnOneDisk head) w (Happens event)) new_table new
 
     -- one failed: no half works any more
     pub record DidFail : Type 0 where
-      pub can : MayDo a head w (Happens (Fails (G.state new.journal.disk)))
+      pub can : MayDo a (OnOneDisk head) w (Happens (Fails (G.state new.journal.disk)))
       pub failed : new_table ≡ record table { waiting = new_table.waiting; failed = true }
 
     -- what a step of the disk comes to: such a call; or all that was sealed is stored; or memory is wanting for the next record
@@ -67,37 +68,37 @@ module _ {F L : Type 0} (a : Analysis F L) {D : Type 0} {G : Ghosts D} (head : H
 
   -- over each world that acts led to, and on which the halves were at work
   abbrev pub StepsDiskOver : (table new_table : TableData F) (old new : WriterHalf D G) → Result Bool Refused → Type 0
-  StepsDiskOver table new_table old new result = (w : StoreWorld a head) → IsReached a head w → AreAtWork w table old
+  StepsDiskOver table new_table old new result = (w : StoreWorld a (OnOneDisk head)) → IsReached a (OnOneDisk head) w → AreAtWork w table old
       → StepsDisk w table new_table new result
 
 module _ {F L : Type 0} (a : Analysis F L) (head : Head) where
   -- a crash that leaves these bytes may happen to the world: at once, or behind a call or an opening that does not end
-  pub data MayCrash (w : StoreWorld a head) (left : List ℕ) : Type 0 where
-    at_once : MayDo a head w (Happens (Crashes left)) → MayCrash w left
-    within_call : MayDoAll a head w (Happens (Fails (settled left)) ∷ Happens (Crashes left) ∷ []) → MayCrash w left
-    within_opening : MayDoAll a head w (Happens (Stops (settled left) Closed) ∷ Happens (Crashes left) ∷ []) → MayCrash w left
+  pub data MayCrash (w : StoreWorld a (OnOneDisk head)) (left : List ℕ) : Type 0 where
+    at_once : MayDo a (OnOneDisk head) w (Happens (Crashes left)) → MayCrash w left
+    within_call : MayDoAll a (OnOneDisk head) w (Happens (Fails (settled left)) ∷ Happens (Crashes left) ∷ []) → MayCrash w left
+    within_opening : MayDoAll a (OnOneDisk head) w (Happens (Stops (settled left) Closed) ∷ Happens (Crashes left) ∷ []) → MayCrash w left
 
   module _ {D : Type 0} {G : Ghosts D} where
     -- whatever a crash at any moment of the step leaves, it may happen to each world on which the halves were at work
     abbrev pub CrashesOver : TableData F → (old new : WriterHalf D G) → Type 0
-    CrashesOver table old new = (w : StoreWorld a head) → IsReached a head w → AreAtWork a head w table old
+    CrashesOver table old new = (w : StoreWorld a (OnOneDisk head)) → IsReached a (OnOneDisk head) w → AreAtWork a head w table old
         → LeavesOnly G old.journal.disk new.journal.disk (MayCrash w)
 
   module _ {D : Type 0} (G : Ghosts D) (old new : D) where
     -- whatever a crash at any moment of an opening leaves, it may happen to each world whose disk it was
     abbrev pub CrashesOpening : Type 0
-    CrashesOpening = (w : StoreWorld a head) → IsReached a head w → w.world.disks ≡ G.state old → LeavesOnly G old new (MayCrash w)
+    CrashesOpening = (w : StoreWorld a (OnOneDisk head)) → IsReached a (OnOneDisk head) w → w.world.disks ≡ G.state old → LeavesOnly G old new (MayCrash w)
 
     -- an opening that stopped may have happened to each such world
     abbrev pub StopsOpening : Type 0
-    StopsOpening = (w : StoreWorld a head) → IsReached a head w → w.world.disks ≡ G.state old
-        → (mode : Mode) → (mode ≡ Running → ⊥) → MayDo a head w (Happens (Stops (G.state new) mode))
+    StopsOpening = (w : StoreWorld a (OnOneDisk head)) → IsReached a (OnOneDisk head) w → w.world.disks ≡ G.state old
+        → (mode : Mode) → (mode ≡ Running → ⊥) → MayDo a (OnOneDisk head) w (Happens (Stops (G.state new) mode))
 
 -- why a store is not opened: for the journal's reason; or it was opened, and the half that works is not
 pub data IsEngineStop {F L : Type 0} (a : Analysis F L) {D : Type 0} (G : Ghosts D) (tag : ℕ) (old new : D) : Refused → Type 0 where
   no_journal : {refused : Refused} → IsOpenRefusal G tag old new refused → IsEngineStop a G tag old new refused
   no_table : {refused : Refused} (writer : WriterHalf D G) (records : List RawRecord) → OpensStore tag old writer records → new ≡ writer.journal.disk
-      → IsOpenStop a writer.journal.version (entries_of records) refused → IsEngineStop a G tag old new refused
+      → IsOpenStop a writer.journal.version (entries_of records) (length records) refused → IsEngineStop a G tag old new refused
 
 -- the disk after an opening, in the engine or beside the refusal
 abbrev pub engine_disk_after : {P D F L : Type 0} {G : Ghosts D} → Result (Engine P D F L G) (Refused × D) → D
@@ -127,4 +128,4 @@ module _ {F L : Type 0} (a : Analysis F L) {P D : Type 0} {G : Ghosts D} (old ne
 abbrev pub HalvesOpen : {F L : Type 0} → Analysis F L → {D : Type 0} → Ghosts D → Type 0
 HalvesOpen a {D} G = (tag : ℕ) (disk : D) (writer : WriterHalf D G) (records : List RawRecord) (table : TableData _)
     → OpensStore tag disk writer records → HaveFold a writer.journal.version (entries_of records) → GoesOnFrom a (entries_of records) table
-    → table.version ≡ writer.journal.version → AreOpened a (head_of writer.journal.version tag) (G.state disk) table writer
+    → table.version ≡ writer.journal.version → table.sealed ≡ length records → AreOpened a (head_of writer.journal.version tag) (G.state disk) table writer

@@ -8,6 +8,7 @@ pub mod Freezing
 pub mod Machine
 pub mod OneDisk
 pub mod Opening
+pub mod Places
 pub mod Recovery
 pub mod Roots
 pub mod Runs

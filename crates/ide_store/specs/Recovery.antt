@@ -8,6 +8,8 @@ use Rattle.ide_problem.specs.Flow.{Targets}
 use Rattle.ide_store.specs.Hands.{EveryRunAnswers}
 use Rattle.ide_store.specs.Machine.{machine}
 use Rattle.ide_store.specs.OneDisk.{one_disk}
+use Rattle.ide_store.specs.Places.{Place, version_at}
+use Rattle.ide_store.specs.Table.{Analysis, forms_of, rules_at, store_at}
 use Rattle.ide_store.specs.World.{EveryRunRecovers}
 
 -- of whatever version and for whatever instance it was made
@@ -19,3 +21,8 @@ abbrev pub OneDiskAnswers : {F L : Type 0} → LatticeAlgebra L → EdgeAlgebra 
 OneDiskAnswers {F} A B targets same proper form =
     let forms : Functions F = functions_by proper form same B.all_top in
     (head : Head) → EveryRunAnswers A B targets same forms head.version (machine B same forms head.version) (one_disk head)
+
+-- wherever the store of the analysis stands
+abbrev pub PlaceAnswers : {F L : Type 0} → Analysis F L → Place → Type 0
+PlaceAnswers a place =
+    EveryRunAnswers a.lattice a.functions a.targets a.same (forms_of a) (version_at place) (rules_at a place) (store_at a place)

@@ -15,29 +15,30 @@ use Rattle.ide_store.specs.Draining.{WorksBy}
 use Rattle.ide_store.specs.Engine.{AreAtWork, AreNewHalves, AreOpened, MayCrash, StepsDiskOver}
 use Rattle.ide_store.specs.Freezing.{IsImageOf, IsImageOver}
 use Rattle.ide_store.specs.Hands.{Happens}
-use Rattle.ide_store.specs.Table.{Analysis, IsAct, IsReached, IsSameTable, StoreAct, StoreWorld, TableData}
+use Rattle.ide_store.specs.Places.{OnOneDisk, Place}
+use Rattle.ide_store.specs.Table.{Analysis, IsAct, IsReached, IsSameTable, StoreAct, StoreWorld, TableData, store_at}
 use Rattle.ide_store.specs.TableCalls.{FindsNothing}
 use Rattle.ide_store.specs.declared.writer.WriterHalf.{WriterHalf}
 
-module _ {F L : Type 0} (a : Analysis F L) (head : Head) where
+module _ {F L : Type 0} (a : Analysis F L) (place : Place) where
   -- what the half that works does: nothing that happens to the store by itself
-  abbrev pub IsOfTable : StoreAct a head → Type 0
+  abbrev pub IsOfTable : StoreAct a place → Type 0
   IsOfTable (Happens e) = ⊥
   IsOfTable act = Unit {0}
 
-  -- the disk is that of a world that acts led to
-  pub record IsLeftByRun (disk : DiskState) : Type 0 where
-    pub world : StoreWorld a head
-    pub reached : IsReached a head world
-    pub stands : world.world.disks ≡ disk
+  -- the disks are those of a world that acts led to
+  pub record IsLeftByRun (disks : (store_at a place).Disks) : Type 0 where
+    pub world : StoreWorld a place
+    pub reached : IsReached a place world
+    pub stands : world.world.disks ≡ disks
 
 module _ {F L : Type 0} (a : Analysis F L) where
   module _ {D : Type 0} {G : Ghosts D} where
     -- the halves are at work on a world that acts led to
     pub record AreOnRun (table : TableData F) (writer : WriterHalf D G) : Type 0 where
       pub head : Head
-      pub world : StoreWorld a head
-      pub reached : IsReached a head world
+      pub world : StoreWorld a (OnOneDisk head)
+      pub reached : IsReached a (OnOneDisk head) world
       pub at_work : AreAtWork a head world table writer
 
     -- and where they are not, a call of the disk failed
@@ -46,10 +47,10 @@ module _ {F L : Type 0} (a : Analysis F L) where
 
   -- the frozen image is that of a world that acts led to, and nothing is pending in it
   pub record IsImageOfRun {P : Type 0} (closed : Closed P L F) : Type 0 where
-    pub head : Head
-    pub world : StoreWorld a head
-    pub reached : IsReached a head world
-    pub image : IsImageOf a head world closed
+    pub place : Place
+    pub world : StoreWorld a place
+    pub reached : IsReached a place world
+    pub image : IsImageOf a place world closed
 
   -- over the graph, with roots of the names that its roots have, each value that follows from the frozen image is best
   pub record IsBestImage {P : Type 0} (closed : Closed P L F) (by : GraphBy (program_in closed)) : Type 0 where
@@ -65,13 +66,13 @@ module _ {F L : Type 0} (a : Analysis F L) where
 pub record EnginesStayOnRuns (P : Type 0) {F L : Type 0} (a : Analysis F L) {D : Type 0} (G : Ghosts D) : Type 0 where
   -- a new store begins one, and an opening goes on from a disk that one left: as it stands at any time, or as a crash leaves it
   pub made : (head : Head) (table : TableData F) (writer : WriterHalf D G) → AreNewHalves a head table writer → AreOnRun a table writer
-  pub opened : (head : Head) (before : DiskState) (table : TableData F) (writer : WriterHalf D G) → IsLeftByRun a head before
+  pub opened : (head : Head) (before : DiskState) (table : TableData F) (writer : WriterHalf D G) → IsLeftByRun a (OnOneDisk head) before
       → AreOpened a head before table writer → AreOnRun a table writer
-  pub leaves : (table : TableData F) (writer : WriterHalf D G) (on : AreOnRun a table writer) → IsLeftByRun a on.head (G.state writer.journal.disk)
-  pub crashes : (head : Head) (w : StoreWorld a head) → IsReached a head w → (left : List ℕ) → MayCrash a head w left → IsLeftByRun a head (settled left)
+  pub leaves : (table : TableData F) (writer : WriterHalf D G) (on : AreOnRun a table writer) → IsLeftByRun a (OnOneDisk on.head) (G.state writer.journal.disk)
+  pub crashes : (head : Head) (w : StoreWorld a (OnOneDisk head)) → IsReached a (OnOneDisk head) w → (left : List ℕ) → MayCrash a head w left → IsLeftByRun a (OnOneDisk head) (settled left)
   -- calls of the half that works: an act, all that one hand did, nothing to seal, or a refusal
-  pub act : (old new : TableData F) (writer : WriterHalf D G) (act : (head : Head) → StoreAct a head)
-      → ((head : Head) → IsOfTable a head (act head)) → IsAct a old new act → AreOnRun a old writer → AreOnRun a new writer
+  pub act : (old new : TableData F) (writer : WriterHalf D G) (act : (place : Place) → StoreAct a place)
+      → ((place : Place) → IsOfTable a place (act place)) → IsAct a old new act → AreOnRun a old writer → AreOnRun a new writer
   pub works : (old new : TableData F) (writer : WriterHalf D G) (claims releases : ℕ) → WorksBy a old new claims releases
       → AreOnRun a old writer → AreOnRun a new writer
   pub nothing : (old new : TableData F) (writer : WriterHalf D G) → FindsNothing a old new → AreOnRun a old writer → AreOnRun a new writer

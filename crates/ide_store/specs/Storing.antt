@@ -3,6 +3,7 @@ use Rattle.std.specs.Prelude.{◌≡◌, List, length}
 use Rattle.ide_disk.specs.declared.disk.Disk.{Ghosts}
 use Rattle.ide_journal.specs.Format.{Entry, Head}
 use Rattle.ide_store.specs.Engine.{AreAtWork}
+use Rattle.ide_store.specs.Places.{OnOneDisk}
 use Rattle.ide_store.specs.Table.{Analysis, IsReached, StoreWorld, TableData}
 use Rattle.ide_store.specs.World.{Sealed}
 use Rattle.ide_store.specs.declared.writer.WriterHalf.{WriterHalf}
@@ -10,8 +11,8 @@ use Rattle.ide_store.specs.declared.writer.WriterHalf.{WriterHalf}
 module _ {F L : Type 0} (a : Analysis F L) {D : Type 0} {G : Ghosts D} where
   -- the halves are at work on a world that acts led to, in which these records are sealed
   pub record AreWorking (head : Head) (sealed : List (Sealed Entry)) (table : TableData F) (writer : WriterHalf D G) : Type 0 where
-    pub world : StoreWorld a head
-    pub reached : IsReached a head world
+    pub world : StoreWorld a (OnOneDisk head)
+    pub reached : IsReached a (OnOneDisk head) world
     pub at_work : AreAtWork a head world table writer
     pub honest : G.honest writer.journal.disk
     pub same : world.world.sealed ≡ sealed
@@ -19,10 +20,10 @@ module _ {F L : Type 0} (a : Analysis F L) {D : Type 0} {G : Ghosts D} where
   -- over an honest disk and each world that acts led to, and on which the halves were at work: they still are, and nothing
   -- was sealed
   abbrev pub WorkOn : (table new_table : TableData F) (old new : WriterHalf D G) → Type 0
-  WorkOn table new_table old new = G.honest old.journal.disk → (head : Head) (w : StoreWorld a head) → IsReached a head w
+  WorkOn table new_table old new = G.honest old.journal.disk → (head : Head) (w : StoreWorld a (OnOneDisk head)) → IsReached a (OnOneDisk head) w
       → AreAtWork a head w table old → AreWorking head w.world.sealed new_table new
 
   -- and all that was sealed is stored
   abbrev pub StoreAll : (table new_table : TableData F) (old new : WriterHalf D G) → Type 0
-  StoreAll table new_table old new = G.honest old.journal.disk → (head : Head) (w : StoreWorld a head) → IsReached a head w
+  StoreAll table new_table old new = G.honest old.journal.disk → (head : Head) (w : StoreWorld a (OnOneDisk head)) → IsReached a (OnOneDisk head) w
       → AreAtWork a head w table old → (then : AreWorking head w.world.sealed new_table new) × (then.world.world.stored ≡ length w.world.sealed)

@@ -5,7 +5,7 @@ use Rattle.std.specs.Option.{is_some}
 use Rattle.ide_batch.specs.Applied.{HasImage}
 use Rattle.ide_batch.specs.Fold.{ProgramImage, image_entry}
 use Rattle.ide_batch.specs.Items.{Functions, functions_by}
-use Rattle.ide_journal.specs.Format.{Entry, Head, IsEntry}
+use Rattle.ide_journal.specs.Format.{Entry, IsEntry}
 use Rattle.ide_journal.specs.declared.version.Version.{Version}
 use Rattle.ide_lattice.specs.Algebra.{LatticeAlgebra, EdgeAlgebra}
 use Rattle.ide_problem.specs.Flow.{Targets}
@@ -17,10 +17,10 @@ use Rattle.ide_image.specs.declared.entry.Entry.{Entry as Noted}
 use Rattle.ide_theory.specs.State.{State}
 use Rattle.ide_wire.specs.declared.key.Key.{Key}
 use Rattle.ide_store.specs.Hands.{Act, Allowed, AreAllowed, Hands, IsCaughtUp, idle, next, worked}
-use Rattle.ide_store.specs.Machine.{ProgramStep, machine}
-use Rattle.ide_store.specs.OneDisk.{IsLive, Writer, one_disk}
+use Rattle.ide_store.specs.Machine.{ProgramStep}
+use Rattle.ide_store.specs.Places.{Place, machine_at, store_on, version_at}
+use Rattle.ide_store.specs.Store.{Store}
 use Rattle.ide_store.specs.World.{IsFolded, Rules, Running, contents}
-use Rattle.ide_disk.specs.Disk.{DiskState}
 
 -- an analysis, as contracts see it: its lattice and its functions, what its flow does, and how functions are told apart
 -- and spelled
@@ -75,43 +75,47 @@ pub record IsTable {F : Type 0} (core : CoreData F) (sealed : ℕ) (waiting : Li
 abbrev pub told : {F : Type 0} → Noted F → (Option F × Bool)
 told note = (note.function, note.pending)
 
-module _ {F L : Type 0} (a : Analysis F L) (head : Head) where
-  -- a world of the analysis, over one disk
+module _ {F L : Type 0} (a : Analysis F L) (place : Place) where
+  -- the store of the analysis at such a place
+  abbrev pub store_at : Store Entry
+  store_at = store_on a.functions a.same (forms_of a) place
+
+  -- a world of it
   abbrev pub StoreWorld : Type 0
-  StoreWorld = Hands F (one_disk head)
+  StoreWorld = Hands F store_at
 
   abbrev pub StoreAct : Type 0
-  StoreAct = Act F (one_disk head)
+  StoreAct = Act F store_at
 
   -- what its records do
   abbrev pub rules_at : Rules (ProgramImage F) (ProgramStep F) Entry
-  rules_at = machine a.functions a.same (forms_of a) head.version
+  rules_at = machine_at a.functions a.same (forms_of a) place
 
   -- the act may be done, and the world after it
   abbrev pub MayDo : StoreWorld → StoreAct → Type 0
-  MayDo w act = Allowed a.lattice a.functions a.targets a.same (forms_of a) head.version rules_at (one_disk head) w act
+  MayDo w act = Allowed a.lattice a.functions a.targets a.same (forms_of a) (version_at place) rules_at store_at w act
 
   abbrev pub after_act : StoreWorld → StoreAct → StoreWorld
-  after_act w act = next a.lattice a.functions a.targets a.same (forms_of a) head.version rules_at (one_disk head) w act
+  after_act w act = next a.lattice a.functions a.targets a.same (forms_of a) (version_at place) rules_at store_at w act
 
   abbrev pub MayDoAll : StoreWorld → List StoreAct → Type 0
-  MayDoAll w acts = AreAllowed a.lattice a.functions a.targets a.same (forms_of a) head.version rules_at (one_disk head) w acts
+  MayDoAll w acts = AreAllowed a.lattice a.functions a.targets a.same (forms_of a) (version_at place) rules_at store_at w acts
 
   abbrev pub after_acts : StoreWorld → List StoreAct → StoreWorld
-  after_acts w acts = worked a.lattice a.functions a.targets a.same (forms_of a) head.version rules_at (one_disk head) w acts
+  after_acts w acts = worked a.lattice a.functions a.targets a.same (forms_of a) (version_at place) rules_at store_at w acts
 
   -- a store that was just created, with no hand at work
-  abbrev pub new_store : Writer → DiskState → StoreWorld
-  new_store work disk = idle a.lattice a.functions a.targets a.same (forms_of a) head.version rules_at (one_disk head) work disk
+  abbrev pub new_store : store_at.Work → store_at.Disks → StoreWorld
+  new_store work disks = idle a.lattice a.functions a.targets a.same (forms_of a) (version_at place) rules_at store_at work disks
 
   -- acts that could be done one after the other led to the world from a new store
   pub record IsReached (w : StoreWorld) : Type 0 where
-    pub work : Writer
-    pub disk : DiskState
-    pub live : IsLive head [] 0 work disk
+    pub work : store_at.Work
+    pub disks : store_at.Disks
+    pub live : store_at.Live [] 0 work disks
     pub acts : List StoreAct
-    pub can : MayDoAll (new_store work disk) acts
-    pub is : after_acts (new_store work disk) acts ≡ w
+    pub can : MayDoAll (new_store work disks) acts
+    pub is : after_acts (new_store work disks) acts ≡ w
 
   -- the image that the sealed records give back has the program and the roots of the world's, and the entries that keys had
   -- when changes were last asked for
@@ -124,14 +128,14 @@ module _ {F L : Type 0} (a : Analysis F L) (head : Head) where
 
   -- nothing changed since the last record
   abbrev pub HasNothingNew : StoreWorld → Type 0
-  HasNothingNew w = IsCaughtUp a.lattice a.functions a.targets a.same (forms_of a) head.version rules_at (one_disk head) w
+  HasNothingNew w = IsCaughtUp a.lattice a.functions a.targets a.same (forms_of a) (version_at place) rules_at store_at w
 
   -- the half works on the world: its core has the image and the claims, it knows what changed since the last record, and
   -- of the sealed records these were handed over to the writer, and the others wait
   pub record WorksOn (w : StoreWorld) (table : TableData F) (handed : List Entry) : Type 0 where
     pub running : w.world.mode ≡ Running
     pub working : table.failed ≡ false
-    pub version : table.version ≡ head.version
+    pub version : table.version ≡ version_at place
     pub image : HasImage w.world.image table.core
     pub claims : (hand : ℕ) → w.claims hand ≡ (table_state a table).claims hand
     pub base : IsBase w table.core
@@ -141,11 +145,11 @@ module _ {F L : Type 0} (a : Analysis F L) (head : Head) where
 module _ {F L : Type 0} (a : Analysis F L) (old new : TableData F) where
   -- over each world that acts led to, and on which the half worked, the act may be done, and the half works on the world
   -- after it, with the same records handed over
-  abbrev pub IsAct : ((head : Head) → StoreAct a head) → Type 0
-  IsAct act = (head : Head) (w : StoreWorld a head) (handed : List Entry) → IsReached a head w → WorksOn a head w old handed
-      → MayDo a head w (act head) × WorksOn a head (after_act a head w (act head)) new handed
+  abbrev pub IsAct : ((place : Place) → StoreAct a place) → Type 0
+  IsAct act = (place : Place) (w : StoreWorld a place) (handed : List Entry) → IsReached a place w → WorksOn a place w old handed
+      → MayDo a place w (act place) × WorksOn a place (after_act a place w (act place)) new handed
 
   -- and so may some acts, one after the other, that are such as is told
-  abbrev pub AreActs : ((head : Head) → List (StoreAct a head) → Type 0) → Type 0
-  AreActs Are = (head : Head) (w : StoreWorld a head) (handed : List Entry) → IsReached a head w → WorksOn a head w old handed
-      → (acts : List (StoreAct a head)) × Are head acts × MayDoAll a head w acts × WorksOn a head (after_acts a head w acts) new handed
+  abbrev pub AreActs : ((place : Place) → List (StoreAct a place) → Type 0) → Type 0
+  AreActs Are = (place : Place) (w : StoreWorld a place) (handed : List Entry) → IsReached a place w → WorksOn a place w old handed
+      → (acts : List (StoreAct a place)) × Are place acts × MayDoAll a place w acts × WorksOn a place (after_acts a place w acts) new handed

@@ -1,7 +1,7 @@
 -- What each call of the half that works does, by what it answers, and why it is refused.
 use Rattle.std.specs.Prelude.{◌≡◌, ℕ, ◌+◌, ◌<◌, ◌≤◌, ◌++◌, true, false, List, [], ◌∷◌, Option, Some, None, length, slice_get}
 use Rattle.ide_batch.specs.Items.{Item, is_proper_item}
-use Rattle.ide_journal.specs.Format.{Entry, Head}
+use Rattle.ide_journal.specs.Format.{Entry}
 use Rattle.ide_lattice.specs.Algebra.{EdgeAlgebra}
 use Rattle.ide_problem.specs.Flow.{Targets}
 use Rattle.ide_image.specs.Notes.{ended_key, noted, noted_count}
@@ -22,6 +22,7 @@ use Rattle.ide_wire.specs.declared.refused.Refused.TheVariants.{Failed, Limit, N
 use Rattle.ide_image.specs.Worklist.{claim_at}
 use Rattle.ide_image.specs.declared.claim.Claim.{Claim as Held}
 use Rattle.ide_store.specs.Hands.{Batches, Claims, Ends, Loads, Parts, Releases, Roots}
+use Rattle.ide_store.specs.Places.{Place}
 use Rattle.ide_store.specs.Table.{Analysis, HasNothingNew, IsAct, IsReached, KeepsRest, StoreWorld, TableData, WorksOn, forms_of}
 
 -- one record more waits, with the number that is answered
@@ -38,42 +39,42 @@ behind_first (Some first) entry = first ∷ entry ∷ []
 module _ {F L : Type 0} (a : Analysis F L) where
   -- the hand claims the task's key, and owes its parts
   abbrev pub TakesTask : ℕ → (old new : TableData F) → TaskData F → Type 0
-  TakesTask hand old new task = IsAct a old new (λ head. Claims hand task.key (owed a.functions a.targets task))
+  TakesTask hand old new task = IsAct a old new (λ place. Claims hand task.key (owed a.functions a.targets task))
 
   -- the hand does the next part of the work, which counts it
   pub record DoesPart (hand : ℕ) (old new : TableData F) (work after : WorkData F) : Type 0 where
     pub part : Key × F
     pub next : slice_get work.parts work.done ≡ Some part
     pub counted : after ≡ record work { done = work.done + 1 }
-    pub act : IsAct a old new (λ head. Parts hand part.0 part.1)
+    pub act : IsAct a old new (λ place. Parts hand part.0 part.1)
 
   -- the hand's claim, with no part left, ends
   pub record EndsClaim (hand : ℕ) (old new : TableData F) : Type 0 where
     pub held : Held (TaskData F)
     pub is : claim_at old.core.pile hand ≡ Some held
-    pub act : IsAct a old new (λ head. Ends hand (steps.claim_of a.functions a.targets held))
+    pub act : IsAct a old new (λ place. Ends hand (steps.claim_of a.functions a.targets held))
 
   -- the hand's claim is given back
   abbrev pub GivesClaimBack : ℕ → (old new : TableData F) → Type 0
-  GivesClaimBack hand old new = IsAct a old new (λ head. Releases hand)
+  GivesClaimBack hand old new = IsAct a old new (λ place. Releases hand)
 
   -- the program is loaded, and its record sealed
   pub record LoadsProgram (v : ProgramValue) (old new : TableData F) (number : ℕ) : Type 0 where
     pub entry : Entry
     pub seals : SealsOne old new entry number
-    pub act : IsAct a old new (λ head. Loads v entry)
+    pub act : IsAct a old new (λ place. Loads v entry)
 
   -- what changed is sealed
   pub record SealsBatch (old new : TableData F) (number : ℕ) : Type 0 where
     pub entry : Entry
     pub seals : SealsOne old new entry number
-    pub act : IsAct a old new (λ head. Batches entry)
+    pub act : IsAct a old new (λ place. Batches entry)
 
   -- nothing changed since the last record, and nothing is sealed
   pub record FindsNothing (old new : TableData F) : Type 0 where
     pub rest : KeepsRest old new
-    pub caught_up : (head : Head) (w : StoreWorld a head) (handed : List Entry) → IsReached a head w → WorksOn a head w old handed
-        → HasNothingNew a head w × WorksOn a head w new handed
+    pub caught_up : (place : Place) (w : StoreWorld a place) (handed : List Entry) → IsReached a place w → WorksOn a place w old handed
+        → HasNothingNew a place w × WorksOn a place w new handed
 
   -- the procedure of the name becomes a root; what changed is sealed first, if anything did, and then the root's record,
   -- whose number is answered
@@ -83,7 +84,7 @@ module _ {F L : Type 0} (a : Analysis F L) where
     pub waits : new.waiting ≡ old.waiting ++ behind_first first entry
     pub sealed : new.sealed ≡ old.sealed + length (behind_first first entry)
     pub number_is : number + 1 ≡ new.sealed
-    pub act : IsAct a old new (λ head. Roots name first entry)
+    pub act : IsAct a old new (λ place. Roots name first entry)
 
 -- ---- refusals
 module _ {F : Type 0} where

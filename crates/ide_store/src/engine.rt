@@ -64,7 +64,8 @@ impl<P: Problem, D: Disk> Engine<P, D> {
         halves_open::<P, D>();
         match WriterHalf::open(alloc, disk, P::TAG) {
             Ok((writer, records)) => {
-                match TableHalf::open(alloc, records.as_slice(), writer.version()) {
+                let sealed = records.len() as u64;
+                match TableHalf::open(alloc, records.as_slice(), writer.version(), sealed) {
                     Ok(table) => Ok(Engine { table, writer }),
                     Err(refused) => Err((refused, writer.into_disk())),
                 }

@@ -114,6 +114,7 @@ pub fn engines_stay_on_runs<P: Problem, D: Disk>()
     ensures { EnginesStayOnRuns P ⟦<P as Kept>⟧.analysis D.Disk }
 {
     every_run_answers::<P>();
+    every_run_answers_on_two_disks::<P>();
 }
 
 /// A journal that stands behind the stored records is a writer of a store on one disk, and each call that

@@ -39,24 +39,26 @@ impl<P: Problem> TableHalf<P> {
         }
     }
 
-    /// A half over the records of a store of that version: their fold is its image, and no hand has a
-    /// claim.
+    /// A half over a store of that version, whose image is the fold of these records, and in which so
+    /// many are sealed; no hand has a claim.
     ///
-    /// Refusals: `Limit`, where there are more than 4,294,967,295 records; those of [`apply_all`].
+    /// Refusals: `Limit`, where more than 4,294,967,295 are sealed; those of [`apply_all`].
     pub fn open(
         alloc: Global,
         records: &[RawRecord],
         version: Version,
+        sealed: u64,
     ) -> Result<TableHalf<P>, Refused>
         ensures opened { IfOk result (GoesOnFrom ⟦<P as Kept>⟧.analysis (entries_of records.now)) }
         ensures folds { OnOk result (HaveFold ⟦<P as Kept>⟧.analysis version (entries_of records.now)) }
         ensures rests { IfOk result (λ table. table.waiting ≡ []) }
         ensures version { IfOk result (λ table. table.version ≡ version) }
-        ensures refused { IfErr result (IsOpenStop ⟦<P as Kept>⟧.analysis version (entries_of records.now)) }
+        ensures sealed { IfOk result (λ table. table.sealed ≡ sealed) }
+        ensures refused { IfErr result (IsOpenStop ⟦<P as Kept>⟧.analysis version (entries_of records.now) sealed) }
     {
         halves_begin::<P>();
         new_cores_are_empty::<P::F>();
-        if records.len() as u64 > MOST_RECORDS {
+        if sealed > MOST_RECORDS {
             return Err(Refused::Limit);
         }
         let mut core = Core::new(alloc);
@@ -68,7 +70,7 @@ impl<P: Problem> TableHalf<P> {
             version,
             outbox: Outbox {
                 waiting: VecDeque::new(alloc),
-                sealed: records.len() as u64,
+                sealed,
             },
             failed: false,
         })

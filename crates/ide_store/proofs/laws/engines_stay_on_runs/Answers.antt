@@ -1,4 +1,4 @@
-use Rattle.ide_store.proofs.Runs.{engines_stay_on_runs}
+use Rattle.ide_store.proofs.Runs.{engines_stay_on_runs, places_answer}
 use Rattle.ide_store.specs.Table.{Analysis}
 use Rattle.ide_store.proofs.laws.engines_stay_on_runs.Goals as goal
 
@@ -12,4 +12,4 @@ returns g c =
       proper = g.P.F.Wire.proper;
       form = g.P.F.Wire.form;
     } in
-    engines_stay_on_runs a c.every_run_answers.ensures
+    engines_stay_on_runs a (places_answer a c.every_run_answers.ensures c.every_run_answers_on_two_disks.ensures)

@@ -16,7 +16,7 @@ pub returns-then-self-clause-refused : goal.returns-then-self-clause-refused
 returns-then-self-clause-refused g c = rw (← c.self.view_is) (after_failure c.if-self.true)
 
 pub returns-then-self-clause-stops : goal.returns-then-self-clause-stops
-returns-then-self-clause-stops g c = (0, 0, omega arith, works_still _ _ _ (λ head w handed reached on. on))
+returns-then-self-clause-stops g c = (0, 0, omega arith, works_still _ _ _ (λ place w handed reached on. on))
 
 pub returns-in_err-may_drain-clause-refused : goal.returns-in_err-may_drain-clause-refused
 returns-in_err-may_drain-clause-refused g c =
@@ -26,7 +26,7 @@ returns-in_err-may_drain-clause-refused g c =
     (no_drain (subst (λ (table : TableData g.row.P-F.Denot). IsNoDrain table.core c.in_err-may_drain.field-0.0) c.self.view_is c.in_err-may_drain.ensures.refused)))
 
 pub returns-in_err-may_drain-clause-stops : goal.returns-in_err-may_drain-clause-stops
-returns-in_err-may_drain-clause-stops g c = (0, 0, omega arith, works_still _ _ _ (λ head w handed reached on. on))
+returns-in_err-may_drain-clause-stops g c = (0, 0, omega arith, works_still _ _ _ (λ place w handed reached on. on))
 
 pub returns-then-is_err-clause-refused : goal.returns-then-is_err-clause-refused
 returns-then-is_err-clause-refused g c =

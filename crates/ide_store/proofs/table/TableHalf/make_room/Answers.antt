@@ -8,7 +8,7 @@ use Rattle.ide_store.proofs.Drained.{anew_core, equal_core, seal_works, stop_sta
 use Rattle.ide_store.proofs.table.TableHalf.make_room.Goals as goal
 
 pub returns-then-changed_count-lt-MOST_CHANGED-clause-works : goal.returns-then-changed_count-lt-MOST_CHANGED-clause-works
-returns-then-changed_count-lt-MOST_CHANGED-clause-works g c = works_still _ _ _ (λ head w handed reached on. on)
+returns-then-changed_count-lt-MOST_CHANGED-clause-works g c = works_still _ _ _ (λ place w handed reached on. on)
 
 pub returns-clause-works : goal.returns-clause-works
 returns-clause-works g c = seal_works _ c.seal_changes.result _ _ c.seal_changes.ensures.seals c.seal_changes.ensures.nothing c.seal_changes.ensures.unchanged

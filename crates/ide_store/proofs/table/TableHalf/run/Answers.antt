@@ -7,7 +7,7 @@ use Rattle.ide_store.proofs.table.TableHalf.run.Goals as goal
 
 pub loop-work-init : goal.loop-work-init
 loop-work-init g c = (
-  works_still _ _ _ (λ head w handed reached on. on),
+  works_still _ _ _ (λ place w handed reached on. on),
   inr (refl, c.requires.fresh),
   c.requires.own,
   λ h other none. none,

@@ -6,7 +6,7 @@ use Rattle.ide_store.proofs.Drained.{works_still, works_then}
 use Rattle.ide_store.proofs.table.TableHalf.run_all.Goals as goal
 
 pub loop-tasks-init : goal.loop-tasks-init
-loop-tasks-init g c = ((0, refl, works_still _ _ _ (λ head w handed reached on. on)), c.requires)
+loop-tasks-init g c = ((0, refl, works_still _ _ _ (λ place w handed reached on. on)), c.requires)
 
 pub loop-tasks-preserved : goal.loop-tasks-preserved
 loop-tasks-preserved g c =
