@@ -150,6 +150,7 @@ module _ {D : Type 0} {G : Ghosts D} where
       };
       now = call.now;
       now_is = call.now_is;
+      tag = call.tag;
       writes = call.writes;
     })
     calls_too _ (stores store) = stores (record {
@@ -202,6 +203,7 @@ module _ {D : Type 0} {G : Ghosts D} where
           event = event;
           now = slot;
           now_is = inl refl;
+          tag = refl;
           writes = record { behind = behind; waiting = ap (map entry_of) same ∙ writes.waiting };
         })
         go _ (then_stored event behind idle filler) = absurd (more idle)
@@ -252,9 +254,9 @@ module _ {D : Type 0} {G : Ghosts D} where
       go : (result : Result Bool Refused) → CheckpointThen slot other records stored old.journal new.journal result
           → CallsTo slot other records stored old new (answered result)
       go _ (then_filled event behind) =
-          calls (record { event = event; now = slot; now_is = inl refl; writes = record { behind = behind; waiting = waits } })
+          calls (record { event = event; now = slot; now_is = inl refl; tag = refl; writes = record { behind = behind; waiting = waits } })
       go _ (then_turned event behind base tag) =
-          calls (record { event = event; now = other; now_is = inr refl; writes = record { behind = behind; waiting = waits } })
+          calls (record { event = event; now = other; now_is = inr refl; tag = tag; writes = record { behind = behind; waiting = waits } })
       go _ (then_unfilled event) = fails event
 
   -- ---- crashes
@@ -422,6 +424,7 @@ module _ {D : Type 0} {G : Ghosts D} where
           waiting = ap (map entry_of) none ∙ sym nothing;
         };
     rests = λ some. some rests;
+    none = none;
   }
 
 -- ---- records that are taken over

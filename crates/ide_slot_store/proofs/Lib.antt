@@ -1,2 +1,5 @@
-pub mod Writing
+pub mod Batches
 pub mod Half
+pub mod Openings
+pub mod Stepping
+pub mod Writing

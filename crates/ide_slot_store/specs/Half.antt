@@ -55,6 +55,7 @@ module _ {D : Type 0} {G : Ghosts D} where
     pub writes : Shows opens.slot (reads_two (states_of G a b)) → (other : Slot) (records : List Entry)
         → length records ≡ slot_count opens.slot → Writes opens.slot other records (length records) half
     pub rests : IsCheckpointing half.journal → ⊥
+    pub none : half.waiting.items ≡ []
 
   -- the disks after an opening, in the half or beside the refusal
   abbrev pub half_sides_after : {R : Type 0} → Result (SlotWriterHalf D G × R) (Refused × D × D) → Sides D
@@ -71,18 +72,13 @@ module _ {D : Type 0} {G : Ghosts D} where
   Seals entry old new = (slot other : Slot) (records : List Entry) (stored : ℕ) → length records < 4294967295
       → Writes slot other records stored old → Writes slot other (records ++ entry ∷ []) stored new
 
-  -- the records that were sealed are handed over, where none waited with the writer; or one did, and they wait on
-  pub data HandsOver (old new : SlotWriterHalf D G) (sealed left : List RawRecord) : Type 0 where
-    took : old.waiting.items ≡ [] → new.waiting.items ≡ sealed → left ≡ [] → new.journal ≡ old.journal → HandsOver old new sealed left
-    kept : new.waiting.items ≡ old.waiting.items → left ≡ sealed → new.journal ≡ old.journal → (old.waiting.items ≡ [] → ⊥)
-        → HandsOver old new sealed left
-
   module _ (slot other : Slot) (records : List Entry) (stored : ℕ) (old new : SlotWriterHalf D G) where
     -- a good call was made that stored no record; the same slot is current, or that of the checkpoint
     pub record HasCalled : Type 0 where
       pub event : DidCall other records stored old.journal new.journal
       pub now : Slot
       pub now_is : (now ≡ slot) ⊎ (now ≡ other)
+      pub tag : now.head.tag ≡ slot.head.tag
       pub writes : Writes now other records stored new
 
     -- one that stored a record

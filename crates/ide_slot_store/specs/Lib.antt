@@ -1,2 +1,5 @@
+pub mod Batches
+pub mod Engine
 pub mod Half
+pub mod Openings
 pub mod Writing

@@ -1,10 +1,11 @@
-//! The law of a store on two disks. The function does nothing: its clause is the law.
+//! Laws of a store on two disks. The functions do nothing: their clauses are the laws.
+ghost use Rattle.ide_slot_store.specs.Openings.{SlotHalvesOpen};
 ghost use Rattle.ide_slot_store.specs.Writing.{JournalsWriteTwo};
 ghost use Rattle.ide_store.specs.TwoDisksLaws.{slots_of};
 
 use ide_disk::Disk;
 use ide_problem::Problem;
-use ide_store::Kept;
+use ide_store::{Kept, every_run_answers, every_run_answers_on_two_disks};
 
 /// A journal on two disks that stands behind the stored records is a writer of a store on two disks. Each
 /// call that it makes, for the next record or of a checkpoint, is an event of the store, after which it
@@ -15,3 +16,13 @@ use ide_store::Kept;
 pub fn slot_journals_write_stores<P: Problem, D: Disk>()
     ensures { JournalsWriteTwo D.Disk (slots_of ⟦<P as Kept>⟧.analysis) }
 {}
+
+/// The two halves of a store on two disks that was opened are at work on it: the one that goes on from the
+/// records that were found, and the one that found them.
+pub fn slot_halves_open<P: Problem, D: Disk>()
+    ensures { SlotHalvesOpen ⟦<P as Kept>⟧.analysis D.Disk }
+{
+    every_run_answers::<P>();
+    every_run_answers_on_two_disks::<P>();
+    slot_journals_write_stores::<P, D>();
+}

@@ -4,11 +4,15 @@
 //! and their writer, and what an opening gives back. Each call of a journal on two disks is an event of
 //! that world, after which the journal stands behind the records again (`specs/Writing`). The half of a
 //! store that writes, [`SlotWriterHalf`], takes sealed records to the current disk and checkpoints to
-//! the other, and each of its steps is such an event (`specs/Half`).
+//! the other, and each of its steps is such an event (`specs/Half`). A [`SlotEngine`] has that half and
+//! the one that works, and each call of it is some acts of such a world (`specs/Engine`).
 #![tactic(auto)]
 
+mod batches;
+mod engine;
 mod laws;
 mod writer;
 
-pub use laws::slot_journals_write_stores;
+pub use engine::SlotEngine;
+pub use laws::{slot_halves_open, slot_journals_write_stores};
 pub use writer::SlotWriterHalf;

@@ -1,6 +1,6 @@
 //! The half of a store on two disks that writes: it takes sealed records to the current disk, and a
 //! checkpoint to the other, one disk call at a time.
-ghost use Rattle.std.specs.Prelude.{◌≡◌, ◌⊎◌, ◌+◌, ◌<◌, ◌∷◌, ◌++◌, [], true, false, Err, Ok, IfErr, IfOk, OnErr, OnOk};
+ghost use Rattle.std.specs.Prelude.{◌≡◌, ◌⊎◌, ◌+◌, ◌<◌, ◌≤◌, ◌∷◌, ◌++◌, [], true, false, Err, Ok, IfErr, IfOk, OnErr, OnOk};
 ghost use Rattle.std.specs.List.{All};
 ghost use Rattle.ide_journal.specs.Format.{IsEntry};
 ghost use Rattle.ide_journal.specs.Lists.{entries_of, entry_of};
@@ -10,13 +10,13 @@ ghost use Rattle.ide_slot_journal.specs.Stages.{stage_of};
 
 use ide_disk::Disk;
 use ide_journal::{RawRecord, Version};
+use ide_problem::Problem;
 use ide_slot_journal::SlotJournal;
 use ide_slots::NumberedRecord;
-use ide_store::MOST_RECORDS;
+use ide_store::{MOST_RECORDS, TableHalf};
 use ide_wire::Refused;
 use std::alloc::Global;
 use std::collections::VecDeque;
-use std::mem;
 
 /// A journal on two disks, and the sealed records that it does not have yet.
 #[derive(Drop)]
@@ -37,7 +37,8 @@ impl<D: Disk> SlotWriterHalf<D> {
     ghost use Rattle.ide_slot_journal.specs.Plans.{IsPlanRefusal, Plans, planned_slot};
     ghost use Rattle.ide_slot_journal.specs.Records.{LeavesWithNext};
     ghost use Rattle.ide_slot_journal.specs.Stands.{AreHonest, HasFaulted, HasNoNext, IsCheckpointing, IsFilling, IsTurn, pair_of, records_stored, sides_of};
-    ghost use Rattle.ide_slot_store.specs.Half.{CallsOver, CrashesStep, FailsNone, FailsOne, HandsOver, HasStoredAll, IsBeginRefusal, IsNewHalf, IsQuiet, IsSameHalf, KeepsWriting, OpensStore, PlansWriting, Seals, StepsOver, half_sides_after};
+    ghost use Rattle.ide_store.specs.Handing.{HandsTo};
+    ghost use Rattle.ide_slot_store.specs.Half.{CallsOver, CrashesStep, FailsNone, FailsOne, HasStoredAll, IsBeginRefusal, IsNewHalf, IsQuiet, IsSameHalf, KeepsWriting, OpensStore, PlansWriting, Seals, StepsOver, half_sides_after};
 
     /// Makes a store with no record on the disks A and B, whatever they held.
     ///
@@ -245,14 +246,15 @@ impl<D: Disk> SlotWriterHalf<D> {
         }
     }
 
-    /// Takes over the sealed records that wait elsewhere, where none waits here. It takes no memory.
-    pub fn take_over(&mut self, sealed: &mut VecDeque<RawRecord>)
-        requires { All IsEntry (entries_of sealed.old.items) }
-        ensures { HandsOver self.old self.new sealed.old.items sealed.new.items }
+    /// Takes over the sealed records that wait with the half that works, where none waits here. It takes
+    /// no memory.
+    pub fn take_from<P: Problem>(&mut self, table: &mut TableHalf<P>)
+        ensures hands { HandsTo table.old table.new self.old.waiting.items self.new.waiting.items }
+        ensures journal { self.new.journal ≡ self.old.journal }
+        ensures proper { All IsEntry (entries_of self.new.waiting.items) }
+        ensures few { table.old.sealed ≤ 4294967295 }
     {
-        if self.waiting.is_empty() {
-            mem::swap(&mut self.waiting, sealed);
-        }
+        table.hand_over(&mut self.waiting);
     }
 
     /// The disks A and B, as the writer leaves them.

@@ -93,8 +93,8 @@ record_not_disk a version n old new entry _ (damaged misfit same) is = cc (is)
 record_not_disk a version n old new entry _ (memory kept first image) is = cc (is)
 
 -- nor is a half over the records of a store
-pub half_not_disk : {F L : Type 0} (a : Analysis F L) (version : Version) (found : List Entry) (refused : Refused)
-    → IsOpenStop a version found refused → refused ≡ Disk → ⊥
-half_not_disk a version found _ (too_many more) is = cc (is)
-half_not_disk a version found refused (fold_stops old new has stops) is =
+pub half_not_disk : {F L : Type 0} (a : Analysis F L) (version : Version) (given : List Entry) (sealed : ℕ) (refused : Refused)
+    → IsOpenStop a version given sealed refused → refused ≡ Disk → ⊥
+half_not_disk a version given sealed _ (too_many more) is = cc (is)
+half_not_disk a version given sealed refused (fold_stops old new has stops) is =
     record_not_disk a version _ stops.between new stops.entry refused stops.refusal is

@@ -1,5 +1,5 @@
 -- A half that works begins on a new store, and goes on from an opening.
-use Rattle.std.proofs.Common.{◌≡◌, ◌∙◌, Bool, List, [], ◌∷◌, Some, None, length, take, refl, ap, sym, subst}
+use Rattle.std.proofs.Common.{◌≡◌, ◌∙◌, ℕ, Bool, List, [], ◌∷◌, Some, None, length, take, refl, ap, sym, subst}
 use Rattle.std.specs.Option.{option_map}
 use Rattle.std.proofs.lemmas.List.{append-nil, length-take-le}
 use Rattle.ide_batch.specs.Applied.{HasImage}
@@ -44,7 +44,7 @@ noting_image image core has = record { program = has.program; graphed = has.grap
 
 module _ {F L : Type 0} (a : Analysis F L) where
   -- what records lead to on one disk of that version, they lead to wherever the version is that one
-  leads_there : (place : Place) (entries : List Entry) (before now : ProgramImage F)
+  pub leads_there : (place : Place) (entries : List Entry) (before now : ProgramImage F)
       → LeadTo (machine a.functions a.same (forms_of a) (version_at place)) entries before now → LeadTo (rules_at a place) entries before now
   leads_there place [] before now same = same
   leads_there place (entry ∷ entries) before now (between, first, rest) =
@@ -91,20 +91,20 @@ module _ {F L : Type 0} (a : Analysis F L) (knows : Knows a) where
       alike may.1.1 in (
         is.holds,
         record {
-        running = refl;
-        working = refl;
-        version = sym same;
-        image = noting_image image new has;
-        claims = λ hand. ap (option_map (claim_of a.functions a.targets)) (sym (free hand));
-        base = record {
-          image = image;
-          folded = is.image image may.1.1;
-          program = refl;
-          roots = refl;
-          entries = λ key. λ i. (has.get key i, has.pending key i);
-        };
-        sealed = length-take-le (length found) w.world.sealed is.most ∙ count;
-        waits = sym (append-nil (contents (take (length found) w.world.sealed)));
+          running = refl;
+          working = refl;
+          version = sym same;
+          image = noting_image image new has;
+          claims = λ hand. ap (option_map (claim_of a.functions a.targets)) (sym (free hand));
+          base = record {
+            image = image;
+            folded = is.image image may.1.1;
+            program = refl;
+            roots = refl;
+            entries = λ key. λ i. (has.get key i, has.pending key i);
+          };
+          sealed = length-take-le (length found) w.world.sealed is.most ∙ count;
+          waits = sym (append-nil (contents (take (length found) w.world.sealed)));
         },
       )
 

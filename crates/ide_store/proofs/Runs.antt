@@ -33,7 +33,7 @@ use Rattle.ide_store.proofs.Drained.{works_still, works_unchanged}
 -- ---- the disk beneath the half that works
 module _ {F L : Type 0} (a : Analysis F L) (place : Place) where
   -- the writer stands as it did, on the disk as it was, with as much stored
-  record IsSameBelow (old new : StoreWorld a place) : Type 0 where
+  pub record IsSameBelow (old new : StoreWorld a place) : Type 0 where
     pub stored : new.world.stored ≡ old.world.stored
     pub work : new.world.work ≡ old.world.work
     pub disks : new.world.disks ≡ old.world.disks
@@ -86,7 +86,6 @@ module _ {F L : Type 0} (a : Analysis F L) (head : Head) where
   crash_leaves w reached left (at_once can) = left_by a (OnOneDisk head) w reached (Happens (Crashes left) ∷ []) (can, tt)
   crash_leaves w reached left (within_call can) = left_by a (OnOneDisk head) w reached (Happens (Fails (settled left)) ∷ Happens (Crashes left) ∷ []) can
   crash_leaves w reached left (within_opening can) = left_by a (OnOneDisk head) w reached (Happens (Stops (settled left) Shut) ∷ Happens (Crashes left) ∷ []) can
-
 
 module _ {F L : Type 0} (a : Analysis F L) where
   -- the half works on a world to which acts of its own led from that one, with the same records handed over
@@ -161,7 +160,7 @@ module _ {F L : Type 0} (a : Analysis F L) {D : Type 0} {G : Ghosts D} where
 
   -- ---- a call of the disk
   step_stays : (old new : TableData F) (writer after : WriterHalf D G) (result : Result Bool Refused)
-      → ((place : Place) → StepsDiskOver a head old new writer after result) → AreOnRun a old writer → AreOnRunUnlessFailed a new after
+      → ((head : Head) → StepsDiskOver a head old new writer after result) → AreOnRun a old writer → AreOnRunUnlessFailed a new after
   step_stays old new writer after result steps on = made result (steps on.head on.world on.reached on.at_work)
     where
       made : (result : Result Bool Refused) → StepsDisk a on.head on.world old new after result → AreOnRunUnlessFailed a new after
@@ -198,7 +197,7 @@ places_answer a one two (OnTwoDisks tag) = two tag
 
 module _ {F L : Type 0} (a : Analysis F L) (answers : (place : Place) → PlaceAnswers a place) where
   -- what is so of every run is so of the world
-  sound : (place : Place) (w : StoreWorld a place) → IsReached a place w
+  pub sound : (place : Place) (w : StoreWorld a place) → IsReached a place w
       → IsSoundWorld a.lattice a.functions a.targets a.same (forms_of a) (version_at place) (rules_at a place) (store_at a place) w
   sound place w reached =
       subst (λ (u : StoreWorld a place).

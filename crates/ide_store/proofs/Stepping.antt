@@ -18,8 +18,8 @@ use Rattle.ide_wire.specs.declared.refused.Refused.TheVariants.{Disk, NoMemory}
 use Rattle.ide_store.specs.Engine.{AreAtWork, DidCall, DidFail, HandsOver, StepsDisk, StepsDiskOver, all_stored, did_call, did_fail, kept, no_memory, took}
 use Rattle.ide_store.specs.Half.{HasCalled, HasStored, IsSameHalf, StepsOver, StepsTo, Writes, calls, fails, rests, stores, waits}
 use Rattle.ide_store.specs.OneDisk.{DoesGoodCall, Fails, Stores, Writer}
-use Rattle.ide_store.specs.Places.{OnOneDisk}
-use Rattle.ide_store.specs.Table.{Analysis, IsTable, StoreWorld, TableData, WorksOn}
+use Rattle.ide_store.specs.Places.{OnOneDisk, Place}
+use Rattle.ide_store.specs.Table.{Analysis, IsTable, StoreWorld, TableData, WorksOn, store_at}
 use Rattle.ide_store.specs.World as world
 use Rattle.ide_store.specs.World.{contents}
 use Rattle.ide_store.specs.Writing.{StandsBehind, work_of}
@@ -28,7 +28,7 @@ use Rattle.ide_store.proofs.Half.{none_waits}
 use Rattle.ide_store.proofs.OneDisk.{next_taken}
 
 -- ---- more records behind those that are stored or wait
-more_get : {X : Type 0} (xs ys : List X) (x : X) (n : ℕ) → slice_get xs n ≡ Some x → slice_get (xs ++ ys) n ≡ Some x
+pub more_get : {X : Type 0} (xs ys : List X) (x : X) (n : ℕ) → slice_get xs n ≡ Some x → slice_get (xs ++ ys) n ≡ Some x
 more_get [] ys x n is = cc
 more_get (z ∷ zs) ys x zero is = is
 more_get (z ∷ zs) ys x (suc n) is = more_get zs ys x n is
@@ -47,7 +47,7 @@ either_get P (z ∷ zs) ys x zero first all is = first zero x is
 either_get P (z ∷ zs) ys x (suc n) first all is = either_get P zs ys x n (λ m y at. first (suc m) y at) all is
 
 -- nothing gives no items
-none_mapped : {X Y : Type 0} (f : X → Y) (xs : List X) → map f xs ≡ [] → xs ≡ []
+pub none_mapped : {X Y : Type 0} (f : X → Y) (xs : List X) → map f xs ≡ [] → xs ≡ []
 none_mapped f [] is = refl
 none_mapped f (x ∷ xs) is = cc (is)
 
@@ -102,14 +102,15 @@ module _ (handed more : List Entry) (stored : ℕ) where
       }
 
   -- and all of those wait
-  rest_waits : stored ≡ length handed → drop stored (handed ++ more) ≡ more
+  pub rest_waits : stored ≡ length handed → drop stored (handed ++ more) ≡ more
   rest_waits all = subst (λ (n : ℕ). drop n (handed ++ more) ≡ more) (sym all) (drop-append_seam handed more)
 
-module _ {F L : Type 0} (a : Analysis F L) (head : Head) where
+module _ {F L : Type 0} (a : Analysis F L) (place : Place) where
   -- the half works on a world of which others are stored, where other records are left with it
-  abbrev works_after : (w : StoreWorld a (OnOneDisk head)) (table : TableData F) (stored : ℕ) (work : Writer) (disks : DiskState) (handed left : List Entry)
-      {before : List Entry} → WorksOn a (OnOneDisk head) w table before → contents w.world.sealed ≡ handed ++ left
-      → WorksOn a (OnOneDisk head) (record w { world = record w.world { stored = stored; work = work; disks = disks } }) (record table { waiting = left }) handed
+  abbrev pub works_after : (w : StoreWorld a place) (table : TableData F) (stored : ℕ) (work : (store_at a place).Work)
+      (disks : (store_at a place).Disks) (handed left : List Entry) {before : List Entry} → WorksOn a place w table before
+      → contents w.world.sealed ≡ handed ++ left
+      → WorksOn a place (record w { world = record w.world { stored = stored; work = work; disks = disks } }) (record table { waiting = left }) handed
   works_after w table stored work disks handed left works split = record {
     running = works.running;
     working = works.working;
@@ -188,7 +189,7 @@ module _ {F L : Type 0} (a : Analysis F L) {D : Type 0} {G : Ghosts D} (head : H
         → AreAtWork a head (record w { world = record w.world { stored = stored; work = work_of new.journal; disks = G.state new.journal.disk } }) now new
     at_work_on stored writes = record {
       handed = has.handed;
-      works = works_after a head w table stored (work_of new.journal) (G.state new.journal.disk) has.handed left works has.split;
+      works = works_after a (OnOneDisk head) w table stored (work_of new.journal) (G.state new.journal.disk) has.handed left works has.split;
       writes = writes;
       work = refl;
       disk = refl;
@@ -228,7 +229,7 @@ module _ {F L : Type 0} (a : Analysis F L) {D : Type 0} {G : Ghosts D} (head : H
         → AreAtWork a head w now new
     at_work_still writes work disk = record {
       handed = has.handed;
-      works = works_after a head w table w.world.stored w.world.work w.world.disks has.handed left works has.split;
+      works = works_after a (OnOneDisk head) w table w.world.stored w.world.work w.world.disks has.handed left works has.split;
       writes = writes;
       work = has.work ∙ sym work;
       disk = has.disk ∙ ap G.state (sym disk);

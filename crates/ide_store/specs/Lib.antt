@@ -5,6 +5,7 @@ pub mod Hands
 pub mod Draining
 pub mod Engine
 pub mod Freezing
+pub mod Handing
 pub mod Machine
 pub mod OneDisk
 pub mod Opening

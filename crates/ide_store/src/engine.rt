@@ -64,8 +64,8 @@ impl<P: Problem, D: Disk> Engine<P, D> {
         halves_open::<P, D>();
         match WriterHalf::open(alloc, disk, P::TAG) {
             Ok((writer, records)) => {
-                let sealed = records.len() as u64;
-                match TableHalf::open(alloc, records.as_slice(), writer.version(), sealed) {
+                let found = records.as_slice();
+                match TableHalf::open(alloc, found, writer.version(), found.len() as u64) {
                     Ok(table) => Ok(Engine { table, writer }),
                     Err(refused) => Err((refused, writer.into_disk())),
                 }

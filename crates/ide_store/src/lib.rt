@@ -14,6 +14,7 @@
 
 mod draining;
 mod engine;
+mod handing;
 mod kept;
 mod laws;
 mod opening;

@@ -1,4 +1,4 @@
-use Rattle.std.proofs.Common.{◌≡◌, ◌∙◌, ℕ, List, subst, sym}
+use Rattle.std.proofs.Common.{◌≡◌, ◌∙◌, ℕ, List, length, ap, subst, sym}
 use Rattle.ide_journal.specs.Lists.{entries_of}
 use Rattle.ide_journal.specs.Opening.{KeepsRecords}
 use Rattle.ide_journal.specs.Refusals.{IsOpenRefusal}
@@ -29,13 +29,13 @@ returns-in-Ok-open-clause-opened g c honest =
     let a = kept g in
     let writer = c.in-Ok.writer in
     let records = c.in-Ok.records.items in
-    let found = c.as_slice.ensures.value in
+    let found = c.as_slice-found.ensures.value in
     c.halves_open.ensures g.P.Problem.TAG c.args.disk writer records c.in-Ok-open.table
     (subst (λ (tag : ℕ). OpensStore tag c.args.disk writer records) c.TAG.ensures (c.in-Ok.ensures.opened honest))
     (subst (λ (v : Version). HaveFold a v (entries_of records)) c.version.ensures
     (subst (λ (raws : List RawRecord). HaveFold a c.version.result (entries_of raws)) found c.in-Ok-open.ensures.folds))
     (subst (λ (raws : List RawRecord). GoesOnFrom a (entries_of raws) c.in-Ok-open.table) found c.in-Ok-open.ensures.opened)
-    (c.in-Ok-open.ensures.version ∙ c.version.ensures)
+    (c.in-Ok-open.ensures.version ∙ c.version.ensures) (c.in-Ok-open.ensures.sealed ∙ ap length found)
 
 pub returns-in-Ok-open-clause-honest : goal.returns-in-Ok-open-clause-honest
 returns-in-Ok-open-clause-honest g c = c.in-Ok.ensures.honest
@@ -76,12 +76,13 @@ returns-in-Ok-clause-refused g c honest =
     let back : c.into_disk.result ≡ writer.journal.disk = c.into_disk.ensures in
     no_table writer records
     (subst (λ (tag : ℕ). OpensStore tag c.args.disk writer records) c.TAG.ensures (c.in-Ok.ensures.opened honest)) back
-    (subst (λ (v : Version). IsOpenStop a v (entries_of records) c.in-Err-open.refused) c.version.ensures
-    (subst (λ (raws : List RawRecord). IsOpenStop a c.version.result (entries_of raws) c.in-Err-open.refused) c.as_slice.ensures.value
-    c.in-Err-open.ensures.refused))
+    (subst (λ (v : Version). IsOpenStop a v (entries_of records) (length records) c.in-Err-open.refused) c.version.ensures
+    (subst (λ (raws : List RawRecord). IsOpenStop a c.version.result (entries_of raws) (length records) c.in-Err-open.refused) c.as_slice-found.ensures.value
+    (subst (λ (n : ℕ). IsOpenStop a c.version.result (entries_of c.as_slice-found.result.now) n c.in-Err-open.refused) (ap length c.as_slice-found.ensures.value)
+    c.in-Err-open.ensures.refused)))
 
 pub returns-in-Ok-clause-fault : goal.returns-in-Ok-clause-fault
-returns-in-Ok-clause-fault g c is = absurd (half_not_disk (kept g) _ _ _ c.in-Err-open.ensures.refused is)
+returns-in-Ok-clause-fault g c is = absurd (half_not_disk (kept g) _ _ _ _ c.in-Err-open.ensures.refused is)
 
 -- ---- the disk has no store that is opened
 pub returns-clause-honest : goal.returns-clause-honest

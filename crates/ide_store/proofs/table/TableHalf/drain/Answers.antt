@@ -2,11 +2,23 @@ use Rattle.std.proofs.Common.{◌≡◌, ◌∙◌, ◌+◌, false, subst, sym, 
 use Rattle.std.proofs.lemmas.Result.{err_from_is_err_and}
 use Rattle.ide_steps.proofs.States.{handed-on}
 use Rattle.ide_store.specs.Draining.{IsDrainStop, no_drain}
-use Rattle.ide_store.specs.Table.{TableData}
+use Rattle.ide_store.specs.Table.{Analysis, TableData}
 use Rattle.ide_store.specs.TableCalls.{IsRefusal, after_failure, by_itself}
 use Rattle.ide_store.proofs.Drained.{drain_names, drain_stop, works_still, works_then}
 use Rattle.ide_steps.specs.DrainRefusal.{IsNoDrain, MayDrain}
+use Rattle.ide_store.proofs.table.TableHalf.drain.Given.{Over}
 use Rattle.ide_store.proofs.table.TableHalf.drain.Goals as goal
+
+-- the analysis of the store
+abbrev kept : (g : Over) → Analysis g.row.P-F.Denot g.row.P-L.Denot
+kept g = record {
+  lattice = g.P.L.Lattice.algebra;
+  functions = g.P.F.EdgeFn.edge;
+  targets = g.P.Problem.targets;
+  same = g.P.F.PartialEq.eq;
+  proper = g.P.F.Wire.proper;
+  form = g.P.F.Wire.form;
+}
 
 -- what was read of the half is so of it
 working : {F : Type 0} (inside now : TableData F) → inside ≡ now → inside.failed ≡ false → now.failed ≡ false
@@ -16,7 +28,7 @@ pub returns-then-self-clause-refused : goal.returns-then-self-clause-refused
 returns-then-self-clause-refused g c = rw (← c.self.view_is) (after_failure c.if-self.true)
 
 pub returns-then-self-clause-stops : goal.returns-then-self-clause-stops
-returns-then-self-clause-stops g c = (0, 0, omega arith, works_still _ _ _ (λ place w handed reached on. on))
+returns-then-self-clause-stops g c = (0, 0, omega arith, works_still (kept g) _ _ (λ place w handed reached on. on))
 
 pub returns-in_err-may_drain-clause-refused : goal.returns-in_err-may_drain-clause-refused
 returns-in_err-may_drain-clause-refused g c =
@@ -26,11 +38,11 @@ returns-in_err-may_drain-clause-refused g c =
     (no_drain (subst (λ (table : TableData g.row.P-F.Denot). IsNoDrain table.core c.in_err-may_drain.field-0.0) c.self.view_is c.in_err-may_drain.ensures.refused)))
 
 pub returns-in_err-may_drain-clause-stops : goal.returns-in_err-may_drain-clause-stops
-returns-in_err-may_drain-clause-stops g c = (0, 0, omega arith, works_still _ _ _ (λ place w handed reached on. on))
+returns-in_err-may_drain-clause-stops g c = (0, 0, omega arith, works_still (kept g) _ _ (λ place w handed reached on. on))
 
 pub returns-then-is_err-clause-refused : goal.returns-then-is_err-clause-refused
 returns-then-is_err-clause-refused g c =
-    drain_stop _ c.run_all-drained.result c.args.self.now c.run_all-drained.new.self c.give_back.new.self (working _ _ c.self.view_is c.if-self.false)
+    drain_stop (kept g) c.run_all-drained.result c.args.self.now c.run_all-drained.new.self c.give_back.new.self (working _ _ c.self.view_is c.if-self.false)
     (subst (λ (table : TableData g.row.P-F.Denot). MayDrain table.core) c.self.view_is c.in_ok-may_drain.ensures.may)
     c.give_back.ensures.stop c.run_all-drained.ensures.refused
 
@@ -42,7 +54,7 @@ returns-then-is_err-clause-stops g c =
       before.0 + 0,
       0 + back.0,
       omega (arith, few),
-      works_then _ c.args.self.now c.run_all-drained.new.self c.give_back.new.self before.0 0 0 back.0 before.1 back.2,
+      works_then (kept g) c.args.self.now c.run_all-drained.new.self c.give_back.new.self before.0 0 0 back.0 before.1 back.2,
     )
 
 pub returns-then-is_err-clause-unchanged : goal.returns-then-is_err-clause-unchanged
@@ -50,7 +62,7 @@ returns-then-is_err-clause-unchanged g c = drain_names _ _ c.run_all-drained.res
 
 pub returns-else-is_err-clause-refused : goal.returns-else-is_err-clause-refused
 returns-else-is_err-clause-refused g c =
-    drain_stop _ c.run_all-drained.result c.args.self.now c.run_all-drained.new.self c.run_all-drained.new.self (working _ _ c.self.view_is c.if-self.false)
+    drain_stop (kept g) c.run_all-drained.result c.args.self.now c.run_all-drained.new.self c.run_all-drained.new.self (working _ _ c.self.view_is c.if-self.false)
     (subst (λ (table : TableData g.row.P-F.Denot). MayDrain table.core) c.self.view_is c.in_ok-may_drain.ensures.may)
     (λ e stop. stop) c.run_all-drained.ensures.refused
 

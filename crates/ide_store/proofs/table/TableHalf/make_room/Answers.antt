@@ -3,15 +3,27 @@ use Rattle.std.proofs.lemmas.Result.{err_from_is_err_and}
 use Rattle.ide_steps.proofs.States.{handed-on}
 use Rattle.ide_image.specs.Notes.{noted_count}
 use Rattle.ide_store.specs.Draining.{IsWorkStop, full_batch_stays}
-use Rattle.ide_store.specs.Table.{TableData}
+use Rattle.ide_store.specs.Table.{Analysis, TableData}
 use Rattle.ide_store.proofs.Drained.{anew_core, equal_core, seal_works, stop_stays, works_still}
+use Rattle.ide_store.proofs.table.TableHalf.make_room.Given.{Over}
 use Rattle.ide_store.proofs.table.TableHalf.make_room.Goals as goal
 
+-- the analysis of the store
+abbrev kept : (g : Over) → Analysis g.row.P-F.Denot g.row.P-L.Denot
+kept g = record {
+  lattice = g.P.L.Lattice.algebra;
+  functions = g.P.F.EdgeFn.edge;
+  targets = g.P.Problem.targets;
+  same = g.P.F.PartialEq.eq;
+  proper = g.P.F.Wire.proper;
+  form = g.P.F.Wire.form;
+}
+
 pub returns-then-changed_count-lt-MOST_CHANGED-clause-works : goal.returns-then-changed_count-lt-MOST_CHANGED-clause-works
-returns-then-changed_count-lt-MOST_CHANGED-clause-works g c = works_still _ _ _ (λ place w handed reached on. on)
+returns-then-changed_count-lt-MOST_CHANGED-clause-works g c = works_still (kept g) _ _ (λ place w handed reached on. on)
 
 pub returns-clause-works : goal.returns-clause-works
-returns-clause-works g c = seal_works _ c.seal_changes.result _ _ c.seal_changes.ensures.seals c.seal_changes.ensures.nothing c.seal_changes.ensures.unchanged
+returns-clause-works g c = seal_works (kept g) c.seal_changes.result _ _ c.seal_changes.ensures.seals c.seal_changes.ensures.nothing c.seal_changes.ensures.unchanged
 
 pub returns-clause-room : goal.returns-clause-room
 returns-clause-room g c =
@@ -23,7 +35,7 @@ returns-clause-core g c = anew_core c.args.self.now.core c.seal_changes.new.self
 
 pub returns-in_err-seal_changes-clause-works : goal.returns-in_err-seal_changes-clause-works
 returns-in_err-seal_changes-clause-works g c =
-    seal_works _ c.seal_changes.result _ _ c.seal_changes.ensures.seals c.seal_changes.ensures.nothing c.seal_changes.ensures.unchanged
+    seal_works (kept g) c.seal_changes.result _ _ c.seal_changes.ensures.seals c.seal_changes.ensures.nothing c.seal_changes.ensures.unchanged
 
 pub returns-in_err-seal_changes-clause-core : goal.returns-in_err-seal_changes-clause-core
 returns-in_err-seal_changes-clause-core g c = equal_core c.args.self.now.core c.seal_changes.new.self.core c.in_err-seal_changes.ensures.unchanged.0

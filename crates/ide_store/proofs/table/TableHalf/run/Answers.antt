@@ -3,11 +3,24 @@ use Rattle.std.proofs.lemmas.Result.{err_from_is_err_and}
 use Rattle.ide_steps.proofs.States.{handed-on}
 use Rattle.ide_store.specs.Draining.{IsWorkStop}
 use Rattle.ide_store.proofs.Drained.{left_then, less_ended, problem_then, works_still, works_then}
+use Rattle.ide_store.specs.Table.{Analysis}
+use Rattle.ide_store.proofs.table.TableHalf.run.Given.{Over}
 use Rattle.ide_store.proofs.table.TableHalf.run.Goals as goal
+
+-- the analysis of the store
+abbrev kept : (g : Over) → Analysis g.row.P-F.Denot g.row.P-L.Denot
+kept g = record {
+  lattice = g.P.L.Lattice.algebra;
+  functions = g.P.F.EdgeFn.edge;
+  targets = g.P.Problem.targets;
+  same = g.P.F.PartialEq.eq;
+  proper = g.P.F.Wire.proper;
+  form = g.P.F.Wire.form;
+}
 
 pub loop-work-init : goal.loop-work-init
 loop-work-init g c = (
-  works_still _ _ _ (λ place w handed reached on. on),
+  works_still (kept g) _ _ (λ place w handed reached on. on),
   inr (refl, c.requires.fresh),
   c.requires.own,
   λ h other none. none,
@@ -20,7 +33,7 @@ loop-work-preserved g c =
     let old = c.loop-work.self in
     let new = c.next_part.new.self in
     let before = c.loop-work.invariant in (
-      works_then _ start old new 0 0 0 0 before.0 c.next_part.ensures.works,
+      works_then (kept g) start old new 0 0 0 0 before.0 c.next_part.ensures.works,
       left_then g.P.F.EdgeFn.edge start.core old.core new.core before.1 c.in_ok-next_part.ensures.less,
       c.in_ok-next_part.ensures.own,
       λ h other none. c.next_part.ensures.others h other (before.3 h other none),
@@ -31,8 +44,8 @@ pub returns-clause-works : goal.returns-clause-works
 returns-clause-works g c =
     let start = c.args.self.now in
     let mid = c.next_part.new.self in
-    works_then _ start mid c.end.new.self 0 0 0 0
-    (works_then _ start c.loop-work.self mid 0 0 0 0 c.loop-work.invariant.0 c.next_part.ensures.works) c.end.ensures.works
+    works_then (kept g) start mid c.end.new.self 0 0 0 0
+    (works_then (kept g) start c.loop-work.self mid 0 0 0 0 c.loop-work.invariant.0 c.next_part.ensures.works) c.end.ensures.works
 
 pub returns-clause-falls : goal.returns-clause-falls
 returns-clause-falls g c =
@@ -55,7 +68,7 @@ returns-clause-stays g c =
 
 pub returns-in_err-next_part-clause-works : goal.returns-in_err-next_part-clause-works
 returns-in_err-next_part-clause-works g c =
-    works_then _ c.args.self.now c.loop-work.self c.next_part.new.self 0 0 0 0 c.loop-work.invariant.0 c.next_part.ensures.works
+    works_then (kept g) c.args.self.now c.loop-work.self c.next_part.new.self 0 0 0 0 c.loop-work.invariant.0 c.next_part.ensures.works
 
 pub returns-in_err-next_part-clause-others : goal.returns-in_err-next_part-clause-others
 returns-in_err-next_part-clause-others g c = λ h other none. c.next_part.ensures.others h other (c.loop-work.invariant.3 h other none)
@@ -73,8 +86,8 @@ pub returns-in_err-end-clause-works : goal.returns-in_err-end-clause-works
 returns-in_err-end-clause-works g c =
     let start = c.args.self.now in
     let mid = c.next_part.new.self in
-    works_then _ start mid c.end.new.self 0 0 0 0
-    (works_then _ start c.loop-work.self mid 0 0 0 0 c.loop-work.invariant.0 c.next_part.ensures.works) c.end.ensures.works
+    works_then (kept g) start mid c.end.new.self 0 0 0 0
+    (works_then (kept g) start c.loop-work.self mid 0 0 0 0 c.loop-work.invariant.0 c.next_part.ensures.works) c.end.ensures.works
 
 pub returns-in_err-end-clause-others : goal.returns-in_err-end-clause-others
 returns-in_err-end-clause-others g c = λ h other none.

@@ -3,10 +3,23 @@ use Rattle.std.proofs.lemmas.Result.{err_from_is_err_and}
 use Rattle.ide_steps.proofs.States.{handed-on}
 use Rattle.ide_store.specs.Draining.{IsWorkStop, WorksBy}
 use Rattle.ide_store.proofs.Drained.{works_still, works_then}
+use Rattle.ide_store.specs.Table.{Analysis}
+use Rattle.ide_store.proofs.table.TableHalf.run_all.Given.{Over}
 use Rattle.ide_store.proofs.table.TableHalf.run_all.Goals as goal
 
+-- the analysis of the store
+abbrev kept : (g : Over) → Analysis g.row.P-F.Denot g.row.P-L.Denot
+kept g = record {
+  lattice = g.P.L.Lattice.algebra;
+  functions = g.P.F.EdgeFn.edge;
+  targets = g.P.Problem.targets;
+  same = g.P.F.PartialEq.eq;
+  proper = g.P.F.Wire.proper;
+  form = g.P.F.Wire.form;
+}
+
 pub loop-tasks-init : goal.loop-tasks-init
-loop-tasks-init g c = ((0, refl, works_still _ _ _ (λ place w handed reached on. on)), c.requires)
+loop-tasks-init g c = ((0, refl, works_still (kept g) _ _ (λ place w handed reached on. on)), c.requires)
 
 pub loop-tasks-preserved : goal.loop-tasks-preserved
 loop-tasks-preserved g c =
@@ -16,8 +29,8 @@ loop-tasks-preserved g c =
       (
         before.0 + 1,
         omega (arith, here, more),
-        works_then _ c.args.self.now c.loop-tasks.self c.run_next.new.self before.0 0 1 0 before.2
-            (subst (λ b. WorksBy _ c.loop-tasks.self c.run_next.new.self (cond b 1 0) 0) c.if-branch.true c.in_ok-run_next.ensures.works),
+        works_then (kept g) c.args.self.now c.loop-tasks.self c.run_next.new.self before.0 0 1 0 before.2
+            (subst (λ b. WorksBy (kept g) c.loop-tasks.self c.run_next.new.self (cond b 1 0) 0) c.if-branch.true c.in_ok-run_next.ensures.works),
       ),
       c.in_ok-run_next.ensures.may,
     )
@@ -28,8 +41,8 @@ returns-clause-drains g c =
     let here = before.1 in (
       before.0 + 0,
       omega (arith, here),
-      works_then _ c.args.self.now c.loop-tasks.self c.run_next.new.self before.0 0 0 0 before.2
-          (subst (λ b. WorksBy _ c.loop-tasks.self c.run_next.new.self (cond b 1 0) 0) c.if-branch.false c.in_ok-run_next.ensures.works),
+      works_then (kept g) c.args.self.now c.loop-tasks.self c.run_next.new.self before.0 0 0 0 before.2
+          (subst (λ b. WorksBy (kept g) c.loop-tasks.self c.run_next.new.self (cond b 1 0) 0) c.if-branch.false c.in_ok-run_next.ensures.works),
     )
 
 pub returns-clause-works : goal.returns-clause-works
@@ -39,7 +52,7 @@ pub returns-in_err-run_next-clause-works : goal.returns-in_err-run_next-clause-w
 returns-in_err-run_next-clause-works g c =
     let before = c.loop-tasks.invariant.0 in
     let worked = c.run_next.ensures.worked in
-    (before.0 + worked.0, works_then _ c.args.self.now c.loop-tasks.self c.run_next.new.self before.0 0 worked.0 0 before.2 worked.1)
+    (before.0 + worked.0, works_then (kept g) c.args.self.now c.loop-tasks.self c.run_next.new.self before.0 0 worked.0 0 before.2 worked.1)
 
 pub returns-in_err-run_next-clause-refused : goal.returns-in_err-run_next-clause-refused
 returns-in_err-run_next-clause-refused g c =

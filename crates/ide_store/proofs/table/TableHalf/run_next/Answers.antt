@@ -5,7 +5,20 @@ use Rattle.ide_tasks.specs.Parts.{owed}
 use Rattle.ide_store.specs.Draining.{IsWorkStop, WorksBy, memory_is_wanting}
 use Rattle.ide_wire.specs.declared.refused.Refused.TheVariants.{NoMemory}
 use Rattle.ide_store.proofs.Drained.{less_before, may_after, more_works, never_less, works_then}
+use Rattle.ide_store.specs.Table.{Analysis}
+use Rattle.ide_store.proofs.table.TableHalf.run_next.Given.{Over}
 use Rattle.ide_store.proofs.table.TableHalf.run_next.Goals as goal
+
+-- the analysis of the store
+abbrev kept : (g : Over) → Analysis g.row.P-F.Denot g.row.P-L.Denot
+kept g = record {
+  lattice = g.P.L.Lattice.algebra;
+  functions = g.P.F.EdgeFn.edge;
+  targets = g.P.Problem.targets;
+  same = g.P.F.PartialEq.eq;
+  proper = g.P.F.Wire.proper;
+  form = g.P.F.Wire.form;
+}
 
 pub run-requires-clause-own : goal.run-requires-clause-own
 run-requires-clause-own g c =
@@ -21,15 +34,15 @@ run-requires-clause-fresh g c = (c.in_ok-task.ensures.task c.in-Some.task (ap Ok
 
 pub returns-in-Ok-clause-works : goal.returns-in-Ok-clause-works
 returns-in-Ok-clause-works g c =
-    more_works _ c.run.result _ _ c.run.ensures.more
-    (works_then _ c.args.self.now c.take_next.new.self c.run.new.self 1 0 0 0
-    (subst (λ o. WorksBy _ c.args.self.now c.take_next.new.self (cond (is_some o) 1 0) 0) c.in-Some.is c.in_ok-task.ensures.works) c.run.ensures.works)
+    more_works (kept g) c.run.result _ _ c.run.ensures.more
+    (works_then (kept g) c.args.self.now c.take_next.new.self c.run.new.self 1 0 0 0
+    (subst (λ o. WorksBy (kept g) c.args.self.now c.take_next.new.self (cond (is_some o) 1 0) 0) c.in-Some.is c.in_ok-task.ensures.works) c.run.ensures.works)
 
 pub returns-in-Ok-clause-worked : goal.returns-in-Ok-clause-worked
 returns-in-Ok-clause-worked g c = (
   1,
-  works_then _ c.args.self.now c.take_next.new.self c.run.new.self 1 0 0 0
-      (subst (λ o. WorksBy _ c.args.self.now c.take_next.new.self (cond (is_some o) 1 0) 0) c.in-Some.is c.in_ok-task.ensures.works) c.run.ensures.works,
+  works_then (kept g) c.args.self.now c.take_next.new.self c.run.new.self 1 0 0 0
+      (subst (λ o. WorksBy (kept g) c.args.self.now c.take_next.new.self (cond (is_some o) 1 0) 0) c.in-Some.is c.in_ok-task.ensures.works) c.run.ensures.works,
 )
 
 pub returns-in-Ok-clause-others : goal.returns-in-Ok-clause-others
@@ -55,7 +68,7 @@ returns-in_err-task-clause-refused g c =
 
 pub returns-in_default-clause-works : goal.returns-in_default-clause-works
 returns-in_default-clause-works g c =
-    subst (λ o. WorksBy _ c.args.self.now c.take_next.new.self (cond (is_some o) 1 0) 0) c.in_default.is c.in_ok-task.ensures.works
+    subst (λ o. WorksBy (kept g) c.args.self.now c.take_next.new.self (cond (is_some o) 1 0) 0) c.in_default.is c.in_ok-task.ensures.works
 
 pub returns-clause-refused : goal.returns-clause-refused
 returns-clause-refused g c =

@@ -1,0 +1,132 @@
+-- A store on two disks that was opened is at work on each world whose disks these were.
+use Rattle.std.proofs.Common.{◌≡◌, ◌∙◌, ◌≤◌, ℕ, None, List, length, map, take, refl, ap, sym, subst, arith}
+use Rattle.std.proofs.lemmas.List.{drop_all}
+use Rattle.ide_batch.specs.Fold.{ProgramImage}
+use Rattle.ide_disk.specs.Disk.{DiskState}
+use Rattle.ide_disk.specs.declared.disk.Disk.{Ghosts}
+use Rattle.ide_journal.specs.Format.{Entry, head_of}
+use Rattle.ide_journal.specs.Lists.{entry_of}
+use Rattle.ide_journal.specs.declared.version.Version.TheVariants.{Two}
+use Rattle.ide_slot_journal.specs.Opened.{states_of}
+use Rattle.ide_slot_journal.specs.Stands.{disks_of, records_stored, slot_writer}
+use Rattle.ide_slots.specs.Records.{all_numbered}
+use Rattle.ide_slots.specs.Sides.{Sides}
+use Rattle.ide_slots.specs.Slot.{Slot, first_slot}
+use Rattle.ide_slots.specs.Two.{SlotWriter, reads_two}
+use Rattle.ide_slots.specs.TwoCalls.{OpensTwo}
+use Rattle.ide_slots.specs.declared.record.NumberedRecord.{NumberedRecord}
+use Rattle.ide_theory.specs.Images.{loaded}
+use Rattle.ide_store.specs.Hands.{Happens}
+use Rattle.ide_store.specs.Opening.{GoesOnFrom, HaveFold}
+use Rattle.ide_store.specs.Places.{OnTwoDisks, Place}
+use Rattle.ide_store.specs.Recovery.{PlaceAnswers}
+use Rattle.ide_store.specs.Table.{Analysis, IsReached, MayDo, StoreWorld, TableData, WorksOn, after_act, forms_of, rules_at}
+use Rattle.ide_store.specs.TwoDisks.{GiveTheSame, HoldsTwo, unnumbered}
+use Rattle.ide_store.specs.World.{IsFolded, Opens, contents}
+use Rattle.ide_store.proofs.Openings.{leads_there}
+use Rattle.ide_store.proofs.Runs.{sound}
+use Rattle.ide_slot_store.specs.Batches.{as_batch, batches_of}
+use Rattle.ide_slot_store.specs.Engine.{AreAtWork}
+use Rattle.ide_slot_store.specs.Half.{OpensStore, Writes}
+use Rattle.ide_slot_store.specs.Openings.{SlotHalvesOpen}
+use Rattle.ide_slot_store.specs.Writing.{JournalsWriteTwo, StandsBehindTwo}
+use Rattle.ide_slot_store.specs.declared.writer.SlotWriterHalf.{SlotWriterHalf}
+use Rattle.ide_slot_store.proofs.Batches.{lead_from, lead_to}
+
+module _ {F L : Type 0} (a : Analysis F L) {D : Type 0} {G : Ghosts D} (tag : ℕ) (first second : D) (writer : SlotWriterHalf D G)
+    (found : List NumberedRecord) (opens : OpensStore tag first second writer found) (law : JournalsWriteTwo G (rules_at a (OnTwoDisks tag))) where
+  -- the disks as they were
+  abbrev before : Sides DiskState
+  before = states_of G first second
+
+  -- what stands in the slot, without numbers
+  abbrev entries : List Entry
+  entries = map unnumbered (all_numbered found)
+
+  -- no checkpoint is begun, so that any slot does for it
+  abbrev other : Slot
+  other = first_slot (head_of Two tag) []
+
+  module _ (records : List Entry) (holds : HoldsTwo (rules_at a (OnTwoDisks tag)) tag records (reads_two before)) where
+    -- the opening, the journal behind whatever records the disks hold, and that these give the same image
+    abbrev then : OpensTwo before (slot_writer other writer.journal) (disks_of writer.journal)
+        × StandsBehindTwo (rules_at a (OnTwoDisks tag)) tag other records (length records) writer.journal
+        × GiveTheSame (rules_at a (OnTwoDisks tag)) entries records
+    then = (law.begins tag other).opens first second writer.journal found records opens.opens holds
+
+    -- as many as the journal counts
+    counts : length records ≡ records_stored writer.journal
+    counts = sym (then.1.behind.stands.count ∙ then.1.behind.count)
+
+    -- the writer writes them
+    writes_found : (stored : ℕ) → length records ≡ stored → Writes then.1.slot other records stored writer
+    writes_found stored is = subst (λ (n : ℕ). Writes then.1.slot other records n writer) is (record {
+      behind = then.1.behind;
+      waiting = ap (map entry_of) opens.none ∙ sym (drop_all (length records) records (omega arith));
+    })
+
+    -- the batches give back what they do
+    alike : GiveTheSame (rules_at a (OnTwoDisks tag)) (batches_of found) records
+    alike image = (
+      λ folds. (then.2 image).0 (lead_from a.functions a.same (forms_of a) entries (loaded None) image folds),
+      λ folds. lead_to a.functions a.same (forms_of a) entries (loaded None) image ((then.2 image).1 folds),
+    )
+
+  module _ (answers : (place : Place) → PlaceAnswers a place) (fold : HaveFold a Two (batches_of found)) (table : TableData F)
+      (goes : GoesOnFrom a (batches_of found) table) (version : table.version ≡ Two) (sealed : table.sealed ≡ records_stored writer.journal)
+      (w : StoreWorld a (OnTwoDisks tag)) (reached : IsReached a (OnTwoDisks tag) w) (on : w.world.disks ≡ before) where
+    -- the disks hold some records
+    abbrev records : List Entry
+    records = (sound a answers (OnTwoDisks tag) w reached).recovers.opens.0
+
+    held : HoldsTwo (rules_at a (OnTwoDisks tag)) tag records (reads_two before)
+    held = subst (λ (d : Sides DiskState). HoldsTwo (rules_at a (OnTwoDisks tag)) tag records (reads_two d)) on
+        (sound a answers (OnTwoDisks tag) w reached).recovers.opens.4.0
+
+    abbrev work : SlotWriter
+    work = slot_writer other writer.journal
+
+    abbrev after : Sides DiskState
+    after = disks_of writer.journal
+
+    -- the opening may happen
+    may : MayDo a (OnTwoDisks tag) w (Happens (Opens records fold.image work after))
+    may = (
+      tt,
+      (
+        subst (λ (d : Sides DiskState). HoldsTwo (rules_at a (OnTwoDisks tag)) tag records (reads_two d)) (sym on) held,
+        (alike records held fold.image).0 (leads_there a (OnTwoDisks tag) (batches_of found) (loaded None) fold.image fold.folded),
+        subst (λ (d : Sides DiskState). OpensTwo d work after) (sym on) (then records held).0,
+      ),
+    )
+
+    opened : (found : List Entry) × (image : ProgramImage F) × (work : SlotWriter)
+        × (let act = Happens (Opens found image work after) in
+        MayDo a (OnTwoDisks tag) w act × AreAtWork a tag (after_act a (OnTwoDisks tag) w act) table writer)
+    opened =
+        let done = goes (OnTwoDisks tag) (sym version) w reached records (counts records held ∙ sym sealed) (alike records held) fold.image work after may in
+        let handed : List Entry = contents (take (length records) w.world.sealed) in
+        let holds : HoldsTwo (rules_at a (OnTwoDisks tag)) tag handed (reads_two before) =
+        subst (λ (d : Sides DiskState). HoldsTwo (rules_at a (OnTwoDisks tag)) tag handed (reads_two d)) on done.0 in (
+          records,
+          fold.image,
+          work,
+          (
+            may,
+            record {
+              handed = handed;
+              works = done.1;
+              slot = (then handed holds).1.slot;
+              other = other;
+              writes = writes_found handed holds (length records) (counts handed holds ∙ sym (counts records held));
+              tag_is = (then handed holds).1.tag_is;
+              work = refl;
+              disks = refl;
+            },
+          ),
+        )
+
+pub slot_halves_open : {F L : Type 0} (a : Analysis F L) {D : Type 0} (G : Ghosts D) → ((place : Place) → PlaceAnswers a place)
+    → ((tag : ℕ) → JournalsWriteTwo G (rules_at a (OnTwoDisks tag))) → SlotHalvesOpen a G
+slot_halves_open a G answers law tag first second writer found table opens fold goes version sealed w reached on =
+    opened a tag first second writer found opens (law tag) answers fold table goes version sealed w reached on

@@ -1,0 +1,305 @@
+-- A step of the disks by a store on two disks that works and writes is some events of its world.
+use Rattle.std.proofs.Common.{◌≡◌, ◌∙◌, ◌+◌, ◌≤◌, ℕ, Bool, true, List, [], ◌∷◌, ◌++◌, Option, Some, None, Result, Ok, Err, length, map, take, drop, refl, ap, sym, subst, arith, inl, inr}
+use Rattle.std.specs.Prelude.{slice_get}
+use Rattle.std.specs.List.{All}
+use Rattle.std.proofs.lemmas.List.Elements.{All-cons, All-nil}
+use Rattle.std.proofs.lemmas.List.{append-nil, drop_all, length-append, length-map}
+use Rattle.ide_disk.specs.Disk.{DiskState}
+use Rattle.ide_disk.specs.declared.disk.Disk.{Ghosts}
+use Rattle.ide_journal.specs.Format.{Entry, IsEntry}
+use Rattle.ide_journal.specs.Lists.{entries_of, entry_of}
+use Rattle.ide_journal.specs.declared.record.RawRecord.{RawRecord}
+use Rattle.ide_slot_journal.specs.Stands.{StandsOn, disks_of, slot_writer}
+use Rattle.ide_slot_journal.specs.declared.journal.SlotJournal.{SlotJournal}
+use Rattle.ide_slots.specs.Sides.{Sides, two_sides}
+use Rattle.ide_slots.specs.Slot.{Slot}
+use Rattle.ide_slots.specs.Two.{SlotWriter}
+use Rattle.ide_wire.specs.declared.refused.Refused.{Refused}
+use Rattle.ide_wire.specs.declared.refused.Refused.TheVariants.{Disk, NoMemory}
+use Rattle.ide_store.specs.Handing.{HandsTo, gave, kept}
+use Rattle.ide_store.specs.Places.{OnTwoDisks}
+use Rattle.ide_store.specs.Table.{Analysis, TableData, WorksOn}
+use Rattle.ide_store.specs.TwoDisks.{AtCheckpoint, AtRecord, BeginsCalls, CallsTwo, FailsTwo, ForRecord, InCheckpoint, IsNextBehind, LastInCheckpoint, StoresTwo}
+use Rattle.ide_store.specs.World as world
+use Rattle.ide_store.specs.World.{contents}
+use Rattle.ide_store.proofs.Half.{none_waits}
+use Rattle.ide_store.proofs.OneDisk.{next_taken}
+use Rattle.ide_store.proofs.Stepping.{more_get, none_mapped, rest_waits, works_after}
+use Rattle.ide_slot_store.specs.Engine.{AreAtWork, DidCalls, DidFail as FailedThen, IsGoodCall, SlotEvent, SlotWorld, StepsDisks, StepsDisksOver, all_stored, did_call, did_fail, no_memory}
+use Rattle.ide_slot_store.specs.Half.{CallsTo, HasCalled, HasRested, HasStored, HasWaited, StepsOver, StepsTo, Writes, calls, fails, makes, rests, stores, waits}
+use Rattle.ide_slot_store.specs.Writing.{BeginsFirst, DidCall, DidFail, DidStore, IsFirstLeft, StandsBehind}
+use Rattle.ide_slot_store.specs.declared.writer.SlotWriterHalf.{SlotWriterHalf}
+
+-- ---- calls over the records that were handed over are calls over all of them
+module _ (handed more : List Entry) (stored : ℕ) where
+  next_over : (slot : Slot) (entry : Entry) → IsNextBehind handed stored slot entry → IsNextBehind (handed ++ more) stored slot entry
+  next_over slot entry next = record { count = next.count; next_is = more_get handed more entry stored next.next_is }
+
+  calls_over : (work new : SlotWriter) (disks after : Sides DiskState) → CallsTwo handed stored work disks new after
+      → CallsTwo (handed ++ more) stored work disks new after
+  calls_over work new disks after (ForRecord slot entry next call) = ForRecord slot entry (next_over slot entry next) call
+  calls_over work new disks after (BeginsCalls slot count begins same) = BeginsCalls slot count begins same
+  calls_over work new disks after (InCheckpoint call) = InCheckpoint call
+  calls_over work new disks after (LastInCheckpoint next ends) = LastInCheckpoint next ends
+
+  stores_over : (work new : SlotWriter) (disks after : Sides DiskState) → StoresTwo handed stored work disks new after
+      → StoresTwo (handed ++ more) stored work disks new after
+  stores_over work new disks after call = record {
+    slot = call.slot;
+    entry = call.entry;
+    next = next_over call.slot call.entry call.next;
+    stores = call.stores;
+  }
+
+  fails_over : (work : SlotWriter) (disks after : Sides DiskState) → FailsTwo handed stored work disks after
+      → FailsTwo (handed ++ more) stored work disks after
+  fails_over work disks after (AtRecord slot entry next failed) = AtRecord slot entry (next_over slot entry next) failed
+  fails_over work disks after (AtCheckpoint failed) = AtCheckpoint failed
+
+module _ {F L : Type 0} (a : Analysis F L) {D : Type 0} {G : Ghosts D} (tag : ℕ) where
+  -- ---- sealed records are handed over
+  module _ (w : SlotWorld a tag) (table mid_table : TableData F) (old mid : SlotWriterHalf D G) (at : AreAtWork a tag w table old)
+      (journal : mid.journal ≡ old.journal) (few : table.sealed ≤ 4294967295) (proper : All IsEntry (entries_of mid.waiting.items)) where
+    abbrev same_work : w.world.work ≡ slot_writer at.other mid.journal
+    same_work = at.work ∙ ap (slot_writer at.other) (sym journal)
+
+    abbrev same_disks : w.world.disks ≡ disks_of mid.journal
+    same_disks = at.disks ∙ ap disks_of (sym journal)
+
+    -- no next record is under way, where all are stored
+    none_under_way : (next : Option Entry) → IsFirstLeft at.handed w.world.stored next → w.world.stored ≡ length at.handed
+        → IsFirstLeft (at.handed ++ table.waiting) w.world.stored next
+    none_under_way None is all = tt
+    none_under_way (Some entry) is all = let less = (next_taken at.handed w.world.stored entry is).0 in absurd (omega (arith, less, all))
+
+    pub handed_at_work : HandsTo table mid_table old.waiting.items mid.waiting.items → AreAtWork a tag w mid_table mid
+    handed_at_work (kept some items same) = record {
+      handed = at.handed;
+      works = subst (λ (t : TableData F). WorksOn a (OnTwoDisks tag) w t at.handed) (sym same) at.works;
+      slot = at.slot;
+      other = at.other;
+      writes = record {
+        behind = subst (λ (j : SlotJournal D G). StandsBehind at.slot at.other at.handed w.world.stored j) (sym journal) at.writes.behind;
+        waiting = ap (map entry_of) items ∙ at.writes.waiting;
+      };
+      tag_is = at.tag_is;
+      work = same_work;
+      disks = same_disks;
+    }
+    handed_at_work (gave none took same) =
+        let handed : List Entry = at.handed ++ table.waiting in
+        let before = at.writes.behind in
+        let all : w.world.stored ≡ length at.handed =
+        none_waits w.world.stored at.handed before.some (sym (ap (map entry_of) none) ∙ at.writes.waiting) in
+        let rest : drop w.world.stored handed ≡ table.waiting = rest_waits at.handed table.waiting w.world.stored all in
+        let count : length handed ≡ table.sealed =
+        sym (ap length at.works.waits) ∙ length-map w.world.sealed (λ s. s.content) ∙ at.works.sealed in
+        let longer = length-append at.handed table.waiting in
+        record {
+          handed = handed;
+          works = subst (λ (t : TableData F). WorksOn a (OnTwoDisks tag) w t handed) (sym same)
+              (works_after a (OnTwoDisks tag) w table w.world.stored w.world.work w.world.disks handed [] at.works
+              (at.works.waits ∙ sym (append-nil handed)));
+          slot = at.slot;
+          other = at.other;
+          writes = record {
+            behind = record {
+              next = before.next;
+              stands = subst (λ (j : SlotJournal D G). StandsOn at.slot before.next at.other j) (sym journal) before.stands;
+              is_next = none_under_way before.next before.is_next all;
+              count = before.count;
+              some = omega (arith, all, longer);
+              few = omega (arith, count, few);
+              proper = subst (λ (rs : List Entry). All IsEntry rs) (took ∙ sym rest) proper;
+            };
+            waiting = took ∙ sym rest;
+          };
+          tag_is = at.tag_is;
+          work = same_work;
+          disks = same_disks;
+        }
+
+  -- ---- what the writer did is what happens to the store
+  module _ (w : SlotWorld a tag) (table : TableData F) (old new : SlotWriterHalf D G) (at : AreAtWork a tag w table old) where
+    abbrev split : contents w.world.sealed ≡ at.handed ++ table.waiting
+    split = at.works.waits
+
+    abbrev left : List Entry
+    left = table.waiting
+
+    abbrev new_work : SlotWriter
+    new_work = slot_writer at.other new.journal
+
+    abbrev new_disks : Sides DiskState
+    new_disks = disks_of new.journal
+
+    -- the halves are at work on the world of which so many records are stored
+    at_work_on : (slot : Slot) (stored : ℕ) → slot.head.tag ≡ tag → Writes slot at.other at.handed stored new
+        → AreAtWork a tag (record w { world = record w.world { stored = stored; work = new_work; disks = new_disks } }) table new
+    at_work_on slot stored tagged writes = record {
+      handed = at.handed;
+      works = works_after a (OnTwoDisks tag) w table stored new_work new_disks at.handed left at.works split;
+      slot = slot;
+      other = at.other;
+      writes = writes;
+      tag_is = tagged;
+      work = refl;
+      disks = refl;
+    }
+
+    -- a good call, behind the beginning of a checkpoint's calls or not
+    called : HasCalled at.slot at.other at.handed w.world.stored old new → DidCalls a tag w table new
+    called one = by one.event.first
+      where
+        then : AreAtWork a tag (record w { world = record w.world { stored = w.world.stored; work = new_work; disks = new_disks } }) table new
+        then = at_work_on one.now w.world.stored (one.tag ∙ at.tag_is) one.writes
+
+        call : CallsTwo (at.handed ++ left) w.world.stored one.event.mid (disks_of old.journal) new_work new_disks
+        call = calls_over at.handed left w.world.stored one.event.mid new_work (disks_of old.journal) new_disks one.event.event
+
+        by : BeginsFirst at.handed w.world.stored (slot_writer at.other old.journal) (disks_of old.journal) one.event.mid → DidCalls a tag w table new
+        by (inl same) = record {
+          events = world.Calls new_work new_disks ∷ [];
+          own = All-cons (IsGoodCall a tag) (world.Calls new_work new_disks) [] tt (All-nil (IsGoodCall a tag));
+          can = ((tt, (at.works.running, rw (split, at.work ∙ sym same, at.disks) call)), tt);
+          at_work = then;
+        }
+        by (inr begins) =
+            let first = calls_over at.handed left w.world.stored (slot_writer at.other old.journal) one.event.mid (disks_of old.journal) (disks_of old.journal)
+            begins in
+            record {
+              events = world.Calls one.event.mid (disks_of old.journal) ∷ world.Calls new_work new_disks ∷ [];
+              own = All-cons (IsGoodCall a tag) (world.Calls one.event.mid (disks_of old.journal)) (world.Calls new_work new_disks ∷ []) tt
+                  (All-cons (IsGoodCall a tag) (world.Calls new_work new_disks) [] tt (All-nil (IsGoodCall a tag)));
+              can = (
+                (tt, (at.works.running, rw (split, at.work, at.disks) first)),
+                ((tt, (at.works.running, rw split call)), tt),
+              );
+              at_work = then;
+            }
+
+    -- one that stores a record
+    stored_one : HasStored at.slot at.other at.handed w.world.stored old new → DidCalls a tag w table new
+    stored_one one =
+        let call = stores_over at.handed left w.world.stored (slot_writer at.other old.journal) new_work (disks_of old.journal) new_disks one.event in
+        record {
+          events = world.Stores new_work new_disks ∷ [];
+          own = All-cons (IsGoodCall a tag) (world.Stores new_work new_disks) [] tt (All-nil (IsGoodCall a tag));
+          can = ((tt, (at.works.running, rw (split, at.work, at.disks) call)), tt);
+          at_work = at_work_on _ (w.world.stored + 1) at.tag_is one.writes;
+        }
+
+    -- one that failed
+    failed : (new_table : TableData F) → new_table ≡ record table { failed = true }
+        → DidFail at.other at.handed w.world.stored old.journal new.journal → FailedThen a tag w table new_table new
+    failed new_table is one = by one.first
+      where
+        then : new_table ≡ record table { waiting = new_table.waiting; failed = true }
+        then = is ∙ ap (λ (waiting : List Entry). record table { waiting = waiting; failed = true }) (sym (ap (λ (t : TableData F). t.waiting) is))
+
+        call : FailsTwo (at.handed ++ left) w.world.stored one.mid (disks_of old.journal) new_disks
+        call = fails_over at.handed left w.world.stored one.mid (disks_of old.journal) new_disks one.event
+
+        by : BeginsFirst at.handed w.world.stored (slot_writer at.other old.journal) (disks_of old.journal) one.mid
+            → FailedThen a tag w table new_table new
+        by (inl same) = record {
+          events = [];
+          own = All-nil (IsGoodCall a tag);
+          can = ((tt, (at.works.running, rw (split, at.work ∙ sym same, at.disks) call)), tt);
+          failed = then;
+        }
+        by (inr begins) =
+            let first = calls_over at.handed left w.world.stored (slot_writer at.other old.journal) one.mid (disks_of old.journal) (disks_of old.journal)
+            begins in
+            record {
+              events = world.Calls one.mid (disks_of old.journal) ∷ [];
+              own = All-cons (IsGoodCall a tag) (world.Calls one.mid (disks_of old.journal)) [] tt (All-nil (IsGoodCall a tag));
+              can = (
+                (tt, (at.works.running, rw (split, at.work, at.disks) first)),
+                ((tt, (at.works.running, rw split call)), tt),
+              );
+              failed = then;
+            }
+
+    -- where no call was made, they are at work as they were
+    still : Writes at.slot at.other at.handed w.world.stored new → new_work ≡ slot_writer at.other old.journal → new_disks ≡ disks_of old.journal
+        → AreAtWork a tag w table new
+    still writes work disks = record {
+      handed = at.handed;
+      works = at.works;
+      slot = at.slot;
+      other = at.other;
+      writes = writes;
+      tag_is = at.tag_is;
+      work = at.work ∙ sym work;
+      disks = at.disks ∙ sym disks;
+    }
+
+    -- where all that were handed over are stored and nothing is left with the half that works, all that were sealed are
+    rested : left ≡ [] → HasRested at.slot at.other at.handed w.world.stored old new → (w.world.stored ≡ length w.world.sealed) × AreAtWork a tag w table new
+    rested none one =
+        let whole : contents w.world.sealed ≡ at.handed = split ∙ ap (λ (xs : List Entry). at.handed ++ xs) none ∙ append-nil at.handed in
+        let count : length w.world.sealed ≡ length at.handed = sym (length-map w.world.sealed (λ s. s.content)) ∙ ap length whole in
+        let writes : Writes at.slot at.other at.handed w.world.stored new = record {
+          behind = subst (λ (j : SlotJournal D G). StandsBehind at.slot at.other at.handed w.world.stored j) (sym one.same.journal) at.writes.behind;
+          waiting = ap (map entry_of) one.same.waiting ∙ at.writes.waiting;
+        } in (
+          one.all ∙ sym count,
+          still writes (ap (slot_writer at.other) one.same.journal) (ap disks_of one.same.journal),
+        )
+
+    waited : HasWaited at.slot at.other at.handed w.world.stored old new → AreAtWork a tag w table new
+    waited one =
+        still one.writes (one.quiet.work at.other)
+        (λ i. two_sides (one.quiet.side i) (G.state (one.quiet.current i)) (G.state (one.quiet.other i)))
+
+    -- what a step of the writer is to the store
+    pub stepped : (new_table : TableData F) (result : Result Bool Refused) → StepsTo at.slot at.other at.handed w.world.stored old new result
+        → (w.world.stored ≡ length at.handed → left ≡ []) → (result ≡ Err Disk → new_table ≡ record table { failed = true })
+        → ((result ≡ Err Disk → ⊥) → new_table ≡ table) → StepsDisks a tag w table new_table new result
+    stepped new_table _ (makes (calls one)) none failing going =
+        subst (λ (t : TableData F). StepsDisks a tag w table t new (Ok true)) (sym (going (λ no. cc (no)))) (did_call (called one))
+    stepped new_table _ (makes (stores one)) none failing going =
+        subst (λ (t : TableData F). StepsDisks a tag w table t new (Ok true)) (sym (going (λ no. cc (no)))) (did_call (stored_one one))
+    stepped new_table _ (makes (fails one)) none failing going = did_fail (failed new_table (failing refl) one)
+    stepped new_table _ (rests one) none failing going =
+        let rest = rested (none one.all) one in
+        subst (λ (t : TableData F). StepsDisks a tag w table t new (Ok false)) (sym (going (λ no. cc (no)))) (all_stored rest.0 rest.1)
+    stepped new_table _ (waits one) none failing going =
+        subst (λ (t : TableData F). StepsDisks a tag w table t new (Err NoMemory)) (sym (going (λ no. cc (no)))) (no_memory (waited one))
+
+  -- ---- a step, behind the records that were handed over
+  module _ (table mid_table : TableData F) (old mid : SlotWriterHalf D G) (journal : mid.journal ≡ old.journal) (few : table.sealed ≤ 4294967295)
+      (proper : All IsEntry (entries_of mid.waiting.items)) where
+    -- where all that were handed over are stored, none is left
+    none_left : (w : SlotWorld a tag) (at : AreAtWork a tag w table old) (hands : HandsTo table mid_table old.waiting.items mid.waiting.items)
+        → w.world.stored ≡ length (handed_at_work w table mid_table old mid at journal few proper hands).handed → mid_table.waiting ≡ []
+    none_left w at (gave none took same) all = ap (λ (t : TableData F). t.waiting) same
+    none_left w at (kept some items same) all =
+        absurd (some (none_mapped entry_of old.waiting.items (at.writes.waiting ∙ drop_all w.world.stored at.handed (omega (arith, all)))))
+
+    -- what failed is told of the half as it was before
+    failed_from : HandsTo table mid_table old.waiting.items mid.waiting.items → (new_table : TableData F)
+        → new_table ≡ record mid_table { waiting = new_table.waiting; failed = true }
+        → new_table ≡ record table { waiting = new_table.waiting; failed = true }
+    failed_from (gave none took same) new_table is =
+        is ∙ ap (λ (t : TableData F). record t { waiting = new_table.waiting; failed = true }) same
+    failed_from (kept some items same) new_table is =
+        is ∙ ap (λ (t : TableData F). record t { waiting = new_table.waiting; failed = true }) same
+
+    told_from : HandsTo table mid_table old.waiting.items mid.waiting.items → (w : SlotWorld a tag) (new_table : TableData F) (new : SlotWriterHalf D G)
+        (result : Result Bool Refused) → StepsDisks a tag w mid_table new_table new result → StepsDisks a tag w table new_table new result
+    told_from hands w new_table new _ (did_call call) = did_call (record { events = call.events; own = call.own; can = call.can; at_work = call.at_work })
+    told_from hands w new_table new _ (did_fail fail) =
+        did_fail (record { events = fail.events; own = fail.own; can = fail.can; failed = failed_from hands new_table fail.failed })
+    told_from hands w new_table new _ (all_stored all at_work) = all_stored all at_work
+    told_from hands w new_table new _ (no_memory at_work) = no_memory at_work
+
+    pub stepped_disks : HandsTo table mid_table old.waiting.items mid.waiting.items → (new_table : TableData F) (new : SlotWriterHalf D G)
+        (result : Result Bool Refused) → StepsOver mid new result → (result ≡ Err Disk → new_table ≡ record mid_table { failed = true })
+        → ((result ≡ Err Disk → ⊥) → new_table ≡ mid_table) → StepsDisksOver a tag table new_table old new result
+    stepped_disks hands new_table new result steps failing going w reached at =
+        let there = handed_at_work w table mid_table old mid at journal few proper hands in
+        told_from hands w new_table new result
+        (stepped w mid_table mid new there new_table result (steps there.slot there.other there.handed w.world.stored there.writes)
+        (none_left w at hands) failing going)

@@ -1,0 +1,7 @@
+//! Tests of a store that works and writes on two disks.
+//!
+//! They stand apart from `ide_slot_store`, since a crate that has tests is proved twice.
+#![tactic(auto)]
+
+#[cfg(test)]
+mod engine;

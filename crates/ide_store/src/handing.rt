@@ -1,0 +1,41 @@
+//! What the half that works has to do with a half that writes: sealed records go over to it, and it
+//! tells when a call of its disk failed.
+ghost use Rattle.std.specs.Prelude.{◌≡◌, ◌≤◌, true};
+ghost use Rattle.std.specs.List.{All};
+ghost use Rattle.ide_journal.specs.Format.{IsEntry};
+ghost use Rattle.ide_journal.specs.Lists.{entries_of};
+ghost use Rattle.ide_store.specs.Handing.{HandsTo};
+
+use crate::table::TableHalf;
+use ide_journal::RawRecord;
+use ide_problem::Problem;
+use std::collections::VecDeque;
+use std::mem;
+
+impl<P: Problem> TableHalf<P> {
+    /// Hands the sealed records over to a writer's queue, if none waits there. It takes no memory.
+    pub fn hand_over(&mut self, queue: &mut VecDeque<RawRecord>)
+        requires { All IsEntry (entries_of queue.old.items) }
+        ensures hands { HandsTo self.old self.new queue.old.items queue.new.items }
+        ensures proper { All IsEntry (entries_of queue.new.items) }
+        ensures few { self.old.sealed ≤ 4294967295 }
+    {
+        if queue.is_empty() {
+            mem::swap(queue, &mut self.outbox.waiting);
+        }
+    }
+
+    /// Marks that a call of the writer failed: from then on each call is refused with `Failed`.
+    pub fn stop(&mut self)
+        ensures { self.new ≡ record self.old { failed = true } }
+    {
+        self.failed = true;
+    }
+
+    /// Whether a call of the writer failed.
+    pub fn is_stopped(&self) -> bool
+        ensures { result ≡ self.now.failed }
+    {
+        self.failed
+    }
+}
