@@ -434,3 +434,10 @@ raws_proper items all = All-from_recursion (λ raw. IsEntry (entry_of raw)) item
     each : (raws : List RawRecord) → AllByRecursion IsEntry (entries_of raws) → AllByRecursion (λ raw. IsEntry (entry_of raw)) raws
     each [] all_of = tt
     each (raw ∷ raws) all_of = (all_of.0, each raws all_of.1)
+
+pub proper_raws : (items : List RawRecord) → All (λ raw. IsEntry (entry_of raw)) items → All IsEntry (entries_of items)
+proper_raws items all = All-from_recursion IsEntry (entries_of items) (each items (recursion_from_All (λ raw. IsEntry (entry_of raw)) items all))
+  where
+    each : (raws : List RawRecord) → AllByRecursion (λ raw. IsEntry (entry_of raw)) raws → AllByRecursion IsEntry (entries_of raws)
+    each [] all_of = tt
+    each (raw ∷ raws) all_of = (all_of.0, each raws all_of.1)

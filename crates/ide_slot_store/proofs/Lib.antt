@@ -1,5 +1,6 @@
-pub mod Batches
+pub mod Leads
 pub mod Half
 pub mod Openings
 pub mod Stepping
+pub mod Stopping
 pub mod Writing

@@ -1,5 +1,5 @@
 -- A store on two disks that was opened is at work on each world whose disks these were.
-use Rattle.std.proofs.Common.{◌≡◌, ◌∙◌, ◌≤◌, ℕ, None, List, length, map, take, refl, ap, sym, subst, arith}
+use Rattle.std.proofs.Common.{◌≡◌, ◌∙◌, ◌≤◌, ℕ, None, List, [], length, map, take, refl, ap, sym, subst, arith}
 use Rattle.std.proofs.lemmas.List.{drop_all}
 use Rattle.ide_batch.specs.Fold.{ProgramImage}
 use Rattle.ide_disk.specs.Disk.{DiskState}
@@ -8,7 +8,10 @@ use Rattle.ide_journal.specs.Format.{Entry, head_of}
 use Rattle.ide_journal.specs.Lists.{entry_of}
 use Rattle.ide_journal.specs.declared.version.Version.TheVariants.{Two}
 use Rattle.ide_slot_journal.specs.Opened.{states_of}
-use Rattle.ide_slot_journal.specs.Stands.{disks_of, records_stored, slot_writer}
+use Rattle.ide_slot_journal.specs.Stages.{checkpoint_at}
+use Rattle.ide_slot_journal.specs.Stands.{checkpoint_of, disks_of, filling_of, records_stored, slot_writer}
+use Rattle.ide_slot_journal.specs.declared.stage.FillStage.{FillStage}
+use Rattle.ide_slot_journal.specs.declared.stage.FillStage.TheVariants as fills
 use Rattle.ide_slots.specs.Records.{all_numbered}
 use Rattle.ide_slots.specs.Sides.{Sides}
 use Rattle.ide_slots.specs.Slot.{Slot, first_slot}
@@ -17,21 +20,21 @@ use Rattle.ide_slots.specs.TwoCalls.{OpensTwo}
 use Rattle.ide_slots.specs.declared.record.NumberedRecord.{NumberedRecord}
 use Rattle.ide_theory.specs.Images.{loaded}
 use Rattle.ide_store.specs.Hands.{Happens}
-use Rattle.ide_store.specs.Opening.{GoesOnFrom, HaveFold}
+use Rattle.ide_store.specs.Opening.{BeginsOn, GoesOnFrom, HaveFold}
 use Rattle.ide_store.specs.Places.{OnTwoDisks, Place}
 use Rattle.ide_store.specs.Recovery.{PlaceAnswers}
 use Rattle.ide_store.specs.Table.{Analysis, IsReached, MayDo, StoreWorld, TableData, WorksOn, after_act, forms_of, rules_at}
-use Rattle.ide_store.specs.TwoDisks.{GiveTheSame, HoldsTwo, unnumbered}
+use Rattle.ide_store.specs.TwoDisks.{GiveTheSame, HasPlan, HoldsTwo, unnumbered}
 use Rattle.ide_store.specs.World.{IsFolded, Opens, contents}
 use Rattle.ide_store.proofs.Openings.{leads_there}
 use Rattle.ide_store.proofs.Runs.{sound}
-use Rattle.ide_slot_store.specs.Batches.{as_batch, batches_of}
-use Rattle.ide_slot_store.specs.Engine.{AreAtWork}
-use Rattle.ide_slot_store.specs.Half.{OpensStore, Writes}
+use Rattle.ide_slot_store.specs.Batches.{batch_of, batches_of}
+use Rattle.ide_slot_store.specs.Engine.{AreAtWork, AreNewHalves}
+use Rattle.ide_slot_store.specs.Half.{IsNewHalf, OpensStore, Writes}
 use Rattle.ide_slot_store.specs.Openings.{SlotHalvesOpen}
 use Rattle.ide_slot_store.specs.Writing.{JournalsWriteTwo, StandsBehindTwo}
 use Rattle.ide_slot_store.specs.declared.writer.SlotWriterHalf.{SlotWriterHalf}
-use Rattle.ide_slot_store.proofs.Batches.{lead_from, lead_to}
+use Rattle.ide_slot_store.proofs.Leads.{lead_from, lead_to}
 
 module _ {F L : Type 0} (a : Analysis F L) {D : Type 0} {G : Ghosts D} (tag : ℕ) (first second : D) (writer : SlotWriterHalf D G)
     (found : List NumberedRecord) (opens : OpensStore tag first second writer found) (law : JournalsWriteTwo G (rules_at a (OnTwoDisks tag))) where
@@ -130,3 +133,50 @@ pub slot_halves_open : {F L : Type 0} (a : Analysis F L) {D : Type 0} (G : Ghost
     → ((tag : ℕ) → JournalsWriteTwo G (rules_at a (OnTwoDisks tag))) → SlotHalvesOpen a G
 slot_halves_open a G answers law tag first second writer found table opens fold goes version sealed w reached on =
     opened a tag first second writer found opens (law tag) answers fold table goes version sealed w reached on
+
+-- ---- a new store
+module _ {F L : Type 0} (a : Analysis F L) {D : Type 0} {G : Ghosts D} (tag : ℕ) (writer : SlotWriterHalf D G) (new : IsNewHalf tag writer) where
+  abbrev bare : Slot
+  bare = first_slot (head_of Two tag) []
+
+  -- no checkpoint is begun
+  no_checkpoint : HasPlan (rules_at a (OnTwoDisks tag)) [] (checkpoint_of bare writer.journal.filler)
+  no_checkpoint = by writer.journal.filler.stage refl
+    where
+      by : (stage : FillStage) → writer.journal.filler.stage ≡ stage
+          → HasPlan (rules_at a (OnTwoDisks tag)) [] (checkpoint_at stage bare (filling_of writer.journal.filler))
+      by fills.Rests is = tt
+      by fills.Waits is = absurd (new.rests (λ rests. let no = sym is ∙ rests in cc (no)))
+      by fills.Settles is = absurd (new.rests (λ rests. let no = sym is ∙ rests in cc (no)))
+      by fills.Trims is = absurd (new.rests (λ rests. let no = sym is ∙ rests in cc (no)))
+      by fills.Heads is = absurd (new.rests (λ rests. let no = sym is ∙ rests in cc (no)))
+      by fills.Fills is = absurd (new.rests (λ rests. let no = sym is ∙ rests in cc (no)))
+      by fills.OpensGate is = absurd (new.rests (λ rests. let no = sym is ∙ rests in cc (no)))
+      by fills.Lasts is = absurd (new.rests (λ rests. let no = sym is ∙ rests in cc (no)))
+
+  -- the journal stands behind no record
+  behind_none : StandsBehindTwo (rules_at a (OnTwoDisks tag)) tag bare [] 0 writer.journal
+  behind_none = record {
+    slot = bare;
+    behind = (new.writes bare).behind;
+    tag_is = refl;
+    list = record { within = omega arith; commands = refl; image = λ image. (λ folds. folds, λ folds. folds); rest = refl };
+    plan = no_checkpoint;
+  }
+
+  pub new_halves : (table : TableData F) → JournalsWriteTwo G (rules_at a (OnTwoDisks tag)) → BeginsOn a table → table.version ≡ Two
+      → AreNewHalves a tag table writer
+  new_halves table law begins version = record {
+    work = slot_writer bare writer.journal;
+    live = (law.writes tag bare [] 0).live writer.journal behind_none;
+    at_work = record {
+      handed = [];
+      works = begins (OnTwoDisks tag) (sym version) _ _;
+      slot = bare;
+      other = bare;
+      writes = new.writes bare;
+      tag_is = refl;
+      work = refl;
+      disks = refl;
+    };
+  }

@@ -1,6 +1,8 @@
 -- A step of the disks by a store on two disks that works and writes is some events of its world.
-use Rattle.std.proofs.Common.{◌≡◌, ◌∙◌, ◌+◌, ◌≤◌, ℕ, Bool, true, List, [], ◌∷◌, ◌++◌, Option, Some, None, Result, Ok, Err, length, map, take, drop, refl, ap, sym, subst, arith, inl, inr}
+use Rattle.std.proofs.Common.{◌≡◌, ◌∙◌, ◌+◌, ◌≤◌, ℕ, Bool, true, false, List, [], ◌∷◌, ◌++◌, Option, Some, None, Result, Ok, Err, length, map, take, drop, refl, ap, sym, subst, arith, inl, inr}
 use Rattle.std.specs.Prelude.{slice_get}
+use Rattle.std.specs.Result.{result_err}
+use Rattle.std.proofs.lemmas.Option.{same_Some}
 use Rattle.std.specs.List.{All}
 use Rattle.std.proofs.lemmas.List.Elements.{All-cons, All-nil}
 use Rattle.std.proofs.lemmas.List.{append-nil, drop_all, length-append, length-map}
@@ -9,7 +11,7 @@ use Rattle.ide_disk.specs.declared.disk.Disk.{Ghosts}
 use Rattle.ide_journal.specs.Format.{Entry, IsEntry}
 use Rattle.ide_journal.specs.Lists.{entries_of, entry_of}
 use Rattle.ide_journal.specs.declared.record.RawRecord.{RawRecord}
-use Rattle.ide_slot_journal.specs.Stands.{StandsOn, disks_of, slot_writer}
+use Rattle.ide_slot_journal.specs.Stands.{AreHonest, StandsOn, disks_of, slot_writer}
 use Rattle.ide_slot_journal.specs.declared.journal.SlotJournal.{SlotJournal}
 use Rattle.ide_slots.specs.Sides.{Sides, two_sides}
 use Rattle.ide_slots.specs.Slot.{Slot}
@@ -35,7 +37,7 @@ module _ (handed more : List Entry) (stored : ℕ) where
   next_over : (slot : Slot) (entry : Entry) → IsNextBehind handed stored slot entry → IsNextBehind (handed ++ more) stored slot entry
   next_over slot entry next = record { count = next.count; next_is = more_get handed more entry stored next.next_is }
 
-  calls_over : (work new : SlotWriter) (disks after : Sides DiskState) → CallsTwo handed stored work disks new after
+  pub calls_over : (work new : SlotWriter) (disks after : Sides DiskState) → CallsTwo handed stored work disks new after
       → CallsTwo (handed ++ more) stored work disks new after
   calls_over work new disks after (ForRecord slot entry next call) = ForRecord slot entry (next_over slot entry next) call
   calls_over work new disks after (BeginsCalls slot count begins same) = BeginsCalls slot count begins same
@@ -51,10 +53,20 @@ module _ (handed more : List Entry) (stored : ℕ) where
     stores = call.stores;
   }
 
-  fails_over : (work : SlotWriter) (disks after : Sides DiskState) → FailsTwo handed stored work disks after
+  pub fails_over : (work : SlotWriter) (disks after : Sides DiskState) → FailsTwo handed stored work disks after
       → FailsTwo (handed ++ more) stored work disks after
   fails_over work disks after (AtRecord slot entry next failed) = AtRecord slot entry (next_over slot entry next) failed
   fails_over work disks after (AtCheckpoint failed) = AtCheckpoint failed
+
+abbrev pub refuses : Refused → Result Bool Refused
+refuses refused = Err refused
+
+pub same_refusal : (one other : Refused) → refuses one ≡ refuses other → one ≡ other
+same_refusal one other is = same_Some one other (ap result_err is)
+
+-- the disks are as honest, whoever has the records
+pub taken_honest : {D : Type 0} {G : Ghosts D} (old mid : SlotWriterHalf D G) → mid.journal ≡ old.journal → AreHonest old.journal → AreHonest mid.journal
+taken_honest old mid same honest = subst AreHonest (sym same) honest
 
 module _ {F L : Type 0} (a : Analysis F L) {D : Type 0} {G : Ghosts D} (tag : ℕ) where
   -- ---- sealed records are handed over
@@ -148,7 +160,7 @@ module _ {F L : Type 0} (a : Analysis F L) {D : Type 0} {G : Ghosts D} (tag : �
     }
 
     -- a good call, behind the beginning of a checkpoint's calls or not
-    called : HasCalled at.slot at.other at.handed w.world.stored old new → DidCalls a tag w table new
+    called : HasCalled at.slot at.other at.handed w.world.stored old new → DidCalls a tag w table table new
     called one = by one.event.first
       where
         then : AreAtWork a tag (record w { world = record w.world { stored = w.world.stored; work = new_work; disks = new_disks } }) table new
@@ -157,7 +169,7 @@ module _ {F L : Type 0} (a : Analysis F L) {D : Type 0} {G : Ghosts D} (tag : �
         call : CallsTwo (at.handed ++ left) w.world.stored one.event.mid (disks_of old.journal) new_work new_disks
         call = calls_over at.handed left w.world.stored one.event.mid new_work (disks_of old.journal) new_disks one.event.event
 
-        by : BeginsFirst at.handed w.world.stored (slot_writer at.other old.journal) (disks_of old.journal) one.event.mid → DidCalls a tag w table new
+        by : BeginsFirst at.handed w.world.stored (slot_writer at.other old.journal) (disks_of old.journal) one.event.mid → DidCalls a tag w table table new
         by (inl same) = record {
           events = world.Calls new_work new_disks ∷ [];
           own = All-cons (IsGoodCall a tag) (world.Calls new_work new_disks) [] tt (All-nil (IsGoodCall a tag));
@@ -179,7 +191,7 @@ module _ {F L : Type 0} (a : Analysis F L) {D : Type 0} {G : Ghosts D} (tag : �
             }
 
     -- one that stores a record
-    stored_one : HasStored at.slot at.other at.handed w.world.stored old new → DidCalls a tag w table new
+    stored_one : HasStored at.slot at.other at.handed w.world.stored old new → DidCalls a tag w table table new
     stored_one one =
         let call = stores_over at.handed left w.world.stored (slot_writer at.other old.journal) new_work (disks_of old.journal) new_disks one.event in
         record {
@@ -274,6 +286,7 @@ module _ {F L : Type 0} (a : Analysis F L) {D : Type 0} {G : Ghosts D} (tag : �
     -- where all that were handed over are stored, none is left
     none_left : (w : SlotWorld a tag) (at : AreAtWork a tag w table old) (hands : HandsTo table mid_table old.waiting.items mid.waiting.items)
         → w.world.stored ≡ length (handed_at_work w table mid_table old mid at journal few proper hands).handed → mid_table.waiting ≡ []
+    unfolding handed_at_work
     none_left w at (gave none took same) all = ap (λ (t : TableData F). t.waiting) same
     none_left w at (kept some items same) all =
         absurd (some (none_mapped entry_of old.waiting.items (at.writes.waiting ∙ drop_all w.world.stored at.handed (omega (arith, all)))))

@@ -1,7 +1,9 @@
 //! The records of a slot as those of a store on one disk.
 ghost use Rattle.std.specs.Prelude.{◌≡◌, IfErr, IfOk};
-ghost use Rattle.ide_journal.specs.Lists.{entries_of};
-ghost use Rattle.ide_slot_store.specs.Batches.{batches_of};
+ghost use Rattle.ide_journal.specs.Lists.{entries_of, entry_of};
+ghost use Rattle.ide_slots.specs.Records.{numbered};
+ghost use Rattle.ide_slot_store.specs.Batches.{batch_of, batches_of};
+ghost use Rattle.ide_store.specs.TwoDisks.{unnumbered};
 
 use ide_journal::RawRecord;
 use ide_slots::NumberedRecord;
@@ -23,14 +25,21 @@ pub(crate) fn as_batches(
     ensures batches { IfOk result (λ records. entries_of records.items ≡ batches_of found.items) }
     ensures refused { IfErr result (λ e. e ≡ Refused.NoMemory) }
 {
-    let mut records = Vec::new(alloc);
-    records.reserve(found.len())?;
-    for NumberedRecord { raw, .. } in found {
-        let kind = if raw.kind == PART { BATCH } else { raw.kind };
-        records.push(RawRecord {
-            kind,
-            body: raw.body,
-        })?;
+    let mut records = Vec::with_capacity(alloc, found.len())?;
+    for one in found {
+        records.push(as_batch(one))?;
     }
     Ok(records)
+}
+
+/// The record without its number: a part as the batch of its items.
+fn as_batch(found: NumberedRecord) -> RawRecord
+    ensures { entry_of result ≡ batch_of (unnumbered (numbered found)) }
+{
+    let NumberedRecord { raw, .. } = found;
+    let kind = if raw.kind == PART { BATCH } else { raw.kind };
+    RawRecord {
+        kind,
+        body: raw.body,
+    }
 }

@@ -1,12 +1,12 @@
 //! A store on two disks that works and writes: a core whose steps are kept on the current disk.
-ghost use Rattle.std.specs.Prelude.{◌≡◌, ◌⊎◌, ℕ, true, Err, IfErr, IfOk, OnOk};
+ghost use Rattle.std.specs.Prelude.{◌≡◌, ◌⊎◌, ◌↔◌, ℕ, true, Err, IfErr, IfOk, IsTrue, OnOk};
 ghost use Rattle.ide_slot_journal.specs.Stands.{records_stored};
 ghost use Rattle.ide_slot_store.specs.Batches.{batches_of};
 ghost use Rattle.ide_slot_store.specs.Engine.{IsTableStop};
 ghost use Rattle.ide_store.specs.Opening.{GoesOnFrom, HaveFold};
 
 use crate::batches::as_batches;
-use crate::laws::slot_halves_open;
+use crate::laws::{slot_halves_open, slot_journals_write_stores};
 use crate::writer::SlotWriterHalf;
 use ide_disk::Disk;
 use ide_journal::Version;
@@ -42,6 +42,7 @@ impl<P: Problem, D: Disk> SlotEngine<P, D> {
         ensures back { D.honest a → D.honest b → IfErr result (λ all. D.honest all.1 × D.honest all.2) }
         ensures refused { IfErr result (λ all. IsMakingRefusal D.Disk a b all.1 all.2 all.0) }
     {
+        slot_journals_write_stores::<P, D>();
         let table = TableHalf::new(alloc, Version::Two);
         match SlotWriterHalf::create(alloc, a, b, P::TAG) {
             Ok(writer) => Ok(SlotEngine { table, writer }),
@@ -112,7 +113,7 @@ impl<P: Problem, D: Disk> SlotEngine<P, D> {
         match self.writer.disk_step() {
             Ok(called) => Ok(called),
             Err(refused) => {
-                if refused == Refused::Disk {
+                if is_fault(refused) {
                     self.table.stop();
                 }
                 Err(refused)
@@ -164,4 +165,11 @@ fn table_over<P: Problem, D: Disk>(
 {
     let records = as_batches(alloc, found)?;
     TableHalf::open(alloc, records.as_slice(), writer.version(), writer.stored())
+}
+
+/// Whether a call of a disk failed.
+fn is_fault(refused: Refused) -> bool
+    ensures { IsTrue result ↔ (refused ≡ Refused.Disk) }
+{
+    matches!(refused, Refused::Disk)
 }

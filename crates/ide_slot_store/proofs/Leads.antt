@@ -1,5 +1,5 @@
 -- Parts of a slot lead where the batches of their items do.
-use Rattle.std.proofs.Common.{◌≡◌, ◌∙◌, ◌×◌, ℕ, Bool, true, false, cond, List, [], ◌∷◌, map, refl, ap, sym, subst, arith, inl, inr}
+use Rattle.std.proofs.Common.{◌≡◌, ◌∙◌, ℕ, Bool, true, false, cond, List, [], ◌∷◌, map, refl, ap, sym, subst, arith, inl, inr}
 use Rattle.std.specs.Prelude.{nat_eq}
 use Rattle.ide_theory.proofs.Laws.Targets.{nat_eq-exact}
 use Rattle.ide_batch.specs.Bodies.{IsEntryOf}
@@ -11,7 +11,7 @@ use Rattle.ide_journal.specs.declared.version.Version.TheVariants.{Two}
 use Rattle.ide_lattice.specs.Algebra.{EdgeAlgebra}
 use Rattle.ide_store.specs.Machine.{Does, SetsPart, slot_machine}
 use Rattle.ide_store.specs.World.{LeadTo}
-use Rattle.ide_slot_store.specs.Batches.{as_batch}
+use Rattle.ide_slot_store.specs.Batches.{batch_of}
 
 module _ {F L : Type 0} (functions : EdgeAlgebra F L) (same : F → F → Bool) (forms : Functions F) where
   abbrev Leads : Entry → ProgramImage F → ProgramImage F → Type 0
@@ -53,14 +53,14 @@ module _ {F L : Type 0} (functions : EdgeAlgebra F L) (same : F → F → Bool) 
       no_kind (Root name) is = omega (arith, is)
       no_kind (Batch items) is = omega (arith, is)
 
-  one_from : (entry : Entry) (before now : ProgramImage F) → Leads (as_batch entry) before now → Leads entry before now
+  one_from : (entry : Entry) (before now : ProgramImage F) → Leads (batch_of entry) before now → Leads entry before now
   one_from (kind, body) before now = by (nat_eq kind 4) refl
     where
       by : (b : Bool) → nat_eq kind 4 ≡ b → Leads (cond b 3 kind, body) before now → Leads (kind, body) before now
       by true is leads = subst (λ (k : ℕ). Leads (k, body) before now) (sym (nat_eq-exact kind 4 is)) (part_from body before now leads)
       by false is leads = leads
 
-  one_to : (entry : Entry) (before now : ProgramImage F) → Leads entry before now → Leads (as_batch entry) before now
+  one_to : (entry : Entry) (before now : ProgramImage F) → Leads entry before now → Leads (batch_of entry) before now
   one_to (kind, body) before now = by (nat_eq kind 4) refl
     where
       by : (b : Bool) → nat_eq kind 4 ≡ b → Leads (kind, body) before now → Leads (cond b 3 kind, body) before now
@@ -68,14 +68,14 @@ module _ {F L : Type 0} (functions : EdgeAlgebra F L) (same : F → F → Bool) 
       by false is leads = leads
 
   -- so do lists of records
-  pub lead_from : (entries : List Entry) (before now : ProgramImage F) → LeadTo (slot_machine functions same forms Two) (map as_batch entries) before now
+  pub lead_from : (entries : List Entry) (before now : ProgramImage F) → LeadTo (slot_machine functions same forms Two) (map batch_of entries) before now
       → LeadTo (slot_machine functions same forms Two) entries before now
   lead_from [] before now is = is
   lead_from (entry ∷ entries) before now (between, first, rest) =
       (between, one_from entry before between first, lead_from entries between now rest)
 
   pub lead_to : (entries : List Entry) (before now : ProgramImage F) → LeadTo (slot_machine functions same forms Two) entries before now
-      → LeadTo (slot_machine functions same forms Two) (map as_batch entries) before now
+      → LeadTo (slot_machine functions same forms Two) (map batch_of entries) before now
   lead_to [] before now is = is
   lead_to (entry ∷ entries) before now (between, first, rest) =
       (between, one_to entry before between first, lead_to entries between now rest)
