@@ -59,7 +59,7 @@ impl<D: Disk> SlotJournal<D> {
     ghost use Rattle.ide_disk.specs.OneCall.{MakesCall};
     ghost use Rattle.ide_journal.specs.Lists.{entries_of, entry_of};
     ghost use Rattle.ide_journal.specs.Phases.{stage_after};
-    ghost use Rattle.ide_slot_journal.specs.Checkpoints.{FillsOrTurns, IsCheckpointRefusal, KeepsNext, LeavesWithOther, MakesCheckpointStep, TurnsOver, called_disk, still_disk};
+    ghost use Rattle.ide_slot_journal.specs.Checkpoints.{FillsOrTurns, IsCheckpointRefusal, KeepsNext, LeavesInCheckpoint, MakesCheckpointStep, TurnsOver, called_disk, still_disk};
     ghost use Rattle.ide_slot_journal.specs.Fillers.{next_place};
     ghost use Rattle.ide_slot_journal.specs.Making.{FailsNever, IsMakingRefusal, StandsEmpty};
     ghost use Rattle.ide_slot_journal.specs.Opened.{CountsFailures, FailsOnlyIn, IsFresh, IsOpeningRefusal, OpensBoth, ResumesSlot, StopsAnywhere, sides_left};
@@ -67,7 +67,7 @@ impl<D: Disk> SlotJournal<D> {
     ghost use Rattle.ide_slots.specs.Sides.{off, on};
     ghost use Rattle.ide_slot_journal.specs.Planning.{MakeUpCheckpoint};
     ghost use Rattle.ide_slot_journal.specs.Plans.{IsPlanRefusal, KeepsSides, Plans, planned_slot};
-    ghost use Rattle.ide_slot_journal.specs.Records.{TouchesNoDisk, IsRecordRefusal, KeepsOther, KeepsRecord, LeavesWithNext, MakesRecordStep, PutsNext, PutsNone, ReachesPhase};
+    ghost use Rattle.ide_slot_journal.specs.Records.{TouchesNoDisk, IsRecordRefusal, KeepsOther, KeepsRecord, LeavesInRecord, MakesRecordStep, PutsNext, PutsNone, ReachesPhase};
     ghost use Rattle.ide_slot_journal.specs.Stands.{AreHonest, HasFaulted, IsCheckpointing, IsFilling, HasNoNext, IsTurn, pair_of, sides_of, records_stored};
 
     /// Makes a store with no record on the disks A and B, whatever they held: both slots are of generation
@@ -299,7 +299,7 @@ impl<D: Disk> SlotJournal<D> {
         requires busy { HasNoNext self.old → ⊥ }
         requires turn { IsTurn self.old }
         ensures steps { AreHonest self.old → MakesRecordStep self.old self.new result }
-        ensures any_moment { AreHonest self.old → LeavesWithNext self.old self.new }
+        ensures any_moment { AreHonest self.old → LeavesInRecord self.old self.new }
         ensures honest { AreHonest self.old → AreHonest self.new }
         ensures phase { IfOk result (λ phase. ReachesPhase phase self.old self.new) }
         ensures call { (HasFaulted self.old → ⊥) → MakesCall D.Disk result self.old.current self.new.current }
@@ -368,7 +368,7 @@ impl<D: Disk> SlotJournal<D> {
     pub fn advance_checkpoint(&mut self) -> Result<bool, Refused>
         requires turn { IsFilling self.old }
         ensures steps { AreHonest self.old → MakesCheckpointStep self.old self.new result }
-        ensures any_moment { AreHonest self.old → LeavesWithOther self.old self.new }
+        ensures any_moment { AreHonest self.old → LeavesInCheckpoint self.old self.new }
         ensures honest { AreHonest self.old → AreHonest self.new }
         ensures moves { IfOk result (FillsOrTurns self.old self.new) }
         ensures call { (HasFaulted self.old → ⊥) → MakesCall D.Disk result self.old.other (called_disk self.new result) }
