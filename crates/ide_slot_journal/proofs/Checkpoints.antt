@@ -13,8 +13,8 @@ use Rattle.ide_slots.specs.DiskCalls.{DiskCall, FailsSo, Syncs, after_disk_call}
 use Rattle.ide_slots.specs.Filling.{Closes, Filling, Lasts, fill_call, fill_next, filled_by}
 use Rattle.ide_slots.specs.Sides.{Sides, across, off, on, two_sides}
 use Rattle.ide_slots.specs.Slot.{IsClosedSlot, Slot, records_of, slot_count}
-use Rattle.ide_slots.specs.Two.{Beside, Checkpoint, IsMade, IsUpTo, NotBegun, Planned, ShowsOne, StandsTwo, UnderWay}
-use Rattle.ide_slots.specs.TwoCalls.{CallsCheckpoint, EndsCheckpoint, FailsCheckpoint, TellsClosed, turned_to}
+use Rattle.ide_slots.specs.Two.{Beside, Checkpoint, IsMade, IsUpTo, NotBegun, Planned, StandsTwo, UnderWay}
+use Rattle.ide_slots.specs.TwoCalls.{CallsCheckpoint, CrashesInCheckpoint, EndsCheckpoint, FailsCheckpoint, TellsClosed, turned_to}
 use Rattle.ide_slots.proofs.Checkpoints.{checkpoints_keep_standing}
 use Rattle.ide_slots.proofs.Fronts.{held_before, next_some, some_records}
 use Rattle.ide_slots.proofs.Gates.{not_both, open_held}
@@ -23,7 +23,7 @@ use Rattle.ide_slots.proofs.Writers.{off_two, on_two}
 use Rattle.ide_wire.specs.declared.refused.Refused.TheVariants as refusals
 use Rattle.ide_slot_journal.specs.Checkpoints.{BeginsIfWaiting, CheckpointStep, FillsOn, FillsOrTurns, KeepsNext, TurnsOver, called_disk, checkpoint_called, checkpoint_ended, checkpoint_failed, filling_writer}
 use Rattle.ide_slot_journal.specs.Fillers.{HasMovedOn, call_of}
-use Rattle.ide_slot_journal.specs.Moments.{LeavesOnlyTwo}
+use Rattle.ide_slot_journal.specs.Moments.{LeavesInCall, LeavesOnlyTwo, before_call, within_call}
 use Rattle.ide_slot_journal.specs.Stages.{IsFillingAt, checkpoint_at, fill_stage_after, filling_at, place_after, stage_of}
 use Rattle.ide_slot_journal.specs.Stands.{FillsWith, HasSpelledNext, HasTodo, IsFilling, KnowsClosed, StandsOn, checkpoint_of, disks_of, filling_of, sides_of, todo_of, slot_writer}
 use Rattle.ide_slot_journal.specs.declared.filler.Filler.{Filler}
@@ -297,13 +297,20 @@ pub left_in_fill : {D : Type 0} {G : Ghosts D} (slot : Slot) (next : Option Entr
     → Elapses G.moment G.left_since G.state old.other called
     → FailsSo (call_of old.filler) (G.state old.other) (G.state called)
     → StandsOn slot next other old
-    → LeavesOnlyTwo G (sides_of old) after (ShowsOne slot next (UnderWay other (filling_of old.filler)))
+    → LeavesOnlyTwo G (sides_of old) after (LeavesInCall (disks_of old) (CrashesInCheckpoint (filling_writer other old) (disks_of old)))
 left_in_fill {D} {G} slot next other old called after turn here current_now only_now time fails stands left a b =
     let call : DiskCall = fill_call other (filling_of old.filler) in
     let since = since_other G old.side call old.current old.other called left current_now only_now time
     (subst (λ (c : DiskCall). FailsSo c (G.state old.other) (G.state called)) (call_is_fill slot next other old stands turn) fails)
     (subst (λ (s : Sides D). G.left_since s.a (G.moment (sides_of old).a) left.a) here a)
     (subst (λ (s : Sides D). G.left_since s.b (G.moment (sides_of old).b) left.b) here b) in
-    checkpoints_keep_standing.within slot next (filling_writer other old) (disks_of old) left
-    (filling_stands slot next other old old.filler.stage refl stands turn)
-    (record { next = other; fill = filling_of old.filler; under_way = refl; within = since.within; current = since.current })
+    elim since [
+      | inl before ↦ before_call before
+      | inr crash ↦ within_call (record {
+        next = other;
+        fill = filling_of old.filler;
+        under_way = refl;
+        within = crash.within;
+        current = crash.current;
+      })
+    ]

@@ -1,5 +1,5 @@
 -- What an opening gives.
-use Rattle.std.specs.Prelude.{◌≡◌, ℕ, ◌+◌, Bool, IfErr, IfOk, List, ◌∷◌, ◌++◌, None, Result, Ok, Err, drop, length, take, refl}
+use Rattle.std.specs.Prelude.{◌≡◌, ℕ, ◌+◌, Bool, IfErr, IfOk, List, ◌∷◌, ◌++◌, None, OnErr, Result, Ok, Err, drop, length, take, refl}
 use Rattle.std.specs.Global.{Vec}
 use Rattle.std.proofs.Common.{sym, ap, subst, ◌∙◌, inl, inr}
 use Rattle.std.proofs.lemmas.List.{append_assoc}
@@ -25,8 +25,8 @@ use Rattle.ide_slots.proofs.Openings.{openings_find}
 use Rattle.ide_slots.proofs.Writers.{off_two, on_two}
 use Rattle.ide_wire.specs.declared.refused.Refused.{Refused}
 use Rattle.ide_slot_journal.specs.Moments.{LeavesOnlyTwo}
-use Rattle.ide_slot_journal.specs.Opened.{IsFresh, IsOpeningRefusal, OpensOn, ResumesSlot, opening_choice, opening_device, opening_slot, settled_both}
-use Rattle.ide_slot_journal.specs.Opening.{IsChoosingRefusal, IsChosenWith, IsCutSlot, IsReadRefusal, IsRecoveredSlot, IsWholeSlot, LeftOrCut, RefusesRead, choosing_device, choosing_slot, read_device, read_file}
+use Rattle.ide_slot_journal.specs.Opened.{IsFresh, IsOpeningRefusal, OpensOn, ResumesSlot, disk_sides, opening_choice, opening_device, opening_slot, settled_both, sides_left, states_of}
+use Rattle.ide_slot_journal.specs.Opening.{IsChoosingRefusal, IsChosenWith, IsCutSlot, IsReadRefusal, IsRecoveredSlot, IsWholeSlot, LeftOrCut, RefusesRead, StopsCutting, StopsOne, choosing_device, choosing_slot, read_device, read_file}
 use Rattle.ide_slot_journal.specs.Stages.{checkpoint_at, stage_of}
 use Rattle.ide_slot_journal.specs.Stands.{KnowsClosed, disks_of, filling_of, slot_writer}
 use Rattle.ide_slot_journal.specs.declared.journal.SlotJournal.{SlotJournal}
@@ -204,6 +204,62 @@ stops_anywhere {D} G side current other current' other' after chosen possible sy
         → G.left_since (on side after) (G.moment current) (on side left) × G.left_since (off side after) (G.moment other) (off side left)
     by_side G First current other after left a b = (a, b)
     by_side G Second current other after left a b = (b, a)
+
+-- an opening that stopped once the disk was synced has stopped over the disk as it was before
+stops_since : (disk synced after : DiskState) → CrashLeaves disk disk.now → synced ≡ settled disk.now → StopsOne synced after → StopsOne disk after
+stops_since disk synced after possible is stops = elim (subst (λ (d : DiskState). StopsOne d after) is stops) [
+  | inl early ↦ inl (record {
+    leaves = λ left now. subst (λ (xs : List ℕ). CrashLeaves disk xs) (sym (early.leaves left now)) possible;
+    possible = early.possible;
+  })
+  | inr cut ↦ inr (record { slot = cut.slot; front = cut.front; whole = cut.whole; was = cut.was; is = cut.is; possible = cut.possible })
+]
+
+-- both disks, where it stopped while it cut the chosen slot
+stops_cutting : (side : Side) (x x' y y' : DiskState) → IsChosen side (two_sides side x.now y.now) → StopsCutting x x' → LeavesNoMoreThan y y'
+    → StopsInCut (two_sides side x y) (two_sides side x' y')
+stops_cutting side x x' y y' chosen cut other = record {
+  side = side;
+  slot = cut.slot;
+  front = cut.front;
+  whole = cut.whole;
+  chosen = subst (λ (l : Sides (List ℕ)). IsChosen side l) (sym (reads_by side x y)) chosen;
+  closed = subst (λ (d : DiskState). IsBefore cut.front d.now) (sym (on_two side x y)) cut.was;
+  current = λ left leaves. inr (cut.is left (subst (λ (d : DiskState). CrashLeaves d left) (on_two side x' y') leaves));
+  possible = subst (λ (d : DiskState). CrashLeaves d d.now) (sym (on_two side x' y')) cut.possible;
+  other = subst (λ (d : DiskState). LeavesNoMoreThan d (off side (two_sides side x' y'))) (sym (off_two side x y))
+      (subst (λ (d : DiskState). LeavesNoMoreThan y d) (sym (off_two side x' y')) other);
+}
+
+-- and where it stopped before that
+stops_before : (side : Side) (x x' y y' : DiskState) → LeavesNoMoreThan x x' → LeavesNoMoreThan y y' → StopsTwo (two_sides side x y) (two_sides side x' y')
+stops_before First x x' y y' one other = inl (one, other)
+stops_before Second x x' y y' one other = inl (other, one)
+
+states_by : {D : Type 0} (G : Ghosts D) (side : Side) (sides : Sides D) → two_sides side (G.state (on side sides)) (G.state (off side sides)) ≡ states_of G sides.a sides.b
+states_by G First sides = refl
+states_by G Second sides = refl
+
+-- an opening that is refused behind the choice of a slot has stopped
+pub stops_behind : {R D : Type 0} (G : Ghosts D) (side : Side) (current other current' other' : D) (result : Result (SlotJournal D G × R) (Refused × D × D))
+    → IsChosen side (two_sides side (G.state current).now (G.state other).now)
+    → CrashLeaves (G.state current) (G.state current).now → G.state current' ≡ settled (G.state current).now
+    → OnErr result (StopsOne (G.state current') (G.state (on side (sides_left result))))
+    → LeavesNoMoreThan (G.state other) (G.state other') → off side (sides_left result) ≡ other'
+    → IfErr result (λ all. StopsTwo (two_sides side (G.state current) (G.state other)) (states_of G all.1 all.2))
+stops_behind G side current other current' other' (Ok pair) chosen possible synced stops beside same = tt
+stops_behind G side current other current' other' (Err all) chosen possible synced stops beside same =
+    let left = disk_sides all.1 all.2 in
+    let x = G.state current in
+    let x' = G.state (on side left) in
+    let y = G.state other in
+    let y' = G.state (off side left) in
+    let still : LeavesNoMoreThan y y' = subst (λ d. LeavesNoMoreThan y (G.state d)) (sym same) beside in
+    subst (λ (s : Sides DiskState). StopsTwo (two_sides side x y) s) (states_by G side left)
+    (elim (stops_since x (G.state current') x' possible synced stops) [
+      | inl early ↦ stops_before side x x' y y' early still
+      | inr cut ↦ inr (stops_cutting side x x' y y' chosen cut still)
+    ])
 
 -- a disk on which all is synced holds what a read gives
 pub still_settled : (disk : DiskState) (bytes : List ℕ) → disk ≡ settled bytes → disk ≡ settled disk.now

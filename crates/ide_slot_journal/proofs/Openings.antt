@@ -1,5 +1,5 @@
 -- What an opening finds.
-use Rattle.std.specs.Prelude.{◌≡◌, ◌⊎◌, ℕ, ◌+◌, ◌<◌, Bool, true, false, nat_eq, suc, IfErr, IfOk, List, ◌∷◌, ◌++◌, Result, Ok, Err, drop, length, take, slice_index, slice_index_or, refl}
+use Rattle.std.specs.Prelude.{◌≡◌, ◌⊎◌, ℕ, ◌+◌, ◌<◌, ◌≤◌, Bool, true, false, nat_eq, suc, IfErr, IfOk, List, ◌∷◌, ◌++◌, Result, Ok, Err, drop, length, take, slice_index, slice_index_or, refl}
 use Rattle.std.proofs.Common.{arith, drop-cons, sym, ap, subst, ◌∙◌, inl, inr}
 use Rattle.std.proofs.lemmas.Bool.{eq-eqb, eqb-true}
 use Rattle.std.proofs.lemmas.List.{get_or-take, length-append, length-take, take-append-drop}
@@ -10,6 +10,7 @@ use Rattle.ide_journal.specs.Moments.{LeavesNoMore, LeavesOnly}
 use Rattle.ide_journal.specs.Opening.{CutsBehind, LeavesFront}
 use Rattle.ide_journal.proofs.Moments.{goes_on, weaker}
 use Rattle.ide_slots.specs.Current.{IsCurrent, IsFoundIn, ends_early, files, no_slot}
+use Rattle.ide_slots.specs.DiskCalls.{LeavesNoMoreThan}
 use Rattle.ide_slots.specs.Loading.{ClosesIn, HasRecords, slot_of}
 use Rattle.ide_slots.specs.Reading.{Tells, TellsNothing}
 use Rattle.ide_slots.specs.Refusals.{IsChoiceRefusal, IsSlotRefusal, slot_memory, no_current, other_tag}
@@ -26,7 +27,7 @@ use Rattle.ide_slots.proofs.Heads.{length-slot_header}
 use Rattle.ide_slots.proofs.OneCurrent.{one_told}
 use Rattle.ide_wire.specs.declared.refused.Refused.{Refused}
 use Rattle.ide_wire.specs.declared.refused.Refused.TheVariants as refusals
-use Rattle.ide_slot_journal.specs.Opening.{IsChoosingRefusal, IsChosenWith, IsLookRefusal, IsReadFrom, IsReadRefusal, IsRecoveredSlot, IsWholeSlot, LeftOrCut, RefusesRead, choosing_device, choosing_slot, look_device, look_short, read_device, read_file}
+use Rattle.ide_slot_journal.specs.Opening.{IsChoosingRefusal, IsChosenWith, IsLookRefusal, IsReadFrom, IsReadRefusal, IsRecoveredSlot, IsWholeSlot, LeftOrCut, RefusesRead, StopsOne, choosing_device, choosing_slot, look_device, look_short, read_device, read_file}
 
 -- a disk that cannot be read, or is too short for a slot
 pub not_looked : (tag : ℕ) (left : Sides (List ℕ)) (side : Side) (refused : Refused) → IsLookRefusal (on side left) refused
@@ -177,3 +178,32 @@ recovers G first second third loaded read is same reading repairing =
       is = before;
     }))
     (repairing (take loaded.gate bytes) rest (gate_place bytes loaded.gate closes.inside) (same ∙ is ∙ ap settled split)))
+
+module _ {D : Type 0} (G : Ghosts D)
+    (counts_now : (disk : D) (t : ℕ) (left : List ℕ) → G.honest disk → t ≤ G.moment disk → CrashLeaves (G.state disk) left → G.left_since disk t left)
+    (possible : (disk : D) → G.honest disk → CrashLeaves (G.state disk) (G.state disk).now) where
+  -- what is left at every moment is left at the last one
+  pub no_more_now : (old new : D) → G.honest new → LeavesNoMore G old new → LeavesNoMoreThan (G.state old) (G.state new)
+  no_more_now old new honest leaves = record {
+    leaves = λ left now. leaves.each left (counts_now new (G.moment old) left honest leaves.later now);
+    possible = possible new honest;
+  }
+
+  -- it stopped while it cut
+  pub cut_stops : (first second third : D) (loaded : LoadedSlot) → G.honest third → IsReadFrom (G.state first).now loaded
+      → G.state first ≡ settled (G.state first).now → G.state second ≡ G.state first → LeavesFront G loaded.gate second third
+      → StopsOne (G.state first) (G.state third)
+  cut_stops first second third loaded honest read is same repairing =
+      let bytes = (G.state first).now in
+      let closes = read.closes in
+      let rest = drop (loaded.gate + 1) bytes in
+      let split = split_gate bytes loaded.gate closes.inside closes.gate in
+      let leaves = repairing (take loaded.gate bytes) rest (gate_place bytes loaded.gate closes.inside) (same ∙ is ∙ ap settled split) in
+      inr (record {
+        slot = slot_of loaded;
+        front = take loaded.gate bytes;
+        whole = closes.front;
+        was = record { rest = rest; split = split };
+        is = λ left now. leaves.each left (counts_now third (G.moment second) left honest leaves.later now);
+        possible = possible third honest;
+      })

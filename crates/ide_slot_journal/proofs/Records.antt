@@ -16,11 +16,10 @@ use Rattle.ide_slots.specs.Filling.{Filling, with_gate}
 use Rattle.ide_slots.specs.Sides.{Sides, two_sides}
 use Rattle.ide_slots.specs.declared.side.Side.{Side}
 use Rattle.ide_slots.specs.Slot.{Slot, slot_count, with_more}
-use Rattle.ide_slots.specs.Two.{ShowsOne}
-use Rattle.ide_slots.specs.TwoCalls.{CallsRecord, FailsRecord, IsDue, IsReadyFor, IsRecordsTurn, StoresRecord, due_call, on_current, record_call}
+use Rattle.ide_slots.specs.TwoCalls.{CallsRecord, CrashesInRecord, FailsRecord, IsDue, IsReadyFor, IsRecordsTurn, StoresRecord, due_call, on_current, record_call}
 use Rattle.ide_slots.proofs.Writers.{records_keep_standing}
 use Rattle.ide_wire.specs.declared.refused.Refused.TheVariants as refusals
-use Rattle.ide_slot_journal.specs.Moments.{LeavesOnlyTwo}
+use Rattle.ide_slot_journal.specs.Moments.{LeavesInCall, LeavesOnlyTwo, before_call, within_call}
 use Rattle.ide_slot_journal.specs.Records.{KeepsOther, ReachesPhase, RecordStep, record_called, record_failed, record_stored}
 use Rattle.ide_slot_journal.specs.Stages.{IsTurnAt, checkpoint_at, once_stored, phase_from, record_stage, stage_of}
 use Rattle.ide_slot_journal.specs.Stands.{FillsWith, IsTurn, KnowsClosed, StandsOn, checkpoint_of, disks_of, sides_of, slot_writer}
@@ -239,7 +238,8 @@ pub left_in_step : {D : Type 0} {G : Ghosts D} (slot : Slot) (entry : Entry) (ot
     → Elapses G.moment G.left_since G.state old.current current
     → FailsSo (record_call (phase_from old.stage) old.gate old.tail.items) (G.state old.current) (G.state current)
     → StandsOn slot (Some entry) other old
-    → LeavesOnlyTwo G (sides_of old) (two_sides side current beside) (ShowsOne slot (Some entry) (checkpoint_of other old.filler))
+    → LeavesOnlyTwo G (sides_of old) (two_sides side current beside)
+    (LeavesInCall (disks_of old) (CrashesInRecord slot entry (slot_writer other old) (disks_of old)))
 left_in_step {D} {G} slot entry other old side current beside whole turn same_side same only_now other_now time fails stands left a b =
     let call : DiskCall = due_call slot entry (slot_writer other old) (phase_from old.stage) in
     let here : two_sides side current beside ≡ two_sides old.side current old.other = λ i. two_sides (same_side i) current (same i) in
@@ -247,9 +247,12 @@ left_in_step {D} {G} slot entry other old side current beside whole turn same_si
     (subst (λ (c : DiskCall). FailsSo c (G.state old.current) (G.state current)) (due_is slot entry other old stands (phase_from old.stage)) fails)
     (subst (λ (s : Sides D). G.left_since s.a (G.moment (sides_of old).a) left.a) here a)
     (subst (λ (s : Sides D). G.left_since s.b (G.moment (sides_of old).b) left.b) here b) in
-    records_keep_standing.within slot entry (slot_writer other old) (disks_of old) left stands.two (record {
-      phase = phase_from old.stage;
-      due = due slot entry other old stands whole turn;
-      within = since.within;
-      other = since.other;
-    })
+    elim since [
+      | inl before ↦ before_call before
+      | inr crash ↦ within_call (record {
+        phase = phase_from old.stage;
+        due = due slot entry other old stands whole turn;
+        within = crash.within;
+        other = crash.other;
+      })
+    ]

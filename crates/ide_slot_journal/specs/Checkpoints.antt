@@ -6,12 +6,12 @@ use Rattle.ide_journal.specs.Format.{Entry}
 use Rattle.ide_journal.specs.declared.version.Version.TheVariants as versions
 use Rattle.ide_slots.specs.Sides.{across}
 use Rattle.ide_slots.specs.Slot.{Slot}
-use Rattle.ide_slots.specs.Two.{ShowsOne, SlotWriter, UnderWay}
-use Rattle.ide_slots.specs.TwoCalls.{BeginsCheckpoint, CallsCheckpoint, EndsCheckpoint, FailsCheckpoint}
+use Rattle.ide_slots.specs.Two.{SlotWriter, UnderWay}
+use Rattle.ide_slots.specs.TwoCalls.{BeginsCheckpoint, CallsCheckpoint, CrashesInCheckpoint, EndsCheckpoint, FailsCheckpoint}
 use Rattle.ide_wire.specs.declared.refused.Refused.{Refused}
 use Rattle.ide_wire.specs.declared.refused.Refused.TheVariants as refusals
 use Rattle.ide_slot_journal.specs.Fillers.{HasMovedOn}
-use Rattle.ide_slot_journal.specs.Moments.{LeavesOnlyTwo}
+use Rattle.ide_slot_journal.specs.Moments.{LeavesInCall, LeavesOnlyTwo}
 use Rattle.ide_slot_journal.specs.Stands.{HasFaulted, StandsOn, disks_of, filling_of, sides_of, slot_writer}
 use Rattle.ide_slot_journal.specs.declared.journal.SlotJournal.{SlotJournal}
 use Rattle.ide_slot_journal.specs.declared.stage.FillStage.TheVariants as fills
@@ -40,11 +40,11 @@ abbrev pub MakesCheckpointStep : {D : Type 0} {G : Ghosts D} → (old new : Slot
 MakesCheckpointStep old new result = (slot : Slot) (next : Option Entry) (other : Slot) → StandsOn slot next other old
     → BeginsIfWaiting slot other old × CheckpointStep slot next other old new result
 
--- and a crash at any moment of it leaves the current slot, the same with the next record, or that of the checkpoint,
--- once its first gate is being opened
-abbrev pub LeavesWithOther : {D : Type 0} {G : Ghosts D} → (old new : SlotJournal D G) → Type 0
-LeavesWithOther {G = G} old new = (slot : Slot) (next : Option Entry) (other : Slot) → StandsOn slot next other old
-    → LeavesOnlyTwo G (sides_of old) (sides_of new) (ShowsOne slot next (UnderWay other (filling_of old.filler)))
+-- and a crash at any moment of it leaves what one before it may leave, or what one within the writer's call may
+abbrev pub LeavesInCheckpoint : {D : Type 0} {G : Ghosts D} → (old new : SlotJournal D G) → Type 0
+LeavesInCheckpoint {G = G} old new = (slot : Slot) (next : Option Entry) (other : Slot) → StandsOn slot next other old
+    → LeavesOnlyTwo G (sides_of old) (sides_of new)
+    (LeavesInCall (disks_of old) (CrashesInCheckpoint (filling_writer other old) (disks_of old)))
 
 -- no call of a checkpoint changes these
 pub record KeepsNext {D : Type 0} {G : Ghosts D} (old new : SlotJournal D G) : Type 0 where

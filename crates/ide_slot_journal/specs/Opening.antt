@@ -6,6 +6,7 @@ use Rattle.ide_disk.specs.declared.disk.Disk.{Ghosts}
 use Rattle.ide_journal.specs.Bytes.{IsBefore}
 use Rattle.ide_journal.specs.Moments.{LeavesOnly}
 use Rattle.ide_slots.specs.Current.{IsCurrent}
+use Rattle.ide_slots.specs.DiskCalls.{LeavesNoMoreThan}
 use Rattle.ide_slots.specs.Loading.{ClosesIn, HasRecords, slot_of}
 use Rattle.ide_slots.specs.Reading.{Tells}
 use Rattle.ide_slots.specs.Refusals.{IsChoiceRefusal, IsSlotRefusal}
@@ -87,6 +88,19 @@ IsAllSynced G disk = G.state disk ≡ settled (G.state disk).now
 -- a crash at any moment leaves no more than that
 abbrev pub LeavesCut : {D : Type 0} → Ghosts D → D → D → Type 0
 LeavesCut G old new = LeavesOnly G old new (LeftOrCut (G.state old))
+
+-- an opening stopped while it cut the slot that a read gave: a crash leaves that slot, cut behind its closed gate or not yet
+pub record StopsCutting (old new : DiskState) : Type 0 where
+  pub slot : Slot
+  pub front : List ℕ
+  pub whole : IsFront slot front
+  pub was : IsBefore front old.now
+  pub is : (left : List ℕ) → CrashLeaves new left → IsBefore front left
+  pub possible : CrashLeaves new new.now
+
+-- it stopped before it cut, or then
+abbrev pub StopsOne : DiskState → DiskState → Type 0
+StopsOne old new = LeavesNoMoreThan old new ⊎ StopsCutting old new
 
 -- the slot that was read was on the one disk, and is all that the other has
 pub record IsRecoveredSlot {D : Type 0} (G : Ghosts D) (old new : D) (loaded : LoadedSlot) : Type 0 where

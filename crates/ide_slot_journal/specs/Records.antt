@@ -6,13 +6,12 @@ use Rattle.ide_journal.specs.Format.{Entry}
 use Rattle.ide_journal.specs.declared.stage.Phase.{Phase}
 use Rattle.ide_journal.specs.declared.stage.Phase.TheVariants as phases
 use Rattle.ide_slots.specs.Slot.{Slot, with_more}
-use Rattle.ide_slots.specs.Two.{ShowsOne}
-use Rattle.ide_slots.specs.TwoCalls.{CallsRecord, FailsRecord, StoresRecord}
+use Rattle.ide_slots.specs.TwoCalls.{CallsRecord, CrashesInRecord, FailsRecord, StoresRecord}
 use Rattle.ide_wire.specs.declared.refused.Refused.{Refused}
 use Rattle.ide_wire.specs.declared.refused.Refused.TheVariants as refusals
-use Rattle.ide_slot_journal.specs.Moments.{LeavesOnlyTwo}
+use Rattle.ide_slot_journal.specs.Moments.{LeavesInCall, LeavesOnlyTwo}
 use Rattle.ide_slot_journal.specs.Stages.{once_stored, once_written, phase_from, record_stage}
-use Rattle.ide_slot_journal.specs.Stands.{HasFaulted, StandsOn, checkpoint_of, disks_of, sides_of, slot_writer}
+use Rattle.ide_slot_journal.specs.Stands.{HasFaulted, StandsOn, disks_of, sides_of, slot_writer}
 use Rattle.ide_slot_journal.specs.declared.journal.SlotJournal.{SlotJournal}
 
 -- no call for a record changes these
@@ -73,10 +72,11 @@ abbrev pub MakesRecordStep : {D : Type 0} {G : Ghosts D} → (old new : SlotJour
 MakesRecordStep old new result = (slot : Slot) (entry : Entry) (other : Slot)
     → StandsOn slot (Some entry) other old → RecordStep slot entry other old new result
 
--- and a crash at any moment of it leaves the current slot, or the same with the next record
-abbrev pub LeavesWithNext : {D : Type 0} {G : Ghosts D} → (old new : SlotJournal D G) → Type 0
-LeavesWithNext {G = G} old new = (slot : Slot) (entry : Entry) (other : Slot) → StandsOn slot (Some entry) other old
-    → LeavesOnlyTwo G (sides_of old) (sides_of new) (ShowsOne slot (Some entry) (checkpoint_of other old.filler))
+-- and a crash at any moment of it leaves what one before it may leave, or what one within the writer's call may
+abbrev pub LeavesInRecord : {D : Type 0} {G : Ghosts D} → (old new : SlotJournal D G) → Type 0
+LeavesInRecord {G = G} old new = (slot : Slot) (entry : Entry) (other : Slot) → StandsOn slot (Some entry) other old
+    → LeavesOnlyTwo G (sides_of old) (sides_of new)
+    (LeavesInCall (disks_of old) (CrashesInRecord slot entry (slot_writer other old) (disks_of old)))
 
 -- why a record does not go on: its disk call failed, or one had failed before
 pub data IsRecordRefusal {D : Type 0} {G : Ghosts D} (old new : SlotJournal D G) : Refused → Type 0 where

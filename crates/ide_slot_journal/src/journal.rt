@@ -3,7 +3,7 @@ ghost use Rattle.std.specs.Prelude.{◌≡◌, ◌↔◌, ◌+◌, ◌<◌, ◌�
 ghost use Rattle.ide_journal.specs.Format.{IsEntry, head_of};
 ghost use Rattle.ide_slots.specs.Records.{all_numbered};
 ghost use Rattle.ide_slots.specs.Two.{IsUpTo};
-ghost use Rattle.ide_slots.specs.TwoCalls.{record_call};
+ghost use Rattle.ide_slots.specs.TwoCalls.{StopsTwo, record_call};
 ghost use Rattle.ide_slot_journal.specs.OneDisk.{MakesDiskCall};
 ghost use Rattle.ide_slot_journal.specs.Stages.{first_place, phase_from, stage_of};
 
@@ -59,15 +59,15 @@ impl<D: Disk> SlotJournal<D> {
     ghost use Rattle.ide_disk.specs.OneCall.{MakesCall};
     ghost use Rattle.ide_journal.specs.Lists.{entries_of, entry_of};
     ghost use Rattle.ide_journal.specs.Phases.{stage_after};
-    ghost use Rattle.ide_slot_journal.specs.Checkpoints.{FillsOrTurns, IsCheckpointRefusal, KeepsNext, LeavesWithOther, MakesCheckpointStep, TurnsOver, called_disk, still_disk};
+    ghost use Rattle.ide_slot_journal.specs.Checkpoints.{FillsOrTurns, IsCheckpointRefusal, KeepsNext, LeavesInCheckpoint, MakesCheckpointStep, TurnsOver, called_disk, still_disk};
     ghost use Rattle.ide_slot_journal.specs.Fillers.{next_place};
     ghost use Rattle.ide_slot_journal.specs.Making.{FailsNever, IsMakingRefusal, StandsEmpty};
-    ghost use Rattle.ide_slot_journal.specs.Opened.{CountsFailures, FailsOnlyIn, IsFresh, IsOpeningRefusal, OpensBoth, ResumesSlot, StopsAnywhere, sides_left};
-    ghost use Rattle.ide_slot_journal.specs.Opening.{IsAllSynced, LeavesCut, RefusesRead, now_of};
+    ghost use Rattle.ide_slot_journal.specs.Opened.{CountsFailures, FailsOnlyIn, IsFresh, IsOpeningRefusal, OpensBoth, ResumesSlot, StopsAnywhere, sides_left, states_of};
+    ghost use Rattle.ide_slot_journal.specs.Opening.{IsAllSynced, LeavesCut, RefusesRead, StopsOne, now_of};
     ghost use Rattle.ide_slots.specs.Sides.{off, on};
     ghost use Rattle.ide_slot_journal.specs.Planning.{MakeUpCheckpoint};
     ghost use Rattle.ide_slot_journal.specs.Plans.{IsPlanRefusal, KeepsSides, Plans, planned_slot};
-    ghost use Rattle.ide_slot_journal.specs.Records.{TouchesNoDisk, IsRecordRefusal, KeepsOther, KeepsRecord, LeavesWithNext, MakesRecordStep, PutsNext, PutsNone, ReachesPhase};
+    ghost use Rattle.ide_slot_journal.specs.Records.{TouchesNoDisk, IsRecordRefusal, KeepsOther, KeepsRecord, LeavesInRecord, MakesRecordStep, PutsNext, PutsNone, ReachesPhase};
     ghost use Rattle.ide_slot_journal.specs.Stands.{AreHonest, HasFaulted, IsCheckpointing, IsFilling, HasNoNext, IsTurn, pair_of, sides_of, records_stored};
 
     /// Makes a store with no record on the disks A and B, whatever they held: both slots are of generation
@@ -135,6 +135,9 @@ impl<D: Disk> SlotJournal<D> {
 
         // What a crash at any moment leaves of both is something that an opening may have stopped with.
         ensures any_moment { D.honest a → D.honest b → StopsAnywhere D.Disk a b (sides_left result) }
+
+        // One that is refused has stopped.
+        ensures stops { D.honest a → D.honest b → IfErr result (λ all. StopsTwo (states_of D.Disk a b) (states_of D.Disk all.1 all.2)) }
         ensures failures { CountsFailures a b result }
         ensures refused { D.honest a → D.honest b → IfErr result (λ all. IsOpeningRefusal tag (now_of D.Disk a b) all.0) }
     {
@@ -159,6 +162,7 @@ impl<D: Disk> SlotJournal<D> {
         ensures other { off side (sides_left result) ≡ other }
         ensures honest { D.honest current → D.honest (on side (sides_left result)) }
         ensures any_moment { D.honest current → IsAllSynced D.Disk current → LeavesCut D.Disk current (on side (sides_left result)) }
+        ensures stops { D.honest current → IsAllSynced D.Disk current → OnErr result (StopsOne (D.state current) (D.state (on side (sides_left result)))) }
         ensures failures { FailsOnlyIn side current result }
         ensures refused { D.honest current → IfErr result (λ all. RefusesRead (D.state current).now all.0) }
     {
@@ -299,7 +303,7 @@ impl<D: Disk> SlotJournal<D> {
         requires busy { HasNoNext self.old → ⊥ }
         requires turn { IsTurn self.old }
         ensures steps { AreHonest self.old → MakesRecordStep self.old self.new result }
-        ensures any_moment { AreHonest self.old → LeavesWithNext self.old self.new }
+        ensures any_moment { AreHonest self.old → LeavesInRecord self.old self.new }
         ensures honest { AreHonest self.old → AreHonest self.new }
         ensures phase { IfOk result (λ phase. ReachesPhase phase self.old self.new) }
         ensures call { (HasFaulted self.old → ⊥) → MakesCall D.Disk result self.old.current self.new.current }
@@ -368,7 +372,7 @@ impl<D: Disk> SlotJournal<D> {
     pub fn advance_checkpoint(&mut self) -> Result<bool, Refused>
         requires turn { IsFilling self.old }
         ensures steps { AreHonest self.old → MakesCheckpointStep self.old self.new result }
-        ensures any_moment { AreHonest self.old → LeavesWithOther self.old self.new }
+        ensures any_moment { AreHonest self.old → LeavesInCheckpoint self.old self.new }
         ensures honest { AreHonest self.old → AreHonest self.new }
         ensures moves { IfOk result (FillsOrTurns self.old self.new) }
         ensures call { (HasFaulted self.old → ⊥) → MakesCall D.Disk result self.old.other (called_disk self.new result) }

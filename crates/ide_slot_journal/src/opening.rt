@@ -1,5 +1,5 @@
 //! What an opening does to the disks.
-ghost use Rattle.std.specs.Prelude.{◌≡◌, ◌⊎◌, ◌+◌, ◌<◌, ◌≤◌, length, take, OnOk, IfOk, IfErr};
+ghost use Rattle.std.specs.Prelude.{◌≡◌, ◌⊎◌, ◌+◌, ◌<◌, ◌≤◌, length, take, OnOk, OnErr, IfOk, IfErr};
 ghost use Rattle.ide_disk.specs.Disk.{CrashLeaves, settled};
 ghost use Rattle.ide_disk.specs.Time.{failures_after};
 ghost use Rattle.ide_journal.specs.Moments.{LeavesNoMore, OnlyLooks};
@@ -7,7 +7,7 @@ ghost use Rattle.ide_journal.specs.Opening.{CutsBehind, LeavesFront};
 ghost use Rattle.ide_journal.specs.Refusals.{CountsFaults, RunsOn};
 ghost use Rattle.ide_slots.specs.Loading.{slot_of};
 ghost use Rattle.ide_slots.specs.Slot.{slot_count};
-ghost use Rattle.ide_slot_journal.specs.Opening.{CountsFaultsOfTwo, IsAllSynced, IsChoosingRefusal, IsChosenWith, IsLookRefusal, IsReadFrom, IsRecoveredSlot, IsWholeSlot, LeavesCut, RefusesRead, now_of};
+ghost use Rattle.ide_slot_journal.specs.Opening.{CountsFaultsOfTwo, IsAllSynced, IsChoosingRefusal, IsChosenWith, IsLookRefusal, IsReadFrom, IsRecoveredSlot, IsWholeSlot, LeavesCut, RefusesRead, StopsOne, now_of};
 
 use ide_disk::{DeviceFault, Disk};
 use ide_slots::{LoadedSlot, Side, choose_slot, read_head, read_slot};
@@ -135,6 +135,7 @@ pub(crate) fn recover<D: Disk>(alloc: Global, disk: &mut D) -> Result<LoadedSlot
     ensures recovered { D.honest disk.old → IsAllSynced D.Disk disk.old → IfOk result (IsRecoveredSlot D.Disk disk.old disk.new) }
     ensures honest { D.honest disk.old → D.honest disk.new }
     ensures any_moment { D.honest disk.old → IsAllSynced D.Disk disk.old → LeavesCut D.Disk disk.old disk.new }
+    ensures stops { D.honest disk.old → IsAllSynced D.Disk disk.old → OnErr result (StopsOne (D.state disk.old) (D.state disk.new)) }
     ensures failures { CountsFaults D.Disk result disk.old disk.new }
     ensures refused { D.honest disk.old → IfErr result (RefusesRead (D.state disk.old).now) }
 {

@@ -1,10 +1,11 @@
-use Rattle.std.proofs.Common.{ap, subst}
+use Rattle.std.proofs.Common.{ap, inl, subst}
 use Rattle.ide_disk.specs.Disk.{DiskState}
 use Rattle.ide_slots.specs.declared.side.Side.{Side}
 use Rattle.ide_slots.specs.declared.side.Side.TheVariants.{First, Second}
 use Rattle.ide_slot_journal.specs.Opened.{sides_left}
 use Rattle.ide_slot_journal.specs.Opening.{IsChosenWith, now_of}
-use Rattle.ide_slot_journal.proofs.Opened.{opened_on, refused_choice, refused_on, still_settled, stops_anywhere}
+use Rattle.ide_slot_journal.proofs.Opened.{opened_on, refused_choice, refused_on, still_settled, stops_anywhere, stops_behind}
+use Rattle.ide_slot_journal.proofs.Openings.{no_more_now}
 use Rattle.ide_slot_journal.proofs.journal.SlotJournal.open.Goals as goal
 
 pub returns-in-Ok-First-default-clause-opened : goal.returns-in-Ok-First-default-clause-opened
@@ -21,6 +22,15 @@ returns-in-Ok-First-default-clause-any_moment g c first second =
     (g.met.D.Disk.possible c.args.a first) (c.in-Ok-First-default.ensures.first_synced first) (c.choose.ensures.first_moments first)
     (c.resume.ensures.any_moment (c.choose.ensures.first_honest first) (still_settled (g.D.Disk.state c.choose.new.a) _ (c.in-Ok-First-default.ensures.first_synced first)))
     (c.choose.ensures.second_moments second) c.resume.ensures.other
+
+pub returns-in-Ok-First-default-clause-stops : goal.returns-in-Ok-First-default-clause-stops
+returns-in-Ok-First-default-clause-stops g c first second =
+    let chosen = (subst (λ (s : Side). IsChosenWith c.args.tag (now_of g.D.Disk c.args.a c.args.b) s c.in-Ok-First-default.closed) c.in-Ok-First-default.field-0-0-is (c.in-Ok-First-default.ensures.chosen first second)) in
+    stops_behind g.D.Disk First c.args.a c.args.b c.choose.new.a c.choose.new.b c.resume.result chosen.current.chosen
+    (g.met.D.Disk.possible c.args.a first) (c.in-Ok-First-default.ensures.first_synced first)
+    (c.resume.ensures.stops (c.choose.ensures.first_honest first) (still_settled (g.D.Disk.state c.choose.new.a) _ (c.in-Ok-First-default.ensures.first_synced first)))
+    (no_more_now g.D.Disk g.met.D.Disk.counts_now g.met.D.Disk.possible c.args.b c.choose.new.b
+    (c.choose.ensures.second_honest second) (c.choose.ensures.second_moments second)) c.resume.ensures.other
 
 pub returns-in-Ok-First-default-clause-refused : goal.returns-in-Ok-First-default-clause-refused
 returns-in-Ok-First-default-clause-refused g c first second =
@@ -44,12 +54,29 @@ returns-in-Ok-Second-default-clause-any_moment g c first second =
     (c.resume-in-Ok-Second-default.ensures.any_moment (c.choose.ensures.second_honest second) (still_settled (g.D.Disk.state c.choose.new.b) _ (c.in-Ok-Second-default.ensures.second_synced second)))
     (c.choose.ensures.first_moments first) c.resume-in-Ok-Second-default.ensures.other
 
+pub returns-in-Ok-Second-default-clause-stops : goal.returns-in-Ok-Second-default-clause-stops
+returns-in-Ok-Second-default-clause-stops g c first second =
+    let chosen = (subst (λ (s : Side). IsChosenWith c.args.tag (now_of g.D.Disk c.args.a c.args.b) s c.in-Ok-Second-default.closed) c.in-Ok-Second-default.field-0-0-is (c.in-Ok-Second-default.ensures.chosen first second)) in
+    stops_behind g.D.Disk Second c.args.b c.args.a c.choose.new.b c.choose.new.a c.resume-in-Ok-Second-default.result chosen.current.chosen
+    (g.met.D.Disk.possible c.args.b second) (c.in-Ok-Second-default.ensures.second_synced second)
+    (c.resume-in-Ok-Second-default.ensures.stops (c.choose.ensures.second_honest second) (still_settled (g.D.Disk.state c.choose.new.b) _ (c.in-Ok-Second-default.ensures.second_synced second)))
+    (no_more_now g.D.Disk g.met.D.Disk.counts_now g.met.D.Disk.possible c.args.a c.choose.new.a
+    (c.choose.ensures.first_honest first) (c.choose.ensures.first_moments first)) c.resume-in-Ok-Second-default.ensures.other
+
 pub returns-in-Ok-Second-default-clause-refused : goal.returns-in-Ok-Second-default-clause-refused
 returns-in-Ok-Second-default-clause-refused g c first second =
     refused_on c.resume-in-Ok-Second-default.result c.args.tag (now_of g.D.Disk c.args.a c.args.b) Second c.in-Ok-Second-default.closed (g.D.Disk.state c.choose.new.b).now
     (ap (λ (d : DiskState). d.now) (c.in-Ok-Second-default.ensures.second_synced second))
     (subst (λ (s : Side). IsChosenWith c.args.tag (now_of g.D.Disk c.args.a c.args.b) s c.in-Ok-Second-default.closed) c.in-Ok-Second-default.field-0-0-is (c.in-Ok-Second-default.ensures.chosen first second))
     (c.resume-in-Ok-Second-default.ensures.refused (c.choose.ensures.second_honest second))
+
+pub returns-in-Err-clause-stops : goal.returns-in-Err-clause-stops
+returns-in-Err-clause-stops g c first second = inl (
+  no_more_now g.D.Disk g.met.D.Disk.counts_now g.met.D.Disk.possible c.args.a c.choose.new.a
+      (c.choose.ensures.first_honest first) (c.choose.ensures.first_moments first),
+  no_more_now g.D.Disk g.met.D.Disk.counts_now g.met.D.Disk.possible c.args.b c.choose.new.b
+      (c.choose.ensures.second_honest second) (c.choose.ensures.second_moments second),
+)
 
 pub returns-in-Err-clause-refused : goal.returns-in-Err-clause-refused
 returns-in-Err-clause-refused g c first second =
