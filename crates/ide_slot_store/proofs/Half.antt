@@ -12,33 +12,34 @@ use Rattle.ide_journal.specs.Lists.{entries_of, entry_of}
 use Rattle.ide_journal.specs.declared.record.RawRecord.{RawRecord}
 use Rattle.ide_journal.specs.declared.stage.Phase.{Phase}
 use Rattle.ide_journal.specs.declared.version.Version.TheVariants.{Two}
-use Rattle.ide_slot_journal.specs.Checkpoints.{LeavesWithOther, MakesCheckpointStep}
+use Rattle.ide_slot_journal.specs.Checkpoints.{LeavesInCheckpoint, MakesCheckpointStep, filling_writer}
 use Rattle.ide_slot_journal.specs.Making.{StandsEmpty}
+use Rattle.ide_slot_journal.specs.Moments.{before_call, within_call}
 use Rattle.ide_slot_journal.specs.Opened.{OpensOn, states_of}
 use Rattle.ide_slot_journal.specs.Plans.{Plans}
-use Rattle.ide_slot_journal.specs.Records.{LeavesWithNext, MakesRecordStep, PutsNext, PutsNone}
-use Rattle.ide_slot_journal.specs.Stages.{IsFillingAt, IsTurnAt, checkpoint_at, filling_at}
-use Rattle.ide_slot_journal.specs.Stands.{AreHonest, HasNoNext, IsFilling, StandsOn, checkpoint_of, disks_of, filling_of, sides_of, slot_writer, todo_of}
-use Rattle.ide_slot_journal.specs.declared.filler.Filler.{Filler}
+use Rattle.ide_slot_journal.specs.Records.{LeavesInRecord, MakesRecordStep, PutsNext, PutsNone}
+use Rattle.ide_slot_journal.specs.Stages.{IsFillingAt, IsTurnAt}
+use Rattle.ide_slot_journal.specs.Stands.{AreHonest, HasNoNext, IsFilling, StandsOn, disks_of, sides_of, slot_writer}
 use Rattle.ide_slot_journal.specs.declared.journal.SlotJournal.{SlotJournal}
 use Rattle.ide_slot_journal.specs.declared.stage.FillStage.{FillStage}
 use Rattle.ide_slot_journal.specs.declared.stage.FillStage.TheVariants as fills
+use Rattle.ide_slot_journal.proofs.Checkpoints.{begins}
 use Rattle.ide_slots.specs.Sides.{Sides, two_sides}
 use Rattle.ide_slots.specs.Slot.{Slot}
-use Rattle.ide_slots.specs.Two.{Checkpoint, IsOfCheckpoint, LeavesTwo, ShowsOne, SlotWriter, UnderWay}
+use Rattle.ide_slots.specs.Two.{LeavesTwo, SlotWriter}
 use Rattle.ide_slots.specs.TwoCalls.{StoresRecord}
 use Rattle.ide_slots.specs.declared.record.NumberedRecord.{NumberedRecord}
 use Rattle.ide_slots.specs.declared.side.Side.{Side}
 use Rattle.ide_slots.specs.declared.side.Side.TheVariants.{First, Second}
-use Rattle.ide_slots.proofs.Standing.{standing_is_safe}
 use Rattle.ide_wire.specs.declared.refused.Refused.{Refused}
 use Rattle.ide_store.proofs.Half.{front_next, none_waits, sealed_waits}
 use Rattle.ide_store.proofs.OneDisk.{kept_get, next_taken}
 use Rattle.ide_store.specs.TwoDisks.{CallsTwo, FailsTwo}
-use Rattle.ide_slot_store.specs.Half.{CallsOver, CallsTo, CrashesStep, HasStoredAll, IsBeginRefusal, IsNewHalf, IsQuiet, KeepsWriting, OpensStore, PlansWriting, StepsOver, Writes, calls, fails, limit, makes, memory, stores, waits}
+use Rattle.ide_slot_store.specs.Half.{CallsOver, CallsTo, CrashesStep, HasStoredAll, IsBeginRefusal, IsNewHalf, IsQuiet, KeepsWriting, MayLeave, OpensStore, PlansWriting, StepsOver, Writes, at_once, calls, fails, limit, makes, memory, stores, waits}
 use Rattle.ide_slot_store.specs.Writing.{BeginsFirst, IsFirstLeft}
 use Rattle.ide_slot_store.specs.declared.writer.SlotWriterHalf.{SlotWriterHalf}
-use Rattle.ide_slot_store.proofs.Writing.{CheckpointThen, RecordThen, busy_next, checkpoint_then, idle_none, next_first, put_behind, record_then, still_behind, then_called, then_failed, then_filled, then_stored, then_turned, then_unfilled}
+use Rattle.ide_slot_store.proofs.Crashes.{in_checkpoint, in_record}
+use Rattle.ide_slot_store.proofs.Writing.{CheckpointThen, RecordThen, begins_first, behind_next, busy_next, checkpoint_then, idle_none, put_behind, record_then, still_behind, then_called, then_failed, then_filled, then_stored, then_turned, then_unfilled}
 
 -- ---- whose turn it is
 pub filling_some : (stage : FillStage) (base count : ℕ) → IsFillingAt stage base count → stage ≢ fills.Rests
@@ -60,33 +61,6 @@ turn_then fills.Heads base count none = absurd (none tt)
 turn_then fills.Fills base count none = absurd (none tt)
 turn_then fills.OpensGate base count none = absurd (none tt)
 turn_then fills.Lasts base count none = absurd (none tt)
-
--- ---- what is found of a checkpoint
-found_of : (stage : FillStage) (other : Slot) (closed : Bool) (at : ℕ) (todo : List (List ℕ)) (found : Slot)
-    → IsOfCheckpoint (UnderWay other (filling_at stage closed at todo)) found
-    → IsOfCheckpoint (checkpoint_at stage other (filling_at stage closed at todo)) found
-found_of fills.Rests other closed at todo found is = absurd is.0
-found_of fills.Waits other closed at todo found is = absurd is.0
-found_of fills.Settles other closed at todo found is = is
-found_of fills.Trims other closed at todo found is = is
-found_of fills.Heads other closed at todo found is = is
-found_of fills.Fills other closed at todo found is = is
-found_of fills.OpensGate other closed at todo found is = is
-found_of fills.Lasts other closed at todo found is = is
-
--- what shows one of them shows one where the first of those to be stored is the next
-shows_first : (slot : Slot) (records : List Entry) (stored : ℕ) (next : Option Entry) (one other : Checkpoint) (left : Sides (List ℕ))
-    → IsFirstLeft records stored next → ((found : Slot) → IsOfCheckpoint one found → IsOfCheckpoint other found)
-    → ShowsOne slot next one left → ShowsOne slot (slice_get records stored) other left
-shows_first slot records stored next one other left first turn shows = record {
-  found = shows.found;
-  may = elim shows.may [
-    | inl same ↦ inl same
-    | inr (inl more) ↦ inr (inl (record { entry = more.entry; next_is = next_first records stored next more.entry more.next_is first; is = more.is }))
-    | inr (inr turned) ↦ inr (inr (turn shows.found turned))
-  ];
-  shows = shows.shows;
-}
 
 -- what was answered
 abbrev pub answered : {T : Type 0} → Result T Refused → Result Bool Refused
@@ -262,27 +236,36 @@ module _ {D : Type 0} {G : Ghosts D} where
   -- ---- crashes
   -- within a call for the next record
   pub record_crashes : (old mid new : SlotWriterHalf D G) → IsQuiet old.journal mid.journal → KeepsWriting old mid
-      → (HasNoNext mid.journal → ⊥) → LeavesWithNext mid.journal new.journal → CrashesStep old new
+      → (HasNoNext mid.journal → ⊥) → LeavesInRecord mid.journal new.journal → CrashesStep old new
   record_crashes old mid new quiet keeps busy leaves slot other records stored writes left a b =
-      let there = keeps slot other records stored writes in
-      let has = busy_next slot other there.behind.next mid.journal there.behind.stands busy in
+      let behind = (keeps slot other records stored writes).behind in
+      let has = busy_next slot other behind.next mid.journal behind.stands busy in
+      let next = behind_next slot other records stored mid.journal has.0 behind has.1 in
       let stands : StandsOn slot (Some has.0) other mid.journal =
-      subst (λ (o : Option Entry). StandsOn slot o other mid.journal) has.1 there.behind.stands in
+      subst (λ (o : Option Entry). StandsOn slot o other mid.journal) has.1 behind.stands in
       let same = quiet_sides old.journal mid.journal quiet in
-      let shows = leaves slot has.0 other stands left
+      let may : MayLeave records stored (slot_writer other mid.journal) (disks_of mid.journal) left =
+      elim (leaves slot has.0 other stands left
       (subst (λ (s : Sides D). G.left_since (sides_of new.journal).a (G.moment s.a) left.a) (sym same) a)
-      (subst (λ (s : Sides D). G.left_since (sides_of new.journal).b (G.moment s.b) left.b) (sym same) b) in
-      shows_first slot records stored (Some has.0) (checkpoint_of other mid.journal.filler) (checkpoint_of other old.journal.filler) left
-      (next_first records stored there.behind.next has.0 has.1 there.behind.is_next)
-      (λ found is. subst (λ (f : Filler). IsOfCheckpoint (checkpoint_of other f) found) quiet.filler is) shows
+      (subst (λ (s : Sides D). G.left_since (sides_of new.journal).b (G.moment s.b) left.b) (sym same) b)) [
+        | before_call before ↦ at_once before
+        | within_call crash ↦ in_record records stored (slot_writer other mid.journal) (disks_of mid.journal) left slot has.0 next crash
+      ] in
+      subst (λ (w : SlotWriter). MayLeave records stored w (disks_of old.journal) left) (quiet.work other)
+      (subst (λ (d : Sides DiskState). MayLeave records stored (slot_writer other mid.journal) d left) (quiet_disks old.journal mid.journal quiet) may)
 
   -- within one of a checkpoint
-  pub checkpoint_crashes : (old new : SlotWriterHalf D G) → LeavesWithOther old.journal new.journal → CrashesStep old new
-  checkpoint_crashes old new leaves slot other records stored writes left a b =
-      let filler = old.journal.filler in
-      shows_first slot records stored writes.behind.next (UnderWay other (filling_of filler)) (checkpoint_of other filler) left writes.behind.is_next
-      (found_of filler.stage other filler.closed filler.at (todo_of filler))
-      (leaves slot writes.behind.next other writes.behind.stands left a b)
+  pub checkpoint_crashes : (old new : SlotWriterHalf D G) → IsFilling old.journal → LeavesInCheckpoint old.journal new.journal → CrashesStep old new
+  checkpoint_crashes old new turn leaves slot other records stored writes left a b =
+      let journal = old.journal in
+      let behind = writes.behind in
+      elim (leaves slot behind.next other behind.stands left a b) [
+        | before_call before ↦ at_once before
+        | within_call crash ↦ in_checkpoint records stored (slot_writer other journal) (disks_of journal) left (filling_writer other journal)
+            (begins_first slot other records stored journal behind.count
+            (filling_some journal.filler.stage journal.filler.base journal.count turn)
+            (begins slot behind.next other journal behind.stands turn)) crash
+      ]
 
   -- where no call is made
   pub still_crashes : (old new : SlotWriterHalf D G) → IsQuiet old.journal new.journal
@@ -291,12 +274,9 @@ module _ {D : Type 0} {G : Ghosts D} where
       → CrashesStep old new
   still_crashes old new quiet current_now other_now slot other records stored writes left a b =
       let same = quiet_sides old.journal new.journal quiet in
-      let leaves = two_now G old.journal.side old.journal.current old.journal.other left current_now other_now
+      at_once (two_now G old.journal.side old.journal.current old.journal.other left current_now other_now
       (subst (λ (s : Sides D). G.left_since s.a (G.moment (sides_of old.journal).a) left.a) same a)
-      (subst (λ (s : Sides D). G.left_since s.b (G.moment (sides_of old.journal).b) left.b) same b) in
-      shows_first slot records stored writes.behind.next (checkpoint_of other old.journal.filler) (checkpoint_of other old.journal.filler) left
-      writes.behind.is_next (λ found is. is)
-      ((standing_is_safe slot writes.behind.next (slot_writer other old.journal) (disks_of old.journal) writes.behind.stands.two).each left leaves)
+      (subst (λ (s : Sides D). G.left_since s.b (G.moment (sides_of old.journal).b) left.b) same b))
 
   -- ---- records that are put under way
   -- the journal has fewer records than there may be, where one waits

@@ -1,5 +1,6 @@
-pub mod Leads
+pub mod Crashes
 pub mod Half
+pub mod Leads
 pub mod Openings
 pub mod Stepping
 pub mod Stopping

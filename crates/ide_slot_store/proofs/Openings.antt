@@ -1,5 +1,5 @@
 -- A store on two disks that was opened is at work on each world whose disks these were.
-use Rattle.std.proofs.Common.{◌≡◌, ◌∙◌, ◌≤◌, ℕ, None, List, [], length, map, take, refl, ap, sym, subst, arith}
+use Rattle.std.proofs.Common.{◌≡◌, ◌∙◌, ℕ, None, List, [], length, map, take, refl, ap, sym, subst, arith}
 use Rattle.std.proofs.lemmas.List.{drop_all}
 use Rattle.ide_batch.specs.Fold.{ProgramImage}
 use Rattle.ide_disk.specs.Disk.{DiskState}
@@ -23,12 +23,12 @@ use Rattle.ide_store.specs.Hands.{Happens}
 use Rattle.ide_store.specs.Opening.{BeginsOn, GoesOnFrom, HaveFold}
 use Rattle.ide_store.specs.Places.{OnTwoDisks, Place}
 use Rattle.ide_store.specs.Recovery.{PlaceAnswers}
-use Rattle.ide_store.specs.Table.{Analysis, IsReached, MayDo, StoreWorld, TableData, WorksOn, after_act, forms_of, rules_at}
+use Rattle.ide_store.specs.Table.{Analysis, IsReached, MayDo, StoreWorld, TableData, after_act, forms_of, rules_at}
 use Rattle.ide_store.specs.TwoDisks.{GiveTheSame, HasPlan, HoldsTwo, unnumbered}
-use Rattle.ide_store.specs.World.{IsFolded, Opens, contents}
+use Rattle.ide_store.specs.World.{Opens, contents}
 use Rattle.ide_store.proofs.Openings.{leads_there}
 use Rattle.ide_store.proofs.Runs.{sound}
-use Rattle.ide_slot_store.specs.Batches.{batch_of, batches_of}
+use Rattle.ide_slot_store.specs.Batches.{batches_of}
 use Rattle.ide_slot_store.specs.Engine.{AreAtWork, AreNewHalves}
 use Rattle.ide_slot_store.specs.Half.{IsNewHalf, OpensStore, Writes}
 use Rattle.ide_slot_store.specs.Openings.{SlotHalvesOpen}

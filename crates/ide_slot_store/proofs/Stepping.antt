@@ -1,6 +1,5 @@
 -- A step of the disks by a store on two disks that works and writes is some events of its world.
-use Rattle.std.proofs.Common.{◌≡◌, ◌∙◌, ◌+◌, ◌≤◌, ℕ, Bool, true, false, List, [], ◌∷◌, ◌++◌, Option, Some, None, Result, Ok, Err, length, map, take, drop, refl, ap, sym, subst, arith, inl, inr}
-use Rattle.std.specs.Prelude.{slice_get}
+use Rattle.std.proofs.Common.{◌≡◌, ◌∙◌, ◌+◌, ◌≤◌, ℕ, Bool, true, false, List, [], ◌∷◌, ◌++◌, Option, Some, None, Result, Ok, Err, length, map, drop, refl, ap, sym, subst, arith, inl, inr}
 use Rattle.std.specs.Result.{result_err}
 use Rattle.std.proofs.lemmas.Option.{same_Some}
 use Rattle.std.specs.List.{All}
@@ -10,7 +9,6 @@ use Rattle.ide_disk.specs.Disk.{DiskState}
 use Rattle.ide_disk.specs.declared.disk.Disk.{Ghosts}
 use Rattle.ide_journal.specs.Format.{Entry, IsEntry}
 use Rattle.ide_journal.specs.Lists.{entries_of, entry_of}
-use Rattle.ide_journal.specs.declared.record.RawRecord.{RawRecord}
 use Rattle.ide_slot_journal.specs.Stands.{AreHonest, StandsOn, disks_of, slot_writer}
 use Rattle.ide_slot_journal.specs.declared.journal.SlotJournal.{SlotJournal}
 use Rattle.ide_slots.specs.Sides.{Sides, two_sides}
@@ -27,9 +25,9 @@ use Rattle.ide_store.specs.World.{contents}
 use Rattle.ide_store.proofs.Half.{none_waits}
 use Rattle.ide_store.proofs.OneDisk.{next_taken}
 use Rattle.ide_store.proofs.Stepping.{more_get, none_mapped, rest_waits, works_after}
-use Rattle.ide_slot_store.specs.Engine.{AreAtWork, DidCalls, DidFail as FailedThen, IsGoodCall, SlotEvent, SlotWorld, StepsDisks, StepsDisksOver, all_stored, did_call, did_fail, no_memory}
-use Rattle.ide_slot_store.specs.Half.{CallsTo, HasCalled, HasRested, HasStored, HasWaited, StepsOver, StepsTo, Writes, calls, fails, makes, rests, stores, waits}
-use Rattle.ide_slot_store.specs.Writing.{BeginsFirst, DidCall, DidFail, DidStore, IsFirstLeft, StandsBehind}
+use Rattle.ide_slot_store.specs.Engine.{AreAtWork, DidCalls, DidFail as FailedThen, IsGoodCall, SlotWorld, StepsDisks, StepsDisksOver, all_stored, did_call, did_fail, no_memory}
+use Rattle.ide_slot_store.specs.Half.{HasCalled, HasRested, HasStored, HasWaited, StepsOver, StepsTo, Writes, calls, fails, makes, rests, stores, waits}
+use Rattle.ide_slot_store.specs.Writing.{BeginsFirst, DidFail, IsFirstLeft, StandsBehind}
 use Rattle.ide_slot_store.specs.declared.writer.SlotWriterHalf.{SlotWriterHalf}
 
 -- ---- calls over the records that were handed over are calls over all of them

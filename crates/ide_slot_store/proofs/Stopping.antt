@@ -1,14 +1,16 @@
 -- What a crash within a call of an engine on two disks leaves, a crash of its world may leave; and an opening that stopped
 -- may have happened.
-use Rattle.std.proofs.Common.{◌≡◌, ◌∙◌, ◌≤◌, ℕ, List, [], ◌∷◌, ◌++◌, refl, ap, sym, subst, inl, inr}
+use Rattle.std.proofs.Common.{◌≡◌, ◌∙◌, ◌≤◌, ℕ, List, [], ◌∷◌, ◌++◌, Result, Ok, Err, refl, ap, sym, subst, inl, inr}
 use Rattle.std.specs.List.{All}
+use Rattle.std.specs.Prelude.{IfErr}
 use Rattle.std.proofs.lemmas.List.Elements.{All-cons, All-nil}
 use Rattle.ide_disk.specs.Disk.{CrashLeaves, DiskState, settled}
 use Rattle.ide_disk.specs.declared.disk.Disk.{Ghosts}
 use Rattle.ide_journal.specs.Format.{Entry, IsEntry}
 use Rattle.ide_journal.specs.Lists.{entries_of}
+use Rattle.ide_journal.specs.declared.version.Version.{Version}
 use Rattle.ide_slot_journal.specs.Opened.{StopsAnywhere, settled_both, states_of}
-use Rattle.ide_slot_journal.specs.Stands.{disks_of, sides_of, slot_writer}
+use Rattle.ide_slot_journal.specs.Stands.{disks_of, records_stored, sides_of, slot_writer}
 use Rattle.ide_slot_journal.specs.declared.journal.SlotJournal.{SlotJournal}
 use Rattle.ide_journal.specs.Bytes.{IsBefore}
 use Rattle.ide_slots.specs.DiskCalls.{LeavesNoMoreThan}
@@ -19,10 +21,14 @@ use Rattle.ide_slots.specs.declared.side.Side.{Side}
 use Rattle.ide_slots.specs.declared.side.Side.TheVariants.{First, Second}
 use Rattle.ide_slots.proofs.Standing.{idle_left}
 use Rattle.ide_store.specs.Handing.{HandsTo}
+use Rattle.ide_wire.specs.declared.refused.Refused.{Refused}
+use Rattle.ide_wire.specs.declared.refused.Refused.TheVariants.{Disk}
+use Rattle.ide_store.proofs.MayCrash.{half_not_disk}
+use Rattle.ide_store.specs.Opening.{IsOpenStop}
 use Rattle.ide_store.specs.Table.{Analysis, TableData}
 use Rattle.ide_store.specs.TwoDisks.{FailsTwo}
 use Rattle.ide_store.specs.World as world
-use Rattle.ide_slot_store.specs.Engine.{AreAtWork, CrashesOpening, CrashesOver, IsGoodCall, MayCrash, SlotWorld, StopsOpening, at_once, within_call, within_opening}
+use Rattle.ide_slot_store.specs.Engine.{AreAtWork, CrashesOpening, CrashesOver, IsGoodCall, IsTableStop, MayCrash, SlotWorld, StopsOpening, at_once, no_fold, no_room, within_call, within_opening}
 use Rattle.ide_slot_store.specs.Half.{CrashesStep, MayLeave, at_once as before_call, behind_failure}
 use Rattle.ide_slot_store.specs.Writing.{BeginsFirst}
 use Rattle.ide_slot_store.specs.declared.writer.SlotWriterHalf.{SlotWriterHalf}
@@ -48,8 +54,7 @@ module _ {F L : Type 0} (a : Analysis F L) {D : Type 0} {G : Ghosts D} (tag : �
             let one = calls_over at.handed table.waiting w.world.stored (slot_writer at.other half.journal) mid (disks_of half.journal) (disks_of half.journal)
             begins in
             within_call (world.Calls mid (disks_of half.journal) ∷ []) failed
-            (All-cons (IsGoodCall a tag) (world.Calls mid (disks_of half.journal)) [] tt (All-nil (IsGoodCall a tag)))
-            (
+            (All-cons (IsGoodCall a tag) (world.Calls mid (disks_of half.journal)) [] tt (All-nil (IsGoodCall a tag))) (
               (tt, (at.works.running, rw (at.works.waits, at.work, at.disks) one)),
               ((tt, (at.works.running, rw at.works.waits call)), ((tt, leaves), tt)),
             )
@@ -121,3 +126,25 @@ module _ (disks : Sides DiskState) where
         other = subst (λ (d : Sides DiskState). LeavesNoMoreThan disks.a d.a) (sym (there Second is))
             (record { leaves = settled_within disks.a first; possible = refl });
       })
+
+-- what the disks of a journal hold, as A and B
+pub held_by : {D : Type 0} (G : Ghosts D) (side : Side) (current other : D)
+    → states_of G (two_sides side current other).a (two_sides side current other).b ≡ two_sides side (G.state current) (G.state other)
+held_by G First current other = refl
+held_by G Second current other = refl
+
+-- ---- why there is no half over the records
+module _ {F L : Type 0} (a : Analysis F L) {D : Type 0} {G : Ghosts D} (writer : SlotWriterHalf D G) where
+  pub no_fold_of : {T : Type 0} (result : Result T Refused) (version : Version) (entries given : List Entry) (sealed : ℕ) → entries ≡ given
+      → version ≡ writer.journal.version → sealed ≡ records_stored writer.journal → IfErr result (IsOpenStop a version entries sealed)
+      → IfErr result (IsTableStop a writer given)
+  no_fold_of (Ok table) version entries given sealed same same_version same_count stop = tt
+  no_fold_of (Err refused) version entries given sealed same same_version same_count stop =
+      no_fold
+      (subst (λ (v : Version). IsOpenStop a v given (records_stored writer.journal) refused) same_version
+      (subst (λ (n : ℕ). IsOpenStop a version given n refused) same_count
+      (subst (λ (xs : List Entry). IsOpenStop a version xs sealed refused) same stop)))
+
+  pub table_not_disk : (given : List Entry) (refused : Refused) → IsTableStop a writer given refused → refused ≡ Disk → ⊥
+  table_not_disk given refused (no_fold stop) is = half_not_disk a writer.journal.version given (records_stored writer.journal) refused stop is
+  table_not_disk given _ no_room is = cc (is)

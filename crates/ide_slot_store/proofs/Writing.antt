@@ -310,7 +310,7 @@ module _ {D : Type 0} {G : Ghosts D} where
       then_unfilled : DidFail other records stored old new → CheckpointThen old new (Err Disk)
 
     -- one that waits begins its calls first
-    begins_first : (old : SlotJournal D G) → slot_count slot ≡ stored → IsCheckpointing old → BeginsIfWaiting slot other old
+    pub begins_first : (old : SlotJournal D G) → slot_count slot ≡ stored → IsCheckpointing old → BeginsIfWaiting slot other old
         → BeginsFirst records stored (slot_writer other old) (disks_of old) (filling_writer other old)
     begins_first old count some begins = go old.filler.stage refl
       where

@@ -1,5 +1,5 @@
 -- The records of a slot as those of a store on one disk: a part is the batch of its items.
-use Rattle.std.specs.Prelude.{ℕ, List, cond, map, nat_eq}
+use Rattle.std.specs.Prelude.{List, cond, map, nat_eq}
 use Rattle.ide_journal.specs.Format.{Entry}
 use Rattle.ide_slots.specs.Records.{all_numbered}
 use Rattle.ide_slots.specs.declared.record.NumberedRecord.{NumberedRecord}

@@ -1,22 +1,23 @@
 -- What the writing half of a store on two disks does to the records that were sealed.
-use Rattle.std.specs.Prelude.{◌≡◌, ◌⊎◌, ℕ, ◌+◌, ◌<◌, Bool, true, false, List, [], ◌∷◌, ◌++◌, Result, Ok, Err, drop, length, map, slice_get}
+use Rattle.std.specs.Prelude.{◌≡◌, ◌⊎◌, ℕ, ◌+◌, ◌<◌, Bool, true, false, List, [], ◌∷◌, ◌++◌, Result, Ok, Err, drop, length, map}
+use Rattle.ide_disk.specs.Disk.{DiskState}
 use Rattle.ide_disk.specs.OneCall.{FailsOnce}
 use Rattle.ide_disk.specs.declared.disk.Disk.{Ghosts}
 use Rattle.ide_journal.specs.Format.{Entry, head_of}
 use Rattle.ide_journal.specs.Lists.{entry_of}
-use Rattle.ide_journal.specs.declared.record.RawRecord.{RawRecord}
 use Rattle.ide_journal.specs.declared.version.Version.TheVariants.{Two}
 use Rattle.ide_slot_journal.specs.Moments.{LeavesOnlyTwo}
 use Rattle.ide_slot_journal.specs.Opened.{OpensOn, states_of}
-use Rattle.ide_slot_journal.specs.Stands.{IsCheckpointing, IsFilling, checkpoint_of, sides_of, slot_writer}
+use Rattle.ide_slot_journal.specs.Stands.{IsCheckpointing, IsFilling, disks_of, sides_of, slot_writer}
 use Rattle.ide_slot_journal.specs.declared.journal.SlotJournal.{SlotJournal}
 use Rattle.ide_slots.specs.Sides.{Shows, Sides}
 use Rattle.ide_slots.specs.Slot.{Slot, first_slot, slot_count, with_more}
-use Rattle.ide_slots.specs.Two.{ShowsOne, reads_two}
+use Rattle.ide_slots.specs.Two.{LeavesTwo, SlotWriter, reads_two}
 use Rattle.ide_slots.specs.declared.record.NumberedRecord.{NumberedRecord}
 use Rattle.ide_wire.specs.declared.refused.Refused.{Refused}
 use Rattle.ide_wire.specs.declared.refused.Refused.TheVariants.{Disk, Limit, NoMemory}
-use Rattle.ide_slot_store.specs.Writing.{DidCall, DidFail, DidStore, StandsBehind}
+use Rattle.ide_store.specs.TwoDisks.{FailsTwo}
+use Rattle.ide_slot_store.specs.Writing.{BeginsFirst, DidCall, DidFail, DidStore, StandsBehind}
 use Rattle.ide_slot_store.specs.declared.writer.SlotWriterHalf.{SlotWriterHalf}
 
 -- no disk was called, and the writer stands where it did
@@ -37,6 +38,14 @@ FailsNone {G = G} old new =
 -- one did, of the current disk or of the other
 abbrev pub FailsOne : {D : Type 0} {G : Ghosts D} → (old new : SlotJournal D G) → Type 0
 FailsOne {G = G} old new = FailsOnce G old.current new.current ⊎ FailsOnce G old.other new.other
+
+-- what a crash at some moment of a step leaves: at once, what one before the step may leave; or behind a failure, where a call
+-- of it counts as one that failed and left just that
+pub data MayLeave (records : List Entry) (stored : ℕ) (work : SlotWriter) (disks : Sides DiskState) (left : Sides (List ℕ))
+    : Type 0 where
+  at_once : LeavesTwo disks left → MayLeave records stored work disks left
+  behind_failure : (mid : SlotWriter) (failed : Sides DiskState) → BeginsFirst records stored work disks mid
+      → FailsTwo records stored mid disks failed → LeavesTwo failed left → MayLeave records stored work disks left
 
 module _ {D : Type 0} {G : Ghosts D} where
   -- these are all that were sealed; so many of them are stored, in this current slot, and the others wait
@@ -118,12 +127,11 @@ module _ {D : Type 0} {G : Ghosts D} where
   CallsOver old new result = (slot other : Slot) (records : List Entry) (stored : ℕ) → Writes slot other records stored old
       → CallsTo slot other records stored old new result
 
-  -- and a crash at any moment of the step leaves the current slot, the same with the next record, or that of the
-  -- checkpoint, once its first gate is being opened
+  -- and whatever a crash at any moment of the step leaves, one of the writer may leave, at once or behind a failed call
   abbrev pub CrashesStep : (old new : SlotWriterHalf D G) → Type 0
   CrashesStep old new = (slot other : Slot) (records : List Entry) (stored : ℕ) → Writes slot other records stored old
       → LeavesOnlyTwo G (sides_of old.journal) (sides_of new.journal)
-      (ShowsOne slot (slice_get records stored) (checkpoint_of other old.journal.filler))
+      (MayLeave records stored (slot_writer other old.journal) (disks_of old.journal))
 
   -- it writes the records that it wrote
   abbrev pub KeepsWriting : (old new : SlotWriterHalf D G) → Type 0

@@ -6,6 +6,7 @@ ghost use Rattle.ide_journal.specs.Format.{IsEntry};
 ghost use Rattle.ide_journal.specs.Lists.{entries_of, entry_of};
 ghost use Rattle.ide_slots.specs.Records.{all_numbered};
 ghost use Rattle.ide_slots.specs.Two.{IsUpTo};
+ghost use Rattle.ide_slots.specs.TwoCalls.{StopsTwo};
 ghost use Rattle.ide_slot_journal.specs.Stages.{stage_of};
 
 use ide_disk::Disk;
@@ -29,13 +30,13 @@ pub struct SlotWriterHalf<D: Disk> {
 
 impl<D: Disk> SlotWriterHalf<D> {
     ghost use Rattle.ide_disk.specs.OneCall.{FailsOnce};
-    ghost use Rattle.ide_slot_journal.specs.Checkpoints.{LeavesWithOther};
+    ghost use Rattle.ide_slot_journal.specs.Checkpoints.{LeavesInCheckpoint};
     ghost use Rattle.ide_slot_journal.specs.Making.{FailsNever, IsMakingRefusal};
-    ghost use Rattle.ide_slot_journal.specs.Opened.{IsOpeningRefusal, StopsAnywhere};
+    ghost use Rattle.ide_slot_journal.specs.Opened.{IsOpeningRefusal, StopsAnywhere, states_of};
     ghost use Rattle.ide_slot_journal.specs.Opening.{now_of};
     ghost use Rattle.ide_slot_journal.specs.Planning.{MakeUpCheckpoint};
     ghost use Rattle.ide_slot_journal.specs.Plans.{IsPlanRefusal, Plans, planned_slot};
-    ghost use Rattle.ide_slot_journal.specs.Records.{LeavesWithNext};
+    ghost use Rattle.ide_slot_journal.specs.Records.{LeavesInRecord};
     ghost use Rattle.ide_slot_journal.specs.Stands.{AreHonest, HasFaulted, HasNoNext, IsCheckpointing, IsFilling, IsTurn, pair_of, records_stored, sides_of};
     ghost use Rattle.ide_store.specs.Handing.{HandsTo};
     ghost use Rattle.ide_slot_store.specs.Half.{CallsOver, CrashesStep, FailsNone, FailsOne, HasStoredAll, IsBeginRefusal, IsNewHalf, IsQuiet, IsSameHalf, KeepsWriting, OpensStore, PlansWriting, Seals, StepsOver, half_sides_after};
@@ -77,6 +78,10 @@ impl<D: Disk> SlotWriterHalf<D> {
 
         // What a crash at any moment leaves of both is something that an opening may have stopped with.
         ensures any_moment { D.honest a → D.honest b → StopsAnywhere D.Disk a b (half_sides_after result) }
+
+        // One that is refused has stopped.
+        ensures stops { D.honest a → D.honest b → IfErr result (λ all. StopsTwo (states_of D.Disk a b) (states_of D.Disk all.1 all.2)) }
+
         // `Disk` is answered where a call of one of the disks failed, and at Ok none did.
         ensures fault { IfErr result (λ all. all.0 ≡ Refused.Disk → FailsOnce D.Disk a all.1 ⊎ FailsOnce D.Disk b all.2) }
         ensures first_failures { OnOk result (D.failures (half_sides_after result).a ≡ D.failures a) }
@@ -163,8 +168,8 @@ impl<D: Disk> SlotWriterHalf<D> {
         ensures steps { AreHonest self.old.journal → StepsOver self.old self.new result }
         ensures honest { AreHonest self.old.journal → AreHonest self.new.journal }
 
-        // A crash at any moment of the call leaves the current slot, the same with the next record, or that
-        // of the checkpoint, once its first gate is being opened.
+        // A crash at any moment of the step leaves what one before it may leave, or what one behind a call
+        // that failed may.
         ensures any_moment { AreHonest self.old.journal → CrashesStep self.old self.new }
         ensures failures { OnOk result (FailsNone self.old.journal self.new.journal) }
         ensures fault { result ≡ Err Refused.Disk → FailsOne self.old.journal self.new.journal }
@@ -214,7 +219,7 @@ impl<D: Disk> SlotWriterHalf<D> {
         requires turn { IsTurn self.old.journal }
         ensures calls { AreHonest self.old.journal → CallsOver self.old self.new result }
         ensures honest { AreHonest self.old.journal → AreHonest self.new.journal }
-        ensures any_moment { AreHonest self.old.journal → LeavesWithNext self.old.journal self.new.journal }
+        ensures any_moment { AreHonest self.old.journal → LeavesInRecord self.old.journal self.new.journal }
         ensures failures { OnOk result (FailsNone self.old.journal self.new.journal) }
         ensures fault { result ≡ Err Refused.Disk → FailsOne self.old.journal self.new.journal }
         ensures failed { HasFaulted self.old.journal → result ≡ Err Refused.Failed }
@@ -235,7 +240,7 @@ impl<D: Disk> SlotWriterHalf<D> {
         requires { IsFilling self.old.journal }
         ensures calls { AreHonest self.old.journal → CallsOver self.old self.new result }
         ensures honest { AreHonest self.old.journal → AreHonest self.new.journal }
-        ensures any_moment { AreHonest self.old.journal → LeavesWithOther self.old.journal self.new.journal }
+        ensures any_moment { AreHonest self.old.journal → LeavesInCheckpoint self.old.journal self.new.journal }
         ensures failures { OnOk result (FailsNone self.old.journal self.new.journal) }
         ensures fault { result ≡ Err Refused.Disk → FailsOne self.old.journal self.new.journal }
         ensures failed { HasFaulted self.old.journal → result ≡ Err Refused.Failed }

@@ -1,6 +1,7 @@
 use Rattle.std.proofs.Common.{ap, refl}
 use Rattle.ide_store.specs.Table.{Analysis}
 use Rattle.ide_slot_store.proofs.Stepping.{refuses, same_refusal, stepped_disks, taken_honest}
+use Rattle.ide_slot_store.proofs.Stopping.{stepped_crashes}
 use Rattle.ide_slot_store.proofs.engine.SlotEngine.disk_step.Given.{Over}
 use Rattle.ide_slot_store.proofs.engine.SlotEngine.disk_step.Goals as goal
 
@@ -37,3 +38,21 @@ returns-else-is_fault-clause-steps g c honest tag =
     c.take_from.ensures.few c.take_from.ensures.proper c.take_from.ensures.hands c.take_from.new.table c.disk_step.new.self _
     (c.in-Err.ensures.steps (taken_honest c.args.self.now.writer c.take_from.new.self c.take_from.ensures.journal honest))
     (λ is. let no = c.if-is_fault.ensures.1 (same_refusal _ _ is) in cc (no)) (λ other. refl)
+
+pub returns-in-Ok-clause-crashes : goal.returns-in-Ok-clause-crashes
+returns-in-Ok-clause-crashes g c honest tag =
+    stepped_crashes (kept g) tag c.args.self.now.table c.take_from.new.table c.args.self.now.writer c.take_from.new.self c.take_from.ensures.journal
+    c.take_from.ensures.few c.take_from.ensures.proper c.take_from.ensures.hands c.disk_step.new.self
+    (c.in-Ok.ensures.any_moment (taken_honest c.args.self.now.writer c.take_from.new.self c.take_from.ensures.journal honest))
+
+pub returns-then-is_fault-clause-crashes : goal.returns-then-is_fault-clause-crashes
+returns-then-is_fault-clause-crashes g c honest tag =
+    stepped_crashes (kept g) tag c.args.self.now.table c.take_from.new.table c.args.self.now.writer c.take_from.new.self c.take_from.ensures.journal
+    c.take_from.ensures.few c.take_from.ensures.proper c.take_from.ensures.hands c.disk_step.new.self
+    (c.in-Err.ensures.any_moment (taken_honest c.args.self.now.writer c.take_from.new.self c.take_from.ensures.journal honest))
+
+pub returns-else-is_fault-clause-crashes : goal.returns-else-is_fault-clause-crashes
+returns-else-is_fault-clause-crashes g c honest tag =
+    stepped_crashes (kept g) tag c.args.self.now.table c.take_from.new.table c.args.self.now.writer c.take_from.new.self c.take_from.ensures.journal
+    c.take_from.ensures.few c.take_from.ensures.proper c.take_from.ensures.hands c.disk_step.new.self
+    (c.in-Err.ensures.any_moment (taken_honest c.args.self.now.writer c.take_from.new.self c.take_from.ensures.journal honest))

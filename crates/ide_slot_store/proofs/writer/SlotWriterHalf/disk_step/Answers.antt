@@ -1,4 +1,4 @@
-use Rattle.std.proofs.Common.{◌∙◌, Ok, ap}
+use Rattle.std.proofs.Common.{◌∙◌, Ok, ap, refl}
 use Rattle.ide_slot_store.specs.Half.{makes, rests}
 use Rattle.ide_slot_store.proofs.Half.{checkpoint_crashes, quiet_honest, record_crashes, refused_first, stepped, still_crashes}
 use Rattle.ide_slot_store.proofs.writer.SlotWriterHalf.disk_step.Goals as goal
@@ -12,7 +12,7 @@ returns-then-is_checkpoints_turn-clause-steps g c honest slot other records stor
 pub returns-then-is_checkpoints_turn-clause-any_moment :
     goal.returns-then-is_checkpoints_turn-clause-any_moment
 returns-then-is_checkpoints_turn-clause-any_moment g c honest =
-    checkpoint_crashes c.args.self.now c.fill.new.self (c.fill.ensures.any_moment honest)
+    checkpoint_crashes c.args.self.now c.fill.new.self (c.if-is_checkpoints_turn.ensures.0 refl) (c.fill.ensures.any_moment honest)
 
 -- ---- a call for a record
 pub returns-in-Ok-true-clause-steps : goal.returns-in-Ok-true-clause-steps
