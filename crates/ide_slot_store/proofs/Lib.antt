@@ -1,5 +1,6 @@
 pub mod Crashes
 pub mod Half
+pub mod ImageParts
 pub mod Leads
 pub mod Openings
 pub mod Stepping

@@ -2,4 +2,5 @@ pub mod Batches
 pub mod Engine
 pub mod Half
 pub mod Openings
+pub mod Parts
 pub mod Writing

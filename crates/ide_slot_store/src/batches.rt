@@ -5,13 +5,12 @@ ghost use Rattle.ide_slots.specs.Records.{numbered};
 ghost use Rattle.ide_slot_store.specs.Batches.{batch_of, batches_of};
 ghost use Rattle.ide_store.specs.TwoDisks.{unnumbered};
 
+use crate::parts::PART;
 use ide_journal::RawRecord;
 use ide_slots::NumberedRecord;
 use ide_wire::Refused;
 use std::alloc::Global;
 
-/// The kind of a part of an image, in a slot.
-const PART: u8 = 4;
 /// The kind of a batch.
 const BATCH: u8 = 3;
 

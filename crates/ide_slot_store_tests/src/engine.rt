@@ -11,7 +11,7 @@ use std::process::Abort;
 use std::test::Fail;
 
 /// A new store.
-fn create<P: Problem>(alloc: Global) -> Result<SlotEngine<P, MemDisk>, Refused> {
+pub(crate) fn create<P: Problem>(alloc: Global) -> Result<SlotEngine<P, MemDisk>, Refused> {
     let a = MemDisk::new(alloc, 40000, 80000)?;
     let b = MemDisk::new(alloc, 40000, 80000)?;
     match SlotEngine::create(alloc, a, b) {
@@ -77,7 +77,10 @@ fn a_run_of_three_records_takes_twelve_calls(rt: HostRuntime) -> Result<(), Fail
 }
 
 /// Works on a recursive program until nothing is pending, and makes one procedure more a root.
-fn work<P: Problem>(rt: &(impl Abort + AllocGlobal), engine: &mut SlotEngine<P, MemDisk>) -> Result<(), Fail> {
+fn work<P: Problem>(
+    rt: &(impl Abort + AllocGlobal),
+    engine: &mut SlotEngine<P, MemDisk>,
+) -> Result<(), Fail> {
     begin(rt.alloc(), &mut engine.table, RECURSION)?;
     Hand::new(0).drain(rt.alloc(), &mut engine.table)?;
     assert!(rt; root(&mut engine.table, "rec") == Ok(3));

@@ -5,3 +5,5 @@
 
 #[cfg(test)]
 mod engine;
+#[cfg(test)]
+mod parts;
