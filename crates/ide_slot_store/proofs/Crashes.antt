@@ -1,7 +1,6 @@
 -- What a crash within a call of a journal leaves, one behind a call that failed may leave.
-use Rattle.std.proofs.Common.{ℕ, List, refl, subst, sym, inl}
+use Rattle.std.proofs.Common.{◌∷◌, ℕ, List, length, refl, subst, sym, inl}
 use Rattle.ide_disk.specs.Disk.{CrashLeaves, Cut, DiskState, LeftOf, Wrote, settled}
-use Rattle.std.specs.Prelude.{◌∷◌, length}
 use Rattle.ide_journal.specs.Format.{Entry}
 use Rattle.ide_slots.specs.DiskCalls.{Cuts, DiskCall, FailsSo, LeavesWithin, Syncs, Writes}
 use Rattle.ide_slots.specs.Filling.{fill_call}

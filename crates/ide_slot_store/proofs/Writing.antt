@@ -141,7 +141,7 @@ module _ {Image Step : Type 0} (rules : Rules Image Step Entry) where
       (list_more (take stored records) entry slot list)
 
 -- a next record is the first of those that are still to be stored
-pub next_first : (records : List Entry) (stored : ℕ) (next : Option Entry) (entry : Entry) → next ≡ Some entry
+next_first : (records : List Entry) (stored : ℕ) (next : Option Entry) (entry : Entry) → next ≡ Some entry
     → IsFirstLeft records stored next → slice_get records stored ≡ Some entry
 next_first records stored next entry is first = subst (λ (o : Option Entry). IsFirstLeft records stored o) is first
 

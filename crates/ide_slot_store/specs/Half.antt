@@ -39,8 +39,8 @@ FailsNone {G = G} old new =
 abbrev pub FailsOne : {D : Type 0} {G : Ghosts D} → (old new : SlotJournal D G) → Type 0
 FailsOne {G = G} old new = FailsOnce G old.current new.current ⊎ FailsOnce G old.other new.other
 
--- what a crash at some moment of a step leaves: at once, what one before the step may leave; or behind a failure, where a call
--- of it counts as one that failed and left just that
+-- what a crash at some moment of a step leaves: at once, what one before the step may leave; or behind a failure, what one may
+-- leave behind a call of the step that failed, as a call counts that a crash ends, and which a checkpoint that waits begins first
 pub data MayLeave (records : List Entry) (stored : ℕ) (work : SlotWriter) (disks : Sides DiskState) (left : Sides (List ℕ))
     : Type 0 where
   at_once : LeavesTwo disks left → MayLeave records stored work disks left
