@@ -5,12 +5,25 @@ use Rattle.ide_steps.specs.Room.{IsWholeCore}
 use Rattle.ide_service.specs.Served.{IsAnswerRefusal, no_values, not_frozen}
 use Rattle.ide_service.proofs.Results.{refused-on}
 use Rattle.ide_service.proofs.Served.{answers_over}
+use Rattle.ide_store.specs.Table.{Analysis}
+use Rattle.ide_service.proofs.answers.values_of_table.Given.{Over}
 use Rattle.ide_service.proofs.answers.values_of_table.Goals as goal
+
+-- the analysis of the store
+abbrev kept : (g : Over) → Analysis g.row.P-F.Denot g.row.P-L.Denot
+kept g = record {
+  lattice = g.P.L.Lattice.algebra;
+  functions = g.P.F.EdgeFn.edge;
+  targets = g.P.Problem.targets;
+  same = g.P.F.PartialEq.eq;
+  proper = g.P.F.Wire.proper;
+  form = g.P.F.Wire.form;
+}
 
 pub returns-clause-best : goal.returns-clause-best
 returns-clause-best g c =
     let frozen = c.in_ok-closed.ensures in
-    answers_over _ c.args.table.now c.in_ok-closed.closed (subst IsWholeCore c.core.ensures c.cores_are_whole.ensures) frozen.graph
+    answers_over (kept g) c.args.table.now c.in_ok-closed.closed (subst IsWholeCore c.core.ensures c.cores_are_whole.ensures) frozen.graph
     c.values_of_runs_are_best.ensures c.values.result frozen.frozen c.values.ensures.program c.values.ensures.graph c.values.ensures.roots c.values.ensures.best
 
 pub returns-in_err-closed-clause-refused : goal.returns-in_err-closed-clause-refused
