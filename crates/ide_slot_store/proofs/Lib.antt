@@ -3,6 +3,7 @@ pub mod Half
 pub mod ImageParts
 pub mod Leads
 pub mod Openings
+pub mod Runs
 pub mod Stepping
 pub mod Stopping
 pub mod Writing

@@ -3,4 +3,5 @@ pub mod Engine
 pub mod Half
 pub mod Openings
 pub mod Parts
+pub mod Runs
 pub mod Writing

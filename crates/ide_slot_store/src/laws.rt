@@ -1,5 +1,6 @@
 //! Laws of a store on two disks. The functions do nothing: their clauses are the laws.
 ghost use Rattle.ide_slot_store.specs.Openings.{SlotHalvesOpen};
+ghost use Rattle.ide_slot_store.specs.Runs.{SlotEnginesStayOnRuns};
 ghost use Rattle.ide_slot_store.specs.Writing.{JournalsWriteTwo};
 ghost use Rattle.ide_store.specs.TwoDisksLaws.{slots_of};
 
@@ -26,3 +27,11 @@ pub fn slot_halves_open<P: Problem, D: Disk>()
     every_run_answers_on_two_disks::<P>();
     slot_journals_write_stores::<P, D>();
 }
+
+/// Whichever calls of its halves are made, an engine on two disks stays on a run, until a call of a disk
+/// fails: the halves are at work on a world that acts led to from a new store. An opening goes on with the
+/// run that left its disks, whatever crashed; and what is frozen is of that run, and so answers with best
+/// values, as `engines_stay_on_runs` of `ide_store` says of each run.
+pub fn slot_engines_stay_on_runs<P: Problem, D: Disk>()
+    ensures { SlotEnginesStayOnRuns P ⟦<P as Kept>⟧.analysis D.Disk }
+{}

@@ -15,6 +15,6 @@ mod parts;
 mod writer;
 
 pub use engine::SlotEngine;
-pub use laws::{slot_halves_open, slot_journals_write_stores};
+pub use laws::{slot_engines_stay_on_runs, slot_halves_open, slot_journals_write_stores};
 pub use parts::{image_parts, image_parts_make_checkpoints};
 pub use writer::SlotWriterHalf;

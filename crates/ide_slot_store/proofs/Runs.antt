@@ -1,0 +1,133 @@
+-- The halves of an engine on two disks stay at work on a world that acts led to: acts of the half that works leave the disks
+-- and what is stored as they are, and keep the records that were handed over.
+use Rattle.std.proofs.Common.{◌≡◌, ◌∙◌, ◌++◌, ℕ, Bool, true, false, List, [], ◌∷◌, Result, ap, refl, subst, sym}
+use Rattle.ide_disk.specs.Disk.{DiskState}
+use Rattle.ide_disk.specs.declared.disk.Disk.{Ghosts}
+use Rattle.ide_slot_journal.specs.Opened.{settled_both}
+use Rattle.ide_slot_journal.specs.Stands.{disks_of}
+use Rattle.ide_slots.specs.Sides.{Sides}
+use Rattle.ide_wire.specs.declared.refused.Refused.{Refused}
+use Rattle.ide_store.proofs.Acts.{reached_more}
+use Rattle.ide_store.proofs.Drained.{works_still, works_unchanged}
+use Rattle.ide_store.proofs.Runs.{WorksFrom, act_goes, works_go}
+use Rattle.ide_store.specs.Draining.{WorksBy}
+use Rattle.ide_store.specs.Hands.{Happens}
+use Rattle.ide_store.specs.Places.{OnTwoDisks, Place}
+use Rattle.ide_store.specs.Runs.{IsLeftByRun, IsOfTable}
+use Rattle.ide_store.specs.Table.{Analysis, IsAct, IsReached, StoreAct, TableData, after_act}
+use Rattle.ide_store.specs.World.{Closed, Crashes, Fails, Opens, Stops}
+use Rattle.ide_slot_store.specs.Engine.{AreAtWork, AreOpened, MayCrash, SlotEvent, SlotWorld, StepsDisks, StepsDisksOver, after_events, all_stored, at_once, did_call, did_fail, happening, no_memory, within_call, within_opening, MayHappen}
+use Rattle.ide_slot_store.specs.Half.{Writes}
+use Rattle.ide_slot_store.specs.Runs.{AreOnRun, AreOnRunUnlessFailed, SlotEnginesStayOnRuns}
+use Rattle.ide_slot_store.specs.declared.writer.SlotWriterHalf.{SlotWriterHalf}
+
+module _ {F L : Type 0} (a : Analysis F L) (tag : ℕ) where
+  -- what events lead to leaves disks
+  left_by : (w : SlotWorld a tag) → IsReached a (OnTwoDisks tag) w → (events : List (SlotEvent a tag)) → MayHappen a tag w events
+      → IsLeftByRun a (OnTwoDisks tag) (after_events a tag w events).world.disks
+  left_by w reached events can = record {
+    world = after_events a tag w events;
+    reached = reached_more a (OnTwoDisks tag) w (happening a tag events) reached can;
+    stands = refl;
+  }
+
+  -- behind some events, a call that fails and a crash leave just what the crash does
+  crash_last : (w : SlotWorld a tag) (events : List (SlotEvent a tag)) (failed : Sides DiskState) (left : Sides (List ℕ))
+      → (after_events a tag w (events ++ Fails failed ∷ Crashes left ∷ [])).world.disks ≡ settled_both left
+  crash_last w [] failed left = refl
+  crash_last w (e ∷ events) failed left = crash_last (after_act a (OnTwoDisks tag) w (Happens e)) events failed left
+
+  crash_leaves : (w : SlotWorld a tag) → IsReached a (OnTwoDisks tag) w → (left : Sides (List ℕ)) → MayCrash a tag w left
+      → IsLeftByRun a (OnTwoDisks tag) (settled_both left)
+  crash_leaves w reached left (at_once can) = left_by w reached (Crashes left ∷ []) can
+  crash_leaves w reached left (within_call events failed own can) =
+      subst (IsLeftByRun a (OnTwoDisks tag)) (crash_last w events failed left) (left_by w reached (events ++ Fails failed ∷ Crashes left ∷ []) can)
+  crash_leaves w reached left (within_opening can) = left_by w reached (Stops (settled_both left) Closed ∷ Crashes left ∷ []) can
+
+module _ {F L : Type 0} (a : Analysis F L) {D : Type 0} {G : Ghosts D} where
+  -- ---- calls of the half that works
+  stay : (new : TableData F) (writer : SlotWriterHalf D G) (tag : ℕ) (w : SlotWorld a tag) (table : TableData F)
+      (at : AreAtWork a tag w table writer) → WorksFrom a (OnTwoDisks tag) w new at.handed → AreOnRun a new writer
+  stay new writer tag w table at goes = record {
+    tag = tag;
+    world = goes.world;
+    reached = goes.reached;
+    at_work = record {
+      handed = at.handed;
+      works = goes.works;
+      slot = at.slot;
+      other = at.other;
+      writes = subst (λ (n : ℕ). Writes at.slot at.other at.handed n writer) (sym goes.below.stored) at.writes;
+      tag_is = at.tag_is;
+      work = goes.below.work ∙ at.work;
+      disks = goes.below.disks ∙ at.disks;
+    };
+  }
+
+  act_stays : (old new : TableData F) (writer : SlotWriterHalf D G) (act : (place : Place) → StoreAct a place)
+      → ((place : Place) → IsOfTable a place (act place)) → IsAct a old new act → AreOnRun a old writer → AreOnRun a new writer
+  act_stays old new writer act of is on =
+      let at = on.at_work in
+      stay new writer on.tag on.world old at (act_goes a old new act of is (OnTwoDisks on.tag) on.world at.handed on.reached at.works)
+
+  works_stay : (old new : TableData F) (writer : SlotWriterHalf D G) (claims releases : ℕ) → WorksBy a old new claims releases
+      → AreOnRun a old writer → AreOnRun a new writer
+  works_stay old new writer claims releases by on =
+      let at = on.at_work in
+      stay new writer on.tag on.world old at (works_go a old new claims releases by (OnTwoDisks on.tag) on.world at.handed on.reached at.works)
+
+  -- ---- a call of a disk
+  step_stays : (old new : TableData F) (writer after : SlotWriterHalf D G) (result : Result Bool Refused)
+      → ((tag : ℕ) → StepsDisksOver a tag old new writer after result) → AreOnRun a old writer → AreOnRunUnlessFailed a new after
+  step_stays old new writer after result steps on = made result (steps on.tag on.world on.reached on.at_work)
+    where
+      made : (result : Result Bool Refused) → StepsDisks a on.tag on.world old new after result → AreOnRunUnlessFailed a new after
+      made _ (did_call call) working = record {
+        tag = on.tag;
+        world = after_events a on.tag on.world call.events;
+        reached = reached_more a (OnTwoDisks on.tag) on.world (happening a on.tag call.events) on.reached call.can;
+        at_work = call.at_work;
+      }
+      made _ (did_fail fault) working =
+          let no : true ≡ false = sym (ap (λ (t : TableData F). t.failed) fault.failed) ∙ working in
+          cc (no)
+      made _ (all_stored all at_work) working = record { tag = on.tag; world = on.world; reached = on.reached; at_work = at_work }
+      made _ (no_memory at_work) working = record { tag = on.tag; world = on.world; reached = on.reached; at_work = at_work }
+
+  -- ---- an opening
+  opening_stays : (tag : ℕ) (before : Sides DiskState) (table : TableData F) (writer : SlotWriterHalf D G)
+      → IsLeftByRun a (OnTwoDisks tag) before → AreOpened a tag before table writer → AreOnRun a table writer
+  opening_stays tag before table writer left opens =
+      let is = opens left.world left.reached left.stands in
+      let act : StoreAct a (OnTwoDisks tag) = Happens (Opens is.0 is.1 is.2 (disks_of writer.journal)) in
+      record {
+        tag = tag;
+        world = after_act a (OnTwoDisks tag) left.world act;
+        reached = reached_more a (OnTwoDisks tag) left.world (act ∷ []) left.reached (is.3.0, tt);
+        at_work = is.3.1;
+      }
+
+pub slot_engines_stay_on_runs : {P F L D : Type 0} (a : Analysis F L) {G : Ghosts D} → SlotEnginesStayOnRuns P a G
+slot_engines_stay_on_runs a = record {
+  made = λ tag table writer new. record {
+    tag = tag;
+    world = _;
+    reached = record { work = new.work; disks = disks_of writer.journal; live = new.live; acts = []; can = tt; is = refl };
+    at_work = new.at_work;
+  };
+  opened = opening_stays a;
+  leaves = λ table writer on. record { world = on.world; reached = on.reached; stands = on.at_work.disks };
+  crashes = crash_leaves a;
+  act = act_stays a;
+  works = works_stay a;
+  nothing = λ old new writer finds.
+      works_stay a old new writer 0 0 (works_still a old new (λ place w handed reached works. (finds.caught_up place w handed reached works).1));
+  same = λ old new writer same. works_stay a old new writer 0 0 (works_unchanged a old new same.rest same.core);
+  step = step_stays a;
+  frozen = λ table writer closed image on. record {
+    place = OnTwoDisks on.tag;
+    world = on.world;
+    reached = on.reached;
+    image = image (OnTwoDisks on.tag) on.world on.at_work.handed on.reached on.at_work.works;
+  };
+}
