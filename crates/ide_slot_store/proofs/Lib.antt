@@ -6,4 +6,5 @@ pub mod Openings
 pub mod Runs
 pub mod Stepping
 pub mod Stopping
+pub mod Stored
 pub mod Writing

@@ -4,4 +4,5 @@ pub mod Half
 pub mod Openings
 pub mod Parts
 pub mod Runs
+pub mod Storing
 pub mod Writing

@@ -12,6 +12,7 @@ mod batches;
 mod engine;
 mod laws;
 mod parts;
+mod storing;
 mod writer;
 
 pub use engine::SlotEngine;

@@ -85,7 +85,9 @@ fn work<P: Problem>(
     Hand::new(0).drain(rt.alloc(), &mut engine.table)?;
     assert!(rt; root(&mut engine.table, "rec") == Ok(3));
     assert!(rt; seal(&mut engine.table) == Ok(None));
-    expect_calls(rt, engine, 16)
+    engine.store_all()?;
+    assert!(rt; engine.acked() == 4);
+    Ok(())
 }
 
 // An image with its functions and pending keys is given back by the records of both kinds of crashes.
