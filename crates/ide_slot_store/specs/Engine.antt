@@ -1,5 +1,5 @@
 -- A store on two disks that works and writes: which calls of it are which acts of its world.
-use Rattle.std.specs.Prelude.{◌≡◌, ◌++◌, ℕ, Bool, true, false, List, [], ◌∷◌, Result, Ok, Err, IfOk, length, map}
+use Rattle.std.specs.Prelude.{◌≡◌, ◌++◌, ℕ, Bool, true, false, List, [], ◌∷◌, Result, Ok, Err, IfErr, IfOk, length, map}
 use Rattle.std.specs.List.{All}
 use Rattle.ide_batch.specs.Fold.{ProgramImage}
 use Rattle.ide_disk.specs.Disk.{DiskState}
@@ -130,7 +130,7 @@ module _ {F L : Type 0} (a : Analysis F L) (tag : ℕ) where
         → (mode : Mode) → (mode ≡ Running → ⊥) → MayDo a (OnTwoDisks tag) w (Happens (Stops (states_of G after.a after.b) mode))
 
 -- the disks after an opening, in the engine or beside the refusal
-abbrev pub engine_sides_after : {P D F L : Type 0} {G : Ghosts D} → Result (SlotEngine P D F L G) (Refused × D × D) → Sides D
+abbrev pub engine_sides_after : {P D L F : Type 0} {G : Ghosts D} → Result (SlotEngine P D L F G) (Refused × D × D) → Sides D
 engine_sides_after (Ok engine) = sides_of engine.writer.journal
 engine_sides_after (Err all) = record { a = all.1; b = all.2 }
 
@@ -146,6 +146,18 @@ module _ {F L : Type 0} (a : Analysis F L) {P D E : Type 0} {G : Ghosts D} where
   OpensEngine tag first second result = G.honest first → G.honest second
       → IfOk result (λ engine. engine.writer.journal.version ≡ Two
       → AreOpened a tag (states_of G first second) engine.table engine.writer)
+
+module _ {F L : Type 0} (a : Analysis F L) {P D : Type 0} {G : Ghosts D} (first second : D)
+    (result : Result (SlotEngine P D L F G) (Refused × D × D)) where
+  -- whatever a crash at any moment of the opening leaves, it may leave of each world that stood on the disks
+  abbrev pub CrashesEngineOpening : Type 0
+  CrashesEngineOpening = G.honest first → G.honest second → (tag : ℕ)
+      → CrashesOpening a tag G first second (engine_sides_after result)
+
+  -- a refused opening has stopped in each of them
+  abbrev pub StopsEngineOpening : Type 0
+  StopsEngineOpening = G.honest first → G.honest second → (tag : ℕ)
+      → IfErr result (λ _. StopsOpening a tag G first second (engine_sides_after result))
 
 module _ {F L : Type 0} (a : Analysis F L) {P D : Type 0} {G : Ghosts D} (old new : SlotEngine P D L F G) where
   -- over honest disks, a step of the engine is a step of the disks in each world on which it is at work
@@ -171,3 +183,9 @@ pub data IsEngineStop {F L : Type 0} (a : Analysis F L) {D : Type 0} (G : Ghosts
   no_table : {refused : Refused} (writer : SlotWriterHalf D G) (found : List NumberedRecord) → OpensStore tag first second writer found
       → pair_of (sides_of writer.journal) ≡ (after_first, after_second) → IsTableStop a writer (batches_of found) refused
       → IsEngineStop a G tag first second after_first after_second refused
+
+-- over honest disks, each refusal of an opening has such a cause
+abbrev pub RefusesEngine : {F L : Type 0} (a : Analysis F L) {P D : Type 0} {G : Ghosts D} → ℕ → (first second : D)
+    → Result (SlotEngine P D L F G) (Refused × D × D) → Type 0
+RefusesEngine a {G = G} tag first second result = G.honest first → G.honest second
+    → IfErr result (λ all. IsEngineStop a G tag first second all.1 all.2 all.0)

@@ -1,5 +1,5 @@
 //! A store on two disks that works and writes: a core whose steps are kept on the current disk.
-ghost use Rattle.std.specs.Prelude.{◌≡◌, ◌⊎◌, ◌↔◌, ℕ, true, Err, IfErr, IfOk, IsTrue, OnOk};
+ghost use Rattle.std.specs.Prelude.{◌≡◌, ◌⊎◌, ◌↔◌, true, Err, IfErr, IfOk, IsTrue, OnOk};
 ghost use Rattle.ide_slot_journal.specs.Stands.{records_stored};
 ghost use Rattle.ide_slot_store.specs.Batches.{batches_of};
 ghost use Rattle.ide_slot_store.specs.Engine.{IsTableStop};
@@ -30,7 +30,7 @@ impl<P: Problem, D: Disk> SlotEngine<P, D> {
     ghost use Rattle.ide_disk.specs.OneCall.{FailsOnce};
     ghost use Rattle.ide_slot_journal.specs.Making.{IsMakingRefusal};
     ghost use Rattle.ide_slot_journal.specs.Stands.{AreHonest, pair_of, sides_of};
-    ghost use Rattle.ide_slot_store.specs.Engine.{CrashesEngine, CrashesOpening, IsEngineStop, MakesEngine, OpensEngine, StepsEngine, StopsOpening, engine_sides_after};
+    ghost use Rattle.ide_slot_store.specs.Engine.{CrashesEngine, CrashesEngineOpening, MakesEngine, OpensEngine, RefusesEngine, StepsEngine, StopsEngineOpening, engine_sides_after};
     ghost use Rattle.ide_slot_store.specs.Half.{FailsNone, FailsOne};
 
     /// Makes a store with no program and no record on the disks A and B, whatever they held.
@@ -63,9 +63,9 @@ impl<P: Problem, D: Disk> SlotEngine<P, D> {
 
         // What a crash at any moment of the call leaves, one of each world whose disks they were may leave.
         // An opening that is refused has stopped in each of them.
-        ensures crashes { D.honest a → D.honest b → (tag : ℕ) → CrashesOpening ⟦<P as Kept>⟧.analysis tag D.Disk a b (engine_sides_after result) }
-        ensures stops { D.honest a → D.honest b → (tag : ℕ) → IfErr result (λ _. StopsOpening ⟦<P as Kept>⟧.analysis tag D.Disk a b (engine_sides_after result)) }
-        ensures refused { D.honest a → D.honest b → IfErr result (λ all. IsEngineStop ⟦<P as Kept>⟧.analysis D.Disk P.TAG a b all.1 all.2 all.0) }
+        ensures crashes { CrashesEngineOpening ⟦<P as Kept>⟧.analysis a b result }
+        ensures stops { StopsEngineOpening ⟦<P as Kept>⟧.analysis a b result }
+        ensures refused { RefusesEngine ⟦<P as Kept>⟧.analysis P.TAG a b result }
 
         // `Disk` is answered where a call of one of the disks failed, and at Ok none did.
         ensures fault { IfErr result (λ all. all.0 ≡ Refused.Disk → FailsOnce D.Disk a all.1 ⊎ FailsOnce D.Disk b all.2) }
