@@ -148,6 +148,7 @@ filled_step {D} {G} slot next other old new turn moves keeps good stands =
       two = checkpoints_keep_standing.called slot next (filling_writer other old) (slot_writer other new) (disks_of old) (disks_of new) two calls;
       version = moves.version ∙ stands.version;
       tag = keeps.tag ∙ stands.tag;
+      base = moves.base ∙ stands.base;
       count = keeps.count ∙ stands.count;
       has_next = same_next (slot_count slot) next old new moves.stage keeps.next (ap (λ (v : Vec ℕ). v.items) keeps.tail) stands.has_next;
       end = subst (λ (s : RecordStage). EndsAt (stage_of s) new.end (new.gate + length new.tail.items)) (sym moves.stage)
@@ -210,6 +211,7 @@ turned_step {D} {G} slot next other old new turn turns keeps good stands =
       two = checkpoints_keep_standing.ended slot other next (filling_writer other old) (slot_writer other new) (disks_of old) (disks_of new) two ends;
       version = turns.version ∙ sym (ap (λ (h : Head). h.version) follows.head);
       tag = keeps.tag ∙ stands.tag ∙ sym (ap (λ (h : Head). h.tag) follows.head);
+      base = turns.base ∙ with.base;
       count = keeps.count ∙ stands.count ∙ count;
       has_next = subst (λ (n : ℕ). HasSpelledNext n next new) count
           (same_next (slot_count slot) next old new turns.stage keeps.next (ap (λ (v : Vec ℕ). v.items) keeps.tail) stands.has_next);
@@ -222,20 +224,21 @@ turned_step {D} {G} slot next other old new turn turns keeps good stands =
 
 -- what moves on does so from the disks before the call as well
 pub moves_from : {D : Type 0} {G : Ghosts D} (old mid new : SlotJournal D G) (ended : Bool) → mid.filler ≡ old.filler → mid.current ≡ old.current
-    → mid.side ≡ old.side → mid.version ≡ old.version → mid.generation ≡ old.generation → mid.gate ≡ old.gate → mid.end ≡ old.end
+    → mid.side ≡ old.side → mid.version ≡ old.version → mid.generation ≡ old.generation → mid.base ≡ old.base → mid.gate ≡ old.gate → mid.end ≡ old.end
     → mid.stage ≡ old.stage → FillsOrTurns mid new ended → FillsOrTurns old new ended
-moves_from old mid new false filler current side version generation gate end stage moves = record {
+moves_from old mid new false filler current side version generation base gate end stage moves = record {
   more = subst (λ (f : Filler). f.stage ≢ fills.Lasts) filler moves.more;
   filler = subst (λ (f : Filler). HasMovedOn f new.filler) filler moves.filler;
   current = moves.current ∙ current;
   side = moves.side ∙ side;
   version = moves.version ∙ version;
   generation = moves.generation ∙ generation;
+  base = moves.base ∙ base;
   gate = moves.gate ∙ gate;
   end = moves.end ∙ end;
   stage = moves.stage ∙ stage;
 }
-moves_from old mid new true filler current side version generation gate end stage moves = record {
+moves_from old mid new true filler current side version generation base gate end stage moves = record {
   last = subst (λ (f : Filler). f.stage ≡ fills.Lasts) filler moves.last;
   rests = moves.rests;
   closed = moves.closed;
@@ -243,6 +246,7 @@ moves_from old mid new true filler current side version generation gate end stag
   side = moves.side ∙ ap across side;
   version = moves.version;
   generation = moves.generation ∙ ap (λ (f : Filler). f.generation) filler;
+  base = moves.base ∙ ap (λ (f : Filler). f.base) filler;
   gate = moves.gate ∙ ap (λ (f : Filler). f.at) filler;
   stage = moves.stage ∙ stage;
 }

@@ -35,10 +35,10 @@ closed_first head disk is =
 
 pub stands_made : {D : Type 0} {G : Ghosts D} (head : Head) (other : Slot) (journal : SlotJournal D G) → 0 < head.tag
     → G.state journal.current ≡ first_disk head → G.state journal.other ≡ first_disk head
-    → journal.side ≡ First → journal.generation ≡ 0 → journal.gate ≡ 4096 → journal.count ≡ 0 → journal.next ≡ 0 → journal.stage ≡ Idle
+    → journal.side ≡ First → journal.generation ≡ 0 → journal.base ≡ 0 → journal.gate ≡ 4096 → journal.count ≡ 0 → journal.next ≡ 0 → journal.stage ≡ Idle
     → journal.version ≡ head.version → journal.tag ≡ head.tag
     → journal.filler.stage ≡ Rests → journal.filler.closed ≡ true → StandsOn (first_slot head []) None other journal
-stands_made {D} {G} head other journal some first second side generation gate count next stage version tag rests closed =
+stands_made {D} {G} head other journal some first second side generation base gate count next stage version tag rests closed =
     let work : first_writer 4096 ≡ slot_writer other journal = λ i. record {
       side = sym side i;
       generation = sym generation i;
@@ -54,6 +54,7 @@ stands_made {D} {G} head other journal some first second side generation gate co
           (stands_first head (G.state journal.current) (G.state journal.other) some first second));
       version = version;
       tag = tag;
+      base = base;
       count = count;
       has_next = (stage, next);
       end = subst (λ (s : RecordStage). EndsAt (stage_of s) journal.end (journal.gate + length journal.tail.items)) (sym stage) tt;

@@ -36,10 +36,10 @@ use Rattle.ide_slot_journal.proofs.Openings.{gate_place, split_gate}
 
 -- the slot that was read is all that the disk has
 pub resumed : {D : Type 0} {G : Ghosts D} (current : D) (journal : SlotJournal D G) (loaded : LoadedSlot) → IsWholeSlot loaded
-    → IsRecoveredSlot G current journal.current loaded → journal.gate ≡ loaded.gate → journal.generation ≡ loaded.head.generation
+    → IsRecoveredSlot G current journal.current loaded → journal.gate ≡ loaded.gate → journal.generation ≡ loaded.head.generation → journal.base ≡ loaded.head.base
     → journal.version ≡ loaded.head.head.version → journal.tag ≡ loaded.head.head.tag → journal.count ≡ slot_count (slot_of loaded)
     → ResumesSlot current journal loaded.records.items
-resumed {D} {G} current journal loaded whole is gate generation version tag count =
+resumed {D} {G} current journal loaded whole is gate generation base version tag count =
     let bytes = (G.state current).now in
     let closes = is.read.closes in record {
       slot = slot_of loaded;
@@ -51,6 +51,7 @@ resumed {D} {G} current journal loaded whole is gate generation version tag coun
       disk = is.after;
       gate = gate ∙ gate_place bytes loaded.gate closes.inside;
       generation = generation;
+      base = base;
       version = version;
       tag = tag;
       count = count;
@@ -116,6 +117,7 @@ opens_on {D} {G} side tag current other current' other' closed journal found cho
         two = (openings_find.opened r.slot disks shows (slot_writer any journal) (disks_of journal) (opens any)).stands None tt;
         version = r.version;
         tag = r.tag;
+        base = r.base;
         count = r.count;
         has_next = (f.stage, f.next ∙ r.count);
         end = subst (λ (s : RecordStage). EndsAt (stage_of s) journal.end (journal.gate + length journal.tail.items)) (sym f.stage) tt;

@@ -122,6 +122,7 @@ plan_stands {D} {G} base commands parts told old new none low up_to proper told_
             (checkpoints_keep_standing.planned slot next (slot_writer any old) (slot_writer planned new) (disks_of old) stands.two plans);
         version = sides.version ∙ stands.version;
         tag = sides.tag ∙ stands.tag;
+        base = sides.base ∙ stands.base;
         count = keeps.count ∙ stands.count;
         has_next = same_next (slot_count slot) next old new keeps.stage keeps.next (ap (λ (v : Vec ℕ). v.items) keeps.tail) stands.has_next;
         end = subst (λ (s : RecordStage). EndsAt (stage_of s) new.end (new.gate + length new.tail.items)) (sym keeps.stage)

@@ -121,6 +121,7 @@ called {D} {G} slot entry other old new phase stands is_due more reaches keeps g
       two = records_keep_standing.called slot entry (slot_writer other old) (slot_writer other new) (disks_of old) (disks_of new) stands.two calls;
       version = keeps.version ∙ stands.version;
       tag = keeps.tag ∙ stands.tag;
+      base = keeps.base ∙ stands.base;
       count = reaches.count ∙ before_stored phase more old.count old.next ∙ stands.count;
       has_next = (
         λ idle. busy_still phase more (sym reaches.stage ∙ idle),
@@ -165,6 +166,7 @@ stored {D} {G} slot entry other old new stands is_due reaches keeps good end =
       two = records_keep_standing.stored slot entry None (slot_writer other old) (slot_writer other new) (disks_of old) (disks_of new) stands.two stores tt;
       version = keeps.version ∙ stands.version;
       tag = keeps.tag ∙ stands.tag;
+      base = keeps.base ∙ stands.base;
       count = count;
       has_next = (reaches.stage, reaches.next ∙ sym reaches.count ∙ count);
       end = subst (λ (s : RecordStage). EndsAt (stage_of s) new.end (new.gate + length new.tail.items)) (sym reaches.stage) tt;

@@ -61,6 +61,7 @@ pub record FillsOn {D : Type 0} {G : Ghosts D} (old new : SlotJournal D G) : Typ
   pub side : new.side ≡ old.side
   pub version : new.version ≡ old.version
   pub generation : new.generation ≡ old.generation
+  pub base : new.base ≡ old.base
   pub gate : new.gate ≡ old.gate
   pub end : new.end ≡ old.end
   pub stage : new.stage ≡ old.stage
@@ -74,6 +75,7 @@ pub record TurnsOver {D : Type 0} {G : Ghosts D} (old new : SlotJournal D G) : T
   pub side : new.side ≡ across old.side
   pub version : new.version ≡ versions.Two
   pub generation : new.generation ≡ old.filler.generation
+  pub base : new.base ≡ old.filler.base
   pub gate : new.gate + 1 ≡ old.filler.at
   pub stage : new.stage ≡ old.stage
 

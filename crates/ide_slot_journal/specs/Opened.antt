@@ -46,6 +46,7 @@ pub record ResumesSlot {D : Type 0} {G : Ghosts D} (current : D) (journal : Slot
   pub disk : G.state journal.current ≡ settled (front ++ 0 ∷ [])
   pub gate : journal.gate ≡ length front
   pub generation : journal.generation ≡ slot.generation
+  pub base : journal.base ≡ slot.base
   pub version : journal.version ≡ slot.head.version
   pub tag : journal.tag ≡ slot.head.tag
   pub count : journal.count ≡ slot_count slot

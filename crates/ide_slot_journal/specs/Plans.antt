@@ -33,6 +33,7 @@ Plans planned old new = (slot : Slot) (next : Option Entry) (any : Slot) → Sta
 pub record KeepsSides {D : Type 0} {G : Ghosts D} (old new : SlotJournal D G) : Type 0 where
   pub side : new.side ≡ old.side
   pub generation : new.generation ≡ old.generation
+  pub base : new.base ≡ old.base
   pub version : new.version ≡ old.version
   pub tag : new.tag ≡ old.tag
   pub other : new.other ≡ old.other

@@ -18,6 +18,7 @@ use Rattle.ide_slot_journal.specs.declared.journal.SlotJournal.{SlotJournal}
 pub record KeepsOther {D : Type 0} {G : Ghosts D} (old new : SlotJournal D G) : Type 0 where
   pub side : new.side ≡ old.side
   pub generation : new.generation ≡ old.generation
+  pub base : new.base ≡ old.base
   pub version : new.version ≡ old.version
   pub tag : new.tag ≡ old.tag
   pub filler : new.filler ≡ old.filler

@@ -91,6 +91,7 @@ pub record StandsOn {D : Type 0} {G : Ghosts D} (slot : Slot) (next : Option Ent
   pub two : StandsTwo slot next (slot_writer other journal) (disks_of journal)
   pub version : journal.version ≡ slot.head.version
   pub tag : journal.tag ≡ slot.head.tag
+  pub base : journal.base ≡ slot.base
   pub count : journal.count ≡ slot_count slot
   pub has_next : HasSpelledNext (slot_count slot) next journal
   pub end : EndsAt (stage_of journal.stage) journal.end (journal.gate + length journal.tail.items)

@@ -33,6 +33,8 @@ pub struct SlotJournal<D: Disk> {
     tag: u8,
     /// The generation of the current slot.
     generation: u32,
+    /// How many records stand below the checkpoint of the current slot: 0 where it has none.
+    base: u32,
     /// Where the closed gate behind the stored records stands.
     gate: u64,
     /// The same, or, once the next record is written, where the gate behind it stands.
@@ -104,6 +106,7 @@ impl<D: Disk> SlotJournal<D> {
             version: Version::Two,
             tag,
             generation: 0,
+            base: 0,
             gate: 4096,
             end: 4096,
             count: 0,
@@ -181,6 +184,7 @@ impl<D: Disk> SlotJournal<D> {
                     version: head.version,
                     tag: head.tag,
                     generation: head.generation,
+                    base: head.base,
                     gate,
                     end: gate,
                     count,
@@ -224,6 +228,13 @@ impl<D: Disk> SlotJournal<D> {
         ensures { result ≡ self.now.generation }
     {
         self.generation
+    }
+
+    /// How many records stand below the checkpoint of the current slot: 0 where it has none.
+    pub fn base(&self) -> u32
+        ensures { result ≡ self.now.base }
+    {
+        self.base
     }
 
     /// Whether a checkpoint is planned, or makes its calls.
@@ -425,6 +436,7 @@ impl<D: Disk> SlotJournal<D> {
         };
         self.version = Version::Two;
         self.generation = self.filler.generation;
+        self.base = self.filler.base;
         self.gate = self.filler.at - 1;
         self.end = self.gate;
         self.filler.rest();

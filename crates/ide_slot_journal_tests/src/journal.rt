@@ -122,9 +122,10 @@ fn makes_a_checkpoint_and_goes_on_behind_it(rt: HostRuntime) -> Result<(), Fail>
     store(&rt, &mut journal, 2, b"main")?;
     store(&rt, &mut journal, 3, &[5])?;
     plan(&rt, &mut journal)?;
+    assert!(rt; journal.generation() == 0 && journal.base() == 0);
     let calls = fill(&rt, &mut journal)?;
     assert!(rt; calls == 10, "{calls} calls");
-    assert!(rt; journal.count() == 3 && journal.generation() == 1);
+    assert!(rt; journal.count() == 3 && journal.generation() == 1 && journal.base() == 3);
     let (a, mut b) = journal.into_disks();
     let told = [
         1, 0, 0, 0, 0, 0, 0, 0, 3, 0, 0, 0, 0, 0, 0, 0, 2, 0, 0, 0, 1, 0, 0, 0,
@@ -137,6 +138,7 @@ fn makes_a_checkpoint_and_goes_on_behind_it(rt: HostRuntime) -> Result<(), Fail>
         Err((refused, _, _)) => return Err(Fail::from(refused)),
     };
     assert!(rt; records.len() == 3 && journal.count() == 3 && journal.generation() == 1);
+    assert!(rt; journal.base() == 3);
     store(&rt, &mut journal, 1, &[112, 10])?;
     let (_, mut b) = journal.into_disks();
     has(

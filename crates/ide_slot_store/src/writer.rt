@@ -111,6 +111,13 @@ impl<D: Disk> SlotWriterHalf<D> {
         self.journal.generation()
     }
 
+    /// How many records stand below the checkpoint of the current slot: 0 where it has none.
+    pub fn base(&self) -> u32
+        ensures { result ≡ self.now.journal.base }
+    {
+        self.journal.base()
+    }
+
     /// How many records are stored, those below the checkpoint too.
     pub fn stored(&self) -> u64
         ensures { result ≡ records_stored self.now.journal }

@@ -14,7 +14,7 @@ returns-in-Ok-clause-steps g c honest slot entry other stands =
     c.reach_phase.ensures.current c.in-Ok.ensures.call in
     good_step slot entry other old c.reach_phase.new.self c.reach_phase.result (search rules) c.requires.turn
     (record { is = r.is; stage = r.stage; gate = r.gate; count = r.count; end = r.end; next = r.next; tail = r.tail })
-    (record { side = k.side; generation = k.generation; version = k.version; tag = k.tag; filler = k.filler; other = k.other })
+    (record { side = k.side; generation = k.generation; base = k.base; version = k.version; tag = k.tag; filler = k.filler; other = k.other })
     (made.good honest.0) stands
 
 pub returns-in-Ok-clause-any_moment : goal.returns-in-Ok-clause-any_moment

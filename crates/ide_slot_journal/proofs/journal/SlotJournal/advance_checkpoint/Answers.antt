@@ -9,7 +9,7 @@ returns-in-Ok-clause-steps g c honest slot next other stands =
     let k = c.fill_on.ensures.next in
     let made = call_is g.D.Disk _ _ _ old.other _ _ refl c.fill_on.ensures.called c.in-Ok.ensures.call in
     good_fill slot next other old c.fill_on.new.self c.fill_on.result c.requires.turn
-    (moves_from old _ c.fill_on.new.self c.fill_on.result refl refl refl refl refl refl refl refl c.fill_on.ensures.moves)
+    (moves_from old _ c.fill_on.new.self c.fill_on.result refl refl refl refl refl refl refl refl refl c.fill_on.ensures.moves)
     (record { tag = k.tag; count = k.count; next = k.next; tail = k.tail }) (made.good honest.1) stands
 
 pub returns-in-Ok-clause-any_moment : goal.returns-in-Ok-clause-any_moment
@@ -19,7 +19,7 @@ returns-in-Ok-clause-any_moment g c honest slot next other stands =
     let made = call_is g.D.Disk _ _ _ old.other _ _ refl c.fill_on.ensures.called c.in-Ok.ensures.call in
     left_in_fill slot next other old _ _ c.requires.turn
     (sides_after old new c.fill_on.result
-    (moves_from old _ new c.fill_on.result refl refl refl refl refl refl refl refl c.fill_on.ensures.moves))
+    (moves_from old _ new c.fill_on.result refl refl refl refl refl refl refl refl refl c.fill_on.ensures.moves))
     (λ left since. g.met.D.Disk.only_now old.current left honest.0 since)
     (λ left since. g.met.D.Disk.only_now old.other left honest.1 since)
     (made.counted.time honest.1) (made.leaves honest.1) stands

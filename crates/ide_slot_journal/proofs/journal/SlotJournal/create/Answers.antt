@@ -11,4 +11,4 @@ returns-clause-stands g c first second other =
     let page = c.deref.ensures.value ∙ c.in-Ok.ensures.spelled in
     let page-2 = c.deref-2.ensures.value ∙ c.in-Ok.ensures.spelled in
     stands_made head other _ c.requires (c.in-Ok-rewrite.ensures.bytes first ∙ ap settled page) (c.in-Ok-rewrite-2.ensures.bytes second ∙ ap settled page-2)
-    refl refl refl refl refl refl refl refl c.new-2.ensures.rests c.new-2.ensures.closed
+    refl refl refl refl refl refl refl refl refl c.new-2.ensures.rests c.new-2.ensures.closed

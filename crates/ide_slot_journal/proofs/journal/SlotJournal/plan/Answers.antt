@@ -14,4 +14,4 @@ returns-clause-planned g c =
     plan_stands c.args.base c.args.commands.now c.args.parts.now _ c.args.self.now _ c.requires.none c.requires.generation c.requires.up_to c.requires.proper
     (told_so c.args.self.now.tag (c.args.self.now.generation + 1) c.args.base c.args.commands.now c.args.parts.now) c.in_ok-self.ensures.spelled
     (record { current = refl; gate = refl; end = refl; count = refl; next = refl; stage = refl; tail = refl })
-    (record { side = refl; generation = refl; version = refl; tag = refl; other = refl })
+    (record { side = refl; generation = refl; base = refl; version = refl; tag = refl; other = refl })
