@@ -1,10 +1,11 @@
 -- What the writing half of a store on two disks does is what the store allows.
-use Rattle.std.proofs.Common.{◌≡◌, ◌≢◌, ◌∙◌, ◌≤◌, ◌<◌, ◌+◌, ℕ, zero, suc, All, Bool, true, List, [], ◌∷◌, ◌++◌, Option, Some, None, Result, Ok, Err, length, map, drop, refl, ap, sym, subst, arith, inl, inr}
-use Rattle.std.specs.List.{AllByRecursion}
+use Rattle.std.proofs.Common.{◌≡◌, ◌≢◌, ◌∙◌, ◌≤◌, ◌<◌, ◌+◌, ℕ, zero, suc, All, Bool, true, List, [], ◌∷◌, ◌++◌, Option, Some, None, Result, Ok, Err, length, map, drop, take, refl, ap, sym, subst, arith, inl, inr}
+use Rattle.std.specs.List.{AllByRecursion, filter}
 use Rattle.std.specs.Prelude.{OnOk, slice_get}
 use Rattle.std.proofs.lemmas.Bool.{cases_lt}
 use Rattle.std.proofs.lemmas.List.Elements.{All-append, All-from_recursion, All-nil, recursion_from_All}
-use Rattle.std.proofs.lemmas.List.{drop-append-le, drop_all, length-append}
+use Rattle.std.proofs.lemmas.List.{drop-append-le, drop_all, length-append, take-append-le, take_all}
+use Rattle.std.proofs.lemmas.Option.{same_Some}
 use Rattle.ide_disk.specs.Disk.{CrashLeaves, DiskState}
 use Rattle.ide_disk.specs.declared.disk.Disk.{Ghosts}
 use Rattle.ide_journal.specs.Format.{Entry, IsEntry, head_of}
@@ -24,8 +25,9 @@ use Rattle.ide_slot_journal.specs.declared.journal.SlotJournal.{SlotJournal}
 use Rattle.ide_slot_journal.specs.declared.stage.FillStage.{FillStage}
 use Rattle.ide_slot_journal.specs.declared.stage.FillStage.TheVariants as fills
 use Rattle.ide_slot_journal.proofs.Checkpoints.{begins}
+use Rattle.ide_slots.specs.Records.{all_numbered}
 use Rattle.ide_slots.specs.Sides.{Sides, two_sides}
-use Rattle.ide_slots.specs.Slot.{Slot}
+use Rattle.ide_slots.specs.Slot.{NumberedEntry, Slot}
 use Rattle.ide_slots.specs.Two.{LeavesTwo, SlotWriter}
 use Rattle.ide_slots.specs.TwoCalls.{StoresRecord}
 use Rattle.ide_slots.specs.declared.record.NumberedRecord.{NumberedRecord}
@@ -34,11 +36,13 @@ use Rattle.ide_slots.specs.declared.side.Side.TheVariants.{First, Second}
 use Rattle.ide_wire.specs.declared.refused.Refused.{Refused}
 use Rattle.ide_store.proofs.Half.{front_next, none_waits, sealed_waits}
 use Rattle.ide_store.proofs.OneDisk.{kept_get, next_taken}
-use Rattle.ide_store.specs.TwoDisks.{CallsTwo, FailsTwo}
+use Rattle.ide_store.specs.TwoDisks.{CallsTwo, FailsTwo, commands_of, is_command}
+use Rattle.ide_slot_store.specs.Commands.{commands_from}
 use Rattle.ide_slot_store.specs.Half.{CallsOver, CallsTo, CrashesStep, HasStoredAll, IsBeginRefusal, IsNewHalf, IsQuiet, KeepsWriting, MayLeave, OpensStore, PlansWriting, StepsOver, Writes, at_once, calls, fails, limit, makes, memory, stores, waits}
 use Rattle.ide_slot_store.specs.Writing.{BeginsFirst, IsFirstLeft}
 use Rattle.ide_slot_store.specs.declared.writer.SlotWriterHalf.{SlotWriterHalf}
 use Rattle.ide_slot_store.proofs.Crashes.{in_checkpoint, in_record}
+use Rattle.ide_slot_store.proofs.Kept.{commands_more}
 use Rattle.ide_slot_store.proofs.Writing.{CheckpointThen, RecordThen, begins_first, behind_next, busy_next, checkpoint_then, idle_none, put_behind, record_then, still_behind, then_called, then_failed, then_filled, then_stored, then_turned, then_unfilled}
 
 -- ---- whose turn it is
@@ -76,6 +80,17 @@ rest_waits records stored entry [] some is wait =
     let all = none_waits stored records some wait in
     absurd (omega (arith, less, all))
 rest_waits records stored entry (raw ∷ items) some is wait = (front_next stored records (entry_of raw) (map entry_of items) wait).1
+
+-- and the first
+oldest_waits : (records : List Entry) (stored : ℕ) (entry : Entry) (items : List RawRecord) → slice_get records stored ≡ Some entry
+    → map entry_of items ≡ drop stored records → map entry_of (take 1 items) ≡ entry ∷ []
+oldest_waits records stored entry [] is wait =
+    let less = (next_taken records stored entry is).0 in
+    let all = none_waits stored records (omega (arith, less)) wait in
+    absurd (omega (arith, less, all))
+oldest_waits records stored entry (raw ∷ items) is wait =
+    let first = (front_next stored records (entry_of raw) (map entry_of items) wait).0 in
+    ap (λ (e : Entry). e ∷ []) (same_Some (entry_of raw) entry (sym first ∙ is))
 
 first_item : {X : Type 0} (xs : List X) (x : X) → slice_get xs 0 ≡ Some x → (rest : List X) × (xs ≡ x ∷ rest)
 first_item [] x is = cc
@@ -167,8 +182,9 @@ module _ {D : Type 0} {G : Ghosts D} where
   module _ (old new : SlotWriterHalf D G) (result : Result Phase Refused) (busy : HasNoNext old.journal → ⊥)
       (step : MakesRecordStep old.journal new.journal result) where
     -- one after which a record is under way
-    pub called_on : (HasNoNext new.journal → ⊥) → new.waiting.items ≡ old.waiting.items → CallsOver old new (answered result)
-    called_on more same slot other records stored writes =
+    pub called_on : (HasNoNext new.journal → ⊥) → new.waiting.items ≡ old.waiting.items → new.commands.items ≡ old.commands.items
+        → CallsOver old new (answered result)
+    called_on more same kept slot other records stored writes =
         go result (record_then slot other records stored old.journal new.journal result writes.behind busy step)
       where
         go : (result : Result Phase Refused) → RecordThen slot other records stored old.journal new.journal result
@@ -178,14 +194,20 @@ module _ {D : Type 0} {G : Ghosts D} where
           now = slot;
           now_is = inl refl;
           tag = refl;
-          writes = record { behind = behind; waiting = ap (map entry_of) same ∙ writes.waiting };
+          writes = record {
+            behind = behind;
+            waiting = ap (map entry_of) same ∙ writes.waiting;
+            commands = ap all_numbered kept ∙ writes.commands;
+          };
         })
         go _ (then_stored event behind idle filler) = absurd (more idle)
         go _ (then_failed event) = fails event
 
     -- one after which none is
-    pub called_last : HasNoNext new.journal → new.waiting.items ≡ drop 1 old.waiting.items → CallsOver old new (answered result)
-    called_last idle rest slot other records stored writes =
+    pub called_last : HasNoNext new.journal → new.waiting.items ≡ drop 1 old.waiting.items
+        → all_numbered new.commands.items ≡ all_numbered old.commands.items ++ commands_from old.journal.count (entries_of (take 1 old.waiting.items))
+        → CallsOver old new (answered result)
+    called_last idle rest kept slot other records stored writes =
         go result (record_then slot other records stored old.journal new.journal result writes.behind busy step)
       where
         go : (result : Result Phase Refused) → RecordThen slot other records stored old.journal new.journal result
@@ -197,6 +219,13 @@ module _ {D : Type 0} {G : Ghosts D} where
             behind = behind;
             waiting = ap (map entry_of) rest
                 ∙ rest_waits records stored event.entry old.waiting.items writes.behind.some event.next.next_is writes.waiting;
+            commands = kept
+                ∙ ap (λ (rs : List NumberedEntry). rs ++ commands_from old.journal.count (entries_of (take 1 old.waiting.items))) writes.commands
+                ∙ ap (λ (n : ℕ). commands_of (take stored records) ++ commands_from n (entries_of (take 1 old.waiting.items)))
+                (writes.behind.stands.count ∙ writes.behind.count)
+                ∙ ap (λ (es : List Entry). commands_of (take stored records) ++ commands_from stored es)
+                (oldest_waits records stored event.entry old.waiting.items event.next.next_is writes.waiting)
+                ∙ sym (commands_more records stored event.entry event.next.next_is);
           };
         })
         go _ (then_failed event) = fails event
@@ -216,21 +245,25 @@ module _ {D : Type 0} {G : Ghosts D} where
       go _ (then_stored event behind none filler) = tt
       go _ (then_failed event) = fails event
 
-  pub filled : (old new : SlotWriterHalf D G) (result : Result Bool Refused) → new.waiting.items ≡ old.waiting.items → IsFilling old.journal
-      → MakesCheckpointStep old.journal new.journal result → CallsOver old new (answered result)
-  filled old new result same turn step slot other records stored writes =
+  pub filled : (old new : SlotWriterHalf D G) (result : Result Bool Refused) → new.waiting.items ≡ old.waiting.items
+      → new.commands.items ≡ old.commands.items → IsFilling old.journal → MakesCheckpointStep old.journal new.journal result
+      → CallsOver old new (answered result)
+  filled old new result same kept turn step slot other records stored writes =
       go result (checkpoint_then slot other records stored old.journal new.journal result writes.behind
       (filling_some old.journal.filler.stage old.journal.filler.base old.journal.count turn) step)
     where
       waits : map entry_of new.waiting.items ≡ drop stored records
       waits = ap (map entry_of) same ∙ writes.waiting
 
+      keeps : all_numbered new.commands.items ≡ commands_of (take stored records)
+      keeps = ap all_numbered kept ∙ writes.commands
+
       go : (result : Result Bool Refused) → CheckpointThen slot other records stored old.journal new.journal result
           → CallsTo slot other records stored old new (answered result)
       go _ (then_filled event behind) =
-          calls (record { event = event; now = slot; now_is = inl refl; tag = refl; writes = record { behind = behind; waiting = waits } })
+          calls (record { event = event; now = slot; now_is = inl refl; tag = refl; writes = record { behind = behind; waiting = waits; commands = keeps } })
       go _ (then_turned event behind base tag) =
-          calls (record { event = event; now = other; now_is = inr refl; tag = tag; writes = record { behind = behind; waiting = waits } })
+          calls (record { event = event; now = other; now_is = inr refl; tag = tag; writes = record { behind = behind; waiting = waits; commands = keeps } })
       go _ (then_unfilled event) = fails event
 
   -- ---- crashes
@@ -294,29 +327,32 @@ module _ {D : Type 0} {G : Ghosts D} where
   all_stored half none slot other records stored writes =
       none_waits stored records writes.behind.some (ap (map entry_of) (sym none) ∙ writes.waiting)
 
-  pub put_writes : (old new : SlotWriterHalf D G) (raw : RawRecord) → new.waiting.items ≡ old.waiting.items → HasNoNext old.journal
-      → slice_get old.waiting.items 0 ≡ Some raw → PutsNext (entry_of raw) old.journal new.journal → KeepsWriting old new
-  put_writes old new raw same idle found puts slot other records stored writes = record {
+  pub put_writes : (old new : SlotWriterHalf D G) (raw : RawRecord) → new.waiting.items ≡ old.waiting.items
+      → new.commands.items ≡ old.commands.items → HasNoNext old.journal → slice_get old.waiting.items 0 ≡ Some raw
+      → PutsNext (entry_of raw) old.journal new.journal → KeepsWriting old new
+  put_writes old new raw same kept idle found puts slot other records stored writes = record {
     behind = put_behind slot other records stored old.journal new.journal (entry_of raw) writes.behind idle
         (first_waits records stored old.waiting.items raw writes.waiting found) puts;
     waiting = ap (map entry_of) same ∙ writes.waiting;
+    commands = ap all_numbered kept ∙ writes.commands;
   }
 
-  pub none_writes : (old new : SlotWriterHalf D G) → new.waiting.items ≡ old.waiting.items → HasNoNext old.journal
-      → PutsNone old.journal new.journal → KeepsWriting old new
-  none_writes old new same idle puts slot other records stored writes =
+  pub none_writes : (old new : SlotWriterHalf D G) → new.waiting.items ≡ old.waiting.items
+      → new.commands.items ≡ old.commands.items → HasNoNext old.journal → PutsNone old.journal new.journal → KeepsWriting old new
+  none_writes old new same kept idle puts slot other records stored writes =
       let none = idle_none slot other writes.behind.next old.journal writes.behind.stands idle in
       record {
         behind = still_behind slot other records stored old.journal new.journal writes.behind
             (subst (λ (o : Option Entry). StandsOn slot o other new.journal) (sym none)
             (puts slot other (subst (λ (o : Option Entry). StandsOn slot o other old.journal) none writes.behind.stands)));
         waiting = ap (map entry_of) same ∙ writes.waiting;
+        commands = ap all_numbered kept ∙ writes.commands;
       }
 
   -- ---- a checkpoint that is planned
   pub plan_writes : (old new : SlotWriterHalf D G) (planned : Slot) → new.waiting.items ≡ old.waiting.items
-      → Plans planned old.journal new.journal → PlansWriting planned old new
-  plan_writes old new planned same plans slot other records stored writes = record {
+      → new.commands.items ≡ old.commands.items → Plans planned old.journal new.journal → PlansWriting planned old new
+  plan_writes old new planned same kept plans slot other records stored writes = record {
     behind = record {
       next = writes.behind.next;
       stands = (plans slot writes.behind.next other writes.behind.stands).stands;
@@ -327,18 +363,20 @@ module _ {D : Type 0} {G : Ghosts D} where
       proper = writes.behind.proper;
     };
     waiting = ap (map entry_of) same ∙ writes.waiting;
+    commands = ap all_numbered kept ∙ writes.commands;
   }
 
   pub if_planned : (old new : SlotWriterHalf D G) (planned : Slot) {T : Type 0} (result : Result T Refused) → new.waiting.items ≡ old.waiting.items
-      → OnOk result (Plans planned old.journal new.journal) → OnOk result (PlansWriting planned old new)
-  if_planned old new planned (Ok value) same plans = plan_writes old new planned same plans
-  if_planned old new planned (Err refused) same plans = tt
+      → new.commands.items ≡ old.commands.items → OnOk result (Plans planned old.journal new.journal) → OnOk result (PlansWriting planned old new)
+  if_planned old new planned (Ok value) same kept plans = plan_writes old new planned same kept plans
+  if_planned old new planned (Err refused) same kept plans = tt
 
   -- ---- a record more
   pub seal_writes : (old new : SlotWriterHalf D G) (raw : RawRecord) (slot other : Slot) (records : List Entry) (stored : ℕ)
-      → new.journal ≡ old.journal → new.waiting.items ≡ old.waiting.items ++ raw ∷ [] → IsEntry (entry_of raw) → length records < 4294967295
-      → Writes slot other records stored old → Writes slot other (records ++ entry_of raw ∷ []) stored new
-  seal_writes old new raw slot other records stored same items proper room writes =
+      → new.journal ≡ old.journal → new.commands.items ≡ old.commands.items → new.waiting.items ≡ old.waiting.items ++ raw ∷ []
+      → IsEntry (entry_of raw) → length records < 4294967295 → Writes slot other records stored old
+      → Writes slot other (records ++ entry_of raw ∷ []) stored new
+  seal_writes old new raw slot other records stored same kept items proper room writes =
       let entry = entry_of raw in
       let some = writes.behind.some in
       let longer = length-append records (entry ∷ []) in
@@ -354,6 +392,8 @@ module _ {D : Type 0} {G : Ghosts D} where
               (All-append IsEntry (drop stored records) (entry ∷ []) writes.behind.proper (one_entry entry proper));
         };
         waiting = ap (map entry_of) items ∙ sealed_waits records stored old.waiting.items raw some writes.waiting;
+        commands = ap all_numbered kept ∙ writes.commands
+            ∙ ap commands_of (sym (take-append-le stored records (entry ∷ []) some));
       }
     where
       first_still : (next : Option Entry) → IsFirstLeft records stored next → IsFirstLeft (records ++ entry_of raw ∷ []) stored next
@@ -366,8 +406,8 @@ module _ {D : Type 0} {G : Ghosts D} where
 
   -- ---- a store with no record, and one that was opened
   pub made : (tag : ℕ) (half : SlotWriterHalf D G) → StandsEmpty (head_of Two tag) half.journal → half.journal.filler.stage ≡ fills.Rests
-      → half.waiting.items ≡ [] → IsNewHalf tag half
-  made tag half empty rests none = record {
+      → half.waiting.items ≡ [] → half.commands.items ≡ [] → IsNewHalf tag half
+  made tag half empty rests none bare = record {
     writes = λ other. record {
       behind = record {
         next = None;
@@ -379,16 +419,17 @@ module _ {D : Type 0} {G : Ghosts D} where
         proper = All-nil IsEntry;
       };
       waiting = ap (map entry_of) none;
+      commands = ap all_numbered bare;
     };
     rests = λ some. some rests;
   }
 
   pub opened_store : (tag : ℕ) (a b : D) (half : SlotWriterHalf D G) (found : List NumberedRecord)
       → OpensOn tag (states_of G a b) half.journal found → half.journal.filler.stage ≡ fills.Rests → half.waiting.items ≡ []
-      → OpensStore tag a b half found
-  opened_store tag a b half found opens rests none = record {
+      → all_numbered half.commands.items ≡ filter is_command (all_numbered found) → OpensStore tag a b half found
+  opened_store tag a b half found opens rests none kept = record {
     opens = opens;
-    writes = λ shows other records count.
+    writes = λ shows other records count same.
         let nothing : drop (length records) records ≡ [] = drop_all (length records) records (omega arith) in
         let most = shows.holds.whole.proper.few in
         record {
@@ -402,7 +443,9 @@ module _ {D : Type 0} {G : Ghosts D} where
             proper = subst (λ (rs : List Entry). All IsEntry rs) (sym nothing) (All-nil IsEntry);
           };
           waiting = ap (map entry_of) none ∙ sym nothing;
+          commands = kept ∙ sym same ∙ ap commands_of (sym (take_all (length records) records (omega arith)));
         };
+    commands = kept;
     rests = λ some. some rests;
     none = none;
   }

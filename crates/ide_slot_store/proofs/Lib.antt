@@ -1,6 +1,7 @@
 pub mod Crashes
 pub mod Half
 pub mod ImageParts
+pub mod Kept
 pub mod Leads
 pub mod Openings
 pub mod Runs

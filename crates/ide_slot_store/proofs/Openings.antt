@@ -1,6 +1,7 @@
 -- A store on two disks that was opened is at work on each world whose disks these were.
 use Rattle.std.proofs.Common.{◌≡◌, ◌∙◌, ℕ, None, List, [], length, map, take, refl, ap, sym, subst, arith}
-use Rattle.std.proofs.lemmas.List.{drop_all}
+use Rattle.std.specs.List.{filter}
+use Rattle.std.proofs.lemmas.List.{drop_all, take_all}
 use Rattle.ide_batch.specs.Fold.{ProgramImage}
 use Rattle.ide_disk.specs.Disk.{DiskState}
 use Rattle.ide_disk.specs.declared.disk.Disk.{Ghosts}
@@ -14,7 +15,7 @@ use Rattle.ide_slot_journal.specs.declared.stage.FillStage.{FillStage}
 use Rattle.ide_slot_journal.specs.declared.stage.FillStage.TheVariants as fills
 use Rattle.ide_slots.specs.Records.{all_numbered}
 use Rattle.ide_slots.specs.Sides.{Sides}
-use Rattle.ide_slots.specs.Slot.{Slot, first_slot}
+use Rattle.ide_slots.specs.Slot.{NumberedEntry, Slot, first_slot, records_of}
 use Rattle.ide_slots.specs.Two.{SlotWriter, reads_two}
 use Rattle.ide_slots.specs.TwoCalls.{OpensTwo}
 use Rattle.ide_slots.specs.declared.record.NumberedRecord.{NumberedRecord}
@@ -24,16 +25,19 @@ use Rattle.ide_store.specs.Opening.{BeginsOn, GoesOnFrom, HaveFold}
 use Rattle.ide_store.specs.Places.{OnTwoDisks, Place}
 use Rattle.ide_store.specs.Recovery.{PlaceAnswers}
 use Rattle.ide_store.specs.Table.{Analysis, IsReached, MayDo, StoreWorld, TableData, after_act, forms_of, rules_at}
-use Rattle.ide_store.specs.TwoDisks.{GiveTheSame, HasPlan, HoldsTwo, unnumbered}
+use Rattle.ide_store.specs.TwoDisks.{GiveTheSame, HasPlan, HoldsTwo, commands_of, is_command, unnumbered}
 use Rattle.ide_store.specs.World.{Opens, contents}
+use Rattle.ide_slots.proofs.Openings.{openings_find}
 use Rattle.ide_store.proofs.Openings.{leads_there}
 use Rattle.ide_store.proofs.Runs.{sound}
+use Rattle.ide_store.proofs.TwoDisksPlans.{slots_give_back}
 use Rattle.ide_slot_store.specs.Batches.{batches_of}
 use Rattle.ide_slot_store.specs.Engine.{AreAtWork, AreNewHalves}
 use Rattle.ide_slot_store.specs.Half.{IsNewHalf, OpensStore, Writes}
 use Rattle.ide_slot_store.specs.Openings.{SlotHalvesOpen}
 use Rattle.ide_slot_store.specs.Writing.{JournalsWriteTwo, StandsBehindTwo}
 use Rattle.ide_slot_store.specs.declared.writer.SlotWriterHalf.{SlotWriterHalf}
+use Rattle.ide_slot_store.proofs.Kept.{slot_commands}
 use Rattle.ide_slot_store.proofs.Leads.{lead_from, lead_to}
 
 module _ {F L : Type 0} (a : Analysis F L) {D : Type 0} {G : Ghosts D} (tag : ℕ) (first second : D) (writer : SlotWriterHalf D G)
@@ -61,11 +65,21 @@ module _ {F L : Type 0} (a : Analysis F L) {D : Type 0} {G : Ghosts D} (tag : �
     counts : length records ≡ records_stored writer.journal
     counts = sym (then.1.behind.stands.count ∙ then.1.behind.count)
 
+    -- the commands that were found are those among them
+    commands_found : all_numbered writer.commands.items ≡ commands_of records
+    commands_found =
+        let finds = openings_find.opened holds.slot before holds.shows (slot_writer other writer.journal) (disks_of writer.journal) (opens.opens.opens other) in
+        let same : opens.opens.slot ≡ holds.slot = sym (opens.opens.is other) ∙ finds.found in
+        opens.commands ∙ ap (λ (rs : List NumberedEntry). filter is_command rs) (sym opens.opens.records ∙ ap records_of same)
+        ∙ slot_commands holds.slot holds.shows.holds.whole.proper
+        ∙ sym ((slots_give_back (rules_at a (OnTwoDisks tag))).commands records holds.slot holds.list)
+
     -- the writer writes them
     writes_found : (stored : ℕ) → length records ≡ stored → Writes then.1.slot other records stored writer
     writes_found stored is = subst (λ (n : ℕ). Writes then.1.slot other records n writer) is (record {
       behind = then.1.behind;
       waiting = ap (map entry_of) opens.none ∙ sym (drop_all (length records) records (omega arith));
+      commands = commands_found ∙ ap commands_of (sym (take_all (length records) records (omega arith)));
     })
 
     -- the batches give back what they do

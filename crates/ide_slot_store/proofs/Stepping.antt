@@ -4,13 +4,14 @@ use Rattle.std.specs.Result.{result_err}
 use Rattle.std.proofs.lemmas.Option.{same_Some}
 use Rattle.std.specs.List.{All}
 use Rattle.std.proofs.lemmas.List.Elements.{All-cons, All-nil}
-use Rattle.std.proofs.lemmas.List.{append-nil, drop_all, length-append, length-map}
+use Rattle.std.proofs.lemmas.List.{append-nil, drop_all, length-append, length-map, take-append-le}
 use Rattle.ide_disk.specs.Disk.{DiskState}
 use Rattle.ide_disk.specs.declared.disk.Disk.{Ghosts}
 use Rattle.ide_journal.specs.Format.{Entry, IsEntry}
 use Rattle.ide_journal.specs.Lists.{entries_of, entry_of}
 use Rattle.ide_slot_journal.specs.Stands.{AreHonest, StandsOn, disks_of, slot_writer}
 use Rattle.ide_slot_journal.specs.declared.journal.SlotJournal.{SlotJournal}
+use Rattle.ide_slots.specs.Records.{all_numbered}
 use Rattle.ide_slots.specs.Sides.{Sides, two_sides}
 use Rattle.ide_slots.specs.Slot.{Slot}
 use Rattle.ide_slots.specs.Two.{SlotWriter}
@@ -19,7 +20,7 @@ use Rattle.ide_wire.specs.declared.refused.Refused.TheVariants.{Disk, NoMemory}
 use Rattle.ide_store.specs.Handing.{HandsTo, gave, kept}
 use Rattle.ide_store.specs.Places.{OnTwoDisks}
 use Rattle.ide_store.specs.Table.{Analysis, TableData, WorksOn}
-use Rattle.ide_store.specs.TwoDisks.{AtCheckpoint, AtRecord, BeginsCalls, CallsTwo, FailsTwo, ForRecord, InCheckpoint, IsNextBehind, LastInCheckpoint, StoresTwo}
+use Rattle.ide_store.specs.TwoDisks.{AtCheckpoint, AtRecord, BeginsCalls, CallsTwo, FailsTwo, ForRecord, InCheckpoint, IsNextBehind, LastInCheckpoint, StoresTwo, commands_of}
 use Rattle.ide_store.specs.World as world
 use Rattle.ide_store.specs.World.{contents}
 use Rattle.ide_store.proofs.Half.{none_waits}
@@ -69,7 +70,8 @@ taken_honest old mid same honest = subst AreHonest (sym same) honest
 module _ {F L : Type 0} (a : Analysis F L) {D : Type 0} {G : Ghosts D} (tag : ℕ) where
   -- ---- sealed records are handed over
   module _ (w : SlotWorld a tag) (table mid_table : TableData F) (old mid : SlotWriterHalf D G) (at : AreAtWork a tag w table old)
-      (journal : mid.journal ≡ old.journal) (few : table.sealed ≤ 4294967295) (proper : All IsEntry (entries_of mid.waiting.items)) where
+      (journal : mid.journal ≡ old.journal) (commands : mid.commands.items ≡ old.commands.items) (few : table.sealed ≤ 4294967295)
+      (proper : All IsEntry (entries_of mid.waiting.items)) where
     abbrev same_work : w.world.work ≡ slot_writer at.other mid.journal
     same_work = at.work ∙ ap (slot_writer at.other) (sym journal)
 
@@ -91,6 +93,7 @@ module _ {F L : Type 0} (a : Analysis F L) {D : Type 0} {G : Ghosts D} (tag : �
       writes = record {
         behind = subst (λ (j : SlotJournal D G). StandsBehind at.slot at.other at.handed w.world.stored j) (sym journal) at.writes.behind;
         waiting = ap (map entry_of) items ∙ at.writes.waiting;
+        commands = ap all_numbered commands ∙ at.writes.commands;
       };
       tag_is = at.tag_is;
       work = same_work;
@@ -123,6 +126,7 @@ module _ {F L : Type 0} (a : Analysis F L) {D : Type 0} {G : Ghosts D} (tag : �
               proper = subst (λ (rs : List Entry). All IsEntry rs) (took ∙ sym rest) proper;
             };
             waiting = took ∙ sym rest;
+            commands = ap all_numbered commands ∙ at.writes.commands ∙ ap commands_of (sym (take-append-le w.world.stored at.handed table.waiting before.some));
           };
           tag_is = at.tag_is;
           work = same_work;
@@ -253,6 +257,7 @@ module _ {F L : Type 0} (a : Analysis F L) {D : Type 0} {G : Ghosts D} (tag : �
         let writes : Writes at.slot at.other at.handed w.world.stored new = record {
           behind = subst (λ (j : SlotJournal D G). StandsBehind at.slot at.other at.handed w.world.stored j) (sym one.same.journal) at.writes.behind;
           waiting = ap (map entry_of) one.same.waiting ∙ at.writes.waiting;
+          commands = ap all_numbered one.same.commands ∙ at.writes.commands;
         } in (
           one.all ∙ sym count,
           still writes (ap (slot_writer at.other) one.same.journal) (ap disks_of one.same.journal),
@@ -279,11 +284,11 @@ module _ {F L : Type 0} (a : Analysis F L) {D : Type 0} {G : Ghosts D} (tag : �
         subst (λ (t : TableData F). StepsDisks a tag w table t new (Err NoMemory)) (sym (going (λ no. cc (no)))) (no_memory (waited one))
 
   -- ---- a step, behind the records that were handed over
-  module _ (table mid_table : TableData F) (old mid : SlotWriterHalf D G) (journal : mid.journal ≡ old.journal) (few : table.sealed ≤ 4294967295)
-      (proper : All IsEntry (entries_of mid.waiting.items)) where
+  module _ (table mid_table : TableData F) (old mid : SlotWriterHalf D G) (journal : mid.journal ≡ old.journal)
+      (commands : mid.commands.items ≡ old.commands.items) (few : table.sealed ≤ 4294967295) (proper : All IsEntry (entries_of mid.waiting.items)) where
     -- where all that were handed over are stored, none is left
     none_left : (w : SlotWorld a tag) (at : AreAtWork a tag w table old) (hands : HandsTo table mid_table old.waiting.items mid.waiting.items)
-        → w.world.stored ≡ length (handed_at_work w table mid_table old mid at journal few proper hands).handed → mid_table.waiting ≡ []
+        → w.world.stored ≡ length (handed_at_work w table mid_table old mid at journal commands few proper hands).handed → mid_table.waiting ≡ []
     unfolding handed_at_work
     none_left w at (gave none took same) all = ap (λ (t : TableData F). t.waiting) same
     none_left w at (kept some items same) all =
@@ -310,7 +315,7 @@ module _ {F L : Type 0} (a : Analysis F L) {D : Type 0} {G : Ghosts D} (tag : �
         (result : Result Bool Refused) → StepsOver mid new result → (result ≡ Err Disk → new_table ≡ record mid_table { failed = true })
         → ((result ≡ Err Disk → ⊥) → new_table ≡ mid_table) → StepsDisksOver a tag table new_table old new result
     stepped_disks hands new_table new result steps failing going w reached at =
-        let there = handed_at_work w table mid_table old mid at journal few proper hands in
+        let there = handed_at_work w table mid_table old mid at journal commands few proper hands in
         told_from hands w new_table new result
         (stepped w mid_table mid new there new_table result (steps there.slot there.other there.handed w.world.stored there.writes)
         (none_left w at hands) failing going)

@@ -64,11 +64,12 @@ module _ {F L : Type 0} (a : Analysis F L) {D : Type 0} {G : Ghosts D} (tag : �
     crash_of (behind_failure mid failed first fails leaves) = behind mid failed first fails leaves
 
   -- whatever a crash leaves at any moment of a step
-  pub stepped_crashes : (table mid_table : TableData F) (old mid : SlotWriterHalf D G) → mid.journal ≡ old.journal → table.sealed ≤ 4294967295
+  pub stepped_crashes : (table mid_table : TableData F) (old mid : SlotWriterHalf D G) → mid.journal ≡ old.journal
+      → mid.commands.items ≡ old.commands.items → table.sealed ≤ 4294967295
       → All IsEntry (entries_of mid.waiting.items) → HandsTo table mid_table old.waiting.items mid.waiting.items → (new : SlotWriterHalf D G)
       → CrashesStep mid new → CrashesOver a tag table old new
-  stepped_crashes table mid_table old mid journal few proper hands new crashes w reached at left first second =
-      let there = handed_at_work a tag w table mid_table old mid at journal few proper hands in
+  stepped_crashes table mid_table old mid journal commands few proper hands new crashes w reached at left first second =
+      let there = handed_at_work a tag w table mid_table old mid at journal commands few proper hands in
       crash_of w mid_table mid there left
       (crashes there.slot there.other there.handed w.world.stored there.writes left
       (subst (λ (j : SlotJournal D G). G.left_since (sides_of new.journal).a (G.moment (sides_of j).a) left.a) (sym journal) first)

@@ -1,5 +1,5 @@
 -- What the writing half of a store on two disks does to the records that were sealed.
-use Rattle.std.specs.Prelude.{◌≡◌, ◌⊎◌, ℕ, ◌+◌, ◌<◌, Bool, true, false, List, [], ◌∷◌, ◌++◌, Result, Ok, Err, drop, length, map}
+use Rattle.std.specs.Prelude.{◌≡◌, ◌⊎◌, ℕ, ◌+◌, ◌<◌, Bool, true, false, List, [], ◌∷◌, ◌++◌, Result, Ok, Err, drop, filter, length, map, take}
 use Rattle.ide_disk.specs.Disk.{DiskState}
 use Rattle.ide_disk.specs.OneCall.{FailsOnce}
 use Rattle.ide_disk.specs.declared.disk.Disk.{Ghosts}
@@ -10,13 +10,14 @@ use Rattle.ide_slot_journal.specs.Moments.{LeavesOnlyTwo}
 use Rattle.ide_slot_journal.specs.Opened.{OpensOn, states_of}
 use Rattle.ide_slot_journal.specs.Stands.{IsCheckpointing, IsFilling, disks_of, sides_of, slot_writer}
 use Rattle.ide_slot_journal.specs.declared.journal.SlotJournal.{SlotJournal}
+use Rattle.ide_slots.specs.Records.{all_numbered}
 use Rattle.ide_slots.specs.Sides.{Shows, Sides}
 use Rattle.ide_slots.specs.Slot.{Slot, first_slot, slot_count, with_more}
 use Rattle.ide_slots.specs.Two.{LeavesTwo, SlotWriter, reads_two}
 use Rattle.ide_slots.specs.declared.record.NumberedRecord.{NumberedRecord}
 use Rattle.ide_wire.specs.declared.refused.Refused.{Refused}
 use Rattle.ide_wire.specs.declared.refused.Refused.TheVariants.{Disk, Limit, NoMemory}
-use Rattle.ide_store.specs.TwoDisks.{FailsTwo}
+use Rattle.ide_store.specs.TwoDisks.{FailsTwo, commands_of, is_command}
 use Rattle.ide_slot_store.specs.Writing.{BeginsFirst, DidCall, DidFail, DidStore, StandsBehind}
 use Rattle.ide_slot_store.specs.declared.writer.SlotWriterHalf.{SlotWriterHalf}
 
@@ -48,21 +49,26 @@ pub data MayLeave (records : List Entry) (stored : ℕ) (work : SlotWriter) (dis
       → FailsTwo records stored mid disks failed → LeavesTwo failed left → MayLeave records stored work disks left
 
 module _ {D : Type 0} {G : Ghosts D} where
-  -- these are all that were sealed; so many of them are stored, in this current slot, and the others wait
+  -- these are all that were sealed; so many of them are stored, in this current slot, and the others wait; the commands among
+  -- the stored ones are kept
   pub record Writes (slot other : Slot) (records : List Entry) (stored : ℕ) (half : SlotWriterHalf D G) : Type 0 where
     pub behind : StandsBehind slot other records stored half.journal
     pub waiting : map entry_of half.waiting.items ≡ drop stored records
+    pub commands : all_numbered half.commands.items ≡ commands_of (take stored records)
 
   -- no record was sealed, and no checkpoint is planned
   pub record IsNewHalf (tag : ℕ) (half : SlotWriterHalf D G) : Type 0 where
     pub writes : (other : Slot) → Writes (first_slot (head_of Two tag) []) other [] 0 half
     pub rests : IsCheckpointing half.journal → ⊥
 
-  -- it was opened with the slot that is current, and writes behind the records of that slot, where it is shown
+  -- it was opened with the slot that is current, keeps the commands that it found, and writes behind the records of that slot,
+  -- where it is shown
   pub record OpensStore (tag : ℕ) (a b : D) (half : SlotWriterHalf D G) (found : List NumberedRecord) : Type 0 where
     pub opens : OpensOn tag (states_of G a b) half.journal found
     pub writes : Shows opens.slot (reads_two (states_of G a b)) → (other : Slot) (records : List Entry)
-        → length records ≡ slot_count opens.slot → Writes opens.slot other records (length records) half
+        → length records ≡ slot_count opens.slot → commands_of records ≡ filter is_command (all_numbered found)
+        → Writes opens.slot other records (length records) half
+    pub commands : all_numbered half.commands.items ≡ filter is_command (all_numbered found)
     pub rests : IsCheckpointing half.journal → ⊥
     pub none : half.waiting.items ≡ []
 
@@ -71,10 +77,11 @@ module _ {D : Type 0} {G : Ghosts D} where
   half_sides_after (Ok pair) = sides_of pair.0.journal
   half_sides_after (Err all) = record { a = all.1; b = all.2 }
 
-  -- the journal is as it was, and the records that wait
+  -- the journal is as it was, and the records that wait, and the commands
   pub record IsSameHalf (old new : SlotWriterHalf D G) : Type 0 where
     pub journal : new.journal ≡ old.journal
     pub waiting : new.waiting.items ≡ old.waiting.items
+    pub commands : new.commands.items ≡ old.commands.items
 
   -- one record more is sealed, if there may be one
   abbrev pub Seals : Entry → (old new : SlotWriterHalf D G) → Type 0

@@ -1,6 +1,6 @@
 //! The half of a store on two disks that writes: it takes sealed records to the current disk, and a
 //! checkpoint to the other, one disk call at a time.
-ghost use Rattle.std.specs.Prelude.{◌≡◌, ◌⊎◌, ◌+◌, ◌<◌, ◌≤◌, ◌∷◌, ◌++◌, [], true, false, Err, Ok, IfErr, IfOk, OnErr, OnOk};
+ghost use Rattle.std.specs.Prelude.{◌≡◌, ◌⊎◌, ◌+◌, ◌<◌, ◌≤◌, ◌∷◌, ◌++◌, [], true, false, length, Err, Ok, IfErr, IfOk, OnErr, OnOk};
 ghost use Rattle.std.specs.List.{All};
 ghost use Rattle.ide_journal.specs.Format.{IsEntry};
 ghost use Rattle.ide_journal.specs.Lists.{entries_of, entry_of};
@@ -8,7 +8,9 @@ ghost use Rattle.ide_slots.specs.Records.{all_numbered};
 ghost use Rattle.ide_slots.specs.Two.{IsUpTo};
 ghost use Rattle.ide_slots.specs.TwoCalls.{StopsTwo};
 ghost use Rattle.ide_slot_journal.specs.Stages.{stage_of};
+ghost use Rattle.ide_slot_store.specs.Commands.{HasRoomForNext};
 
+use crate::commands::{commands_among, keep_oldest};
 use ide_disk::Disk;
 use ide_journal::{RawRecord, Version};
 use ide_problem::Problem;
@@ -25,7 +27,10 @@ pub struct SlotWriterHalf<D: Disk> {
     pub(crate) journal: SlotJournal<D>,
     /// The oldest first: the one under way, where one is.
     waiting: VecDeque<RawRecord>,
+    /// The commands among the stored records, under their numbers, with room for the record under way.
+    commands: Vec<NumberedRecord>,
     ghost proper: { All (λ raw. IsEntry (entry_of raw)) waiting.items },
+    ghost room: { HasRoomForNext journal (length waiting.items) commands },
 }
 
 impl<D: Disk> SlotWriterHalf<D> {
@@ -56,6 +61,7 @@ impl<D: Disk> SlotWriterHalf<D> {
             Ok(journal) => Ok(SlotWriterHalf {
                 journal,
                 waiting: VecDeque::new(alloc),
+                commands: Vec::new(alloc),
             }),
             Err(all) => Err(all),
         }
@@ -65,7 +71,7 @@ impl<D: Disk> SlotWriterHalf<D> {
     /// the commands of its checkpoint under their old numbers, its parts, numbered from 0 on, and the records
     /// behind it.
     ///
-    /// Refusals: those of [`SlotJournal::open`]; the disks come back.
+    /// Refusals: those of [`SlotJournal::open`]; `NoMemory`. The disks come back.
     pub fn open(
         alloc: Global,
         a: D,
@@ -89,10 +95,21 @@ impl<D: Disk> SlotWriterHalf<D> {
         ensures refused { D.honest a → D.honest b → IfErr result (λ all. IsOpeningRefusal tag (now_of D.Disk a b) all.0) }
     {
         match SlotJournal::open(alloc, a, b, tag) {
-            Ok((journal, records)) => {
-                let waiting = VecDeque::new(alloc);
-                Ok((SlotWriterHalf { journal, waiting }, records))
-            }
+            Ok((journal, records)) => match commands_among(alloc, records.as_slice()) {
+                Ok(commands) => {
+                    let waiting = VecDeque::new(alloc);
+                    let half = SlotWriterHalf {
+                        journal,
+                        waiting,
+                        commands,
+                    };
+                    Ok((half, records))
+                }
+                Err(refused) => {
+                    let (a, b) = journal.into_disks();
+                    Err((refused, a, b))
+                }
+            },
             Err(all) => Err(all),
         }
     }
@@ -213,6 +230,9 @@ impl<D: Disk> SlotWriterHalf<D> {
         if self.journal.count() >= MOST_RECORDS {
             return Err(Refused::Limit);
         }
+        if self.commands.reserve(1).is_err() {
+            return Err(Refused::NoMemory);
+        }
         match self.journal.begin(next) {
             Ok(()) => Ok(true),
             Err(refused) => Err(refused),
@@ -220,7 +240,7 @@ impl<D: Disk> SlotWriterHalf<D> {
     }
 
     /// Makes the next disk call for the record under way, and answers that there was one to make. Once
-    /// none is under way any more, the oldest is stored.
+    /// none is under way any more, the oldest is stored, and kept if it is a command.
     fn advance(&mut self) -> Result<bool, Refused>
         requires busy { HasNoNext self.old.journal → ⊥ }
         requires turn { IsTurn self.old.journal }
@@ -231,10 +251,11 @@ impl<D: Disk> SlotWriterHalf<D> {
         ensures fault { result ≡ Err Refused.Disk → FailsOne self.old.journal self.new.journal }
         ensures failed { HasFaulted self.old.journal → result ≡ Err Refused.Failed }
     {
+        let number = self.journal.count();
         match self.journal.advance() {
             Ok(_) => {
                 if self.journal.is_idle() {
-                    self.waiting.pop_front();
+                    keep_oldest(&mut self.waiting, &mut self.commands, number as u32);
                 }
                 Ok(true)
             }
@@ -263,6 +284,7 @@ impl<D: Disk> SlotWriterHalf<D> {
     pub fn take_from<P: Problem>(&mut self, table: &mut TableHalf<P>)
         ensures hands { HandsTo table.old table.new self.old.waiting.items self.new.waiting.items }
         ensures journal { self.new.journal ≡ self.old.journal }
+        ensures commands { self.new.commands.items ≡ self.old.commands.items }
         ensures proper { All IsEntry (entries_of self.new.waiting.items) }
         ensures few { table.old.sealed ≤ 4294967295 }
     {

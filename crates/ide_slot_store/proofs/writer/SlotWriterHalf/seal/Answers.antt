@@ -7,4 +7,4 @@ pub returns-clause-sealed : goal.returns-clause-sealed
 returns-clause-sealed g c slot other records stored room writes =
     let old = c.args.self.now in
     let items = pushed_items c.push_back.new.self.items old.waiting.items c.args.raw _ c.push_back.ensures.items c.if-is_err.ensures.negation in
-    seal_writes old _ c.args.raw slot other records stored refl items c.requires room writes
+    seal_writes old _ c.args.raw slot other records stored refl refl items c.requires room writes

@@ -1,0 +1,73 @@
+//! The commands among records, under their numbers.
+ghost use Rattle.std.specs.Prelude.{◌≡◌, ◌<◌, ◌≤◌, ◌&&◌, ◌++◌, ℕ, drop, filter, nat_le, take, vec_capacity, vec_len, IfErr, IfOk};
+ghost use Rattle.ide_journal.specs.Lists.{entries_of, entry_of};
+ghost use Rattle.ide_slots.specs.Records.{all_numbered, numbered};
+ghost use Rattle.ide_slot_store.specs.Commands.{commands_from};
+ghost use Rattle.ide_store.specs.TwoDisks.{is_command};
+
+use ide_journal::RawRecord;
+use ide_slots::NumberedRecord;
+use ide_wire::Refused;
+use std::alloc::Global;
+use std::collections::VecDeque;
+
+/// Whether a record of that kind is a command: a load or a root.
+fn is_of_command(kind: u8) -> bool
+    ensures { result ≡ (nat_le 1 kind && nat_le kind 2) }
+{
+    1 <= kind && kind <= 2
+}
+
+/// A copy of the record, under that number.
+///
+/// Refusal: `NoMemory`.
+fn copy_of(alloc: Global, number: u32, raw: &RawRecord) -> Result<NumberedRecord, Refused>
+    ensures copy { IfOk result (λ copy. numbered copy ≡ (number, entry_of raw.now)) }
+    ensures refused { IfErr result (λ e. e ≡ Refused.NoMemory) }
+{
+    let body = Vec::from_slice(alloc, raw.body.as_slice())?;
+    Ok(NumberedRecord {
+        number,
+        raw: RawRecord {
+            kind: raw.kind,
+            body,
+        },
+    })
+}
+
+/// Copies of the commands among the records.
+///
+/// Refusal: `NoMemory`.
+pub(crate) fn commands_among(
+    alloc: Global,
+    found: &[NumberedRecord],
+) -> Result<Vec<NumberedRecord>, Refused>
+    ensures commands { IfOk result (λ commands. all_numbered commands.items ≡ filter is_command (all_numbered found.now)) }
+    ensures refused { IfErr result (λ e. e ≡ Refused.NoMemory) }
+{
+    let mut commands = Vec::new(alloc);
+    for one in found {
+        if is_of_command(one.raw.kind) {
+            commands.push(copy_of(alloc, one.number, &one.raw)?)?;
+        }
+    }
+    Ok(commands)
+}
+
+/// Takes the oldest record that waits, and moves it behind the commands, under that number, if it is one.
+pub(crate) fn keep_oldest(
+    waiting: &mut VecDeque<RawRecord>,
+    commands: &mut Vec<NumberedRecord>,
+    number: u32,
+)
+    requires { vec_len commands.old < vec_capacity commands.old }
+    ensures waiting { waiting.new.items ≡ drop 1 waiting.old.items }
+    ensures commands { all_numbered commands.new.items ≡ all_numbered commands.old.items ++ commands_from number (entries_of (take 1 waiting.old.items)) }
+{
+    let Some(raw) = waiting.pop_front() else {
+        return;
+    };
+    if is_of_command(raw.kind) {
+        commands.push_reserved(NumberedRecord { number, raw });
+    }
+}
