@@ -4,6 +4,7 @@ pub mod ImageParts
 pub mod Kept
 pub mod Leads
 pub mod Openings
+pub mod PlanningAll
 pub mod Runs
 pub mod Stepping
 pub mod Stopping

@@ -1,12 +1,15 @@
--- The commands that a writer keeps, and the room that it has for one more.
-use Rattle.std.specs.Prelude.{◌<◌, ℕ, List, filter, vec_capacity, vec_len}
+-- The commands that a writer keeps, the room that it has for one more, and a checkpoint of them and of those that wait.
+use Rattle.std.specs.Prelude.{◌≡◌, ◌<◌, ℕ, List, [], filter, vec_capacity, vec_len}
 use Rattle.std.specs.Global.{Vec}
 use Rattle.ide_disk.specs.declared.disk.Disk.{Ghosts}
 use Rattle.ide_journal.specs.Format.{Entry}
+use Rattle.ide_slot_journal.specs.Plans.{Plans}
 use Rattle.ide_slot_journal.specs.Stands.{HasFaulted, HasNoNext, records_stored}
 use Rattle.ide_slot_journal.specs.declared.journal.SlotJournal.{SlotJournal}
-use Rattle.ide_slots.specs.Slot.{NumberedEntry, numbered_from}
+use Rattle.ide_slots.specs.Slot.{AreCommands, NumberedEntry, Slot, numbered_from}
 use Rattle.ide_slots.specs.declared.record.NumberedRecord.{NumberedRecord}
+use Rattle.ide_wire.specs.declared.refused.Refused.{Refused}
+use Rattle.ide_wire.specs.declared.refused.Refused.TheVariants.{Failed, Limit, NoMemory}
 use Rattle.ide_store.specs.TwoDisks.{is_command}
 
 -- the commands among records that are numbered from the one on
@@ -23,3 +26,21 @@ pub record HasRoom {D : Type 0} {G : Ghosts D} (journal : SlotJournal D G) (wait
 -- as long as a next record is under way
 abbrev pub HasRoomForNext : {D : Type 0} {G : Ghosts D} → SlotJournal D G → ℕ → Vec NumberedRecord → Type 0
 HasRoomForNext journal waiting commands = (HasNoNext journal → ⊥) → (HasFaulted journal → ⊥) → HasRoom journal waiting commands
+
+-- ---- a checkpoint of all records
+module _ {D : Type 0} {G : Ghosts D} where
+  -- a checkpoint with that base is planned, of these commands and parts
+  pub record PlansOver (base : ℕ) (commands : List NumberedEntry) (parts : List Entry) (old new : SlotJournal D G) : Type 0 where
+    pub planned : Slot
+    pub plans : Plans planned old new
+    pub base_is : planned.base ≡ base
+    pub commands_are : planned.commands ≡ commands
+    pub parts_are : planned.parts ≡ parts
+    pub bare : planned.rest ≡ []
+
+  -- why none is: want of memory; a disk call that failed before; or a checkpoint with that base cannot have these commands
+  pub data IsPlanOverRefusal (base : ℕ) (commands : List NumberedEntry) (old : SlotJournal D G) : Refused → Type 0 where
+    over_memory : IsPlanOverRefusal base commands old NoMemory
+    over_failure : HasFaulted old → IsPlanOverRefusal base commands old Failed
+    over_limit : 4294967295 < base → IsPlanOverRefusal base commands old Limit
+    over_unfit : (AreCommands 0 base commands → ⊥) → IsPlanOverRefusal base commands old Limit

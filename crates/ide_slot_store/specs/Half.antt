@@ -8,15 +8,16 @@ use Rattle.ide_journal.specs.Lists.{entry_of}
 use Rattle.ide_journal.specs.declared.version.Version.TheVariants.{Two}
 use Rattle.ide_slot_journal.specs.Moments.{LeavesOnlyTwo}
 use Rattle.ide_slot_journal.specs.Opened.{OpensOn, states_of}
-use Rattle.ide_slot_journal.specs.Stands.{IsCheckpointing, IsFilling, disks_of, sides_of, slot_writer}
+use Rattle.ide_slot_journal.specs.Plans.{Plans}
+use Rattle.ide_slot_journal.specs.Stands.{HasFaulted, IsCheckpointing, IsFilling, disks_of, sides_of, slot_writer}
 use Rattle.ide_slot_journal.specs.declared.journal.SlotJournal.{SlotJournal}
 use Rattle.ide_slots.specs.Records.{all_numbered}
 use Rattle.ide_slots.specs.Sides.{Shows, Sides}
-use Rattle.ide_slots.specs.Slot.{Slot, first_slot, slot_count, with_more}
+use Rattle.ide_slots.specs.Slot.{AreCommands, Slot, first_slot, slot_count, with_more}
 use Rattle.ide_slots.specs.Two.{LeavesTwo, SlotWriter, reads_two}
 use Rattle.ide_slots.specs.declared.record.NumberedRecord.{NumberedRecord}
 use Rattle.ide_wire.specs.declared.refused.Refused.{Refused}
-use Rattle.ide_wire.specs.declared.refused.Refused.TheVariants.{Disk, Limit, NoMemory}
+use Rattle.ide_wire.specs.declared.refused.Refused.TheVariants.{Disk, Failed, Limit, NoMemory}
 use Rattle.ide_store.specs.TwoDisks.{FailsTwo, commands_of, is_command}
 use Rattle.ide_slot_store.specs.Writing.{BeginsFirst, DidCall, DidFail, DidStore, StandsBehind}
 use Rattle.ide_slot_store.specs.declared.writer.SlotWriterHalf.{SlotWriterHalf}
@@ -160,3 +161,32 @@ module _ {D : Type 0} {G : Ghosts D} where
     memory : IsBeginRefusal old NoMemory
     limit : ((slot other : Slot) (records : List Entry) (stored : ℕ) → Writes slot other records stored old → ⊥)
         → IsBeginRefusal old Limit
+
+  -- ---- a checkpoint of all records
+  -- it is planned, with the commands among them and these parts
+  pub record PlansAll (parts : List Entry) (slot other : Slot) (records : List Entry) (stored : ℕ) (old new : SlotWriterHalf D G)
+      : Type 0 where
+    pub planned : Slot
+    pub plans : Plans planned old.journal new.journal
+    pub base : planned.base ≡ length records
+    pub commands : planned.commands ≡ commands_of records
+    pub parts_are : planned.parts ≡ parts
+    pub bare : planned.rest ≡ []
+    pub writes : Writes slot planned records stored new
+
+  -- over whatever records it writes
+  abbrev pub PlansAllOver : List Entry → (old new : SlotWriterHalf D G) → Type 0
+  PlansAllOver parts old new = (slot other : Slot) (records : List Entry) (stored : ℕ) → Writes slot other records stored old
+      → PlansAll parts slot other records stored old new
+
+  -- there is no command among them
+  abbrev pub HasNoCommand : SlotWriterHalf D G → Type 0
+  HasNoCommand half = (slot other : Slot) (records : List Entry) (stored : ℕ) → Writes slot other records stored half
+      → commands_of records ≡ []
+
+  -- why none is planned: want of memory; a disk call that failed before; or it writes no records whose commands ascend
+  pub data IsPlanAllRefusal (old : SlotWriterHalf D G) : Refused → Type 0 where
+    all_memory : IsPlanAllRefusal old NoMemory
+    all_failed : HasFaulted old.journal → IsPlanAllRefusal old Failed
+    all_unfit : ((slot other : Slot) (records : List Entry) (stored : ℕ) → Writes slot other records stored old
+        → AreCommands 0 (length records) (commands_of records) → ⊥) → IsPlanAllRefusal old Limit

@@ -1,5 +1,6 @@
 //! The commands among records, under their numbers.
-ghost use Rattle.std.specs.Prelude.{◌≡◌, ◌<◌, ◌≤◌, ◌&&◌, ◌++◌, ℕ, drop, filter, nat_le, take, vec_capacity, vec_len, IfErr, IfOk};
+ghost use Rattle.std.specs.Prelude.{◌≡◌, ◌↔◌, ◌<◌, ◌≤◌, ◌+◌, ◌&&◌, ◌++◌, ℕ, drop, filter, length, nat_le, take, vec_capacity, vec_len, IfErr, IfOk, IsTrue, OnOk};
+ghost use Rattle.ide_slots.specs.Slot.{AreCommands, IsCommandEntry};
 ghost use Rattle.ide_journal.specs.Lists.{entries_of, entry_of};
 ghost use Rattle.ide_slots.specs.Records.{all_numbered, numbered};
 ghost use Rattle.ide_slot_store.specs.Commands.{commands_from};
@@ -70,4 +71,51 @@ pub(crate) fn keep_oldest(
     if is_of_command(raw.kind) {
         commands.push_reserved(NumberedRecord { number, raw });
     }
+}
+
+/// Adds copies of the commands among the records that wait, of which the first has that number. Those
+/// before them stay.
+///
+/// Refusal: `NoMemory`, and some of them may be added.
+pub(crate) fn add_waiting(
+    alloc: Global,
+    commands: &mut Vec<NumberedRecord>,
+    waiting: &VecDeque<RawRecord>,
+    from: u32,
+) -> Result<(), Refused>
+    requires { from + length waiting.now.items ≤ 4294967295 }
+    ensures added { OnOk result (all_numbered commands.new.items ≡ all_numbered commands.old.items ++ commands_from from (entries_of waiting.now.items)) }
+    ensures stay { take (length commands.old.items) commands.new.items ≡ commands.old.items }
+    ensures room { vec_capacity commands.old ≤ vec_capacity commands.new }
+    ensures refused { IfErr result (λ e. e ≡ Refused.NoMemory) }
+{
+    let mut number = from;
+    for raw in waiting.iter() {
+        if is_of_command(raw.kind) {
+            commands.push(copy_of(alloc, number, raw)?)?;
+        }
+        number += 1;
+    }
+    Ok(())
+}
+
+/// Whether a checkpoint with that base can have these commands.
+pub(crate) fn are_fit(commands: &[NumberedRecord], base: u32) -> bool
+    ensures { IsTrue result ↔ AreCommands 0 base (all_numbered commands.now) }
+{
+    let mut from = 0;
+    for one in commands {
+        if u64::from(one.number) < from || one.number >= base || !is_fit(&one.raw) {
+            return false;
+        }
+        from = u64::from(one.number) + 1;
+    }
+    true
+}
+
+/// Whether the record is a command, within the limit.
+fn is_fit(raw: &RawRecord) -> bool
+    ensures { IsTrue result ↔ IsCommandEntry (entry_of raw.now) }
+{
+    is_of_command(raw.kind) && raw.body.len() <= 4_194_304
 }

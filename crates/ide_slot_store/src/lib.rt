@@ -13,6 +13,7 @@ mod commands;
 mod engine;
 mod laws;
 mod parts;
+mod planning;
 mod storing;
 mod writer;
 

@@ -5,12 +5,14 @@ ghost use Rattle.std.specs.List.{All};
 ghost use Rattle.ide_journal.specs.Format.{IsEntry};
 ghost use Rattle.ide_journal.specs.Lists.{entries_of, entry_of};
 ghost use Rattle.ide_slots.specs.Records.{all_numbered};
+ghost use Rattle.ide_slots.specs.Slot.{IsPartEntry};
 ghost use Rattle.ide_slots.specs.Two.{IsUpTo};
 ghost use Rattle.ide_slots.specs.TwoCalls.{StopsTwo};
 ghost use Rattle.ide_slot_journal.specs.Stages.{stage_of};
 ghost use Rattle.ide_slot_store.specs.Commands.{HasRoomForNext};
 
 use crate::commands::{commands_among, keep_oldest};
+use crate::planning::plan_over;
 use ide_disk::Disk;
 use ide_journal::{RawRecord, Version};
 use ide_problem::Problem;
@@ -44,7 +46,7 @@ impl<D: Disk> SlotWriterHalf<D> {
     ghost use Rattle.ide_slot_journal.specs.Records.{LeavesInRecord};
     ghost use Rattle.ide_slot_journal.specs.Stands.{AreHonest, HasFaulted, HasNoNext, IsCheckpointing, IsFilling, IsTurn, pair_of, records_stored, sides_of};
     ghost use Rattle.ide_store.specs.Handing.{HandsTo};
-    ghost use Rattle.ide_slot_store.specs.Half.{CallsOver, CrashesStep, FailsNone, FailsOne, HasStoredAll, IsBeginRefusal, IsNewHalf, IsQuiet, IsSameHalf, KeepsWriting, OpensStore, PlansWriting, Seals, StepsOver, half_sides_after};
+    ghost use Rattle.ide_slot_store.specs.Half.{CallsOver, CrashesStep, FailsNone, FailsOne, HasNoCommand, HasStoredAll, IsBeginRefusal, IsNewHalf, IsPlanAllRefusal, IsQuiet, IsSameHalf, KeepsWriting, OpensStore, PlansAllOver, PlansWriting, Seals, StepsOver, half_sides_after};
 
     /// Makes a store with no record on the disks A and B, whatever they held.
     ///
@@ -181,6 +183,30 @@ impl<D: Disk> SlotWriterHalf<D> {
         ensures refused { IfErr result (IsPlanRefusal self.old.journal) }
     {
         self.journal.plan(alloc, base, commands, parts)
+    }
+
+    /// Plans a checkpoint of all records that were sealed, with the commands among them and these parts of
+    /// an image, and answers whether there is a command among them: where there is none, none is planned.
+    ///
+    /// Refusals: `NoMemory`; `Failed`, where a disk call failed before; `Limit`, where the commands are not
+    /// such that a checkpoint can have them. Nothing is changed then.
+    #[tactic(auto, using(crate::proofs::PlanningAll::all_planned, crate::proofs::PlanningAll::none_kept, crate::proofs::PlanningAll::all_refused))]
+    pub fn plan_all(&mut self, alloc: Global, parts: &[RawRecord]) -> Result<bool, Refused>
+        requires none { IsCheckpointing self.old.journal → ⊥ }
+        requires generation { self.old.journal.generation < 4294967295 }
+        requires parts { All IsPartEntry (entries_of parts.now) }
+        requires few { length parts.now ≤ 4294967295 }
+        ensures planned { result ≡ Ok true → PlansAllOver (entries_of parts.now) self.old self.new }
+        ensures none { result ≡ Ok false → HasNoCommand self.old }
+        ensures disks { sides_of self.new.journal ≡ sides_of self.old.journal }
+        ensures unplanned { (result ≡ Ok true → ⊥) → KeepsWriting self.old self.new }
+        ensures refused { IfErr result (IsPlanAllRefusal self.old) }
+    {
+        let kept = self.commands.len();
+        let journal = &mut self.journal;
+        let planned = plan_over(alloc, journal, &mut self.commands, &self.waiting, parts);
+        self.commands.truncate(kept);
+        planned
     }
 
     /// Makes the next disk call, for the oldest record that is not stored or, where it is its turn, of the
