@@ -1,3 +1,4 @@
+pub mod Checkpoint
 pub mod Crashes
 pub mod Half
 pub mod ImageParts

@@ -81,7 +81,7 @@ under_way fills.OpensGate other fill some busy = refl
 under_way fills.Lasts other fill some busy = refl
 
 -- what is planned is its slot
-planned_is : (stage : FillStage) (other next : Slot) (fill : Filling) → checkpoint_at stage other fill ≡ Planned next → next ≡ other
+pub planned_is : (stage : FillStage) (other next : Slot) (fill : Filling) → checkpoint_at stage other fill ≡ Planned next → next ≡ other
 planned_is fills.Rests other next fill is = cc
 planned_is fills.Waits other next fill is = cc
 planned_is fills.Settles other next fill is = cc

@@ -1,4 +1,5 @@
 pub mod Batches
+pub mod Checkpoint
 pub mod Commands
 pub mod Engine
 pub mod Half

@@ -1,4 +1,5 @@
 //! Laws of a store on two disks. The functions do nothing: their clauses are the laws.
+ghost use Rattle.ide_slot_store.specs.Checkpoint.{CheckpointsBegin, CheckpointsStayOnRuns};
 ghost use Rattle.ide_slot_store.specs.Openings.{SlotHalvesOpen};
 ghost use Rattle.ide_slot_store.specs.Runs.{SlotEnginesStayOnRuns};
 ghost use Rattle.ide_slot_store.specs.Writing.{JournalsWriteTwo};
@@ -34,4 +35,12 @@ pub fn slot_halves_open<P: Problem, D: Disk>()
 /// values, as `engines_stay_on_runs` of `ide_store` says of each run.
 pub fn slot_engines_stay_on_runs<P: Problem, D: Disk>()
     ensures { SlotEnginesStayOnRuns P ⟦<P as Kept>⟧.analysis D.Disk }
+{}
+
+/// A checkpoint that stands for all that is sealed, with the image as it stands in parts, is one that the
+/// store may begin, wherever the halves are at work, nothing has changed since the last record, and all
+/// records are handed over. So an engine that is on a run stays on it.
+pub fn slot_checkpoints_begin<P: Problem, D: Disk>()
+    ensures begins { CheckpointsBegin ⟦<P as Kept>⟧.analysis D.Disk }
+    ensures stays { CheckpointsStayOnRuns ⟦<P as Kept>⟧.analysis D.Disk }
 {}

@@ -18,6 +18,8 @@ mod storing;
 mod writer;
 
 pub use engine::SlotEngine;
-pub use laws::{slot_engines_stay_on_runs, slot_halves_open, slot_journals_write_stores};
+pub use laws::{
+    slot_checkpoints_begin, slot_engines_stay_on_runs, slot_halves_open, slot_journals_write_stores,
+};
 pub use parts::{image_parts, image_parts_make_checkpoints};
 pub use writer::SlotWriterHalf;

@@ -1,0 +1,149 @@
+-- A checkpoint of all that is sealed is one that the store may begin.
+use Rattle.std.proofs.Common.{◌≡◌, ◌∙◌, ◌<◌, ◌++◌, ℕ, List, [], ◌∷◌, Option, Some, length, take, map, refl, ap, sym, subst, arith}
+use Rattle.std.proofs.lemmas.List.{append-nil, drop_all, take_all}
+use Rattle.std.specs.Prelude.{unwrap_or}
+use Rattle.ide_batch.specs.Applied.{HasImage, named_in}
+use Rattle.ide_batch.specs.Fold.{ProgramImage, image_entry}
+use Rattle.ide_disk.specs.declared.disk.Disk.{Ghosts}
+use Rattle.ide_image.specs.Notes.{noted}
+use Rattle.ide_image.specs.declared.entry.Entry.{Entry as Noted}
+use Rattle.ide_journal.specs.Format.{Entry}
+use Rattle.ide_slot_journal.specs.Opened.{states_of}
+use Rattle.ide_slot_journal.specs.Stands.{disks_of, filling_of, sides_of, slot_writer}
+use Rattle.ide_slot_journal.specs.declared.journal.SlotJournal.{SlotJournal}
+use Rattle.ide_slots.specs.Sides.{Sides}
+use Rattle.ide_slots.specs.Slot.{Slot}
+use Rattle.ide_slots.specs.Two.{SlotWriter}
+use Rattle.ide_steps.specs.Changed.{entry_then, standing_entry}
+use Rattle.ide_wire.specs.Form.{IsPrefixFree}
+use Rattle.ide_wire.specs.declared.key.Key.{Key}
+use Rattle.ide_store.specs.Places.{OnTwoDisks}
+use Rattle.ide_store.specs.Table.{Analysis, TableData, WorksOn, told}
+use Rattle.ide_store.specs.TwoDisks.{BeginsTwo, GiveTheSame, IsListOf, commands_of, unnumbered}
+use Rattle.ide_store.specs.TwoDisksLaws.{ArePartsOf, slots_of}
+use Rattle.ide_store.specs.World.{AreExact, Begins, IsFolded, contents}
+use Rattle.ide_store.proofs.Acts.{reached_more}
+use Rattle.ide_store.proofs.Places.{exact_at, laws_at}
+use Rattle.ide_store.proofs.Stepping.{works_after}
+use Rattle.ide_store.proofs.TwoDisks.{lead_on}
+use Rattle.ide_store.proofs.World.{one_image}
+use Rattle.ide_slot_store.specs.Checkpoint.{CheckpointsStayOnRuns, PlansImage}
+use Rattle.ide_slot_store.specs.Engine.{AreAtWork, MayHappen, SlotEvent, SlotWorld, after_events, happening}
+use Rattle.ide_slot_store.specs.Half.{PlansAll}
+use Rattle.ide_slot_store.specs.declared.writer.SlotWriterHalf.{SlotWriterHalf}
+use Rattle.ide_slot_store.proofs.ImageParts.{image_parts_make}
+use Rattle.ide_slot_store.proofs.Stopping.{held_by}
+use Rattle.ide_slot_store.proofs.Writing.{planned_is}
+
+-- a journal with the same disks has them as they were
+same_disks : {D : Type 0} {G : Ghosts D} (old new : SlotJournal D G) → sides_of new ≡ sides_of old → disks_of new ≡ disks_of old
+same_disks {G = G} old new sides =
+    sym (held_by G new.side new.current new.other) ∙ ap (λ (s : Sides _). states_of G s.a s.b) sides ∙ held_by G old.side old.current old.other
+
+module _ {F L : Type 0} (a : Analysis F L) where
+  -- ---- where no change is noted, the sealed records give back an image that the core has
+  module _ (tag : ℕ) (w : SlotWorld a tag) (table : TableData F) (handed : List Entry) (works : WorksOn a (OnTwoDisks tag) w table handed)
+      (still : table.core.changes ≡ Some []) where
+    stands_still : (key : Key) → entry_then table.core key ≡ standing_entry table.core key
+    stands_still key = ap (λ (c : Option (List (Key × Noted F))). unwrap_or (noted c key) (standing_entry table.core key)) still
+
+    entry_stands : (key : Key) → image_entry works.base.image key ≡ told (standing_entry table.core key)
+    entry_stands key = works.base.entries key ∙ ap told (stands_still key)
+
+    sealed_image : HasImage works.base.image table.core
+    sealed_image = record {
+      program = works.base.program ∙ works.image.program;
+      graphed = works.image.graphed;
+      roots = ap (map (named_in table.core.graph)) works.base.roots ∙ works.image.roots;
+      get = λ key. ap (λ (e : Option F × _). e.0) (entry_stands key);
+      pending = λ key. ap (λ (e : Option F × _). e.1) (entry_stands key);
+    }
+
+  -- ---- commands and parts give back the image of all the records
+  parts_give : IsPrefixFree a.proper a.form → (records parts : List Entry) → ArePartsOf (slots_of a) records parts
+      → GiveTheSame (slots_of a) (map unnumbered (commands_of records) ++ parts) records
+  parts_give free records parts are image =
+      let rules = slots_of a in
+      let exact : AreExact rules = exact_at a free (OnTwoDisks 0) in
+      let laws = laws_at a (OnTwoDisks 0) in
+      let first = map unnumbered (commands_of records) in
+      let both = lead_on rules first parts rules.empty are.before are.now are.commands are.lead in (
+        λ folded. subst (λ (i : ProgramImage F). IsFolded rules records i) (one_image rules exact laws (first ++ parts) rules.empty are.now image both folded) are.whole,
+        λ folded. subst (λ (i : ProgramImage F). IsFolded rules (first ++ parts) i) (one_image rules exact laws records rules.empty are.now image are.whole folded) both,
+      )
+
+  -- so they are a slot of all of them
+  slot_lists : IsPrefixFree a.proper a.form → (records parts : List Entry) (slot : Slot) → ArePartsOf (slots_of a) records parts
+      → slot.base ≡ length records → slot.commands ≡ commands_of records → slot.parts ≡ parts → slot.rest ≡ []
+      → IsListOf (slots_of a) records slot
+  slot_lists free records parts slot are base commands is bare =
+      let whole : take slot.base records ≡ records = take_all slot.base records (omega (arith, base)) in
+      record {
+        within = omega (arith, base);
+        commands = commands ∙ ap commands_of (sym whole);
+        image = rw (commands, is, whole) (parts_give free records parts are);
+        rest = bare ∙ sym (drop_all slot.base records (omega (arith, base)));
+      }
+
+  -- ---- a checkpoint is begun
+  module _ {D : Type 0} {G : Ghosts D} (free : IsPrefixFree a.proper a.form) (tag : ℕ) (w : SlotWorld a tag) (table : TableData F) (old new : SlotWriterHalf D G)
+      (at : AreAtWork a tag w table old) (plan : PlansImage a table old new) where
+    abbrev all_handed : contents w.world.sealed ≡ at.handed
+    all_handed = at.works.waits ∙ ap (λ (more : List Entry). at.handed ++ more) plan.handed ∙ append-nil at.handed
+
+    abbrev planned : PlansAll plan.parts at.slot at.other at.handed w.world.stored old new
+    planned = plan.plans at.slot at.other at.handed w.world.stored at.writes
+
+    abbrev work : SlotWriter
+    work = slot_writer planned.planned new.journal
+
+    begins : BeginsTwo (slots_of a) tag at.handed (slot_writer at.other old.journal) work
+    begins =
+        let behind = at.writes.behind in
+        let made = planned.plans at.slot behind.next at.other behind.stands in
+        let same : made.plans.next ≡ planned.planned =
+        planned_is new.journal.filler.stage planned.planned made.plans.next (filling_of new.journal.filler) (ap (λ (s : SlotWriter). s.checkpoint) made.plans.work_is) in
+        let follows = made.plans.planned.follows in
+        let generation = follows.generation in
+        let some : 0 < length (commands_of at.handed) =
+        subst (λ (rs : List _). 0 < length rs) (ap (λ (s : Slot). s.commands) same ∙ planned.commands) (follows.proper.valid.later (omega (arith, generation))) in
+        let folded : IsFolded (slots_of a) at.handed at.works.base.image =
+        subst (λ (rs : List Entry). IsFolded (slots_of a) rs at.works.base.image) all_handed at.works.base.folded in
+        let image = sealed_image tag w table at.handed at.works plan.still in
+        let make = image_parts_make a table at.handed plan.parts at.works.base.image plan.image folded image some in
+        record {
+          slot = at.slot;
+          tag_is = at.tag_is;
+          generation = behind.stands.two.generation;
+          plans = made.plans;
+          list = subst (λ (s : Slot). IsListOf (slots_of a) at.handed s) (sym same)
+              (slot_lists free at.handed plan.parts planned.planned make planned.base planned.commands planned.parts_are planned.bare);
+        }
+
+    pub may_begin : (begun : SlotWriter) × (MayHappen a tag w (Begins begun ∷ []) × AreAtWork a tag (after_events a tag w (Begins begun ∷ [])) table new)
+    may_begin =
+        let at_work : AreAtWork a tag (after_events a tag w (Begins work ∷ [])) table new = record {
+          handed = at.handed;
+          works = works_after a (OnTwoDisks tag) w table w.world.stored work w.world.disks at.handed table.waiting at.works at.works.waits;
+          slot = at.slot;
+          other = planned.planned;
+          writes = planned.writes;
+          tag_is = at.tag_is;
+          work = refl;
+          disks = at.disks ∙ sym (same_disks old.journal new.journal plan.sides);
+        } in
+        let here : BeginsTwo (slots_of a) tag (contents w.world.sealed) w.world.work work =
+        subst (λ (rs : List Entry). BeginsTwo (slots_of a) tag rs w.world.work work) (sym all_handed)
+        (subst (λ (before : SlotWriter). BeginsTwo (slots_of a) tag at.handed before work) (sym at.work) begins) in
+        (work, (((tt, (at.works.running, here)), tt), at_work))
+
+  pub stay_on_run : {D : Type 0} {G : Ghosts D} → IsPrefixFree a.proper a.form → CheckpointsStayOnRuns a G
+  stay_on_run free table old new on plan =
+      let begun = may_begin free on.tag on.world table old new on.at_work plan in
+      let events : List (SlotEvent a on.tag) = Begins begun.0 ∷ [] in
+      record {
+        tag = on.tag;
+        world = after_events a on.tag on.world events;
+        reached = reached_more a (OnTwoDisks on.tag) on.world (happening a on.tag events) on.reached begun.1.0;
+        at_work = begun.1.1;
+      }
