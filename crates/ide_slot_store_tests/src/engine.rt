@@ -76,8 +76,8 @@ fn a_run_of_three_records_takes_twelve_calls(rt: HostRuntime) -> Result<(), Fail
     expect_end(&rt, &again)
 }
 
-/// Works on a recursive program until nothing is pending, and makes one procedure more a root.
-fn work<P: Problem>(
+/// Seals and stores what becomes of a recursive program, whose other procedure is made a root at the end.
+fn store_recursion<P: Problem>(
     rt: &(impl Abort + AllocGlobal),
     engine: &mut SlotEngine<P, MemDisk>,
 ) -> Result<(), Fail> {
@@ -86,21 +86,33 @@ fn work<P: Problem>(
     assert!(rt; root(&mut engine.table, "rec") == Ok(3));
     assert!(rt; seal(&mut engine.table) == Ok(None));
     engine.store_all()?;
+    Ok(())
+}
+
+/// Asserts that four records are stored, which give that image back.
+fn expect_image(
+    rt: &impl Abort,
+    engine: &SlotEngine<ShiftConst, MemDisk>,
+    image: &[(Key, ConstFn, bool)],
+) -> Result<(), Fail> {
+    let items: Vec<(Key, ConstFn, bool)> = items_of(&engine.table)?;
+    assert!(rt; items.as_slice() == image);
     assert!(rt; engine.acked() == 4);
     Ok(())
+}
+
+/// Asserts that the image of a run is given back after a crash of that kind.
+fn expect_image_back(rt: &(impl Abort + AllocGlobal), leave: Leave) -> Result<(), Fail> {
+    let mut engine: SlotEngine<ShiftConst, MemDisk> = create(rt.alloc())?;
+    store_recursion(rt, &mut engine)?;
+    let before: Vec<(Key, ConstFn, bool)> = items_of(&engine.table)?;
+    let again = open_after_crash(rt.alloc(), engine, leave)?;
+    expect_image(rt, &again, before.as_slice())
 }
 
 // An image with its functions and pending keys is given back by the records of both kinds of crashes.
 #[test]
 fn an_opening_gives_the_image_back(rt: HostRuntime) -> Result<(), Fail> {
-    for leave in [Leave::Old, Leave::New] {
-        let mut engine: SlotEngine<ShiftConst, MemDisk> = create(rt.alloc())?;
-        work(&rt, &mut engine)?;
-        let before: Vec<(Key, ConstFn, bool)> = items_of(&engine.table)?;
-        let again = open_after_crash(rt.alloc(), engine, leave)?;
-        let after: Vec<(Key, ConstFn, bool)> = items_of(&again.table)?;
-        assert!(rt; before == after);
-        assert!(rt; again.acked() == 4);
-    }
-    Ok(())
+    expect_image_back(&rt, Leave::Old)?;
+    expect_image_back(&rt, Leave::New)
 }
