@@ -1,11 +1,14 @@
 -- The commands that a writer keeps, the room that it has for one more, and a checkpoint of them and of those that wait.
-use Rattle.std.specs.Prelude.{◌≡◌, ◌<◌, ℕ, List, [], filter, vec_capacity, vec_len}
+use Rattle.std.specs.Prelude.{◌≡◌, ◌<◌, ◌+◌, ◌++◌, ℕ, List, [], filter, length, vec_capacity, vec_len}
 use Rattle.std.specs.Global.{Vec}
 use Rattle.ide_disk.specs.declared.disk.Disk.{Ghosts}
 use Rattle.ide_journal.specs.Format.{Entry}
+use Rattle.ide_journal.specs.Lists.{entries_of}
+use Rattle.ide_journal.specs.declared.record.RawRecord.{RawRecord}
 use Rattle.ide_slot_journal.specs.Plans.{Plans}
 use Rattle.ide_slot_journal.specs.Stands.{HasFaulted, HasNoNext, records_stored}
 use Rattle.ide_slot_journal.specs.declared.journal.SlotJournal.{SlotJournal}
+use Rattle.ide_slots.specs.Records.{all_numbered}
 use Rattle.ide_slots.specs.Slot.{AreCommands, NumberedEntry, Slot, numbered_from}
 use Rattle.ide_slots.specs.declared.record.NumberedRecord.{NumberedRecord}
 use Rattle.ide_wire.specs.declared.refused.Refused.{Refused}
@@ -44,3 +47,23 @@ module _ {D : Type 0} {G : Ghosts D} where
     over_failure : HasFaulted old → IsPlanOverRefusal base commands old Failed
     over_limit : 4294967295 < base → IsPlanOverRefusal base commands old Limit
     over_unfit : (AreCommands 0 base commands → ⊥) → IsPlanOverRefusal base commands old Limit
+
+  -- ---- of these commands, and of those among the records that wait
+  module _ (commands : List NumberedRecord) (waiting : List RawRecord) (old : SlotJournal D G) where
+    abbrev pub base_with : ℕ
+    base_with = records_stored old + length waiting
+
+    abbrev pub commands_with : List NumberedEntry
+    commands_with = all_numbered commands ++ commands_from (records_stored old) (entries_of waiting)
+
+    -- one is planned, with these parts
+    abbrev pub PlansWith : List Entry → SlotJournal D G → Type 0
+    PlansWith parts new = PlansOver base_with commands_with parts old new
+
+    -- there are none
+    abbrev pub HasNone : Type 0
+    HasNone = commands_with ≡ []
+
+    -- why none is planned
+    abbrev pub IsPlanWithRefusal : Refused → Type 0
+    IsPlanWithRefusal refused = IsPlanOverRefusal base_with commands_with old refused

@@ -1,13 +1,12 @@
 //! A checkpoint of all records that a writer was handed.
-ghost use Rattle.std.specs.Prelude.{◌≡◌, ◌<◌, ◌≤◌, ◌+◌, ◌++◌, ℕ, [], true, false, length, take, vec_capacity, IfErr, IfNone, IfSome, Ok};
+ghost use Rattle.std.specs.Prelude.{◌≡◌, ◌<◌, ◌≤◌, ◌+◌, true, false, length, take, vec_capacity, IfErr, IfNone, IfSome, Ok};
 ghost use Rattle.std.specs.List.{All};
 ghost use Rattle.ide_journal.specs.Lists.{entries_of};
 ghost use Rattle.ide_slot_journal.specs.Plans.{KeepsSides};
 ghost use Rattle.ide_slot_journal.specs.Records.{KeepsRecord};
-ghost use Rattle.ide_slot_journal.specs.Stands.{IsCheckpointing, records_stored};
-ghost use Rattle.ide_slots.specs.Records.{all_numbered};
+ghost use Rattle.ide_slot_journal.specs.Stands.{IsCheckpointing};
 ghost use Rattle.ide_slots.specs.Slot.{IsPartEntry};
-ghost use Rattle.ide_slot_store.specs.Commands.{HasRoomForNext, IsPlanOverRefusal, PlansOver, commands_from};
+ghost use Rattle.ide_slot_store.specs.Commands.{HasNone, HasRoomForNext, IsPlanWithRefusal, PlansWith};
 
 use crate::commands::{add_waiting, are_fit};
 use ide_disk::Disk;
@@ -49,14 +48,14 @@ pub(crate) fn plan_over<D: Disk>(
     requires parts { All IsPartEntry (entries_of parts.now) }
     requires few { length parts.now ≤ 4294967295 }
     requires room { HasRoomForNext journal.old (length waiting.now.items) commands.old }
-    ensures planned { result ≡ Ok true → PlansOver (records_stored journal.old + length waiting.now.items) (all_numbered commands.old.items ++ commands_from (records_stored journal.old) (entries_of waiting.now.items)) (entries_of parts.now) journal.old journal.new }
-    ensures none { result ≡ Ok false → all_numbered commands.old.items ++ commands_from (records_stored journal.old) (entries_of waiting.now.items) ≡ [] }
+    ensures planned { result ≡ Ok true → PlansWith commands.old.items waiting.now.items journal.old (entries_of parts.now) journal.new }
+    ensures none { result ≡ Ok false → HasNone commands.old.items waiting.now.items journal.old }
     ensures unplanned { (result ≡ Ok true → ⊥) → journal.new.filler ≡ journal.old.filler }
     ensures record { KeepsRecord journal.old journal.new }
     ensures sides { KeepsSides journal.old journal.new }
     ensures stay { take (length commands.old.items) commands.new.items ≡ commands.old.items }
     ensures capacity { vec_capacity commands.old ≤ vec_capacity commands.new }
-    ensures refused { IfErr result (IsPlanOverRefusal (records_stored journal.old + length waiting.now.items) (all_numbered commands.old.items ++ commands_from (records_stored journal.old) (entries_of waiting.now.items)) journal.old) }
+    ensures refused { IfErr result (IsPlanWithRefusal commands.old.items waiting.now.items journal.old) }
 {
     let stored = journal.count();
     let Some(base) = base_over(stored, waiting.len()) else {
