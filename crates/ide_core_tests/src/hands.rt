@@ -1,5 +1,5 @@
 //! Hands: what one does with its claims, and programs that are tabulated part by part.
-use crate::cores::begin;
+use crate::cores::{begin, given};
 use crate::tables::expect_two_calls;
 use ide_instances::CopyConst;
 use ide_problem::Problem;
@@ -7,9 +7,7 @@ use ide_steps::{Claimed, Core, Parted};
 use ide_tasks::{Task, Work};
 use ide_wire::Refused;
 use ide_worked::TWO_CALLS;
-use std::alloc::Global;
 use std::process::Abort;
-use std::test::Fail;
 
 /// What a claim gave, without its task.
 #[derive(Clone, Copy, PartialEq, Eq)]
@@ -28,17 +26,11 @@ pub(crate) struct Hand<P: Problem> {
 }
 
 /// The work of a task.
-fn work_of<P: Problem>(alloc: Global, task: Task<P>) -> Result<Work<P>, Refused> {
-    match Work::of(alloc, task) {
-        Ok(work) => Ok(work),
-        Err(_) => Err(Refused::NoMemory),
+fn work_of<P: Problem>(rt: &(impl Abort + AllocGlobal), task: Task<P>) -> Work<P> {
+    match Work::of(rt.alloc(), task) {
+        Ok(work) => work,
+        Err(_) => panic!(rt; "no memory"),
     }
-}
-
-/// What a claim of the hand of that number gives.
-fn claim<P: Problem>(core: &mut Core<P>, number: usize) -> Result<Claimed<P>, Refused> {
-    let claimed = core.claim(number)?;
-    Ok(claimed)
 }
 
 /// Does the next part of the work, with the hand of that number.
@@ -84,16 +76,28 @@ impl<P: Problem> Hand<P> {
         }
     }
 
-    /// Claims a key, and keeps its work.
-    pub(crate) fn claim(&mut self, alloc: Global, core: &mut Core<P>) -> Result<Given, Refused> {
-        match claim(core, self.number)? {
+    /// Keeps the work of the task that it was given, if there is one.
+    fn keep(&mut self, rt: &(impl Abort + AllocGlobal), claimed: Claimed<P>) -> Given {
+        match claimed {
             Claimed::Task(task) => {
                 self.claims = self.claims.saturating_add(1);
-                self.work = Some(work_of(alloc, task)?);
-                Ok(Given::Task)
+                self.work = Some(work_of(rt, task));
+                Given::Task
             }
-            Claimed::Idle => Ok(Given::Idle),
-            Claimed::Quiet => Ok(Given::Quiet),
+            Claimed::Idle => Given::Idle,
+            Claimed::Quiet => Given::Quiet,
+        }
+    }
+
+    /// Claims a key, and keeps its work.
+    pub(crate) fn claim(
+        &mut self,
+        rt: &(impl Abort + AllocGlobal),
+        core: &mut Core<P>,
+    ) -> Result<Given, Refused> {
+        match core.claim(self.number) {
+            Ok(claimed) => Ok(self.keep(rt, claimed)),
+            Err(refused) => Err(refused),
         }
     }
 
@@ -124,44 +128,44 @@ impl<P: Problem> Hand<P> {
     }
 
     /// Does all of its work by calls of up to `most` parts, and ends its claim.
-    fn finish_by_parts(&mut self, core: &mut Core<P>, most: usize) -> Result<(), Refused> {
+    fn finish_by_parts(&mut self, rt: &impl Abort, core: &mut Core<P>, most: usize) {
         for _ in 0..100 {
-            if self.parts(core, most)? < most {
+            if given(rt, self.parts(core, most)) < most {
                 break;
             }
         }
-        self.finish(core)
+        given(rt, self.finish(core));
     }
 
     /// Does all tasks so.
-    fn drain_by_parts(
-        &mut self,
-        alloc: Global,
-        core: &mut Core<P>,
-        most: usize,
-    ) -> Result<(), Refused> {
+    fn drain_by_parts(&mut self, rt: &(impl Abort + AllocGlobal), core: &mut Core<P>, most: usize) {
         for _ in 0..500 {
             if core.is_quiet() {
                 break;
             }
-            self.claim(alloc, core)?;
-            self.finish_by_parts(core, most)?;
+            given(rt, self.claim(rt, core));
+            self.finish_by_parts(rt, core, most);
         }
-        Ok(())
     }
 
-    /// Does one part, or ends the claim where none is left; each third claim is released after its
-    /// first part. Without a claim it takes one.
-    fn step(&mut self, alloc: Global, core: &mut Core<P>) -> Result<(), Refused> {
-        if self.work.is_none() {
-            self.claim(alloc, core)?;
-        } else if self.part(core)? == Parted::NoPart {
-            self.finish(core)?;
+    /// Does one part of its work, or ends the claim where none is left; each third claim is released
+    /// after its first part.
+    fn go_on(&mut self, rt: &impl Abort, core: &mut Core<P>) {
+        if given(rt, self.part(core)) == Parted::NoPart {
+            given(rt, self.finish(core));
         } else if self.claims % 3 == 0 {
-            release(core, self.number)?;
+            given(rt, release(core, self.number));
             self.work = None;
         }
-        Ok(())
+    }
+
+    /// Goes on with its work. Without a claim it takes one.
+    fn step(&mut self, rt: &(impl Abort + AllocGlobal), core: &mut Core<P>) {
+        if self.work.is_none() {
+            given(rt, self.claim(rt, core));
+        } else {
+            self.go_on(rt, core);
+        }
     }
 }
 
@@ -171,18 +175,10 @@ fn expect_by_parts<P: Problem>(
     core: &mut Core<P>,
     hand: &mut Hand<P>,
     most: usize,
-) -> Result<(), Fail> {
-    begin(rt.alloc(), core, TWO_CALLS)?;
-    hand.drain_by_parts(rt.alloc(), core, most)?;
+) {
+    begin(rt, core, TWO_CALLS);
+    hand.drain_by_parts(rt, core, most);
     expect_two_calls(rt, core);
-    Ok(())
-}
-
-#[test]
-fn one_part_two_or_all_with_each_call(rt: HostRuntime) -> Result<(), Fail> {
-    let mut core: Core<CopyConst> = Core::new(rt.alloc());
-    let mut hand = Hand::new(0);
-    expect_by_one_two_or_all(&rt, &mut core, &mut hand)
 }
 
 /// Asserts that it is, by one part with each call, two or all.
@@ -190,22 +186,28 @@ fn expect_by_one_two_or_all<P: Problem>(
     rt: &(impl Abort + AllocGlobal),
     core: &mut Core<P>,
     hand: &mut Hand<P>,
-) -> Result<(), Fail> {
-    expect_by_parts(rt, core, hand, 1)?;
-    expect_by_parts(rt, core, hand, 2)?;
-    expect_by_parts(rt, core, hand, usize::MAX)
+) {
+    expect_by_parts(rt, core, hand, 1);
+    expect_by_parts(rt, core, hand, 2);
+    expect_by_parts(rt, core, hand, usize::MAX);
+}
+
+#[test]
+fn one_part_two_or_all_with_each_call(rt: HostRuntime) {
+    let mut core: Core<CopyConst> = Core::new(rt.alloc());
+    let mut hand = Hand::new(0);
+    expect_by_one_two_or_all(&rt, &mut core, &mut hand);
 }
 
 /// Each hand takes one step.
 fn take_turn<P: Problem>(
-    alloc: Global,
+    rt: &(impl Abort + AllocGlobal),
     core: &mut Core<P>,
     hands: &mut [Hand<P>],
-) -> Result<(), Refused> {
+) {
     for hand in hands {
-        hand.step(alloc, core)?;
+        hand.step(rt, core);
     }
-    Ok(())
 }
 
 /// Asserts that the program with two calls is tabulated by hands in turns.
@@ -213,18 +215,17 @@ fn expect_in_turns<P: Problem>(
     rt: &(impl Abort + AllocGlobal),
     core: &mut Core<P>,
     hands: &mut [Hand<P>],
-) -> Result<(), Fail> {
-    begin(rt.alloc(), core, TWO_CALLS)?;
+) {
+    begin(rt, core, TWO_CALLS);
     for _ in 0..500 {
-        take_turn(rt.alloc(), core, hands)?;
+        take_turn(rt, core, hands);
     }
     expect_two_calls(rt, core);
-    Ok(())
 }
 
 #[test]
-fn three_hands_in_turns(rt: HostRuntime) -> Result<(), Fail> {
+fn three_hands_in_turns(rt: HostRuntime) {
     let mut core: Core<CopyConst> = Core::new(rt.alloc());
     let mut hands = [Hand::new(0), Hand::new(1), Hand::new(2)];
-    expect_in_turns(&rt, &mut core, &mut hands)
+    expect_in_turns(&rt, &mut core, &mut hands);
 }

@@ -1,10 +1,10 @@
 //! Each public call of what an image has at each key, at a task that is a number.
+use crate::cores::given;
 use ide_image::{Change, KeyedImage};
 use ide_instances::ConstFn;
 use ide_lattice::EdgeFn;
 use ide_wire::Key;
 use std::process::Abort;
-use std::test::Fail;
 
 const FIRST: Key = Key::Jump(1, 0, 2);
 
@@ -13,49 +13,42 @@ const SECOND: Key = Key::Summary(1, 0, 2);
 type Image = KeyedImage<ConstFn, u8>;
 
 /// Lowers a key, and answers whether that changed it.
-fn lower(image: &mut Image, key: Key, function: ConstFn) -> Result<bool, Fail> {
-    let change = image.lower(key, function)?;
-    Ok(change == Change::Lowered)
+fn lower(rt: &impl Abort, image: &mut Image, key: Key, function: ConstFn) -> bool {
+    let change = given(rt, image.lower(key, function));
+    change == Change::Lowered
 }
 
 /// Lowers both keys to the identity, the second last.
-fn lower_both(rt: &impl Abort, image: &mut Image) -> Result<(), Fail> {
-    assert!(rt; lower(image, FIRST, ConstFn::id())?);
-    assert!(rt; lower(image, SECOND, ConstFn::id())?);
-    assert!(rt; !lower(image, FIRST, ConstFn::id())?);
-    Ok(())
+fn lower_both(rt: &impl Abort, image: &mut Image) {
+    assert!(rt; lower(rt, image, FIRST, ConstFn::id()));
+    assert!(rt; lower(rt, image, SECOND, ConstFn::id()));
+    assert!(rt; !lower(rt, image, FIRST, ConstFn::id()));
 }
 
-/// Claims the next key for a hand that has no claim, with a task, and answers the key.
-fn take_next(image: &mut Image, hand: usize, task: u8) -> Result<Key, Fail> {
-    let Some(key) = image.unclaimed() else {
-        return Err("no unclaimed key".into());
-    };
-    if hand >= 64 || image.claim(hand).is_some() {
-        return Err("no such hand".into());
-    }
-    image.take(hand, key, task)?;
-    Ok(key)
+/// Claims the next key, which is to be this one, for a hand that has no claim, with a task.
+fn take_next(rt: &impl Abort, image: &mut Image, hand: usize, task: u8, want: Key) {
+    assert!(rt; image.unclaimed() == Some(want));
+    assert!(rt; hand < 64 && image.claim(hand).is_none());
+    given(rt, image.take(hand, want, task));
 }
 
 /// Asserts that a key is kept once, however often it is lowered.
-fn expect_kept_once(rt: &impl Abort, image: &mut Image) -> Result<(), Fail> {
+fn expect_kept_once(rt: &impl Abort, image: &mut Image) {
     assert!(rt; image.is_quiet());
     assert!(rt; image.unclaimed().is_none());
-    lower_both(rt, image)?;
+    lower_both(rt, image);
     assert!(rt; !image.is_quiet());
     assert!(rt; image.pending_count() == 2);
     assert!(rt; image.key_count() == 2);
     assert!(rt; image.is_pending(FIRST));
     assert!(rt; !image.is_pending(Key::Jump(1, 2, 0)));
     assert!(rt; image.get(SECOND) == Some(ConstFn::id()));
-    Ok(())
 }
 
 #[test]
-fn keeps_a_key_once(rt: HostRuntime) -> Result<(), Fail> {
+fn keeps_a_key_once(rt: HostRuntime) {
     let mut image = KeyedImage::new(rt.alloc());
-    expect_kept_once(&rt, &mut image)
+    expect_kept_once(&rt, &mut image);
 }
 
 /// Asserts the task of a hand's claim, how many of its parts are done, and whether its key fell.
@@ -71,32 +64,31 @@ fn expect_task(rt: &impl Abort, image: &Image, hand: usize, task: u8, done: usiz
 }
 
 /// Ends a hand's claim, and answers whether its key fell since it was claimed, if there was one.
-fn finish(image: &mut Image, hand: usize) -> Result<Option<bool>, Fail> {
-    match image.finish(hand)? {
-        Some(claim) => Ok(Some(claim.lowered)),
-        None => Ok(None),
+fn finish(rt: &impl Abort, image: &mut Image, hand: usize) -> Option<bool> {
+    match given(rt, image.finish(hand)) {
+        Some(claim) => Some(claim.lowered),
+        None => None,
     }
 }
 
 /// Asserts that a key that falls while it is claimed is kept after the claim, and that the key that
 /// fell last is claimed first.
-fn expect_kept_after_fall(rt: &impl Abort, image: &mut Image) -> Result<(), Fail> {
-    lower_both(rt, image)?;
-    assert!(rt; take_next(image, 3, 7)? == SECOND);
+fn expect_kept_after_fall(rt: &impl Abort, image: &mut Image) {
+    lower_both(rt, image);
+    take_next(rt, image, 3, 7, SECOND);
     assert!(rt; image.unclaimed() == Some(FIRST));
     image.set_done(3, 2);
     expect_task(rt, image, 3, 7, 2);
-    assert!(rt; lower(image, SECOND, ConstFn::Bottom)?);
-    assert!(rt; finish(image, 3)? == Some(true));
+    assert!(rt; lower(rt, image, SECOND, ConstFn::Bottom));
+    assert!(rt; finish(rt, image, 3) == Some(true));
     assert!(rt; image.is_pending(SECOND));
-    assert!(rt; finish(image, 3)?.is_none());
-    Ok(())
+    assert!(rt; finish(rt, image, 3).is_none());
 }
 
 #[test]
-fn keeps_a_key_that_fell_while_claimed(rt: HostRuntime) -> Result<(), Fail> {
+fn keeps_a_key_that_fell_while_claimed(rt: HostRuntime) {
     let mut image = KeyedImage::new(rt.alloc());
-    expect_kept_after_fall(&rt, &mut image)
+    expect_kept_after_fall(&rt, &mut image);
 }
 
 /// Whether a hand had a claim, which it has no more.
@@ -105,53 +97,47 @@ fn release(image: &mut Image, hand: usize) -> bool {
 }
 
 /// Asserts that claims end, and that a key whose claim is released is claimed again.
-fn expect_ends_and_releases(rt: &impl Abort, image: &mut Image) -> Result<(), Fail> {
-    lower_both(rt, image)?;
-    take_next(image, 0, 1)?;
-    take_next(image, 63, 2)?;
+fn expect_ends_and_releases(rt: &impl Abort, image: &mut Image) {
+    lower_both(rt, image);
+    take_next(rt, image, 0, 1, SECOND);
+    take_next(rt, image, 63, 2, FIRST);
     assert!(rt; image.unclaimed().is_none());
-    assert!(rt; finish(image, 0)? == Some(false));
+    assert!(rt; finish(rt, image, 0) == Some(false));
     assert!(rt; !image.is_pending(SECOND));
     assert!(rt; image.claimed_elsewhere(0));
     assert!(rt; !image.claimed_elsewhere(63));
     assert!(rt; release(image, 63));
     assert!(rt; image.unclaimed() == Some(FIRST));
-    Ok(())
 }
 
 #[test]
-fn ends_and_releases_claims(rt: HostRuntime) -> Result<(), Fail> {
+fn ends_and_releases_claims(rt: HostRuntime) {
     let mut image = KeyedImage::new(rt.alloc());
-    expect_ends_and_releases(&rt, &mut image)?;
+    expect_ends_and_releases(&rt, &mut image);
     image.clear(rt.alloc());
     assert!(rt; image.is_quiet());
     assert!(rt; image.key_count() == 0);
-    Ok(())
 }
 
 /// Sets the second key to the identity, where no hand has claimed it.
-fn set_second(image: &mut Image, pending: bool) -> Result<(), Fail> {
-    if image.unclaimed() != Some(SECOND) {
-        return Err("no such key".into());
-    }
-    image.set(SECOND, ConstFn::id(), pending)?;
-    Ok(())
+fn set_second(rt: &impl Abort, image: &mut Image, pending: bool) {
+    assert!(rt; image.unclaimed() == Some(SECOND));
+    given(rt, image.set(SECOND, ConstFn::id(), pending));
 }
 
 /// Asserts that a key is pending no more where it was said so.
-fn expect_set(rt: &impl Abort, image: &mut Image) -> Result<(), Fail> {
-    lower_both(rt, image)?;
-    set_second(image, false)?;
+fn expect_set(rt: &impl Abort, image: &mut Image) {
+    lower_both(rt, image);
+    set_second(rt, image, false);
     assert!(rt; !image.is_pending(SECOND));
     assert!(rt; image.is_pending(FIRST));
     assert!(rt; image.key_count() == 2);
-    Ok(())
 }
 
 #[test]
-fn sets_what_is_pending(rt: HostRuntime) -> Result<(), Fail> {
+fn sets_what_is_pending(rt: HostRuntime) {
     let mut image = KeyedImage::new(rt.alloc());
-    expect_set(&rt, &mut image)
+    expect_set(&rt, &mut image);
 }
 
 /// Asserts that the tables have both keys, the first of them as its first entry, and no third one.
@@ -165,9 +151,8 @@ fn expect_tables(rt: &impl Abort, image: Image) {
 }
 
 #[test]
-fn leaves_its_tables(rt: HostRuntime) -> Result<(), Fail> {
+fn leaves_its_tables(rt: HostRuntime) {
     let mut image = KeyedImage::new(rt.alloc());
-    lower_both(&rt, &mut image)?;
+    lower_both(&rt, &mut image);
     expect_tables(&rt, image);
-    Ok(())
 }

@@ -1,18 +1,27 @@
-//! Tests of what an image has at each key, and of the core: its tables, its claims, and hands that work in turns.
+//! Tests of what an image has at each key, of the core: its tables, its claims, and hands that work in turns; and
+//! of records: how worked programs' batches are spelled, and what records do to a core.
 //!
-//! A proof of a test costs time for each clause of each call, and a crate with tests is proved
-//! twice: so the tests of these crates stand here, above them both, and each file has the tests of
-//! one subject. Calls with many clauses stand in small helpers that have none, that take any problem
-//! and that borrow what they work on.
+//! A proof of a test costs time for each clause of each call and for each way out of a function, and a crate with
+//! tests is proved twice: so the tests of these crates stand here, above them all, and each file has the tests of
+//! one subject. Calls with many clauses stand in small helpers that have none, that take any problem and that
+//! borrow what they work on. No helper hands a refusal on that is not what a test asks for: it ends the test.
 #![tactic(auto)]
 
+#[cfg(test)]
+mod bodies;
 #[cfg(test)]
 mod claims;
 #[cfg(test)]
 mod cores;
 #[cfg(test)]
+mod damaged;
+#[cfg(test)]
+mod groups;
+#[cfg(test)]
 mod hands;
 #[cfg(test)]
 mod image;
+#[cfg(test)]
+mod records;
 #[cfg(test)]
 mod tables;

@@ -1,4 +1,5 @@
 pub mod Begun
+pub mod Counted
 pub mod Refused
 pub mod Results
 pub mod Served

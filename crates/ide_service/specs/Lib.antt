@@ -1,4 +1,5 @@
 pub mod Begun
+pub mod Parts
 pub mod Refusal
 pub mod Served
 pub mod Solve

@@ -1,6 +1,7 @@
 //! A hand at work: it claims a key, does the parts of its task and ends the claim, again and again, until
 //! nothing is left or a gate stops it.
-ghost use Rattle.std.specs.Prelude.{◌≡◌, ◌<◌, ◌≤◌, ℕ, false, true, Ok, IfOk, OnErr, OnOk};
+ghost use Rattle.std.specs.Prelude.{◌≡◌, ◌<◌, ◌≤◌, ℕ, false, length, true, Ok, IfOk, OnErr, OnOk};
+ghost use Rattle.ide_service.specs.Parts.{IsFurther, with_more};
 ghost use Rattle.ide_service.specs.declared.hands.Point.{Point};
 
 use ide_problem::Problem;
@@ -52,6 +53,7 @@ pub struct Open {
 impl Gate for Open {
     ghost may_stop = { λ _ _. ⊥ };
 
+    /// It stops nobody.
     fn pass(&self, _point: Point) -> bool {
         true
     }
@@ -85,7 +87,10 @@ pub trait Hands<P: Problem> {
     ///
     /// `Limit` where a batch is full: the parts before are done, and the work counts them.
     fn parts(&mut self, hand: usize, work: &mut Work<P>, most: usize) -> Result<usize, Refused>
-        ensures { IfOk result (λ count. count ≤ most) };
+        ensures most { IfOk result (λ count. count ≤ most) }
+        ensures counted { IfOk result (λ count. work.new ≡ with_more work.old count) }
+        ensures all { IfOk result (λ count. count < most → work.new.done ≡ length work.new.parts) }
+        ensures further { IsFurther work.old work.new };
 
     /// Ends the hand's claim, with all parts done. `Limit` where a batch is full.
     fn finish(&mut self, hand: usize, work: &Work<P>) -> Result<(), Refused>

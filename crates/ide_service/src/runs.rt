@@ -41,8 +41,8 @@ pub fn every_run<P: Problem>()
 /// any two calls, within a disk call, within a checkpoint or within an opening, with any bytes that the
 /// disks may then leave: all that [`every_run`] says of one disk, in the same words (1 to 5).
 ///
-/// It does nothing: its clause is the law, of the definitions alone. The engine on two disks, which stands in
-/// a crate of its own, plans no checkpoint yet; an [`ide_store::Engine`] has one disk.
+/// It does nothing: its clause is the law, of the definitions alone. The engine on two disks stands in a
+/// crate of its own; an [`ide_store::Engine`] has one disk.
 pub fn every_run_on_two_disks<P: Problem>()
     ensures { TwoDisksAnswers ⟦<P as Kept>⟧.analysis }
 {

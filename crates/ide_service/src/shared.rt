@@ -5,7 +5,7 @@ ghost use Rattle.ide_image.specs.Worklist.{claim_at};
 use crate::hands::{Hands, Open, run_task};
 use ide_disk::Disk;
 use ide_problem::Problem;
-use ide_steps::{Claimed, Closed, Parted};
+use ide_steps::{Claimed, Closed};
 use ide_store::{Engine, Ticket};
 use ide_tasks::Work;
 use ide_text::Program;
@@ -31,11 +31,6 @@ pub(crate) enum Stepped {
 }
 
 impl<P: Problem, D: Disk> Shared<P, D> {
-    /// Does the next part of the hand's work.
-    fn part(&mut self, hand: usize, work: &mut Work<P>) -> Result<Parted, Refused> {
-        self.engine.table.part(hand, work)
-    }
-
     /// Seals what changed since the last record, if anything did.
     pub(crate) fn seal(&mut self) -> Result<Option<Ticket>, Refused> {
         self.engine.table.seal()
@@ -113,12 +108,7 @@ impl<P: Problem, D: Disk> Hands<P> for Shared<P, D> {
     }
 
     fn parts(&mut self, hand: usize, work: &mut Work<P>, most: usize) -> Result<usize, Refused> {
-        for count in 0..most {
-            if self.part(hand, work)? == Parted::NoPart {
-                return Ok(count);
-            }
-        }
-        Ok(most)
+        Hands::parts(&mut self.engine.table, hand, work, most)
     }
 
     fn finish(&mut self, hand: usize, work: &Work<P>) -> Result<(), Refused> {

@@ -9,7 +9,7 @@ use Rattle.ide_journal.specs.Bytes.{IsBefore}
 use Rattle.ide_journal.specs.Moments.{LeavesNoMore, LeavesOnly}
 use Rattle.ide_journal.specs.Opening.{CutsBehind, LeavesFront}
 use Rattle.ide_journal.proofs.Moments.{goes_on, weaker}
-use Rattle.ide_slots.specs.Current.{IsCurrent, IsFoundIn, ends_early, files, no_slot}
+use Rattle.ide_slots.specs.Current.{HasNoCurrent, IsCurrent, IsFoundIn, ends_early, files, no_slot}
 use Rattle.ide_slots.specs.DiskCalls.{LeavesNoMoreThan}
 use Rattle.ide_slots.specs.Loading.{ClosesIn, HasRecords, slot_of}
 use Rattle.ide_slots.specs.Reading.{Tells, TellsNothing}
@@ -27,7 +27,7 @@ use Rattle.ide_slots.proofs.Heads.{length-slot_header}
 use Rattle.ide_slots.proofs.OneCurrent.{one_told}
 use Rattle.ide_wire.specs.declared.refused.Refused.{Refused}
 use Rattle.ide_wire.specs.declared.refused.Refused.TheVariants as refusals
-use Rattle.ide_slot_journal.specs.Opening.{IsChoosingRefusal, IsChosenWith, IsLookRefusal, IsReadFrom, IsReadRefusal, IsRecoveredSlot, IsWholeSlot, LeftOrCut, RefusesRead, StopsOne, choosing_device, choosing_slot, look_device, look_short, read_device, read_file}
+use Rattle.ide_slot_journal.specs.Opening.{IsChoosingRefusal, IsChosenWith, IsCurrentTag, IsLookRefusal, IsReadFrom, IsReadRefusal, IsRecoveredSlot, IsTagRefusal, IsWholeSlot, LeftOrCut, RefusesRead, StopsOne, choosing_device, choosing_slot, look_device, look_short, read_device, read_file, tag_device, tag_none}
 
 -- a disk that cannot be read, or is too short for a slot
 pub not_looked : (tag : ℕ) (left : Sides (List ℕ)) (side : Side) (refused : Refused) → IsLookRefusal (on side left) refused
@@ -97,6 +97,21 @@ second_chosen tag left first second found a b is tag_is side =
       tag_is = tag_is;
       tells = tells_front left.a first (first_long left current.chosen) a;
     }
+
+-- ---- the tag of the current slot
+pub tag_not_looked : (left : Sides (List ℕ)) (side : Side) (refused : Refused) → IsLookRefusal (on side left) refused → IsTagRefusal left refused
+tag_not_looked left side refused look_device = tag_device
+tag_not_looked left side refused (look_short short) = tag_none (no_slot side (ends_early short))
+
+pub tag_told : (left : Sides (List ℕ)) (first second : List ℕ) (found : Current) → first ≡ take 4097 left.a → second ≡ take 4097 left.b
+    → IsFoundIn (files first second) found → IsCurrentTag left found.head.head.tag
+tag_told left first second found a b is =
+    record { side = found.side; told = found.head; current = current_by left first second found a b is; tag_is = refl }
+
+pub tag_not_told : (left : Sides (List ℕ)) (first second : List ℕ) → first ≡ take 4097 left.a → second ≡ take 4097 left.b
+    → HasNoCurrent (files first second) → IsTagRefusal left refusals.NotAStore
+tag_not_told left first second a b none =
+    tag_none (fronts_tell_current.none left (subst HasNoCurrent (λ i. files (a i) (b i)) none))
 
 -- the bytes of a disk were not all read
 pub not_read : (told : SlotHead) (bytes : List ℕ) (refused : Refused) → (refused ≡ refusals.NoMemory) ⊎ (refused ≡ refusals.Disk)

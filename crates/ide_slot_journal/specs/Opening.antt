@@ -5,7 +5,7 @@ use Rattle.ide_disk.specs.OneCall.{FailsOnce}
 use Rattle.ide_disk.specs.declared.disk.Disk.{Ghosts}
 use Rattle.ide_journal.specs.Bytes.{IsBefore}
 use Rattle.ide_journal.specs.Moments.{LeavesOnly}
-use Rattle.ide_slots.specs.Current.{IsCurrent}
+use Rattle.ide_slots.specs.Current.{HasNoCurrent, IsCurrent}
 use Rattle.ide_slots.specs.DiskCalls.{LeavesNoMoreThan}
 use Rattle.ide_slots.specs.Loading.{ClosesIn, HasRecords, slot_of}
 use Rattle.ide_slots.specs.Reading.{Tells}
@@ -38,6 +38,18 @@ pub data IsChoosingRefusal (tag : ℕ) (left : Sides (List ℕ)) : Refused → T
 -- what each of two disks gives a read
 abbrev pub now_of : {D : Type 0} → Ghosts D → D → D → Sides (List ℕ)
 now_of G a b = record { a = (G.state a).now; b = (G.state b).now }
+
+-- the tag of the current slot
+pub record IsCurrentTag (left : Sides (List ℕ)) (tag : ℕ) : Type 0 where
+  pub side : Side
+  pub told : SlotHead
+  pub current : IsCurrent side told left
+  pub tag_is : told.head.tag ≡ tag
+
+-- why none is told: a call of a disk failed, or no slot is current
+pub data IsTagRefusal (left : Sides (List ℕ)) : Refused → Type 0 where
+  tag_device : IsTagRefusal left refusals.Disk
+  tag_none : HasNoCurrent left → IsTagRefusal left refusals.NotAStore
 
 -- no call of either failed at Ok, and one of one of them did where the refusal is the disk's
 pub record CountsFaultsOfTwo {D T : Type 0} (G : Ghosts D) (result : Result T Refused) (a b new_a new_b : D) : Type 0 where

@@ -12,5 +12,7 @@ mod opening;
 mod planning;
 mod spelling;
 mod stage;
+mod tag;
 
 pub use journal::SlotJournal;
+pub use tag::current_tag;

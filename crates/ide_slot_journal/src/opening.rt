@@ -16,7 +16,7 @@ use std::alloc::Global;
 
 // The first page of the file on the disk, and its first gate.
 #[tactic(auto, using(crate::specs::Opening::look_device, crate::specs::Opening::look_short))]
-fn read_front<D: Disk>(disk: &mut D) -> Result<[u8; 4097], Refused>
+pub(crate) fn read_front<D: Disk>(disk: &mut D) -> Result<[u8; 4097], Refused>
     ensures front { D.honest disk.old → IfOk result (λ front. front ≡ take 4097 (D.state disk.old).now) }
     ensures long { OnOk result (4097 ≤ D.size disk.old) }
     ensures same { OnlyLooks D.Disk disk.old disk.new }

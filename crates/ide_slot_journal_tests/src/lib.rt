@@ -7,3 +7,5 @@
 mod journal;
 #[cfg(test)]
 mod stops;
+#[cfg(test)]
+mod tag;

@@ -3,7 +3,7 @@ use Rattle.std.proofs.Common.{◌≡◌, ◌∙◌, ◌<◌, ◌++◌, ℕ, List
 use Rattle.std.proofs.lemmas.List.{append-nil, drop_all, take_all}
 use Rattle.std.specs.Prelude.{unwrap_or}
 use Rattle.ide_batch.specs.Applied.{HasImage, named_in}
-use Rattle.ide_batch.specs.Fold.{ProgramImage, image_entry}
+use Rattle.ide_batch.specs.Fold.{image_entry}
 use Rattle.ide_disk.specs.declared.disk.Disk.{Ghosts}
 use Rattle.ide_image.specs.Notes.{noted}
 use Rattle.ide_image.specs.declared.entry.Entry.{Entry as Noted}
@@ -19,14 +19,13 @@ use Rattle.ide_wire.specs.Form.{IsPrefixFree}
 use Rattle.ide_wire.specs.declared.key.Key.{Key}
 use Rattle.ide_store.specs.Places.{OnTwoDisks}
 use Rattle.ide_store.specs.Table.{Analysis, TableData, WorksOn, told}
-use Rattle.ide_store.specs.TwoDisks.{BeginsTwo, GiveTheSame, IsListOf, commands_of, unnumbered}
+use Rattle.ide_store.specs.TwoDisks.{BeginsTwo, IsListOf, commands_of}
 use Rattle.ide_store.specs.TwoDisksLaws.{ArePartsOf, slots_of}
-use Rattle.ide_store.specs.World.{AreExact, Begins, IsFolded, contents}
+use Rattle.ide_store.specs.World.{Begins, IsFolded, contents}
 use Rattle.ide_store.proofs.Acts.{reached_more}
-use Rattle.ide_store.proofs.Places.{exact_at, laws_at}
+use Rattle.ide_store.proofs.Places.{exact_at}
 use Rattle.ide_store.proofs.Stepping.{works_after}
-use Rattle.ide_store.proofs.TwoDisks.{lead_on}
-use Rattle.ide_store.proofs.World.{one_image}
+use Rattle.ide_store.proofs.TwoDisksPlans.{parts_give}
 use Rattle.ide_slot_store.specs.Checkpoint.{CheckpointsStayOnRuns, PlansImage}
 use Rattle.ide_slot_store.specs.Engine.{AreAtWork, MayHappen, SlotEvent, SlotWorld, after_events, happening}
 use Rattle.ide_slot_store.specs.Half.{PlansAll}
@@ -59,20 +58,7 @@ module _ {F L : Type 0} (a : Analysis F L) where
       pending = λ key. ap (λ (e : Option F × _). e.1) (entry_stands key);
     }
 
-  -- ---- commands and parts give back the image of all the records
-  parts_give : IsPrefixFree a.proper a.form → (records parts : List Entry) → ArePartsOf (slots_of a) records parts
-      → GiveTheSame (slots_of a) (map unnumbered (commands_of records) ++ parts) records
-  parts_give free records parts are image =
-      let rules = slots_of a in
-      let exact : AreExact rules = exact_at a free (OnTwoDisks 0) in
-      let laws = laws_at a (OnTwoDisks 0) in
-      let first = map unnumbered (commands_of records) in
-      let both = lead_on rules first parts rules.empty are.before are.now are.commands are.lead in (
-        λ folded. subst (λ (i : ProgramImage F). IsFolded rules records i) (one_image rules exact laws (first ++ parts) rules.empty are.now image both folded) are.whole,
-        λ folded. subst (λ (i : ProgramImage F). IsFolded rules (first ++ parts) i) (one_image rules exact laws records rules.empty are.now image are.whole folded) both,
-      )
-
-  -- so they are a slot of all of them
+  -- ---- commands and parts give back the image of all the records: they are a slot of them
   slot_lists : IsPrefixFree a.proper a.form → (records parts : List Entry) (slot : Slot) → ArePartsOf (slots_of a) records parts
       → slot.base ≡ length records → slot.commands ≡ commands_of records → slot.parts ≡ parts → slot.rest ≡ []
       → IsListOf (slots_of a) records slot
@@ -81,7 +67,7 @@ module _ {F L : Type 0} (a : Analysis F L) where
       record {
         within = omega (arith, base);
         commands = commands ∙ ap commands_of (sym whole);
-        image = rw (commands, is, whole) (parts_give free records parts are);
+        image = rw (commands, is, whole) (parts_give (slots_of a) 0 (exact_at a free (OnTwoDisks 0)) records parts are);
         rest = bare ∙ sym (drop_all slot.base records (omega (arith, base)));
       }
 

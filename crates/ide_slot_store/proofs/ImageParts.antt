@@ -292,7 +292,7 @@ module _ {F L : Type 0} (a : Analysis F L) where
       parts_lead are.items parts before now are.in_parts below.program below.roots (core_made table.core are.items before now are.are has below)
 
   -- and may stand in a checkpoint
-  parts_proper : (items : List (Item F)) (parts : List Entry) → AreInParts (forms_of a) items parts → All IsPartEntry parts
+  pub parts_proper : (items : List (Item F)) (parts : List Entry) → AreInParts (forms_of a) items parts → All IsPartEntry parts
   parts_proper items [] none = All-nil IsPartEntry
   parts_proper items (part ∷ parts) (is, more) = All-cons IsPartEntry part parts is.proper (parts_proper (drop 65536 items) parts more)
 

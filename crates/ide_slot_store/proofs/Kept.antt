@@ -1,14 +1,15 @@
 -- The commands that a writer keeps are those among the stored records.
-use Rattle.std.proofs.Common.{◌≡◌, ◌∙◌, ◌+◌, ◌<◌, ℕ, suc, All, Bool, true, false, List, [], ◌∷◌, ◌++◌, Some, length, Result, Ok, Err, take, refl, ap, sym, subst, arith}
+use Rattle.std.proofs.Common.{◌≡◌, ◌∙◌, ◌+◌, ◌<◌, ℕ, All, Bool, true, false, List, [], ◌∷◌, ◌++◌, Some, length, Result, Ok, Err, map, take, refl, ap, sym, subst, arith}
 use Rattle.std.specs.Global.{Vec}
-use Rattle.std.specs.Prelude.{IfErr, IfOk, slice_get}
+use Rattle.std.specs.Prelude.{IfErr, IfOk, OnErr, OnOk, slice_get}
 use Rattle.std.specs.List.{filter}
 use Rattle.std.proofs.lemmas.List.Elements.{All-drop, filter-append}
 use Rattle.std.proofs.lemmas.Bool.{le-leb}
-use Rattle.std.proofs.lemmas.List.{append-nil, append_assoc, length-append, length-take-le}
+use Rattle.std.proofs.lemmas.List.{append-nil, append_assoc, length-append, length-map, length-take-le}
 use Rattle.ide_disk.specs.Disk.{DiskState}
 use Rattle.ide_disk.specs.declared.disk.Disk.{Ghosts}
 use Rattle.ide_journal.specs.Format.{Entry, head_of}
+use Rattle.ide_journal.specs.Lists.{entry_of}
 use Rattle.ide_journal.specs.declared.record.RawRecord.{RawRecord}
 use Rattle.ide_journal.specs.declared.version.Version.TheVariants.{Two}
 use Rattle.ide_slot_journal.specs.Checkpoints.{FillsOrTurns, IsCheckpointRefusal, checkpoint_after_failure, checkpoint_device}
@@ -19,7 +20,7 @@ use Rattle.ide_slot_journal.specs.declared.journal.SlotJournal.{SlotJournal}
 use Rattle.ide_slots.specs.declared.record.NumberedRecord.{NumberedRecord}
 use Rattle.ide_wire.specs.declared.refused.Refused.{Refused}
 use Rattle.ide_wire.specs.declared.refused.Refused.TheVariants.{NoMemory}
-use Rattle.ide_store.specs.Handing.{HandsTo, gave, kept}
+use Rattle.ide_store.specs.Handing.{HandsAll, HandsTo, gave, kept}
 use Rattle.ide_store.specs.Table.{TableData}
 use Rattle.ide_slots.specs.Reading.{Tells}
 use Rattle.ide_slots.specs.Refusals.{slot_memory}
@@ -30,23 +31,11 @@ use Rattle.ide_slots.specs.declared.side.Side.{Side}
 use Rattle.ide_slots.specs.declared.side.Side.TheVariants.{First, Second}
 use Rattle.ide_slots.proofs.Heads.{length-slot_header}
 use Rattle.ide_store.proofs.OneDisk.{next_taken}
-use Rattle.ide_store.specs.TwoDisks.{commands_of, is_command}
-use Rattle.ide_slot_store.specs.Commands.{HasRoomForNext, commands_from}
+use Rattle.ide_store.proofs.TwoDisksPlans.{commands_both}
+use Rattle.ide_store.specs.TwoDisks.{commands_from, commands_of, is_command}
+use Rattle.ide_slot_store.specs.Commands.{HasRoomForNext}
 
--- ---- commands among records one after the other
-numbered_both : (number : ℕ) (xs ys : List Entry) → numbered_from number (xs ++ ys) ≡ numbered_from number xs ++ numbered_from (number + length xs) ys
-numbered_both number [] ys = ap (λ (n : ℕ). numbered_from n ys) (omega arith)
-numbered_both number (x ∷ xs) ys =
-    let one_more : number + 1 + length xs ≡ number + suc (length xs) = omega arith in
-    ap (λ (rs : List NumberedEntry). (number, x) ∷ rs)
-    (numbered_both (number + 1) xs ys ∙ ap (λ (n : ℕ). numbered_from (number + 1) xs ++ numbered_from n ys) one_more)
-
-pub commands_both : (number : ℕ) (xs ys : List Entry) → commands_from number (xs ++ ys) ≡ commands_from number xs ++ commands_from (number + length xs) ys
-commands_both number xs ys =
-    ap (λ (rs : List NumberedEntry). filter is_command rs) (numbered_both number xs ys)
-    ∙ filter-append is_command (numbered_from number xs) (numbered_from (number + length xs) ys)
-
--- one record more
+-- ---- commands among records one after the other: one record more
 pub commands_more : (records : List Entry) (stored : ℕ) (entry : Entry) → slice_get records stored ≡ Some entry
     → commands_of (take (stored + 1) records) ≡ commands_of (take stored records) ++ commands_from stored (entry ∷ [])
 commands_more records stored entry is =
@@ -105,6 +94,20 @@ room_over old new journal before after commands (gave none took same) has busy w
 room_over old new journal before after commands (kept some items same) has busy well =
     let room = has busy well in
     record { waits = subst (λ (xs : List RawRecord). 0 < length xs) (sym items) room.waits; numbered = room.numbered; room = room.room }
+
+-- and where those that wait with the half that works are behind those that waited, or wait on there
+pub room_over_all : {F D : Type 0} {G : Ghosts D} (result : Result Unit Refused) (old new : TableData F) (journal : SlotJournal D G)
+    (before after : List RawRecord) (commands : Vec NumberedRecord) → OnOk result (HandsAll old new before after)
+    → OnErr result (after ≡ before) → HasRoomForNext journal (length before) commands → HasRoomForNext journal (length after) commands
+room_over_all (Ok done) old new journal before after commands hands same has busy well =
+    let room = has busy well in
+    let waits = room.waits in
+    let all = sym (length-map after entry_of) ∙ ap length hands.waits ∙ length-append (map entry_of before) old.waiting in
+    let own = length-map before entry_of in
+    record { waits = omega (arith, waits, all, own); numbered = room.numbered; room = room.room }
+room_over_all (Err refused) old new journal before after commands hands same has busy well =
+    let room = has busy well in
+    record { waits = subst (λ (xs : List RawRecord). 0 < length xs) (sym same) room.waits; numbered = room.numbered; room = room.room }
 
 module _ {D : Type 0} {G : Ghosts D} (old new : SlotJournal D G) where
   -- as long as no call fails, the same record is under way

@@ -14,12 +14,12 @@ use Rattle.ide_slot_journal.specs.Stands.{records_stored}
 use Rattle.ide_slots.specs.Slot.{AreCommands, IsPartEntry, NumberedEntry, Slot}
 use Rattle.ide_slots.specs.declared.record.NumberedRecord.{NumberedRecord}
 use Rattle.ide_wire.specs.declared.refused.Refused.{Refused}
-use Rattle.ide_store.specs.TwoDisks.{commands_of}
-use Rattle.ide_slot_store.specs.Commands.{IsPlanOverRefusal, PlansOver, commands_from, over_failure, over_limit, over_memory, over_unfit}
+use Rattle.ide_store.specs.TwoDisks.{commands_from, commands_of}
+use Rattle.ide_slot_store.specs.Commands.{IsPlanOverRefusal, PlansOver, over_failure, over_limit, over_memory, over_unfit}
 use Rattle.ide_slot_store.specs.Half.{HasNoCommand, IsPlanAllRefusal, PlansAllOver, Writes, all_failed, all_memory, all_unfit}
 use Rattle.ide_slot_store.specs.declared.writer.SlotWriterHalf.{SlotWriterHalf}
 use Rattle.ide_slot_store.proofs.Half.{plan_writes}
-use Rattle.ide_slot_store.proofs.Kept.{commands_both}
+use Rattle.ide_store.proofs.TwoDisksPlans.{commands_both}
 
 pub some_in : (n : ℕ) → false ≡ nat_eq n 0 → 0 < n
 some_in zero is = cc (is)

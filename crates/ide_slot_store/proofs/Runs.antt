@@ -14,8 +14,9 @@ use Rattle.ide_store.specs.Draining.{WorksBy}
 use Rattle.ide_store.specs.Hands.{Happens}
 use Rattle.ide_store.specs.Places.{OnTwoDisks, Place}
 use Rattle.ide_store.specs.Runs.{IsLeftByRun, IsOfTable}
-use Rattle.ide_store.specs.Table.{Analysis, IsAct, IsReached, StoreAct, TableData, after_act}
-use Rattle.ide_store.specs.World.{Closed, Crashes, Fails, Opens, Stops}
+use Rattle.ide_store.specs.Table.{Analysis, IsAct, IsReached, MayDoAll, StoreAct, TableData, after_act, after_acts}
+use Rattle.ide_store.specs.World.{Begins, Closed, Crashes, Fails, Opens, Stops}
+use Rattle.ide_slot_store.specs.Asking.{AsksOver, ComesTo, DidSeal, begins, is_refused, no_program, none_is_new, sealing, was_under_way}
 use Rattle.ide_slot_store.specs.Engine.{AreAtWork, AreOpened, MayCrash, SlotEvent, SlotWorld, StepsDisks, StepsDisksOver, after_events, all_stored, at_once, did_call, did_fail, happening, no_memory, within_call, within_opening, MayHappen}
 use Rattle.ide_slot_store.specs.Half.{Writes}
 use Rattle.ide_slot_store.specs.Runs.{AreOnRun, AreOnRunUnlessFailed, SlotEnginesStayOnRuns}
@@ -94,6 +95,30 @@ module _ {F L : Type 0} (a : Analysis F L) {D : Type 0} {G : Ghosts D} where
       made _ (all_stored all at_work) working = record { tag = on.tag; world = on.world; reached = on.reached; at_work = at_work }
       made _ (no_memory at_work) working = record { tag = on.tag; world = on.world; reached = on.reached; at_work = at_work }
 
+  -- ---- a call that asks for a checkpoint
+  asked_stays : (old new : TableData F) (writer after : SlotWriterHalf D G) (result : Result Bool Refused)
+      → ((tag : ℕ) → AsksOver a tag old new writer after result) → AreOnRun a old writer → AreOnRun a new after
+  asked_stays old new writer after result asks on = made result (asks on.tag on.world on.reached on.at_work)
+    where
+      on_acts : (acts : List (StoreAct a (OnTwoDisks on.tag))) → MayDoAll a (OnTwoDisks on.tag) on.world acts
+          → AreAtWork a on.tag (after_acts a (OnTwoDisks on.tag) on.world acts) new after → AreOnRun a new after
+      on_acts acts can at = record {
+        tag = on.tag;
+        world = after_acts a (OnTwoDisks on.tag) on.world acts;
+        reached = reached_more a (OnTwoDisks on.tag) on.world acts on.reached can;
+        at_work = at;
+      }
+
+      sealed : DidSeal a on.tag on.world new after → AreOnRun a new after
+      sealed did = on_acts (sealing a on.tag did.batch) did.can did.at_work
+
+      made : (result : Result Bool Refused) → ComesTo a on.tag on.world new after writer result → AreOnRun a new after
+      made _ (begins did) = on_acts (sealing a on.tag did.batch ++ Happens (Begins did.work) ∷ []) did.can did.at_work
+      made _ (was_under_way under did) = sealed did
+      made _ (none_is_new none did) = sealed did
+      made _ (no_program none did) = sealed did
+      made _ (is_refused did) = sealed did
+
   -- ---- an opening
   opening_stays : (tag : ℕ) (before : Sides DiskState) (table : TableData F) (writer : SlotWriterHalf D G)
       → IsLeftByRun a (OnTwoDisks tag) before → AreOpened a tag before table writer → AreOnRun a table writer
@@ -124,6 +149,7 @@ slot_engines_stay_on_runs a = record {
       works_stay a old new writer 0 0 (works_still a old new (λ place w handed reached works. (finds.caught_up place w handed reached works).1));
   same = λ old new writer same. works_stay a old new writer 0 0 (works_unchanged a old new same.rest same.core);
   step = step_stays a;
+  asked = asked_stays a;
   frozen = λ table writer closed image on. record {
     place = OnTwoDisks on.tag;
     world = on.world;

@@ -4,7 +4,7 @@ use Rattle.std.specs.Result.{result_err}
 use Rattle.std.proofs.lemmas.Option.{same_Some}
 use Rattle.std.specs.List.{All}
 use Rattle.std.proofs.lemmas.List.Elements.{All-cons, All-nil}
-use Rattle.std.proofs.lemmas.List.{append-nil, drop_all, length-append, length-map, take-append-le}
+use Rattle.std.proofs.lemmas.List.{append-nil, drop-append-le, drop_all, length-append, length-map, take-append-le}
 use Rattle.ide_disk.specs.Disk.{DiskState}
 use Rattle.ide_disk.specs.declared.disk.Disk.{Ghosts}
 use Rattle.ide_journal.specs.Format.{Entry, IsEntry}
@@ -17,15 +17,13 @@ use Rattle.ide_slots.specs.Slot.{Slot}
 use Rattle.ide_slots.specs.Two.{SlotWriter}
 use Rattle.ide_wire.specs.declared.refused.Refused.{Refused}
 use Rattle.ide_wire.specs.declared.refused.Refused.TheVariants.{Disk, NoMemory}
-use Rattle.ide_store.specs.Handing.{HandsTo, gave, kept}
+use Rattle.ide_store.specs.Handing.{HandsAll, HandsTo, gave, kept}
 use Rattle.ide_store.specs.Places.{OnTwoDisks}
 use Rattle.ide_store.specs.Table.{Analysis, TableData, WorksOn}
 use Rattle.ide_store.specs.TwoDisks.{AtCheckpoint, AtRecord, BeginsCalls, CallsTwo, FailsTwo, ForRecord, InCheckpoint, IsNextBehind, LastInCheckpoint, StoresTwo, commands_of}
 use Rattle.ide_store.specs.World as world
 use Rattle.ide_store.specs.World.{contents}
-use Rattle.ide_store.proofs.Half.{none_waits}
-use Rattle.ide_store.proofs.OneDisk.{next_taken}
-use Rattle.ide_store.proofs.Stepping.{more_get, none_mapped, rest_waits, works_after}
+use Rattle.ide_store.proofs.Stepping.{more_get, none_mapped, works_after}
 use Rattle.ide_slot_store.specs.Engine.{AreAtWork, DidCalls, DidFail as FailedThen, IsGoodCall, SlotWorld, StepsDisks, StepsDisksOver, all_stored, did_call, did_fail, no_memory}
 use Rattle.ide_slot_store.specs.Half.{HasCalled, HasRested, HasStored, HasWaited, StepsOver, StepsTo, Writes, calls, fails, makes, rests, stores, waits}
 use Rattle.ide_slot_store.specs.Writing.{BeginsFirst, DidFail, IsFirstLeft, StandsBehind}
@@ -78,11 +76,46 @@ module _ {F L : Type 0} (a : Analysis F L) {D : Type 0} {G : Ghosts D} (tag : �
     abbrev same_disks : w.world.disks ≡ disks_of mid.journal
     same_disks = at.disks ∙ ap disks_of (sym journal)
 
-    -- no next record is under way, where all are stored
-    none_under_way : (next : Option Entry) → IsFirstLeft at.handed w.world.stored next → w.world.stored ≡ length at.handed
-        → IsFirstLeft (at.handed ++ table.waiting) w.world.stored next
-    none_under_way None is all = tt
-    none_under_way (Some entry) is all = let less = (next_taken at.handed w.world.stored entry is).0 in absurd (omega (arith, less, all))
+    -- the next record that is under way is still the first that is left
+    first_left : (next : Option Entry) → IsFirstLeft at.handed w.world.stored next → IsFirstLeft (at.handed ++ table.waiting) w.world.stored next
+    first_left None is = tt
+    first_left (Some entry) is = more_get at.handed table.waiting entry w.world.stored is
+
+    pub all_handed_at_work : HandsAll table mid_table old.waiting.items mid.waiting.items → AreAtWork a tag w mid_table mid
+    all_handed_at_work hands =
+        let handed : List Entry = at.handed ++ table.waiting in
+        let before = at.writes.behind in
+        let rest : drop w.world.stored handed ≡ drop w.world.stored at.handed ++ table.waiting =
+        drop-append-le w.world.stored at.handed table.waiting before.some in
+        let waiting : map entry_of mid.waiting.items ≡ drop w.world.stored handed =
+        hands.waits ∙ ap (λ (es : List Entry). es ++ table.waiting) at.writes.waiting ∙ sym rest in
+        let count : length handed ≡ table.sealed =
+        sym (ap length at.works.waits) ∙ length-map w.world.sealed (λ s. s.content) ∙ at.works.sealed in
+        let longer = length-append at.handed table.waiting in
+        record {
+          handed = handed;
+          works = subst (λ (t : TableData F). WorksOn a (OnTwoDisks tag) w t handed) (sym hands.rest)
+              (works_after a (OnTwoDisks tag) w table w.world.stored w.world.work w.world.disks handed [] at.works
+              (at.works.waits ∙ sym (append-nil handed)));
+          slot = at.slot;
+          other = at.other;
+          writes = record {
+            behind = record {
+              next = before.next;
+              stands = subst (λ (j : SlotJournal D G). StandsOn at.slot before.next at.other j) (sym journal) before.stands;
+              is_next = first_left before.next before.is_next;
+              count = before.count;
+              some = (let some = before.some in omega (arith, some, longer));
+              few = omega (arith, count, few);
+              proper = subst (λ (rs : List Entry). All IsEntry rs) waiting proper;
+            };
+            waiting = waiting;
+            commands = ap all_numbered commands ∙ at.writes.commands ∙ ap commands_of (sym (take-append-le w.world.stored at.handed table.waiting before.some));
+          };
+          tag_is = at.tag_is;
+          work = same_work;
+          disks = same_disks;
+        }
 
     pub handed_at_work : HandsTo table mid_table old.waiting.items mid.waiting.items → AreAtWork a tag w mid_table mid
     handed_at_work (kept some items same) = record {
@@ -100,38 +133,7 @@ module _ {F L : Type 0} (a : Analysis F L) {D : Type 0} {G : Ghosts D} (tag : �
       disks = same_disks;
     }
     handed_at_work (gave none took same) =
-        let handed : List Entry = at.handed ++ table.waiting in
-        let before = at.writes.behind in
-        let all : w.world.stored ≡ length at.handed =
-        none_waits w.world.stored at.handed before.some (sym (ap (map entry_of) none) ∙ at.writes.waiting) in
-        let rest : drop w.world.stored handed ≡ table.waiting = rest_waits at.handed table.waiting w.world.stored all in
-        let count : length handed ≡ table.sealed =
-        sym (ap length at.works.waits) ∙ length-map w.world.sealed (λ s. s.content) ∙ at.works.sealed in
-        let longer = length-append at.handed table.waiting in
-        record {
-          handed = handed;
-          works = subst (λ (t : TableData F). WorksOn a (OnTwoDisks tag) w t handed) (sym same)
-              (works_after a (OnTwoDisks tag) w table w.world.stored w.world.work w.world.disks handed [] at.works
-              (at.works.waits ∙ sym (append-nil handed)));
-          slot = at.slot;
-          other = at.other;
-          writes = record {
-            behind = record {
-              next = before.next;
-              stands = subst (λ (j : SlotJournal D G). StandsOn at.slot before.next at.other j) (sym journal) before.stands;
-              is_next = none_under_way before.next before.is_next all;
-              count = before.count;
-              some = omega (arith, all, longer);
-              few = omega (arith, count, few);
-              proper = subst (λ (rs : List Entry). All IsEntry rs) (took ∙ sym rest) proper;
-            };
-            waiting = took ∙ sym rest;
-            commands = ap all_numbered commands ∙ at.writes.commands ∙ ap commands_of (sym (take-append-le w.world.stored at.handed table.waiting before.some));
-          };
-          tag_is = at.tag_is;
-          work = same_work;
-          disks = same_disks;
-        }
+        all_handed_at_work (record { waits = took ∙ ap (λ (rs : List _). entries_of rs ++ table.waiting) (sym none); rest = same })
 
   -- ---- what the writer did is what happens to the store
   module _ (w : SlotWorld a tag) (table : TableData F) (old new : SlotWriterHalf D G) (at : AreAtWork a tag w table old) where

@@ -1,5 +1,5 @@
 -- The commands that a writer keeps, the room that it has for one more, and a checkpoint of them and of those that wait.
-use Rattle.std.specs.Prelude.{◌≡◌, ◌<◌, ◌+◌, ◌++◌, ℕ, List, [], filter, length, vec_capacity, vec_len}
+use Rattle.std.specs.Prelude.{◌≡◌, ◌<◌, ◌+◌, ◌++◌, ℕ, List, [], length, vec_capacity, vec_len}
 use Rattle.std.specs.Global.{Vec}
 use Rattle.ide_disk.specs.declared.disk.Disk.{Ghosts}
 use Rattle.ide_journal.specs.Format.{Entry}
@@ -9,15 +9,11 @@ use Rattle.ide_slot_journal.specs.Plans.{Plans}
 use Rattle.ide_slot_journal.specs.Stands.{HasFaulted, HasNoNext, records_stored}
 use Rattle.ide_slot_journal.specs.declared.journal.SlotJournal.{SlotJournal}
 use Rattle.ide_slots.specs.Records.{all_numbered}
-use Rattle.ide_slots.specs.Slot.{AreCommands, NumberedEntry, Slot, numbered_from}
+use Rattle.ide_slots.specs.Slot.{AreCommands, NumberedEntry, Slot}
 use Rattle.ide_slots.specs.declared.record.NumberedRecord.{NumberedRecord}
 use Rattle.ide_wire.specs.declared.refused.Refused.{Refused}
 use Rattle.ide_wire.specs.declared.refused.Refused.TheVariants.{Failed, Limit, NoMemory}
-use Rattle.ide_store.specs.TwoDisks.{is_command}
-
--- the commands among records that are numbered from the one on
-abbrev pub commands_from : ℕ → List Entry → List NumberedEntry
-commands_from number records = filter is_command (numbered_from number records)
+use Rattle.ide_store.specs.TwoDisks.{commands_from}
 
 -- the next record is one of so many that wait, it has a number, and there is room for it among the commands
 pub record HasRoom {D : Type 0} {G : Ghosts D} (journal : SlotJournal D G) (waiting : ℕ) (commands : Vec NumberedRecord)

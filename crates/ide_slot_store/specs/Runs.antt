@@ -13,6 +13,7 @@ use Rattle.ide_store.specs.Places.{OnTwoDisks, Place}
 use Rattle.ide_store.specs.Runs.{IsImageOfRun, IsLeftByRun, IsOfTable}
 use Rattle.ide_store.specs.Table.{Analysis, IsAct, IsReached, IsSameTable, StoreAct, TableData}
 use Rattle.ide_store.specs.TableCalls.{FindsNothing}
+use Rattle.ide_slot_store.specs.Asking.{AsksOver}
 use Rattle.ide_slot_store.specs.Engine.{AreAtWork, AreNewHalves, AreOpened, MayCrash, SlotWorld, StepsDisksOver}
 use Rattle.ide_slot_store.specs.declared.writer.SlotWriterHalf.{SlotWriterHalf}
 
@@ -48,6 +49,9 @@ pub record SlotEnginesStayOnRuns (P : Type 0) {F L : Type 0} (a : Analysis F L) 
   -- a call of a disk
   pub step : (old new : TableData F) (writer after : SlotWriterHalf D G) (result : Result Bool Refused)
       → ((tag : ℕ) → StepsDisksOver a tag old new writer after result) → AreOnRun a old writer → AreOnRunUnlessFailed a new after
+  -- a call that asks for a checkpoint
+  pub asked : (old new : TableData F) (writer after : SlotWriterHalf D G) (result : Result Bool Refused)
+      → ((tag : ℕ) → AsksOver a tag old new writer after result) → AreOnRun a old writer → AreOnRun a new after
   -- what is frozen is of the run: so it answers with best values, as that of any run does
   pub frozen : (table : TableData F) (writer : SlotWriterHalf D G) (closed : Closed P L F) → IsImageOver a table closed
       → AreOnRun a table writer → IsImageOfRun a closed

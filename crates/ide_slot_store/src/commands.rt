@@ -3,8 +3,7 @@ ghost use Rattle.std.specs.Prelude.{◌≡◌, ◌↔◌, ◌<◌, ◌≤◌, �
 ghost use Rattle.ide_slots.specs.Slot.{AreCommands, IsCommandEntry};
 ghost use Rattle.ide_journal.specs.Lists.{entries_of, entry_of};
 ghost use Rattle.ide_slots.specs.Records.{all_numbered, numbered};
-ghost use Rattle.ide_slot_store.specs.Commands.{commands_from};
-ghost use Rattle.ide_store.specs.TwoDisks.{is_command};
+ghost use Rattle.ide_store.specs.TwoDisks.{commands_from, is_command};
 
 use ide_journal::RawRecord;
 use ide_slots::NumberedRecord;

@@ -9,6 +9,7 @@
 #![tactic(auto)]
 
 mod batches;
+mod checkpointing;
 mod commands;
 mod engine;
 mod laws;

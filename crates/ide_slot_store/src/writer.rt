@@ -1,6 +1,6 @@
 //! The half of a store on two disks that writes: it takes sealed records to the current disk, and a
 //! checkpoint to the other, one disk call at a time.
-ghost use Rattle.std.specs.Prelude.{◌≡◌, ◌⊎◌, ◌+◌, ◌<◌, ◌≤◌, ◌∷◌, ◌++◌, [], true, false, length, Err, Ok, IfErr, IfOk, OnErr, OnOk};
+ghost use Rattle.std.specs.Prelude.{◌≡◌, ◌⊎◌, ◌↔◌, ◌+◌, ◌<◌, ◌≤◌, ◌∷◌, ◌++◌, [], true, false, length, Err, Ok, IfErr, IfOk, IsTrue, OnErr, OnOk};
 ghost use Rattle.std.specs.List.{All};
 ghost use Rattle.ide_journal.specs.Format.{IsEntry};
 ghost use Rattle.ide_journal.specs.Lists.{entries_of, entry_of};
@@ -45,7 +45,8 @@ impl<D: Disk> SlotWriterHalf<D> {
     ghost use Rattle.ide_slot_journal.specs.Plans.{IsPlanRefusal, Plans, planned_slot};
     ghost use Rattle.ide_slot_journal.specs.Records.{LeavesInRecord};
     ghost use Rattle.ide_slot_journal.specs.Stands.{AreHonest, HasFaulted, HasNoNext, IsCheckpointing, IsFilling, IsTurn, pair_of, records_stored, sides_of};
-    ghost use Rattle.ide_store.specs.Handing.{HandsTo};
+    ghost use Rattle.ide_store.specs.Handing.{HandsAll, HandsTo};
+    ghost use Rattle.ide_store.specs.Table.{IsSameTable};
     ghost use Rattle.ide_slot_store.specs.Half.{CallsOver, CrashesStep, FailsNone, FailsOne, HasNoCommand, HasStoredAll, IsBeginRefusal, IsNewHalf, IsPlanAllRefusal, IsQuiet, IsSameHalf, KeepsWriting, OpensStore, PlansAllOver, PlansWriting, Seals, StepsOver, half_sides_after};
 
     /// Makes a store with no record on the disks A and B, whatever they held.
@@ -137,6 +138,13 @@ impl<D: Disk> SlotWriterHalf<D> {
         self.journal.base()
     }
 
+    /// Whether a checkpoint is planned, or makes its calls.
+    pub fn is_checkpointing(&self) -> bool
+        ensures { IsTrue result ↔ IsCheckpointing self.now.journal }
+    {
+        self.journal.is_checkpointing()
+    }
+
     /// How many records are stored, those below the checkpoint too.
     pub fn stored(&self) -> u64
         ensures { result ≡ records_stored self.now.journal }
@@ -200,6 +208,7 @@ impl<D: Disk> SlotWriterHalf<D> {
         ensures none { result ≡ Ok false → HasNoCommand self.old }
         ensures disks { sides_of self.new.journal ≡ sides_of self.old.journal }
         ensures unplanned { (result ≡ Ok true → ⊥) → KeepsWriting self.old self.new }
+        ensures quiet { (result ≡ Ok true → ⊥) → IsQuiet self.old.journal self.new.journal }
         ensures refused { IfErr result (IsPlanAllRefusal self.old) }
     {
         let kept = self.commands.len();
@@ -315,6 +324,22 @@ impl<D: Disk> SlotWriterHalf<D> {
         ensures few { table.old.sealed ≤ 4294967295 }
     {
         table.hand_over(&mut self.waiting);
+    }
+
+    /// Takes over all sealed records that wait with the half that works, behind those that wait here.
+    ///
+    /// Refusal: `NoMemory`, and none is taken over.
+    pub fn take_all_from<P: Problem>(&mut self, table: &mut TableHalf<P>) -> Result<(), Refused>
+        ensures hands { OnOk result (HandsAll table.old table.new self.old.waiting.items self.new.waiting.items) }
+        ensures journal { self.new.journal ≡ self.old.journal }
+        ensures commands { self.new.commands.items ≡ self.old.commands.items }
+        ensures proper { All IsEntry (entries_of self.new.waiting.items) }
+        ensures few { table.old.sealed ≤ 4294967295 }
+        ensures unchanged { OnErr result (IsSameTable table.old table.new) }
+        ensures queue { OnErr result (self.new.waiting.items ≡ self.old.waiting.items) }
+        ensures refused { IfErr result (λ e. e ≡ Refused.NoMemory) }
+    {
+        table.hand_over_all(&mut self.waiting)
     }
 
     /// The disks A and B, as the writer leaves them.

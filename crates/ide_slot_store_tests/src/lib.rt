@@ -4,6 +4,10 @@
 #![tactic(auto)]
 
 #[cfg(test)]
+mod checkpoints;
+#[cfg(test)]
 mod engine;
 #[cfg(test)]
 mod parts;
+#[cfg(test)]
+mod stops;

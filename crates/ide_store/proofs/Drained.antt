@@ -76,13 +76,16 @@ module _ {F L : Type 0} (a : Analysis F L) where
       ([], record { own = All-nil (IsByHand a place 0); claimed = refl; released = refl }, tt, still place w handed reached works)
 
   -- as it does where all stays
-  pub works_unchanged : (old new : TableData F) → KeepsRest old new → IsUnchanged old.core new.core → WorksBy a old new 0 0
-  works_unchanged old new rest same =
-      works_still old new (λ place w handed reached on.
+  pub works_same : (old new : TableData F) → KeepsRest old new → IsUnchanged old.core new.core
+      → (place : Place) (w : StoreWorld a place) (handed : List Entry) → IsReached a place w → WorksOn a place w old handed → WorksOn a place w new handed
+  works_same old new rest same place w handed reached on =
       works_on a place w old new w.world.image w.claims w.world.history w.tally on rest
       (record { program = same.program; graph = same.graph; roots = same.roots }) refl refl
       (state_is a place w old on ∙ sym (state-unchanged a.lattice a.functions a.targets old.core new.core same))
-      (then_stays old.core new.core same.table same.pending same.changes))
+      (then_stays old.core new.core same.table same.pending same.changes)
+
+  pub works_unchanged : (old new : TableData F) → KeepsRest old new → IsUnchanged old.core new.core → WorksBy a old new 0 0
+  works_unchanged old new rest same = works_still old new (works_same old new rest same)
 
   -- what stops it where a batch is full, stops it where all stays
   pub stop_stays : (old new : TableData F) (refused : Refused) → new.core.table ≡ old.core.table → new.core.changes ≡ old.core.changes → new.sealed ≡ old.sealed

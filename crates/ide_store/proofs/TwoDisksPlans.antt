@@ -16,7 +16,7 @@ use Rattle.ide_slots.specs.TwoCalls.{PlansCheckpoint}
 use Rattle.ide_slots.proofs.Records.{length-numbered}
 use Rattle.ide_store.proofs.TwoDisks.{lead_on, slot_gives, two_disks_keep, up_to}
 use Rattle.ide_store.proofs.World.{one_image}
-use Rattle.ide_store.specs.TwoDisks.{GiveTheSame, IsListOf, IsLiveTwo, commands_of, unnumbered, is_command}
+use Rattle.ide_store.specs.TwoDisks.{GiveTheSame, IsListOf, IsLiveTwo, commands_from, commands_of, unnumbered, is_command}
 use Rattle.ide_store.specs.TwoDisksLaws.{ArePartsOf, CheckpointsCanBePlanned, SlotsGiveBack}
 use Rattle.ide_store.specs.World.{AreExact, IsFolded, Rules}
 
@@ -38,11 +38,7 @@ numbered_both number (x ∷ xs) ys =
     ap (λ (rs : List NumberedEntry). (number, x) ∷ rs)
     (numbered_both (number + 1) xs ys ∙ ap (λ (n : ℕ). numbered_from (number + 1) xs ++ numbered_from n ys) one_more)
 
--- the commands among records from that number on
-abbrev commands_from : ℕ → List Entry → List NumberedEntry
-commands_from number records = filter is_command (numbered_from number records)
-
-commands_both : (number : ℕ) (xs ys : List Entry) → commands_from number (xs ++ ys) ≡ commands_from number xs ++ commands_from (number + length xs) ys
+pub commands_both : (number : ℕ) (xs ys : List Entry) → commands_from number (xs ++ ys) ≡ commands_from number xs ++ commands_from (number + length xs) ys
 commands_both number xs ys =
     ap (λ (rs : List NumberedEntry). filter is_command rs) (numbered_both number xs ys)
     ∙ filter-append is_command (numbered_from number xs) (numbered_from (number + length xs) ys)
@@ -136,7 +132,7 @@ module _ {Image Step : Type 0} (rules : Rules Image Step Entry) (tag : ℕ) wher
       subst (λ (rs : List Entry). AreCommands 0 (length rs) (commands_of rs)) (take-append-drop stored records) (more_commands early (drop stored records) both live.proper)
 
   -- the commands and such parts give back the image of all the records
-  parts_give : AreExact rules → (records parts : List Entry) → ArePartsOf rules records parts
+  pub parts_give : AreExact rules → (records parts : List Entry) → ArePartsOf rules records parts
       → GiveTheSame rules (map unnumbered (commands_of records) ++ parts) records
   parts_give exact records parts are image =
       let both = lead_on rules (map unnumbered (commands_of records)) parts rules.empty are.before are.now are.commands are.lead in (

@@ -13,9 +13,13 @@ use Rattle.ide_store.specs.World.{IsFolded, Rules}
 abbrev pub is_command : NumberedEntry → Bool
 is_command r = nat_le 1 r.1.0 && nat_le r.1.0 2
 
+-- the commands among records that are numbered from the one on
+abbrev pub commands_from : ℕ → List Entry → List NumberedEntry
+commands_from number records = filter is_command (numbered_from number records)
+
 -- the commands among the records, under their numbers
 abbrev pub commands_of : List Entry → List NumberedEntry
-commands_of records = filter is_command (numbered_from 0 records)
+commands_of records = commands_from 0 records
 
 -- a record without its number
 abbrev pub unnumbered : NumberedEntry → Entry

@@ -31,7 +31,7 @@ pub fn every_run_recovers<P: Problem>()
 /// new store has no record, and what one disk holds is held beside a closed slot; wherever records are
 /// still to be stored, or a checkpoint is begun, some call can be made; all that stands in a slot gives
 /// back the image of the records, and its commands are theirs; and where there are parts of that image,
-/// a checkpoint over all records can be planned. No engine keeps a store so yet.
+/// a checkpoint over all records can be planned.
 pub fn two_disks_are_a_store<P: Problem>()
     ensures keep { TwoDisksKeep (slots_of ⟦<P as Kept>⟧.analysis) }
     ensures begin { TwoDisksBegin (slots_of ⟦<P as Kept>⟧.analysis) }
@@ -63,8 +63,7 @@ pub fn every_run_answers<P: Problem>()
 
 /// As [`every_run_answers`], of a store on two disks, whose slots are of the second version, with the
 /// beginnings and the calls of checkpoints among what happens: over each checkpoint, each crash and each
-/// opening the values that follow stay the best ones, and the bounds of the work are the same. No engine
-/// keeps a store so yet.
+/// opening the values that follow stay the best ones, and the bounds of the work are the same.
 pub fn every_run_answers_on_two_disks<P: Problem>()
     ensures { TwoDisksAnswers ⟦<P as Kept>⟧.analysis }
 {

@@ -1,17 +1,11 @@
 //! What texts that are no programs are refused for, and the limits of those that are.
-use crate::texts::{is_answered, numbered, repeated};
+use crate::texts::{expect_answered, numbered, repeated};
 use ide_wire::Fault;
-use std::alloc::{AllocError, Global};
 use std::process::Abort;
-use std::test::Fail;
 
 /// That the text is refused for that fault of that line.
 fn expect_fault(rt: &(impl Abort + AllocGlobal), text: &str, line: u32, fault: Fault) {
-    let expected = Some((line, fault));
-    assert!(rt;
-        is_answered(rt.alloc(), text.as_bytes(), expected),
-        "at {text}"
-    );
+    expect_answered(rt, text.as_bytes(), Some((line, fault)), text);
 }
 
 #[test]
@@ -122,52 +116,48 @@ fn finds_wrong_calls(rt: HostRuntime) {
     );
 }
 
-/// Three procedures, `p` and `q` of one parameter and `s` of none, and a line of `main`, which has
-/// the variable `x`: the line is the eighth.
-fn with_call(alloc: Global, line: &str) -> Result<Vec<u8>, AllocError> {
+/// That the text with that line of `main` is answered so. It has three procedures, `p` and `q` of one
+/// parameter and `s` of none, and `main` has the variable `x`: the line is the eighth.
+fn expect_line(rt: &(impl Abort + AllocGlobal), line: &str, expected: Option<(u32, Fault)>) {
     let head = "proc p a\nend\nproc q a\nend\nproc s\nend\nproc main x\n";
-    repeated(alloc, head, line, 1, "\nend\n")
+    let text = repeated(rt, head, line, 1, "\nend\n");
+    expect_answered(rt, text.as_slice(), expected, line);
 }
 
-/// That the text with that line of `main` is answered so.
-fn expect_call(
-    rt: &(impl Abort + AllocGlobal),
-    line: &str,
-    fault: Option<Fault>,
-) -> Result<(), Fail> {
-    let text = with_call(rt.alloc(), line)?;
-    let expected = fault.map(|fault| (8, fault));
-    assert!(rt;
-        is_answered(rt.alloc(), text.as_slice(), expected),
-        "at {line}"
-    );
-    Ok(())
+/// That the line is a call.
+fn expect_call(rt: &(impl Abort + AllocGlobal), line: &str) {
+    expect_line(rt, line, None);
+}
+
+/// That the line is refused for that fault.
+fn expect_wrong(rt: &(impl Abort + AllocGlobal), line: &str, fault: Fault) {
+    expect_line(rt, line, Some((8, fault)));
 }
 
 #[test]
-fn finds_wrong_callees(rt: HostRuntime) -> Result<(), Fail> {
-    expect_call(&rt, "call p | q x", None)?;
-    expect_call(&rt, "x = call q | p x", None)?;
-    expect_call(&rt, "call p | p x", Some(Fault::WrongCallees))?;
-    expect_call(&rt, "x = call p | q | p x", Some(Fault::WrongCallees))?;
-    expect_call(&rt, "call p | t x", Some(Fault::NoSuchProcedure))?;
-    expect_call(&rt, "call t | p x", Some(Fault::NoSuchProcedure))?;
-    expect_call(&rt, "call p | q", Some(Fault::WrongArguments))?;
-    expect_call(&rt, "call p | s x", Some(Fault::WrongArguments))?;
-    expect_call(&rt, "call s | p x", Some(Fault::WrongArguments))
+fn finds_wrong_callees(rt: HostRuntime) {
+    expect_call(&rt, "call p | q x");
+    expect_call(&rt, "x = call q | p x");
+    expect_wrong(&rt, "call p | p x", Fault::WrongCallees);
+    expect_wrong(&rt, "x = call p | q | p x", Fault::WrongCallees);
+    expect_wrong(&rt, "call p | t x", Fault::NoSuchProcedure);
+    expect_wrong(&rt, "call t | p x", Fault::NoSuchProcedure);
+    expect_wrong(&rt, "call p | q", Fault::WrongArguments);
+    expect_wrong(&rt, "call p | s x", Fault::WrongArguments);
+    expect_wrong(&rt, "call s | p x", Fault::WrongArguments);
 }
 
 #[test]
-fn finds_the_least_fault_of_a_call(rt: HostRuntime) -> Result<(), Fail> {
+fn finds_the_least_fault_of_a_call(rt: HostRuntime) {
     // Each line has the faults from the one that is found on, and none before it.
-    expect_call(&rt, "call p | t | s | p y", Some(Fault::NoSuchVariable))?;
-    expect_call(&rt, "y = call p | t | s | p x", Some(Fault::NoSuchVariable))?;
-    expect_call(&rt, "call p | t | s | p x", Some(Fault::NoSuchProcedure))?;
-    expect_call(&rt, "call p | t | p x", Some(Fault::NoSuchProcedure))?;
-    expect_call(&rt, "call t | t x", Some(Fault::NoSuchProcedure))?;
-    expect_call(&rt, "call p | s | p x", Some(Fault::WrongArguments))?;
-    expect_call(&rt, "call s | s x", Some(Fault::WrongArguments))?;
-    expect_call(&rt, "call p | q | p x", Some(Fault::WrongCallees))
+    expect_wrong(&rt, "call p | t | s | p y", Fault::NoSuchVariable);
+    expect_wrong(&rt, "y = call p | t | s | p x", Fault::NoSuchVariable);
+    expect_wrong(&rt, "call p | t | s | p x", Fault::NoSuchProcedure);
+    expect_wrong(&rt, "call p | t | p x", Fault::NoSuchProcedure);
+    expect_wrong(&rt, "call t | t x", Fault::NoSuchProcedure);
+    expect_wrong(&rt, "call p | s | p x", Fault::WrongArguments);
+    expect_wrong(&rt, "call s | s x", Fault::WrongArguments);
+    expect_wrong(&rt, "call p | q | p x", Fault::WrongCallees);
 }
 
 #[test]
@@ -190,13 +180,13 @@ fn finds_the_least_line_of_wrong_callees(rt: HostRuntime) {
 }
 
 #[test]
-fn takes_eight_callees_and_no_more(rt: HostRuntime) -> Result<(), Fail> {
+fn takes_eight_callees_and_no_more(rt: HostRuntime) {
     let head =
         "proc a\nend\nproc b\nend\nproc c\nend\nproc d\nend\nproc e\nend\nproc f\nend\nproc g\nend\nproc h\nend\nproc i\nend\nproc main\n";
     let eight = "call a | b | c | d | e | f | g | h";
     let wrong = Some((20, Fault::WrongCallees));
-    expect_repeated(&rt, head, eight, 1, "\nend\n", None)?;
-    expect_repeated(&rt, head, eight, 1, " | i\nend\n", wrong)?;
+    expect_repeated(&rt, head, eight, 1, "\nend\n", None);
+    expect_repeated(&rt, head, eight, 1, " | i\nend\n", wrong);
     expect_repeated(
         &rt,
         head,
@@ -204,7 +194,7 @@ fn takes_eight_callees_and_no_more(rt: HostRuntime) -> Result<(), Fail> {
         1,
         " | i | i | i | i | i | i | i | i\nend\n",
         wrong,
-    )?;
+    );
     // A line of many callees is one of the grammar: its fault is among those of names.
     expect_repeated(
         &rt,
@@ -213,7 +203,7 @@ fn takes_eight_callees_and_no_more(rt: HostRuntime) -> Result<(), Fail> {
         5_000,
         "\nend\n",
         Some((2, Fault::WrongCallees)),
-    )
+    );
 }
 
 #[test]
@@ -255,13 +245,9 @@ fn expect_repeated(
     count: usize,
     tail: &str,
     expected: Option<(u32, Fault)>,
-) -> Result<(), Fail> {
-    let text = repeated(rt.alloc(), head, part, count, tail)?;
-    assert!(rt;
-        is_answered(rt.alloc(), text.as_slice(), expected),
-        "{count} of {part}"
-    );
-    Ok(())
+) {
+    let text = repeated(rt, head, part, count, tail);
+    expect_answered(rt, text.as_slice(), expected, part);
 }
 
 /// That the text of numbered lines is answered so.
@@ -272,22 +258,17 @@ fn expect_numbered(
     count: u32,
     tail: &str,
     expected: Option<(u32, Fault)>,
-) -> Result<(), Fail> {
-    let text = numbered(rt.alloc(), head, parts, count, tail)?;
-    assert!(rt;
-        is_answered(rt.alloc(), text.as_slice(), expected),
-        "{count} of {}",
-        parts.0
-    );
-    Ok(())
+) {
+    let text = numbered(rt, head, parts, count, tail);
+    expect_answered(rt, text.as_slice(), expected, parts.0);
 }
 
 #[test]
-fn takes_texts_at_the_limits(rt: HostRuntime) -> Result<(), Fail> {
-    expect_repeated(&rt, "proc main\n", "skip\n", 65_534, "end\n", None)?;
-    expect_numbered(&rt, "proc main\n", ("var x", "\n"), 4_094, "end\n", None)?;
-    expect_numbered(&rt, "", ("global x", "\n"), 4_094, "proc main\nend\n", None)?;
-    expect_numbered(&rt, "", ("proc p", "\nend\n"), 1_000, "", None)?;
+fn takes_texts_at_the_limits(rt: HostRuntime) {
+    expect_repeated(&rt, "proc main\n", "skip\n", 65_534, "end\n", None);
+    expect_numbered(&rt, "proc main\n", ("var x", "\n"), 4_094, "end\n", None);
+    expect_numbered(&rt, "", ("global x", "\n"), 4_094, "proc main\nend\n", None);
+    expect_numbered(&rt, "", ("proc p", "\nend\n"), 1_000, "", None);
     expect_repeated(
         &rt,
         "proc p a b c d e f g h i j k l m n o",
@@ -295,27 +276,27 @@ fn takes_texts_at_the_limits(rt: HostRuntime) -> Result<(), Fail> {
         1,
         "\nend\n",
         None,
-    )
+    );
 }
 
 #[test]
-fn refuses_too_many_of_a_kind(rt: HostRuntime) -> Result<(), Fail> {
+fn refuses_too_many_of_a_kind(rt: HostRuntime) {
     let statements = Some((65_536, Fault::TooMany));
-    expect_repeated(&rt, "proc main\n", "skip\n", 65_535, "end\n", statements)?;
+    expect_repeated(&rt, "proc main\n", "skip\n", 65_535, "end\n", statements);
     let calls = Some((32_769, Fault::TooMany));
-    expect_repeated(&rt, "proc p\n", "call p\n", 32_768, "end\n", calls)?;
+    expect_repeated(&rt, "proc p\n", "call p\n", 32_768, "end\n", calls);
     // A call has two nodes however many callees it has.
-    expect_repeated(&rt, "proc p\n", "call p | p\n", 32_768, "end\n", calls)?;
+    expect_repeated(&rt, "proc p\n", "call p | p\n", 32_768, "end\n", calls);
     let locals = Some((4_096, Fault::TooMany));
-    expect_numbered(&rt, "proc main\n", ("var x", "\n"), 4_095, "end\n", locals)?;
+    expect_numbered(&rt, "proc main\n", ("var x", "\n"), 4_095, "end\n", locals);
     let globals = Some((4_095, Fault::TooMany));
-    expect_numbered(&rt, "", ("global x", "\n"), 4_095, "", globals)?;
+    expect_numbered(&rt, "", ("global x", "\n"), 4_095, "", globals);
     let procedures = Some((2_001, Fault::TooMany));
-    expect_numbered(&rt, "", ("proc p", "\nend\n"), 1_001, "", procedures)
+    expect_numbered(&rt, "", ("proc p", "\nend\n"), 1_001, "", procedures);
 }
 
 #[test]
-fn refuses_a_text_too_long(rt: HostRuntime) -> Result<(), Fail> {
-    expect_repeated(&rt, "", "a", 1_048_577, "", Some((0, Fault::TextTooLong)))?;
-    expect_repeated(&rt, "", "a", 1_048_576, "", Some((1, Fault::NoSuchLine)))
+fn refuses_a_text_too_long(rt: HostRuntime) {
+    expect_repeated(&rt, "", "a", 1_048_577, "", Some((0, Fault::TextTooLong)));
+    expect_repeated(&rt, "", "a", 1_048_576, "", Some((1, Fault::NoSuchLine)));
 }

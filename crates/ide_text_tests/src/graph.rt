@@ -1,5 +1,5 @@
 //! Counts, sites and names of the graphs of small programs.
-use crate::graphs::on_graph_of;
+use crate::graphs::graph_of;
 use crate::sites::{
     Call, expect_call, expect_calls, expect_exit, expect_fork, expect_shared_step, expect_step,
 };
@@ -10,7 +10,6 @@ use ide_worked::{
     SUM_OR_NUMBER, TWO_CALLS, UNINITIALISED, UNREACHABLE, WRAPPING_SUM,
 };
 use std::process::Abort;
-use std::test::Fail;
 
 /// That the graph has these counts of procedures, nodes, facts and entry facts.
 fn expect_counts(rt: &impl Abort, graph: &Graph, counts: (usize, usize, usize, usize)) {
@@ -25,23 +24,24 @@ fn expect_counts_of(
     rt: &(impl Abort + AllocGlobal),
     text: &str,
     counts: (usize, usize, usize, usize),
-) -> Result<(), Fail> {
-    on_graph_of(rt.alloc(), text, |graph| expect_counts(rt, graph, counts))
+) {
+    let graph = graph_of(rt, text);
+    expect_counts(rt, &graph, counts);
 }
 
 #[test]
-fn examples_have_their_counts(rt: HostRuntime) -> Result<(), Fail> {
-    expect_counts_of(&rt, EMPTY, (1, 2, 2, 1))?;
-    expect_counts_of(&rt, NUMBER, (1, 3, 3, 1))?;
-    expect_counts_of(&rt, COPIES, (1, 4, 4, 1))?;
-    expect_counts_of(&rt, BRANCH, (1, 8, 3, 1))?;
-    expect_counts_of(&rt, UNREACHABLE, (1, 6, 3, 1))?;
-    expect_counts_of(&rt, UNINITIALISED, (1, 4, 4, 1))?;
-    expect_counts_of(&rt, WRAPPING_SUM, (1, 4, 4, 1))?;
-    expect_counts_of(&rt, RECURSION, (2, 12, 3, 2))?;
-    expect_counts_of(&rt, ADDS_IN_CALLEE, (2, 12, 4, 1))?;
-    expect_counts_of(&rt, CALLEES, (3, 15, 5, 1))?;
-    expect_counts_of(&rt, SUM_OR_NUMBER, (2, 17, 6, 1))
+fn examples_have_their_counts(rt: HostRuntime) {
+    expect_counts_of(&rt, EMPTY, (1, 2, 2, 1));
+    expect_counts_of(&rt, NUMBER, (1, 3, 3, 1));
+    expect_counts_of(&rt, COPIES, (1, 4, 4, 1));
+    expect_counts_of(&rt, BRANCH, (1, 8, 3, 1));
+    expect_counts_of(&rt, UNREACHABLE, (1, 6, 3, 1));
+    expect_counts_of(&rt, UNINITIALISED, (1, 4, 4, 1));
+    expect_counts_of(&rt, WRAPPING_SUM, (1, 4, 4, 1));
+    expect_counts_of(&rt, RECURSION, (2, 12, 3, 2));
+    expect_counts_of(&rt, ADDS_IN_CALLEE, (2, 12, 4, 1));
+    expect_counts_of(&rt, CALLEES, (3, 15, 5, 1));
+    expect_counts_of(&rt, SUM_OR_NUMBER, (2, 17, 6, 1));
 }
 
 /// That these are the sites of `BRANCH`.
@@ -62,8 +62,9 @@ fn expect_both_ways(rt: &impl Abort, graph: &Graph) {
 }
 
 #[test]
-fn branches_have_both_ways(rt: HostRuntime) -> Result<(), Fail> {
-    on_graph_of(rt.alloc(), BRANCH, |graph| expect_both_ways(&rt, graph))
+fn branches_have_both_ways(rt: HostRuntime) {
+    let graph = graph_of(&rt, BRANCH);
+    expect_both_ways(&rt, &graph);
 }
 
 /// The effect of an assignment of a number.
@@ -83,12 +84,9 @@ fn expect_unreachable_node(rt: &impl Abort, graph: &Graph) {
 }
 
 #[test]
-fn a_node_may_be_unreachable(rt: HostRuntime) -> Result<(), Fail> {
-    on_graph_of(
-        rt.alloc(),
-        UNREACHABLE,
-        |graph| expect_unreachable_node(&rt, graph),
-    )
+fn a_node_may_be_unreachable(rt: HostRuntime) {
+    let graph = graph_of(&rt, UNREACHABLE);
+    expect_unreachable_node(&rt, &graph);
 }
 
 /// That these are the sites of `RECURSION`.
@@ -128,12 +126,9 @@ fn expect_counted_global(rt: &impl Abort, graph: &Graph) {
 }
 
 #[test]
-fn a_global_is_counted_in_recursion(rt: HostRuntime) -> Result<(), Fail> {
-    on_graph_of(
-        rt.alloc(),
-        RECURSION,
-        |graph| expect_counted_global(&rt, graph),
-    )
+fn a_global_is_counted_in_recursion(rt: HostRuntime) {
+    let graph = graph_of(&rt, RECURSION);
+    expect_counted_global(&rt, &graph);
 }
 
 /// That these are the sites of `TWO_CALLS`.
@@ -171,8 +166,9 @@ fn expect_both_calls(rt: &impl Abort, graph: &Graph) {
 }
 
 #[test]
-fn calls_go_to_starts_and_come_back(rt: HostRuntime) -> Result<(), Fail> {
-    on_graph_of(rt.alloc(), TWO_CALLS, |graph| expect_both_calls(&rt, graph))
+fn calls_go_to_starts_and_come_back(rt: HostRuntime) {
+    let graph = graph_of(&rt, TWO_CALLS);
+    expect_both_calls(&rt, &graph);
 }
 
 /// That the call of both procedures and that of one of them are the callers at the exits and the calls
@@ -212,8 +208,9 @@ fn expect_call_of_both(rt: &impl Abort, graph: &Graph) {
 }
 
 #[test]
-fn a_call_goes_to_each_callee(rt: HostRuntime) -> Result<(), Fail> {
-    on_graph_of(rt.alloc(), CALLEES, |graph| expect_call_of_both(&rt, graph))
+fn a_call_goes_to_each_callee(rt: HostRuntime) {
+    let graph = graph_of(&rt, CALLEES);
+    expect_call_of_both(&rt, &graph);
 }
 
 /// The program of `CALLEES` with its callees in the other order.
@@ -221,8 +218,9 @@ const OTHER_ORDER: &str =
     "proc f p\nvar r\nr = 5\nreturn r\nend\nproc h p\nvar r\nr = 6\nreturn r\nend\nproc main\nvar a\nvar x\nvar y\na = 1\nx = call h | f a\ny = call f a\nend\n";
 
 #[test]
-fn calls_ascend_by_start_whatever_the_order(rt: HostRuntime) -> Result<(), Fail> {
-    on_graph_of(rt.alloc(), OTHER_ORDER, |graph| expect_callees(&rt, graph))
+fn calls_ascend_by_start_whatever_the_order(rt: HostRuntime) {
+    let graph = graph_of(&rt, OTHER_ORDER);
+    expect_callees(&rt, &graph);
 }
 
 /// That these are the sites of `STATEMENTS` whose statements assign.
@@ -274,12 +272,9 @@ fn expect_statements(rt: &impl Abort, graph: &Graph) {
 }
 
 #[test]
-fn statements_have_their_effects_and_targets(rt: HostRuntime) -> Result<(), Fail> {
-    on_graph_of(
-        rt.alloc(),
-        STATEMENTS,
-        |graph| expect_statements(&rt, graph),
-    )
+fn statements_have_their_effects_and_targets(rt: HostRuntime) {
+    let graph = graph_of(&rt, STATEMENTS);
+    expect_statements(&rt, &graph);
 }
 
 /// That these are the sites of `PASSES_GLOBAL`.
@@ -317,12 +312,9 @@ fn expect_recursion(rt: &impl Abort, graph: &Graph) {
 }
 
 #[test]
-fn a_procedure_may_call_itself(rt: HostRuntime) -> Result<(), Fail> {
-    on_graph_of(
-        rt.alloc(),
-        PASSES_GLOBAL,
-        |graph| expect_recursion(&rt, graph),
-    )
+fn a_procedure_may_call_itself(rt: HostRuntime) {
+    let graph = graph_of(&rt, PASSES_GLOBAL);
+    expect_recursion(&rt, &graph);
 }
 
 /// That the graph answers so for these names.
@@ -347,8 +339,9 @@ fn expect_names(rt: &impl Abort, graph: &Graph) {
 }
 
 #[test]
-fn names_are_found(rt: HostRuntime) -> Result<(), Fail> {
-    on_graph_of(rt.alloc(), TWO_CALLS, |graph| expect_names(&rt, graph))
+fn names_are_found(rt: HostRuntime) {
+    let graph = graph_of(&rt, TWO_CALLS);
+    expect_names(&rt, &graph);
 }
 
 /// That these names of `TWO_CALLS` are refused.
@@ -361,8 +354,9 @@ fn expect_no_names(rt: &impl Abort, graph: &Graph) {
 }
 
 #[test]
-fn names_are_refused(rt: HostRuntime) -> Result<(), Fail> {
-    on_graph_of(rt.alloc(), TWO_CALLS, |graph| expect_no_names(&rt, graph))
+fn names_are_refused(rt: HostRuntime) {
+    let graph = graph_of(&rt, TWO_CALLS);
+    expect_no_names(&rt, &graph);
 }
 
 /// That the fact has that name at the node; the empty name stands for none.
@@ -383,12 +377,9 @@ fn expect_fact_names(rt: &impl Abort, graph: &Graph) {
 }
 
 #[test]
-fn facts_have_their_procedure_s_names(rt: HostRuntime) -> Result<(), Fail> {
-    on_graph_of(
-        rt.alloc(),
-        PASSES_GLOBAL,
-        |graph| expect_fact_names(&rt, graph),
-    )
+fn facts_have_their_procedure_s_names(rt: HostRuntime) {
+    let graph = graph_of(&rt, PASSES_GLOBAL);
+    expect_fact_names(&rt, &graph);
 }
 
 /// That the procedure has this start, exit and count of parameters, and owns both nodes.
@@ -430,10 +421,7 @@ fn expect_procedures(rt: &impl Abort, graph: &Graph) {
 }
 
 #[test]
-fn procedures_have_their_nodes(rt: HostRuntime) -> Result<(), Fail> {
-    on_graph_of(
-        rt.alloc(),
-        PASSES_GLOBAL,
-        |graph| expect_procedures(&rt, graph),
-    )
+fn procedures_have_their_nodes(rt: HostRuntime) {
+    let graph = graph_of(&rt, PASSES_GLOBAL);
+    expect_procedures(&rt, &graph);
 }

@@ -1,22 +1,16 @@
 //! Graphs of texts.
+use crate::texts::given;
 use ide_graph::Graph;
-use ide_text::parse;
-use ide_wire::Refused;
-use std::alloc::Global;
-use std::test::Fail;
+use ide_text::{Program, parse};
+use std::process::Abort;
 
-/// The graph of the program that a text spells.
-fn graph_of(alloc: Global, text: &str) -> Result<Graph, Refused> {
-    let program = parse(alloc, text.as_bytes())?;
-    let graph = Graph::of(alloc, &program)?;
-    Ok(graph)
+/// The program that a text spells.
+pub(crate) fn program_of(rt: &(impl Abort + AllocGlobal), text: &[u8]) -> Program {
+    given(rt, parse(rt.alloc(), text))
 }
 
-/// Looks at the graph of the program that a text spells.
-pub(crate) fn on_graph_of<F: FnOnce(&Graph)>(alloc: Global, text: &str, look: F) -> Result<(), Fail>
-    requires { F.IsAlwaysCallable look }
-{
-    let graph = graph_of(alloc, text)?;
-    look(&graph);
-    Ok(())
+/// The graph of the program that a text spells.
+pub(crate) fn graph_of(rt: &(impl Abort + AllocGlobal), text: &str) -> Graph {
+    let program = program_of(rt, text.as_bytes());
+    given(rt, Graph::of(rt.alloc(), &program))
 }

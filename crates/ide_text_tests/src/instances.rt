@@ -1,10 +1,10 @@
 //! What meets, compositions and values come to, and the coded and printed forms.
+use crate::texts::made;
 use ide_instances::{ConstFn, ConstValue, CopyConst, ShiftConst, Uninit, UninitFn, UninitValue};
 use ide_lattice::{EdgeFn, Lattice, value_of_meet};
 use ide_problem::Problem;
 use ide_wire::{Key, Wire};
-use std::alloc::{AllocError, Global};
-use std::test::Fail;
+use std::process::Abort;
 
 /// Whether two functions meet to a third, from either side.
 fn meet_to(one: ConstFn, other: ConstFn, met: ConstFn) -> bool {
@@ -19,22 +19,18 @@ fn is_read<F: Wire + Eq + Copy>(function: F, form: &[u8]) -> bool {
     }
 }
 
-/// Whether the function is coded by those bytes, and read from them.
-fn has_form<F: Wire + Eq + Copy>(
-    alloc: Global,
-    function: F,
-    form: &[u8],
-) -> Result<bool, AllocError> {
-    let mut out = Vec::new(alloc);
-    function.put(&mut out)?;
-    Ok(out.as_slice() == form && is_read(function, form))
+/// That the function is coded by those bytes, and read from them.
+fn expect_form<F: Wire + Eq + Copy>(rt: &(impl Abort + AllocGlobal), function: F, form: &[u8]) {
+    let mut out = Vec::new(rt.alloc());
+    made(rt, function.put(&mut out));
+    assert!(rt; out.as_slice() == form && is_read(function, form));
 }
 
-/// Whether the value is printed so.
-fn is_shown<L: Lattice>(alloc: Global, value: L, text: &str) -> Result<bool, AllocError> {
-    let mut out = Vec::new(alloc);
-    value.show(&mut out)?;
-    Ok(out.as_slice() == text.as_bytes())
+/// That the value is printed so.
+fn expect_shown<L: Lattice>(rt: &(impl Abort + AllocGlobal), value: L, text: &str) {
+    let mut out = Vec::new(rt.alloc());
+    made(rt, value.show(&mut out));
+    assert!(rt; out.as_slice() == text.as_bytes(), "{text}");
 }
 
 #[test]
@@ -75,20 +71,18 @@ fn compositions_of_functions(rt: HostRuntime) {
 }
 
 #[test]
-fn forms_of_functions(rt: HostRuntime) -> Result<(), Fail> {
-    let alloc = rt.alloc();
+fn forms_of_functions(rt: HostRuntime) {
     let form = [3, 1, 0, 0, 0, 0, 0, 0, 0, 7, 0, 0, 0, 0, 0, 0, 0];
-    assert!(rt; has_form(alloc, ConstFn::ShiftMeet(1, 7), &form)?);
-    assert!(rt; has_form(alloc, ConstFn::Shift(258), &[1, 2, 1, 0, 0, 0, 0, 0, 0])?);
-    assert!(rt; has_form(alloc, ConstFn::Const(5), &[2, 5, 0, 0, 0, 0, 0, 0, 0])?);
-    assert!(rt; has_form(alloc, ConstFn::AllTop, &[0])?);
-    assert!(rt; has_form(alloc, ConstFn::Bottom, &[4])?);
+    expect_form(&rt, ConstFn::ShiftMeet(1, 7), &form);
+    expect_form(&rt, ConstFn::Shift(258), &[1, 2, 1, 0, 0, 0, 0, 0, 0]);
+    expect_form(&rt, ConstFn::Const(5), &[2, 5, 0, 0, 0, 0, 0, 0, 0]);
+    expect_form(&rt, ConstFn::AllTop, &[0]);
+    expect_form(&rt, ConstFn::Bottom, &[4]);
     assert!(rt; ConstFn::take(&form[..16]) == None);
     assert!(rt; ConstFn::take(&[5]) == None);
-    assert!(rt; has_form(alloc, UninitFn::AllTop, &[0])?);
-    assert!(rt; has_form(alloc, UninitFn::Id, &[1])?);
+    expect_form(&rt, UninitFn::AllTop, &[0]);
+    expect_form(&rt, UninitFn::Id, &[1]);
     assert!(rt; UninitFn::take(&[2]) == None);
-    Ok(())
 }
 
 #[test]
@@ -108,20 +102,16 @@ fn the_two_values(rt: HostRuntime) {
 }
 
 #[test]
-fn printed_values(rt: HostRuntime) -> Result<(), Fail> {
-    let alloc = rt.alloc();
-    assert!(rt; is_shown(alloc, ConstValue::Top, "top")?);
-    assert!(rt;
-        is_shown(
-            alloc,
-            ConstValue::Const(u64::MAX),
-            "const 18446744073709551615"
-        )?
+fn printed_values(rt: HostRuntime) {
+    expect_shown(&rt, ConstValue::Top, "top");
+    expect_shown(
+        &rt,
+        ConstValue::Const(u64::MAX),
+        "const 18446744073709551615",
     );
-    assert!(rt; is_shown(alloc, ConstValue::Bottom, "bottom")?);
-    assert!(rt; is_shown(alloc, UninitValue::Top, "top")?);
-    assert!(rt; is_shown(alloc, UninitValue::Bottom, "bottom")?);
-    Ok(())
+    expect_shown(&rt, ConstValue::Bottom, "bottom");
+    expect_shown(&rt, UninitValue::Top, "top");
+    expect_shown(&rt, UninitValue::Bottom, "bottom");
 }
 
 #[test]

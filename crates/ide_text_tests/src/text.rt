@@ -1,23 +1,15 @@
 //! How programs are printed, and that each text is spelled in one way.
-use crate::texts::{is_answered, repeated};
+use crate::graphs::program_of;
+use crate::texts::{expect_answered, given, made, repeated};
 use ide_text::{Program, parse, print};
-use ide_wire::{Fault, Refused};
-use std::alloc::{AllocError, Global};
+use ide_wire::Fault;
 use std::process::Abort;
-use std::test::Fail;
-
-/// A copy of the program that the text spells.
-fn copy_of(alloc: Global, text: &[u8]) -> Result<Program, Refused> {
-    let program = parse(alloc, text)?;
-    let copy = program.copy(alloc)?;
-    Ok(copy)
-}
 
 /// The text of the program, behind what was there before.
-fn printed(alloc: Global, program: &Program) -> Result<Vec<u8>, Refused> {
-    let mut out = Vec::from_slice(alloc, b"before ")?;
-    print(program, &mut out)?;
-    Ok(out)
+fn printed(rt: &(impl Abort + AllocGlobal), program: &Program) -> Vec<u8> {
+    let mut out = made(rt, Vec::from_slice(rt.alloc(), b"before "));
+    given(rt, print(program, &mut out));
+    out
 }
 
 /// Whether that is the text, behind what was there before.
@@ -25,121 +17,103 @@ fn is_printed(printed: &[u8], text: &[u8]) -> bool {
     printed.len() >= 7 && &printed[..7] == b"before ".as_slice() && &printed[7..] == text
 }
 
-/// Whether the program is printed as that text.
-fn is_spelled(alloc: Global, program: &Program, text: &[u8]) -> Result<bool, Refused> {
-    let printed = printed(alloc, program)?;
-    Ok(is_printed(printed.as_slice(), text))
+/// That the program is printed as that text.
+fn expect_spelled(rt: &(impl Abort + AllocGlobal), program: &Program, text: &[u8]) {
+    let printed = printed(rt, program);
+    assert!(rt; is_printed(printed.as_slice(), text), "not as it stands");
 }
 
 /// That a copy of the program that the text spells is printed as the text stands.
-fn expect_printed(rt: &(impl Abort + AllocGlobal), text: &str) -> Result<(), Fail> {
-    let program = copy_of(rt.alloc(), text.as_bytes())?;
-    let spelled = is_spelled(rt.alloc(), &program, text.as_bytes())?;
-    assert!(rt; spelled, "at {text}");
-    Ok(())
+fn expect_printed(rt: &(impl Abort + AllocGlobal), text: &str) {
+    let program = program_of(rt, text.as_bytes());
+    let copy = given(rt, program.copy(rt.alloc()));
+    expect_spelled(rt, &copy, text.as_bytes());
 }
 
 #[test]
-fn prints_what_it_parsed(rt: HostRuntime) -> Result<(), Fail> {
-    expect_printed(&rt, "proc main\nvar x\nx = 5\nend\n")?;
-    expect_printed(&rt, "proc main\nend\n")?;
-    expect_printed(&rt, "proc main\nvar x\nvar y\nx = 5\ny = x\nend\n")?;
+fn prints_what_it_parsed(rt: HostRuntime) {
+    expect_printed(&rt, "proc main\nvar x\nx = 5\nend\n");
+    expect_printed(&rt, "proc main\nend\n");
+    expect_printed(&rt, "proc main\nvar x\nvar y\nx = 5\ny = x\nend\n");
     expect_printed(
         &rt,
         "proc main\nvar x\nbranch other\nx = 5\ngoto done\nat other\nx = 5\nat done\nend\n",
-    )?;
+    );
     expect_printed(
         &rt,
         "proc id p\nreturn p\nend\nproc main\nvar a\nvar b\nvar x\nvar y\na = 5\nb = 6\nx = call id a\ny = call id b\nend\n",
-    )?;
+    );
     expect_printed(
         &rt,
         "proc f y\nvar x\nbranch other\nx = y + 1\ngoto done\nat other\nx = 7\nat done\nreturn x\nend\nproc main\nvar a\nvar b\nvar u\nvar v\na = 6\nb = 5\nu = call f a\nv = call f b\nend\n",
-    )?;
+    );
     expect_printed(
         &rt,
         "proc main\nvar x\nvar y\nx = 18446744073709551615\ny = x + 1\nend\n",
-    )?;
+    );
     expect_printed(
         &rt,
         "global g\nproc rec\nbranch done\ng = g + 1\ncall rec\nat done\nend\nproc main\ng = 0\ncall rec\nend\n",
-    )?;
+    );
     expect_printed(
         &rt,
         "proc main\nvar x\nx = 1\ngoto done\nx = 2\nat done\nend\n",
-    )?;
-    expect_printed(&rt, "proc main\nvar x\nvar y\ny = x\nx = 1\nend\n")?;
+    );
+    expect_printed(&rt, "proc main\nvar x\nvar y\ny = x\nx = 1\nend\n");
     expect_printed(
         &rt,
         "global g\nglobal h_1\nproc p a b\nskip\na = ?\nb = mix a g\na = b - 0\nreturn\nend\n",
-    )?;
+    );
     expect_printed(
         &rt,
         "proc f p\nend\nproc h p\nend\nproc k p\nend\nproc main x\ncall f | h x\nx = call k | f | h x\ncall h | f x\nend\n",
-    )?;
+    );
     expect_printed(
         &rt,
         "proc a\nend\nproc b\nend\nproc c\nend\nproc d\nend\nproc e\nend\nproc f\nend\nproc g\nend\nproc main\ncall a | b | c | d | e | f | g | main\nend\n",
-    )?;
-    expect_printed(&rt, "proc _\nvar a234567890123456789012345678901\nend\n")
+    );
+    expect_printed(&rt, "proc _\nvar a234567890123456789012345678901\nend\n");
 }
 
-/// Whether the text, if it is a program, is printed as it stands.
-fn is_told(alloc: Global, text: &[u8]) -> Result<bool, Refused> {
-    match parse(alloc, text) {
-        Ok(program) => {
-            let spelled = is_spelled(alloc, &program, text)?;
-            Ok(spelled)
-        }
-        Err(_) => Ok(true),
+/// That the text, if it is a program, is printed as it stands.
+fn expect_told(rt: &(impl Abort + AllocGlobal), text: &[u8]) {
+    match parse(rt.alloc(), text) {
+        Ok(program) => expect_spelled(rt, &program, text),
+        Err(_) => {}
     }
 }
 
-/// The text with that byte at that place.
-fn changed(alloc: Global, text: &[u8], place: usize, byte: u8) -> Result<Vec<u8>, AllocError> {
-    let mut changed = Vec::from_slice(alloc, text)?;
-    if let Some(old) = changed.get_mut(place) {
+/// Puts the byte at that place.
+fn put(text: &mut [u8], place: usize, byte: u8) {
+    if let Some(old) = text.get_mut(place) {
         *old = byte;
     }
-    Ok(changed)
 }
 
 /// That the text with that byte at that place, if it is a program, is printed as it stands.
-fn expect_told(
-    rt: &(impl Abort + AllocGlobal),
-    text: &[u8],
-    place: usize,
-    byte: u8,
-) -> Result<(), Fail> {
-    let changed = changed(rt.alloc(), text, place, byte)?;
-    let told = is_told(rt.alloc(), changed.as_slice())?;
-    assert!(rt; told, "with {byte} at {place}");
-    Ok(())
+fn expect_changed(rt: &(impl Abort + AllocGlobal), text: &[u8], place: usize, byte: u8) {
+    let mut changed = made(rt, Vec::from_slice(rt.alloc(), text));
+    put(changed.as_mut_slice(), place, byte);
+    expect_told(rt, changed.as_slice());
 }
 
 #[test]
-fn each_byte_tells(rt: HostRuntime) -> Result<(), Fail> {
+fn each_byte_tells(rt: HostRuntime) {
     let text =
         b"global g\nproc f y\nvar x\nbranch b\nx = y + 10\nat b\ng = call f x\ncall f | h g\nend\nproc h z\nend\n";
     for place in 0..text.len() {
-        expect_told(&rt, text, place, b' ')?;
-        expect_told(&rt, text, place, b'\n')?;
-        expect_told(&rt, text, place, b'0')?;
-        expect_told(&rt, text, place, b'g')?;
-        expect_told(&rt, text, place, b'|')?;
+        expect_changed(&rt, text, place, b' ');
+        expect_changed(&rt, text, place, b'\n');
+        expect_changed(&rt, text, place, b'0');
+        expect_changed(&rt, text, place, b'g');
+        expect_changed(&rt, text, place, b'|');
     }
-    Ok(())
 }
 
-/// Whether no line of the grammar has that spelling, in the one procedure of a text.
-fn is_no_line(alloc: Global, line: &str) -> Result<bool, AllocError> {
-    let text = repeated(alloc, "proc main\n", line, 1, "\nend\n")?;
-    Ok(is_answered(alloc, text.as_slice(), Some((2, Fault::NoSuchLine))))
-}
-
-/// That no line of the grammar has that spelling.
+/// That no line of the grammar has that spelling, in the one procedure of a text.
 fn expect_no_such_line(rt: &(impl Abort + AllocGlobal), line: &str) {
-    assert!(rt; is_no_line(rt.alloc(), line) == Ok(true), "at {line}");
+    let text = repeated(rt, "proc main\n", line, 1, "\nend\n");
+    expect_answered(rt, text.as_slice(), Some((2, Fault::NoSuchLine)), line);
 }
 
 #[test]

@@ -1,11 +1,28 @@
-//! Long texts, and what a text is answered.
+//! Long texts, and what a text is answered. A test ends where there is no memory.
 use ide_text::parse;
 use ide_wire::{Fault, Refused};
 use itoa::Buffer;
 use std::alloc::{AllocError, Global};
+use std::process::Abort;
+
+/// What a call gave that is not to be refused.
+pub(crate) fn given<T>(rt: &impl Abort, found: Result<T, Refused>) -> T {
+    match found {
+        Ok(value) => value,
+        Err(refused) => panic!(rt; "{refused}"),
+    }
+}
+
+/// What there was memory for.
+pub(crate) fn made<T>(rt: &impl Abort, found: Result<T, AllocError>) -> T {
+    match found {
+        Ok(value) => value,
+        Err(_) => panic!(rt; "no memory"),
+    }
+}
 
 /// Whether the text is refused for that fault of that line, or is a program where none is given.
-pub(crate) fn is_answered(alloc: Global, text: &[u8], expected: Option<(u32, Fault)>) -> bool {
+fn is_answered(alloc: Global, text: &[u8], expected: Option<(u32, Fault)>) -> bool {
     match (parse(alloc, text), expected) {
         (Ok(_), None) => true,
         (Err(refused), Some((line, fault))) => refused == Refused::Text { line, fault },
@@ -13,37 +30,70 @@ pub(crate) fn is_answered(alloc: Global, text: &[u8], expected: Option<(u32, Fau
     }
 }
 
+/// That the text is refused for that fault of that line, or is a program where none is given.
+pub(crate) fn expect_answered(
+    rt: &(impl Abort + AllocGlobal),
+    text: &[u8],
+    expected: Option<(u32, Fault)>,
+    part: &str,
+) {
+    let answered = is_answered(rt.alloc(), text, expected);
+    assert!(rt; answered, "at {part}");
+}
+
+/// Appends to the text.
+fn add(rt: &impl Abort, text: &mut Vec<u8>, part: &[u8]) {
+    made(rt, text.extend_from_slice(part));
+}
+
+/// Appends that many copies of a part.
+fn add_copies(rt: &impl Abort, text: &mut Vec<u8>, part: &str, count: usize) {
+    for _ in 0..count {
+        add(rt, text, part.as_bytes());
+    }
+}
+
 /// The text, that many copies of a part of it, and the rest.
 pub(crate) fn repeated(
-    alloc: Global,
+    rt: &(impl Abort + AllocGlobal),
     head: &str,
     part: &str,
     count: usize,
     tail: &str,
-) -> Result<Vec<u8>, AllocError> {
-    let mut text = Vec::from_slice(alloc, head.as_bytes())?;
-    for _ in 0..count {
-        text.extend_from_slice(part.as_bytes())?;
+) -> Vec<u8> {
+    let mut text = Vec::new(rt.alloc());
+    add(rt, &mut text, head.as_bytes());
+    add_copies(rt, &mut text, part, count);
+    add(rt, &mut text, tail.as_bytes());
+    text
+}
+
+/// Appends the number.
+fn add_number(rt: &impl Abort, text: &mut Vec<u8>, number: u32) {
+    add(rt, text, Buffer::new().format(number).as_bytes());
+}
+
+/// Appends a line for each number below that count, with the number between both parts.
+fn add_lines(rt: &impl Abort, text: &mut Vec<u8>, first: &str, last: &str, count: u32) {
+    for number in 0..count {
+        add(rt, text, first.as_bytes());
+        add_number(rt, text, number);
+        add(rt, text, last.as_bytes());
     }
-    text.extend_from_slice(tail.as_bytes())?;
-    Ok(text)
 }
 
 /// The text, a line for each number below that count, with the number between both parts, and the
 /// rest.
 pub(crate) fn numbered(
-    alloc: Global,
+    rt: &(impl Abort + AllocGlobal),
     head: &str,
     parts: (&str, &str),
     count: u32,
     tail: &str,
-) -> Result<Vec<u8>, AllocError> {
-    let mut text = Vec::from_slice(alloc, head.as_bytes())?;
-    for number in 0..count {
-        text.extend_from_slice(parts.0.as_bytes())?;
-        text.extend_from_slice(Buffer::new().format(number).as_bytes())?;
-        text.extend_from_slice(parts.1.as_bytes())?;
-    }
-    text.extend_from_slice(tail.as_bytes())?;
-    Ok(text)
+) -> Vec<u8> {
+    let mut text = Vec::new(rt.alloc());
+    add(rt, &mut text, head.as_bytes());
+    add_lines(rt, &mut text, parts.0, parts.1, count);
+    add(rt, &mut text, tail.as_bytes());
+    text
 }

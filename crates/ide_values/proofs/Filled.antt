@@ -18,7 +18,9 @@ use Rattle.ide_wire.specs.declared.key.Key.TheVariants.{Jump, Summary}
 use Rattle.ide_wire.specs.Key.{node_of, same_key, same_key_laws, same_key_exact}
 use Rattle.ide_graph.specs.Supergraph.{Supergraph}
 use Rattle.ide_image.specs.Tables.{Table, found, nodes_of}
-use Rattle.ide_values.specs.Fill.{Fills, FillsFrom, IsFilledAt, IsImage, Meets, lowered, value_from}
+use Rattle.ide_values.specs.Fill.{Fills, FillsFrom, IsFilledAt, IsFilledBy, IsImage, Meets, lowered, value_from}
+use Rattle.ide_values.specs.Spans.{HasBetween}
+use Rattle.ide_values.specs.declared.spans.Span.{Span}
 use Rattle.ide_values.specs.Start.{value_before}
 use Rattle.ide_values.proofs.Lowered.{meets_elsewhere}
 use Rattle.ide_values.proofs.Places.{place_within}
@@ -153,15 +155,20 @@ proper_at A laws xs all i = elim (inside xs i) [
     inside : {X : Type 0} (xs : List X) (i : ℕ) → (i < length xs) ⊎ (length xs ≤ i)
     inside xs i = grind (arith)
 
-module _ {F L : Type 0} (A : LatticeAlgebra L) (B : EdgeAlgebra F L) (graph : Supergraph) (table : Table F) (starts : List L) (first : ℕ) where
-  -- the rows from a node on after the first entries of the table
-  pub record IsFilledBy (i : ℕ) (rows : List L) : Type 0 where
-    pub filled : IsImage B graph (found table) → (k n d : ℕ) → k < length rows → n < graph.nodes → d < graph.facts
-        → n * graph.facts + d ≡ first * graph.facts + k
-        → get_or rows k A.top ≡ fold (λ v e. lowered A B (value_before A graph starts) n d v e.0 e.1) A.top (take i table.entries)
+-- there are as many nodes as entries, and each is that of the entry at its index
+pub node_count : {F : Type 0} (es : List (Key × F)) → length (nodes_of es) ≡ length es
+node_count [] = refl
+node_count (e ∷ es) = ap suc (node_count es)
 
+pub entry_of_node : {F : Type 0} (es : List (Key × F)) (i node d : ℕ) → i < length (nodes_of es) → node ≡ get_or (nodes_of es) i d
+    → (e : Key × F) × (slice_get es i ≡ Some e) × (node ≡ node_of e.0)
+entry_of_node [] i node d within is = absurd (omega (arith, within))
+entry_of_node (e ∷ es) zero node d within is = (e, refl, is)
+entry_of_node (e ∷ es) (suc i) node d within is = entry_of_node es i node d (omega (arith, within)) is
+
+module _ {F L : Type 0} (A : LatticeAlgebra L) (B : EdgeAlgebra F L) (graph : Supergraph) (table : Table F) (starts : List L) (first : ℕ) where
   pub filled_more : (i : ℕ) (old new : List L) (e : Key × F) → slice_get table.entries i ≡ Some e → found table e.0 ≡ Some e.1
-      → length new ≡ length old → Meets A B graph starts first e.0 e.1 old new → IsFilledBy i old → IsFilledBy (i + 1) new
+      → length new ≡ length old → Meets A B graph starts first e.0 e.1 old new → IsFilledBy A B graph table starts first i old → IsFilledBy A B graph table starts first (i + 1) new
   filled_more i old new e stands present same step so_far = record {
     filled = λ image k n d within h r place.
         let there : k < length old = omega (arith, within, same) in
@@ -174,14 +181,46 @@ module _ {F L : Type 0} (A : LatticeAlgebra L) (B : EdgeAlgebra F L) (graph : Su
   pub passed_more : (i more : ℕ) (rows : List L) → IsDistinct same_key (keys_of table.entries)
       → (0 < graph.facts → length rows < (more + 1) * graph.facts)
       → (e : Key × F) → slice_get table.entries i ≡ Some e → ((first ≤ node_of e.0) × (node_of e.0 ≤ first + more) → ⊥)
-      → IsFilledBy i rows → IsFilledBy (i + 1) rows
+      → IsFilledBy A B graph table starts first i rows → IsFilledBy A B graph table starts first (i + 1) rows
   passed_more i more rows distinct few e stands apart so_far =
       filled_more i rows rows e stands (lookup_from_place same_key_laws table.entries i e.0 e.1 distinct stands) refl
       (meets_elsewhere A B graph starts first more e.0 e.1 rows few apart) so_far
 
+  -- and so are entries in a row at such nodes
+  pub passed_all : (count begin more : ℕ) (rows : List L) → IsDistinct same_key (keys_of table.entries)
+      → (0 < graph.facts → length rows < (more + 1) * graph.facts) → begin + count ≤ length table.entries
+      → ((i : ℕ) → begin ≤ i → i < begin + count
+      → (first ≤ get_or (nodes_of table.entries) i 0) × (get_or (nodes_of table.entries) i 0 ≤ first + more) → ⊥)
+      → IsFilledBy A B graph table starts first begin rows → IsFilledBy A B graph table starts first (begin + count) rows
+  passed_all zero begin more rows distinct few within apart so_far =
+      let same : begin ≡ begin + 0 = omega arith in
+      subst (λ n. IsFilledBy A B graph table starts first n rows) same so_far
+  passed_all (suc count) begin more rows distinct few within apart so_far =
+      let before : IsFilledBy A B graph table starts first (begin + count) rows =
+      passed_all count begin more rows distinct few (omega arith) (λ i from to. apart i from (omega arith)) so_far in
+      let inside : begin + count < length (nodes_of table.entries) = omega (arith, within, node_count table.entries) in
+      let (e, stands, node) = entry_of_node table.entries (begin + count) (get_or (nodes_of table.entries) (begin + count) 0) 0 inside refl in
+      let next : begin + count + 1 ≡ begin + suc count = omega arith in
+      subst (λ n. IsFilledBy A B graph table starts first n rows) next
+      (passed_more (begin + count) more rows distinct few e stands
+      (λ near. apart (begin + count) (omega arith) (omega arith) (subst (λ n. (first ≤ n) × (n ≤ first + more)) (sym node) near)) before)
+
+  -- so is each block of entries whose span has no node that has a row
+  pub passed_span : (count begin more : ℕ) (span : Span) (rows : List L) → IsDistinct same_key (keys_of table.entries)
+      → (0 < graph.facts → length rows < (more + 1) * graph.facts) → begin + count ≤ length table.entries
+      → HasBetween (nodes_of table.entries) begin (begin + count) span → ((first ≤ span.greatest) × (span.least ≤ first + more) → ⊥)
+      → IsFilledBy A B graph table starts first begin rows → IsFilledBy A B graph table starts first (begin + count) rows
+  passed_span count begin more span rows distinct few within has apart so_far =
+      passed_all count begin more rows distinct few within
+      (λ i from to near.
+      let between : (span.least ≤ get_or (nodes_of table.entries) i 0) × (get_or (nodes_of table.entries) i 0 ≤ span.greatest) =
+      has i from to (omega (arith, within, to, node_count table.entries)) in
+      apart (omega (arith, near.0, between.1), omega (arith, near.1, between.0)))
+      so_far
+
   -- past the last entry the values are those that follow
   pub all_filled : IsLattice A → IsEdgeAlgebra A B → IsDistinct same_key (keys_of table.entries)
-      → (i : ℕ) (rows : List L) → length table.entries ≤ i → IsFilledBy i rows → FillsFrom A B graph table starts first rows
+      → (i : ℕ) (rows : List L) → length table.entries ≤ i → IsFilledBy A B graph table starts first i rows → FillsFrom A B graph table starts first rows
   all_filled laws functions distinct i rows past so_far k within image proper n d h r place =
       so_far.filled image k n d within h r place
       ∙ ap (fold (λ v e. lowered A B (value_before A graph starts) n d v e.0 e.1) A.top) (take_all i table.entries past)
@@ -195,17 +234,6 @@ module _ {F L : Type 0} (A : LatticeAlgebra L) (B : EdgeAlgebra F L) (graph : Su
       → ((k : ℕ) → k < length rows → IsFilledAt A B graph table starts k (get_or rows k A.top)) → Fills A B graph table starts rows
   all_rows rows count each image proper n d h r =
       each (n * graph.facts + d) (omega (arith, count, place_within n d graph.nodes graph.facts h r)) image proper n d h r refl
-
--- there are as many nodes as entries, and each is that of the entry at its index
-pub node_count : {F : Type 0} (es : List (Key × F)) → length (nodes_of es) ≡ length es
-node_count [] = refl
-node_count (e ∷ es) = ap suc (node_count es)
-
-pub entry_of_node : {F : Type 0} (es : List (Key × F)) (i node d : ℕ) → i < length (nodes_of es) → node ≡ get_or (nodes_of es) i d
-    → (e : Key × F) × (slice_get es i ≡ Some e) × (node ≡ node_of e.0)
-entry_of_node [] i node d within is = absurd (omega (arith, within))
-entry_of_node (e ∷ es) zero node d within is = (e, refl, is)
-entry_of_node (e ∷ es) (suc i) node d within is = entry_of_node es i node d (omega (arith, within)) is
 
 -- where nothing stands, the list has ended
 pub none_past : {X : Type 0} (xs : List X) (i : ℕ) → slice_get xs i ≡ None → length xs ≤ i

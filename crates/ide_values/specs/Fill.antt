@@ -1,5 +1,5 @@
 -- The values of an image: at each node and fact the meet of what the facts at the start give it.
-use Rattle.std.specs.Prelude.{◌≡◌, ℕ, ◌+◌, ◌*◌, ◌<◌, ◌&&◌, List, Option, Some, IsTrue, cond, length, nat_eq, slice_index_or, unwrap_or}
+use Rattle.std.specs.Prelude.{◌≡◌, ℕ, ◌+◌, ◌*◌, ◌<◌, ◌&&◌, List, Option, Some, IsTrue, cond, fold, length, nat_eq, slice_index_or, take, unwrap_or}
 use Rattle.std.specs.Global.{Vec}
 use Rattle.std.specs.List.{All}
 use Rattle.ide_graph.specs.Supergraph.{Supergraph}
@@ -52,6 +52,12 @@ IsFilledAt A B graph table starts place value =
 abbrev pub FillsFrom : {F L : Type 0} → LatticeAlgebra L → EdgeAlgebra F L → Supergraph → Table F → List L → ℕ → List L → Type 0
 FillsFrom A B graph table starts first rows =
     (k : ℕ) → k < length rows → IsFilledAt A B graph table starts (first * graph.facts + k) (slice_index_or rows k A.top)
+
+-- the rows from a node on are filled by the first entries of the table
+pub record IsFilledBy {F L : Type 0} (A : LatticeAlgebra L) (B : EdgeAlgebra F L) (graph : Supergraph) (table : Table F) (starts : List L) (first count : ℕ) (rows : List L) : Type 0 where
+  pub filled : IsImage B graph (found table) → (k n d : ℕ) → k < length rows → n < graph.nodes → d < graph.facts
+      → n * graph.facts + d ≡ first * graph.facts + k
+      → slice_index_or rows k A.top ≡ fold (λ v e. lowered A B (value_before A graph starts) n d v e.0 e.1) A.top (take count table.entries)
 
 -- each value of the rows from a node on is met with what the key's function gives it
 abbrev pub Meets : {F L : Type 0} → LatticeAlgebra L → EdgeAlgebra F L → Supergraph → List L → ℕ → Key → F → List L → List L → Type 0

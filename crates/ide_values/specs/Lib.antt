@@ -12,5 +12,6 @@ pub mod Refusal
 pub mod Settled
 pub mod Share
 pub mod SharedFill
+pub mod Spans
 pub mod Start
 pub mod Values

@@ -1,9 +1,12 @@
 //! The fill: each jump function lowers the value where it ends.
 ghost use Rattle.std.specs.Prelude.{◌≡◌, ◌+◌, ◌*◌, ◌<◌, ◌≤◌, ◌↔◌, true, IfOk, length};
-ghost use Rattle.ide_values.specs.Fill.{FillsFrom, FillsRows, Meets};
+ghost use Rattle.ide_image.specs.Tables.{nodes_of};
+ghost use Rattle.ide_values.specs.Fill.{FillsFrom, FillsRows, IsFilledBy, Meets};
+ghost use Rattle.ide_values.specs.Spans.{AreSpans};
 ghost use Rattle.ide_values.specs.Start.{AreTops};
 
 use crate::rows::{lower, place_of, tops, value_before};
+use crate::spans::{BLOCK, Span};
 use ide_graph::Graph;
 use ide_image::Tables;
 use ide_lattice::EdgeFn;
@@ -21,26 +24,59 @@ pub fn fill<F: EdgeFn>(
     ensures count { IfOk result (λ values. length values.items ≡ graph.now.nodes * graph.now.facts) }
 {
     let mut values = tops(alloc, graph.node_count() * graph.fact_count())?;
-    fill_rows(graph, tables, starts, 0, values.as_mut_slice());
+    fill_rows(graph, tables, &[], starts, 0, values.as_mut_slice());
     Ok(values)
 }
 
 /// Fills rows of tops, of which the first is that of a node. Of the entries of the tables it reads
-/// those at the nodes of the rows, and of each other one the node alone.
+/// those at the nodes of the rows, and of each other one at most the node: none where the spans tell
+/// that no node of its block has a row.
 pub(crate) fn fill_rows<F: EdgeFn>(
     graph: &Graph,
     tables: &Tables<F>,
+    spans: &[Span],
     starts: &[F::L],
     first: Node,
     rows: &mut [F::L],
 )
-    requires { AreTops F.L.algebra rows.old }
+    requires tops { AreTops F.L.algebra rows.old }
+    requires spans { AreSpans (nodes_of tables.now.entries) spans.now }
     ensures count { length rows.new ≡ length rows.old }
     ensures filled { FillsFrom F.L.algebra F.edge graph.now tables.now starts.now first rows.new }
 {
+    let count = tables.nodes().len();
     let more = whole_rows(graph, rows.len());
-    for (index, node) in tables.nodes().iter().enumerate() {
-        if is_near(first, more, *node)
+    let mut begin = 0;
+    for span in spans {
+        let end = begin + BLOCK.min(count - begin);
+        if span.is_near(first, more) {
+            fill_some(graph, tables, starts, first, begin, end, rows);
+        }
+        begin = end;
+    }
+    fill_some(graph, tables, starts, first, begin, count, rows);
+}
+
+/// Fills rows by the entries from an index to before another, where they are filled by those before.
+fn fill_some<F: EdgeFn>(
+    graph: &Graph,
+    tables: &Tables<F>,
+    starts: &[F::L],
+    first: Node,
+    begin: usize,
+    end: usize,
+    rows: &mut [F::L],
+)
+    requires order { begin ≤ end }
+    requires end { end ≤ length tables.now.entries }
+    requires filled { IsFilledBy F.L.algebra F.edge graph.now tables.now starts.now first begin rows.old }
+    ensures count { length rows.new ≡ length rows.old }
+    ensures filled { IsFilledBy F.L.algebra F.edge graph.now tables.now starts.now first end rows.new }
+{
+    let more = whole_rows(graph, rows.len());
+    let nodes = tables.nodes();
+    for index in begin..end {
+        if is_near(first, more, nodes[index])
             && let Some(entry) = tables.entry_at(index)
         {
             lower_by(graph, starts, first, entry.0, entry.1, rows);

@@ -14,6 +14,7 @@ mod passes;
 mod rows;
 mod share;
 mod shared_fill;
+mod spans;
 mod starts;
 mod values;
 

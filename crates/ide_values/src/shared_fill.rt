@@ -1,12 +1,15 @@
 //! The fill by several threads, of which each fills the rows of a range of nodes.
 ghost use Rattle.std.specs.Prelude.{◌≡◌, ◌*◌, ◌<◌, ◌≤◌, IfOk, length};
+ghost use Rattle.ide_image.specs.Tables.{nodes_of};
 ghost use Rattle.ide_values.specs.Fill.{FillsRows};
 ghost use Rattle.ide_values.specs.Refusal.{AreWorkers};
 ghost use Rattle.ide_values.specs.SharedFill.{first_node, sharing_of};
+ghost use Rattle.ide_values.specs.Spans.{AreSpans};
 
 use crate::fill::fill_rows;
 use crate::rows::tops;
 use crate::share::{Ranges, fill_shared};
+use crate::spans::{Span, spans_of};
 use ide_graph::Graph;
 use ide_image::Tables;
 use ide_lattice::EdgeFn;
@@ -46,9 +49,11 @@ where
     ensures count { IfOk result (λ values. length values.items ≡ graph.now.nodes * graph.now.facts) }
 {
     let mut values = tops(alloc, graph.node_count() * graph.fact_count())?;
+    let spans = spans_for(alloc, tables, workers)?;
     let shared = SharedFill {
         graph,
         tables,
+        spans: spans.as_slice(),
         starts,
         workers,
         gate,
@@ -57,14 +62,30 @@ where
     Ok(values)
 }
 
+/// The spans by which so many workers pass over blocks of entries: none for one, who reads them all.
+fn spans_for<F: EdgeFn>(
+    alloc: Global,
+    tables: &Tables<F>,
+    workers: usize,
+) -> Result<Vec<Span>, AllocError>
+    ensures { IfOk result (λ spans. AreSpans (nodes_of tables.now.entries) spans.items) }
+{
+    if workers == 1 {
+        return Ok(Vec::new(alloc));
+    }
+    spans_of(alloc, tables.nodes())
+}
+
 /// A fill that workers share: what it reads, and how many they are.
 #[derive(Drop)]
 struct SharedFill<'a, F: EdgeFn, G> {
     graph: &'a Graph,
     tables: &'a Tables<F>,
+    spans: &'a [Span],
     starts: &'a [F::L],
     workers: usize,
     gate: &'a G,
+    ghost spanned: { AreSpans (nodes_of tables.now.entries) spans.now },
     ghost some: { 0 < workers },
     ghost most: { workers ≤ 64 },
 }
@@ -89,6 +110,13 @@ impl<'a, F: EdgeFn, G: FillGate> Ranges<F::L> for SharedFill<'a, F, G> {
     fn fill(&self, worker: usize, rows: &mut [F::L]) {
         self.gate.begin(worker);
         let first = self.first_node(worker);
-        fill_rows(self.graph, self.tables, self.starts, first, rows);
+        fill_rows(
+            self.graph,
+            self.tables,
+            self.spans,
+            self.starts,
+            first,
+            rows,
+        );
     }
 }

@@ -99,8 +99,9 @@ pub trait ValuePhase<P: Problem> {
     /// exclusive, in a thread of its own, which is joined. Where no thread can be made for it, the
     /// one that was to start it fills them.
     ///
-    /// A worker reads the entries at its nodes, and of each other one the node alone. Start values
-    /// are found before, by the calling thread.
+    /// A worker reads the entries at its nodes, and of each other one at most the node. Start values
+    /// are found before, by the calling thread, and where more than one works, the spans by which
+    /// workers pass over entries.
     final fn values_with<R: Threads + Sync, G: FillGate + Sync>(
         &self,
         rt: &R,

@@ -3,7 +3,7 @@ use Rattle.std.specs.Prelude.{vec_capacity}
 use Rattle.std.specs.VecDeque.Iter.{deque_iter_rest}
 use Rattle.ide_journal.specs.Lists.{entries_of}
 use Rattle.ide_slots.specs.Records.{all_numbered}
-use Rattle.ide_slot_store.specs.Commands.{commands_from}
+use Rattle.ide_store.specs.TwoDisks.{commands_from}
 use Rattle.ide_slot_store.proofs.commands.add_waiting.Given as goal
 
 -- so many are added, and the commands among the rest are still to come

@@ -3,7 +3,7 @@ use Rattle.ide_journal.specs.Lists.{entries_of}
 use Rattle.ide_slots.specs.Records.{all_numbered}
 use Rattle.ide_slots.specs.Slot.{AreCommands}
 use Rattle.ide_slots.specs.declared.record.NumberedRecord.{NumberedRecord}
-use Rattle.ide_slot_store.specs.Commands.{commands_from}
+use Rattle.ide_store.specs.TwoDisks.{commands_from}
 use Rattle.ide_slot_store.proofs.PlanningAll.{make_up, planned_over, some_in}
 use Rattle.ide_slot_store.proofs.planning.plan_over.Goals as goal
 

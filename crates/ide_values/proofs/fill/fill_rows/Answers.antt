@@ -1,50 +1,55 @@
-use Rattle.std.proofs.Common.{rules, ◌≡◌, ◌+◌, ◌*◌, ◌<◌, ◌≤◌, ◌∙◌, None, get_or, length, subst, sym, ap, arith}
-use Rattle.ide_wire.specs.Key.{node_of}
+use Rattle.std.proofs.Common.{ℕ, ◌≡◌, ◌+◌, ◌*◌, ◌<◌, ◌≤◌, ◌∙◌, get_or, length, subst, sym, ap, arith}
 use Rattle.ide_image.specs.Tables.{nodes_of}
-use Rattle.ide_values.proofs.Filled.{IsFilledBy, filled_more, passed_more, all_filled, entry_of_node, node_count}
+use Rattle.ide_values.specs.Fill.{IsFilledBy}
+use Rattle.ide_values.specs.Spans.{HasBetween}
+use Rattle.ide_values.specs.declared.spans.Span.{Span}
+use Rattle.ide_values.proofs.Filled.{all_filled, node_count, passed_span}
 use Rattle.ide_values.proofs.fill.fill_rows.Goals as goal
-use Rattle.ide_values.proofs.fill.fill_rows.Goals.{then-is_near+in-Some, else-is_near, else-is_near-via-else-is_near, else-is_near-via-then-is_near+in-None-1}
+use Rattle.ide_values.proofs.fill.fill_rows.Goals.{then-is_near, else-is_near}
 
-pub loop-index-preserved : goal.loop-index-preserved
-loop-index-preserved g c =
+pub loop-span-preserved : goal.loop-span-preserved
+loop-span-preserved g c =
     let entries = c.args.tables.now.entries in
-    let nodes = c.nodes-node-items.ensures.nodes in
-    let index = c.loop-index.index in
-    let within : index < length (nodes_of entries) = subst (λ ns. index < length ns) nodes c.loop-index-test.true in
-    let (e, stands, node) = entry_of_node entries index (get_or c.nodes-node-items.result.now index 0) 0 within (ap (λ ns. get_or ns index 0) nodes) in
+    let begin = c.loop-span.begin in
+    let size = c.min.result in
+    let span : Span = get_or c.args.spans.now c.loop-span.span-index (record { least = 0; greatest = 0 }) in
+    let all : length c.nodes-count.result.now ≡ length entries = ap length c.nodes-count.ensures.nodes ∙ node_count entries in
+    let within : begin + size ≤ length entries = omega (arith, all, c.min.ensures, c.loop-span.invariant.begin) in
     elim c.if-is_near.branch [
-      | then-is_near+in-Some w ↦ record {
-        count = ap length w.rows-is ∙ w.lower_by.ensures.count ∙ c.loop-index.invariant.count;
+      | then-is_near w ↦ record {
+        count = ap length w.rows-is ∙ w.fill_some.ensures.count ∙ c.loop-span.invariant.count;
+        begin = omega (arith, w.begin-is, c.min.ensures, c.loop-span.invariant.begin);
         filled =
-            subst (IsFilledBy g.F.L.Lattice.algebra g.F.EdgeFn.edge c.args.graph.now c.args.tables.now c.args.starts.now c.args.first (index + 1))
+            subst (IsFilledBy g.F.L.Lattice.algebra g.F.EdgeFn.edge c.args.graph.now c.args.tables.now c.args.starts.now c.args.first c.if-is_near.begin)
             (sym w.rows-is)
-            (filled_more g.F.L.Lattice.algebra g.F.EdgeFn.edge c.args.graph.now c.args.tables.now c.args.starts.now c.args.first index
-            c.loop-index.rows w.lower_by.new.rows w.in-Some.entry (sym w.entry_at.ensures.entry ∙ w.in-Some.is) w.in-Some.ensures.present
-            w.lower_by.ensures.count w.lower_by.ensures.lowered c.loop-index.invariant.filled);
+            (subst (λ (n : ℕ). IsFilledBy g.F.L.Lattice.algebra g.F.EdgeFn.edge c.args.graph.now c.args.tables.now c.args.starts.now c.args.first n w.fill_some.new.rows)
+            (sym w.begin-is) w.fill_some.ensures.filled);
       }
-      | else-is_near w ↦ elim w.else-is_near.branch [
-        | else-is_near-via-else-is_near v ↦ record {
-          count = ap length w.rows-is ∙ c.loop-index.invariant.count;
-          filled =
-              let apart : (c.args.first ≤ node_of e.0) × (node_of e.0 ≤ c.args.first + c.whole_rows-more.result) → ⊥ =
-              λ near. let yes = c.is_near.ensures.1 (subst (λ n. (c.args.first ≤ n) × (n ≤ c.args.first + c.whole_rows-more.result)) (sym node) near) in cc (yes, v.if-is_near.false) in
-              subst (IsFilledBy g.F.L.Lattice.algebra g.F.EdgeFn.edge c.args.graph.now c.args.tables.now c.args.starts.now c.args.first (index + 1))
-              (sym w.rows-is)
-              (passed_more g.F.L.Lattice.algebra g.F.EdgeFn.edge c.args.graph.now c.args.tables.now c.args.starts.now c.args.first index
-              c.whole_rows-more.result c.loop-index.rows c.nodes-node-items.ensures.distinct
-              (subst (λ count. 0 < c.args.graph.now.facts → count < (c.whole_rows-more.result + 1) * c.args.graph.now.facts) (sym c.loop-index.invariant.count) c.whole_rows-more.ensures)
-              e stands apart c.loop-index.invariant.filled);
-        }
-        | else-is_near-via-then-is_near+in-None-1 v ↦
-            let none : v.entry_at.result ≡ None = search rules in
-            absurd (omega (arith, v.entry_at.ensures.end.0 none, within, node_count entries))
-      ]
+      | else-is_near w ↦ record {
+        count = ap length w.rows-is ∙ c.loop-span.invariant.count;
+        begin = omega (arith, w.begin-is, c.min.ensures, c.loop-span.invariant.begin);
+        filled =
+            let block : HasBetween (nodes_of entries) (c.loop-span.span-index * 64) (c.loop-span.span-index * 64 + 64) span =
+            c.requires.spans.each c.loop-span.span-index (record { least = 0; greatest = 0 }) c.loop-span-test.true in
+            let has : HasBetween (nodes_of entries) begin (begin + size) span =
+            λ i from to inside. block i
+            (omega (arith, from, inside, all, node_count entries, c.loop-span.invariant.begin))
+            (omega (arith, to, inside, all, node_count entries, c.min.ensures, c.loop-span.invariant.begin)) inside in
+            subst (IsFilledBy g.F.L.Lattice.algebra g.F.EdgeFn.edge c.args.graph.now c.args.tables.now c.args.starts.now c.args.first c.if-is_near.begin)
+            (sym w.rows-is)
+            (subst (λ (n : ℕ). IsFilledBy g.F.L.Lattice.algebra g.F.EdgeFn.edge c.args.graph.now c.args.tables.now c.args.starts.now c.args.first n c.loop-span.rows)
+            (sym w.begin-is)
+            (passed_span g.F.L.Lattice.algebra g.F.EdgeFn.edge c.args.graph.now c.args.tables.now c.args.starts.now c.args.first
+            size begin c.whole_rows-more.result span c.loop-span.rows c.nodes-count.ensures.distinct
+            (subst (λ count. 0 < c.args.graph.now.facts → count < (c.whole_rows-more.result + 1) * c.args.graph.now.facts) (sym c.loop-span.invariant.count) c.whole_rows-more.ensures)
+            within has (λ near. let yes = c.is_near.ensures.1 near in cc (yes, w.if-is_near.false)) c.loop-span.invariant.filled));
+      }
     ]
 
 pub returns-clause-filled : goal.returns-clause-filled
 returns-clause-filled g c =
-    let past : length c.args.tables.now.entries ≤ c.loop-index.index =
-    omega (arith, c.loop-index-test.false, ap length c.nodes-node-items.ensures.nodes, node_count c.args.tables.now.entries) in
+    let past : length c.args.tables.now.entries ≤ length c.nodes-count.result.now =
+    omega (arith, ap length c.nodes-count.ensures.nodes, node_count c.args.tables.now.entries) in
     all_filled g.F.L.Lattice.algebra g.F.EdgeFn.edge c.args.graph.now c.args.tables.now c.args.starts.now c.args.first
-    g.met.F.L.Lattice.lawful g.met.F.EdgeFn.lawful c.nodes-node-items.ensures.distinct c.loop-index.index c.loop-index.rows
-    past c.loop-index.invariant.filled
+    g.met.F.L.Lattice.lawful g.met.F.EdgeFn.lawful c.nodes-count.ensures.distinct (length c.nodes-count.result.now) c.fill_some-2.new.rows
+    past c.fill_some-2.ensures.filled

@@ -1,9 +1,10 @@
-use Rattle.std.proofs.Common.{◌≡◌, length}
-use Rattle.ide_values.proofs.Filled.{IsFilledBy}
+use Rattle.std.proofs.Common.{◌≡◌, ◌*◌, length, min}
+use Rattle.ide_values.specs.Fill.{IsFilledBy}
 use Rattle.ide_values.proofs.fill.fill_rows.Given as goal
 
-abbrev pub invariant-loop-index : goal.invariant-loop-index
-invariant-loop-index g l = record {
+abbrev pub invariant-loop-span : goal.invariant-loop-span
+invariant-loop-span g l = record {
   count : length l.rows ≡ length l.fn.rows;
-  filled : IsFilledBy g.F.L.Lattice.algebra g.F.EdgeFn.edge l.graph l.tables l.starts l.first l.index l.rows;
+  begin : l.begin ≡ min (l.span-index * 64) l.count;
+  filled : IsFilledBy g.F.L.Lattice.algebra g.F.EdgeFn.edge l.graph l.tables l.starts l.first l.begin l.rows;
 }

@@ -1,7 +1,7 @@
 use Rattle.std.proofs.Common.{◌≡◌, ◌++◌, ℕ, refl, subst, take}
 use Rattle.ide_journal.specs.Lists.{entries_of}
 use Rattle.ide_slots.specs.Records.{all_numbered}
-use Rattle.ide_slot_store.specs.Commands.{commands_from}
+use Rattle.ide_store.specs.TwoDisks.{commands_from}
 use Rattle.ide_slot_store.proofs.Half.{called_last, called_on, refused_call}
 use Rattle.ide_slot_store.proofs.writer.SlotWriterHalf.advance.Goals as goal
 

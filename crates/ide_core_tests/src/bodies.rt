@@ -1,0 +1,228 @@
+//! Batches of worked programs: their bodies, and what these give back.
+ghost use Rattle.std.specs.Prelude.{IfOk};
+ghost use Rattle.ide_batch.specs.Bodies.{MayBeSpelled};
+ghost use Rattle.ide_batch.specs.Items.{functions_by};
+ghost use Rattle.ide_batch.specs.Records.{value_of_record};
+
+use crate::records::{begin_noted, do_first_parts, expect_applied};
+use crate::tables::drain;
+use ide_batch::{Record, Spelled, to_raw};
+use ide_instances::{ConstFn, CopyConst, Uninit, UninitFn};
+use ide_journal::Version;
+use ide_lattice::EdgeFn;
+use ide_problem::Problem;
+use ide_steps::Core;
+use ide_wire::{Key, Wire};
+use ide_worked::{EMPTY, NUMBER};
+use std::alloc::{AllocError, Global};
+use std::process::Abort;
+
+/// What changes after an empty main is a root: each of its keys is done.
+const EMPTY_MAIN: [u8; 37] = [
+    3, 0, 0, 0, //
+    0, 0, 0, 0, 0, 0, 0, 0, 0, 1, 0, //
+    0, 1, 0, 0, 0, 0, 0, 0, 0, 1, 0, //
+    0, 1, 0, 0, 0, 0, 0, 1, 0, 1, 0, //
+];
+
+/// What two of the three parts of the first task change in a main with one number.
+pub(crate) const TWO_PARTS: [u8; 34] = [
+    2, 0, 0, 0, //
+    0, 1, 0, 0, 0, 0, 0, 0, 0, 1, 0, 0, 0, 0, 0, 0, 0, 0, 1, //
+    0, 1, 0, 0, 0, 0, 0, 1, 0, 4, 1, //
+];
+
+/// The batch of an empty main.
+pub(crate) fn empty_main(alloc: Global) -> Result<Record<UninitFn>, AllocError>
+    ensures { IfOk result (λ change. MayBeSpelled ⟦<UninitFn as Spelled>⟧.forms (value_of_record change)) }
+{
+    let items = Vec::from_array(
+        alloc,
+        [
+            (Key::Jump(0, 0, 0), UninitFn::Id, false),
+            (Key::Jump(1, 0, 0), UninitFn::Id, false),
+            (Key::Jump(1, 0, 1), UninitFn::Id, false),
+        ],
+    )?;
+    Ok(Record::Batch(items))
+}
+
+/// The batch of a main with one number.
+pub(crate) fn two_parts(alloc: Global) -> Result<Record<ConstFn>, AllocError>
+    ensures { IfOk result (λ change. MayBeSpelled ⟦<ConstFn as Spelled>⟧.forms (value_of_record change)) }
+{
+    let items = Vec::from_array(
+        alloc,
+        [
+            (Key::Jump(1, 0, 0), ConstFn::Shift(0), true),
+            (Key::Jump(1, 0, 1), ConstFn::Bottom, true),
+        ],
+    )?;
+    Ok(Record::Batch(items))
+}
+
+/// Asserts the body of a batch in a version of a store.
+fn expect_spelled<F: EdgeFn>(
+    rt: &(impl Abort + AllocGlobal),
+    change: &Record<F>,
+    version: Version,
+    body: &[u8],
+)
+    requires { MayBeSpelled (functions_by F.proper F.form F.eq F.edge.all_top) (value_of_record change.now) }
+{
+    match to_raw(rt.alloc(), change, version) {
+        Ok(raw) => assert!(rt; raw.kind == 3 && raw.body.as_slice() == body),
+        Err(refused) => panic!(rt; "{refused}"),
+    }
+}
+
+/// Asserts the body of the batch of an empty main.
+pub(crate) fn expect_empty_main(rt: &(impl Abort + AllocGlobal), version: Version, body: &[u8]) {
+    match empty_main(rt.alloc()) {
+        Ok(change) => expect_spelled(rt, &change, version, body),
+        Err(_) => panic!(rt; "no memory"),
+    }
+}
+
+/// Asserts the body of the batch of a main with one number.
+pub(crate) fn expect_two_parts(rt: &(impl Abort + AllocGlobal), version: Version, body: &[u8]) {
+    match two_parts(rt.alloc()) {
+        Ok(change) => expect_spelled(rt, &change, version, body),
+        Err(_) => panic!(rt; "no memory"),
+    }
+}
+
+/// The batch that there was memory for.
+pub(crate) fn made<F: EdgeFn>(rt: &impl Abort, change: Result<Record<F>, AllocError>) -> Record<F> {
+    match change {
+        Ok(change) => change,
+        Err(_) => panic!(rt; "no memory"),
+    }
+}
+
+/// Asserts that a core has an item's entry.
+fn expect_entry<P: Problem>(rt: &impl Abort, core: &Core<P>, item: (Key, P::F, bool)) {
+    let (key, function, pending) = item;
+    assert!(rt; core.get(key) == Some(function));
+    assert!(rt; core.is_pending(key) == pending);
+}
+
+/// Asserts that a core has the entries of a batch.
+pub(crate) fn expect_entries<P: Problem>(rt: &impl Abort, core: &Core<P>, change: &Record<P::F>) {
+    if let Record::Batch(items) = change {
+        for item in items {
+            expect_entry(rt, core, *item);
+        }
+    }
+}
+
+/// Asserts that so many keys changed since that was last asked, and that they are the batch's.
+fn expect_changed<P: Problem>(
+    rt: &impl Abort,
+    core: &mut Core<P>,
+    change: &Record<P::F>,
+    count: usize,
+) {
+    expect_entries(rt, core, change);
+    assert!(rt; core.changed_count() == count);
+    if let Record::Batch(items) = change {
+        for item in items {
+            assert!(rt; core.is_changed(item.0));
+        }
+    }
+}
+
+/// Asserts that these records give the batch's entries back, and `main` as the root, and whether that key is
+/// pending then.
+fn expect_replayed<P: Problem>(
+    rt: &(impl Abort + AllocGlobal),
+    core: &mut Core<P>,
+    text: &str,
+    body: &[u8],
+    change: &Record<P::F>,
+    pending: Option<Key>,
+) {
+    expect_applied(rt, core, text, body, Version::One, 3);
+    expect_entries(rt, core, change);
+    expect_pending(rt, core, pending);
+}
+
+/// Asserts that `main` is the root, and that the key is pending, or none where none is given.
+fn expect_pending<P: Problem>(rt: &impl Abort, core: &Core<P>, pending: Option<Key>) {
+    assert!(rt; core.roots() == [0].as_slice());
+    match pending {
+        Some(key) => assert!(rt; core.is_pending(key)),
+        None => assert!(rt; core.is_quiet()),
+    }
+}
+
+/// Asserts that the batch has what all tasks of a text change.
+fn expect_drained<P: Problem>(
+    rt: &(impl Abort + AllocGlobal),
+    core: &mut Core<P>,
+    text: &str,
+    change: &Record<P::F>,
+    count: usize,
+) {
+    begin_noted(rt, core, text);
+    drain(rt, core);
+    expect_changed(rt, core, change, count);
+}
+
+#[test]
+fn changes_of_an_empty_main(rt: HostRuntime) {
+    let change = made(&rt, empty_main(rt.alloc()));
+    let mut core: Core<Uninit> = Core::new(rt.alloc());
+    expect_drained(&rt, &mut core, EMPTY, &change, 3);
+}
+
+#[test]
+fn body_of_an_empty_main(rt: HostRuntime) {
+    expect_empty_main(&rt, Version::One, &EMPTY_MAIN);
+}
+
+#[test]
+fn replay_of_an_empty_main(rt: HostRuntime) {
+    let change = made(&rt, empty_main(rt.alloc()));
+    let mut core: Core<Uninit> = Core::new(rt.alloc());
+    expect_replayed(&rt, &mut core, EMPTY, &EMPTY_MAIN, &change, None);
+}
+
+/// Asserts that the batch has what so many parts of the first task of a text change.
+fn expect_begun<P: Problem>(
+    rt: &(impl Abort + AllocGlobal),
+    core: &mut Core<P>,
+    text: &str,
+    change: &Record<P::F>,
+    count: usize,
+) {
+    begin_noted(rt, core, text);
+    do_first_parts(rt, core, count);
+    expect_changed(rt, core, change, count);
+}
+
+#[test]
+fn changes_of_two_parts(rt: HostRuntime) {
+    let change = made(&rt, two_parts(rt.alloc()));
+    let mut core: Core<CopyConst> = Core::new(rt.alloc());
+    expect_begun(&rt, &mut core, NUMBER, &change, 2);
+}
+
+#[test]
+fn body_after_two_parts(rt: HostRuntime) {
+    expect_two_parts(&rt, Version::One, &TWO_PARTS);
+}
+
+#[test]
+fn replay_after_two_parts(rt: HostRuntime) {
+    let change = made(&rt, two_parts(rt.alloc()));
+    let mut core: Core<CopyConst> = Core::new(rt.alloc());
+    expect_replayed(
+        &rt,
+        &mut core,
+        NUMBER,
+        &TWO_PARTS,
+        &change,
+        Some(Key::Jump(1, 0, 1)),
+    );
+}

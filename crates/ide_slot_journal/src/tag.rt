@@ -1,0 +1,35 @@
+//! The tag of a store on two disks, which tells its analysis.
+ghost use Rattle.std.specs.Prelude.{IfErr, IfOk};
+ghost use Rattle.ide_journal.specs.Moments.{OnlyLooks};
+ghost use Rattle.ide_slot_journal.specs.Opening.{CountsFaultsOfTwo, IsCurrentTag, IsTagRefusal, now_of};
+
+use crate::opening::read_front;
+use ide_disk::Disk;
+use ide_slots::find_current;
+use ide_wire::Refused;
+
+/// The tag of the slot that an opening of the disks A and B takes as current. Both are read, and stay as
+/// they are.
+///
+/// Refusals: `Disk`, where a call of a disk failed; `NotAStore`, where no slot is current.
+#[tactic(auto, using(crate::specs::Opening::tag_device))]
+pub fn current_tag<D: Disk>(a: &mut D, b: &mut D) -> Result<u8, Refused>
+    ensures tag { D.honest a.old → D.honest b.old → IfOk result (IsCurrentTag (now_of D.Disk a.old b.old)) }
+    ensures first_same { OnlyLooks D.Disk a.old a.new }
+    ensures second_same { OnlyLooks D.Disk b.old b.new }
+    ensures failures { CountsFaultsOfTwo D.Disk result a.old b.old a.new b.new }
+    ensures refused { D.honest a.old → D.honest b.old → IfErr result (IsTagRefusal (now_of D.Disk a.old b.old)) }
+{
+    let first = match read_front(a) {
+        Ok(first) => first,
+        Err(refused) => return Err(refused),
+    };
+    let second = match read_front(b) {
+        Ok(second) => second,
+        Err(refused) => return Err(refused),
+    };
+    match find_current(&first, &second) {
+        Some(found) => Ok(found.head.tag),
+        None => Err(Refused::NotAStore),
+    }
+}

@@ -1,0 +1,100 @@
+-- What an engine on two disks does that is asked for a checkpoint.
+use Rattle.std.specs.Prelude.{◌≡◌, ◌≤◌, ◌++◌, ℕ, Bool, true, false, List, [], ◌∷◌, Option, Some, None, Result, Ok, Err}
+use Rattle.ide_disk.specs.declared.disk.Disk.{Ghosts}
+use Rattle.ide_journal.specs.Format.{Entry}
+use Rattle.ide_slot_journal.specs.Stands.{IsCheckpointing, sides_of}
+use Rattle.ide_slots.specs.Two.{SlotWriter}
+use Rattle.ide_wire.specs.declared.refused.Refused.{Refused}
+use Rattle.ide_wire.specs.declared.refused.Refused.TheVariants.{Limit, NoMemory}
+use Rattle.ide_store.specs.Hands.{Batches, Happens}
+use Rattle.ide_store.specs.Places.{OnTwoDisks}
+use Rattle.ide_store.specs.Table.{Analysis, IsReached, MayDoAll, StoreAct, TableData, after_acts}
+use Rattle.ide_store.specs.TableCalls.{IsRefusal, IsSealStop}
+use Rattle.ide_store.specs.World.{Begins}
+use Rattle.ide_slot_store.specs.Engine.{AreAtWork, MayHappen, SlotWorld, after_events}
+use Rattle.ide_slot_store.specs.Half.{IsPlanAllRefusal}
+use Rattle.ide_slot_store.specs.Parts.{IsPartsStop}
+use Rattle.ide_slot_store.specs.declared.engine.SlotEngine.{SlotEngine}
+use Rattle.ide_slot_store.specs.declared.writer.SlotWriterHalf.{SlotWriterHalf}
+
+module _ {F L : Type 0} (a : Analysis F L) (tag : ℕ) where
+  -- what changed is sealed, if anything did
+  abbrev pub sealing : Option Entry → List (StoreAct a (OnTwoDisks tag))
+  sealing None = []
+  sealing (Some batch) = Batches batch ∷ []
+
+  module _ {D : Type 0} {G : Ghosts D} (w : SlotWorld a tag) (table : TableData F) (writer : SlotWriterHalf D G) where
+    -- what had changed was sealed, if anything had, and the halves are at work after that
+    pub record DidSeal : Type 0 where
+      pub batch : Option Entry
+      pub can : MayDoAll a (OnTwoDisks tag) w (sealing batch)
+      pub at_work : AreAtWork a tag (after_acts a (OnTwoDisks tag) w (sealing batch)) table writer
+
+    -- and behind that a checkpoint began
+    pub record DidBegin : Type 0 where
+      pub batch : Option Entry
+      pub work : SlotWriter
+      pub can : MayDoAll a (OnTwoDisks tag) w (sealing batch ++ Happens (Begins work) ∷ [])
+      pub at_work : AreAtWork a tag (after_acts a (OnTwoDisks tag) w (sealing batch ++ Happens (Begins work) ∷ [])) table writer
+
+    -- a checkpoint began
+    pub record DidPlan : Type 0 where
+      pub work : SlotWriter
+      pub can : MayHappen a tag w (Begins work ∷ [])
+      pub at_work : AreAtWork a tag (after_events a tag w (Begins work ∷ [])) table writer
+
+    -- what planning one comes to: it began; or none, since no program is loaded; or it is refused, and the halves stay at work
+    pub data PlansTo : Result Bool Refused → Type 0 where
+      did_plan : DidPlan → PlansTo (Ok true)
+      had_no_program : table.core.graph ≡ None → AreAtWork a tag w table writer → PlansTo (Ok false)
+      did_not : {refused : Refused} → AreAtWork a tag w table writer → PlansTo (Err refused)
+
+    -- what asking for a checkpoint comes to: one begins; or none, since one was under way, or no sealed record stands at or past
+    -- the base, or no program is loaded; or it is refused. What had changed may be sealed all the same
+    pub data ComesTo (before : SlotWriterHalf D G) : Result Bool Refused → Type 0 where
+      begins : DidBegin → ComesTo before (Ok true)
+      was_under_way : IsCheckpointing before.journal → DidSeal → ComesTo before (Ok false)
+      none_is_new : table.sealed ≤ before.journal.base → DidSeal → ComesTo before (Ok false)
+      no_program : table.core.graph ≡ None → DidSeal → ComesTo before (Ok false)
+      is_refused : {refused : Refused} → DidSeal → ComesTo before (Err refused)
+
+  -- over each world that acts led to, and on which the halves were at work
+  abbrev pub AsksOver : {D : Type 0} {G : Ghosts D} → (table new_table : TableData F) (old new : SlotWriterHalf D G) → Result Bool Refused → Type 0
+  AsksOver table new_table old new result = (w : SlotWorld a tag) → IsReached a (OnTwoDisks tag) w → AreAtWork a tag w table old
+      → ComesTo w new_table new old result
+
+-- no disk is called
+abbrev pub CallsNoDisk : {P D L F : Type 0} {G : Ghosts D} → (old new : SlotEngine P D L F G) → Type 0
+CallsNoDisk old new = sides_of new.writer.journal ≡ sides_of old.writer.journal
+
+module _ {F L : Type 0} (a : Analysis F L) {P D : Type 0} {G : Ghosts D} (old new : SlotEngine P D L F G) where
+  -- over each world that acts led to, and on which the engine was at work
+  abbrev pub SealsEngine : Type 0
+  SealsEngine = (tag : ℕ) (w : SlotWorld a tag) → IsReached a (OnTwoDisks tag) w → AreAtWork a tag w old.table old.writer
+      → DidSeal a tag w new.table new.writer
+
+  abbrev pub PlansEngine : Result Bool Refused → Type 0
+  PlansEngine result = (tag : ℕ) (w : SlotWorld a tag) → IsReached a (OnTwoDisks tag) w → AreAtWork a tag w old.table old.writer
+      → PlansTo a tag w new.table new.writer result
+
+  abbrev pub AsksEngine : Result Bool Refused → Type 0
+  AsksEngine result = (tag : ℕ) → AsksOver a tag old.table new.table old.writer new.writer result
+
+module _ {F L : Type 0} (a : Analysis F L) {P D : Type 0} {G : Ghosts D} where
+  -- why not all is sealed and handed over: what changed is not sealed, or the writer's queue wants memory
+  pub data IsSealAllStop (old : SlotEngine P D L F G) : Refused → Type 0 where
+    not_sealed : {refused : Refused} → IsRefusal old.table (IsSealStop a old.table) refused → IsSealAllStop old refused
+    no_queue : IsSealAllStop old NoMemory
+
+  -- why no checkpoint of what the writer has is planned: its image is not given in parts, or the writer does not plan it
+  pub data IsImageStop (old : SlotEngine P D L F G) : Refused → Type 0 where
+    no_parts : {refused : Refused} → IsPartsStop a old.table refused → IsImageStop old refused
+    no_plan : {refused : Refused} → IsPlanAllRefusal old.writer refused → IsImageStop old refused
+
+  -- why none begins: the current slot is of the last generation; or not all is sealed and handed over; or, once it is, none is
+  -- planned
+  pub data IsCheckpointStop (old : SlotEngine P D L F G) : Refused → Type 0 where
+    last_generation : old.table.failed ≡ false → old.writer.journal.generation ≡ 4294967295 → IsCheckpointStop old Limit
+    not_all_sealed : {refused : Refused} → IsSealAllStop old refused → IsCheckpointStop old refused
+    no_image : {refused : Refused} (mid : SlotEngine P D L F G) → SealsEngine a old mid → IsImageStop mid refused
+        → IsCheckpointStop old refused
