@@ -1,3 +1,4 @@
+pub mod Loops
 pub mod Begun
 pub mod Counted
 pub mod Refused

@@ -1,7 +1,11 @@
 //! A hand at work: it claims a key, does the parts of its task and ends the claim, again and again, until
 //! nothing is left or a gate stops it.
-ghost use Rattle.std.specs.Prelude.{◌≡◌, ◌<◌, ◌≤◌, ℕ, false, length, true, Ok, IfOk, OnErr, OnOk};
+ghost use Rattle.std.specs.Prelude.{◌≡◌, ◌↔◌, ◌<◌, ◌≤◌, ℕ, false, length, true, Ok, IfErr, IfOk, IsTrue, OnErr, OnOk};
 ghost use Rattle.ide_service.specs.Parts.{IsFurther, with_more};
+ghost use Rattle.ide_service.specs.Refusing.{HandCall, IsLoopRefusal, IsRefusedOver, IsTaskRefusal, to_claim, to_finish, to_part, to_seal};
+ghost use Rattle.ide_steps.specs.Claiming.{IfTask};
+ghost use Rattle.ide_tasks.specs.Task.{TaskData};
+ghost use Rattle.ide_wire.specs.declared.refused.Refused.{Refused};
 ghost use Rattle.ide_service.specs.declared.hands.Point.{Point};
 
 use ide_problem::Problem;
@@ -72,14 +76,29 @@ pub trait Hands<P: Problem> {
     /// No key is pending.
     ghost rests: { Self → Type 0 };
 
+    /// Some key is pending, and each that is has a claim.
+    ghost waits: { Self → Type 0 };
+
     /// The hand of that number has no claim.
     ghost is_free: { Self → ℕ → Type 0 };
 
+    /// From the first to the second, the hand came to claim the task's key, and to owe its parts.
+    ghost takes: { ℕ → Self → Self → TaskData P.F → Type 0 };
+
+    /// Nothing changed since the last record.
+    ghost is_sealed: { Self → Type 0 };
+
+    /// The call may be refused so.
+    ghost refuses: { Self → HandCall P.F → Refused → Type 0 };
+
     /// Claims a pending key that no hand has claimed.
     fn claim(&mut self, hand: usize) -> Result<Claimed<P>, Refused>
+        ensures task { IfTask result (takes hand self.old self.new) }
         ensures quiet { result ≡ Ok Claimed.Quiet → rests self.new }
+        ensures waiting { result ≡ Ok Claimed.Idle → waits self.new }
         ensures nothing { result ≡ Ok Claimed.Quiet → is_free self.old hand → is_free self.new hand }
         ensures idle { result ≡ Ok Claimed.Idle → is_free self.old hand → is_free self.new hand }
+        ensures cause { IfErr result (refuses self.old (to_claim hand)) }
         ensures refused { OnErr result (is_free self.old hand → is_free self.new hand) };
 
     /// Does up to so many of the next parts of the hand's work, and answers how many: fewer only where
@@ -90,18 +109,22 @@ pub trait Hands<P: Problem> {
         ensures most { IfOk result (λ count. count ≤ most) }
         ensures counted { IfOk result (λ count. work.new ≡ with_more work.old count) }
         ensures all { IfOk result (λ count. count < most → work.new.done ≡ length work.new.parts) }
-        ensures further { IsFurther work.old work.new };
+        ensures further { IsFurther most work.old work.new }
+        ensures cause { IfErr result (IsRefusedOver refuses (to_part hand work.new)) };
 
     /// Ends the hand's claim, with all parts done. `Limit` where a batch is full.
     fn finish(&mut self, hand: usize, work: &Work<P>) -> Result<(), Refused>
-        ensures { OnOk result (is_free self.new hand) };
+        ensures free { OnOk result (is_free self.new hand) }
+        ensures cause { IfErr result (refuses self.old (to_finish hand work.now)) };
 
     /// Gives the hand's claim back, if it has one.
     fn release(&mut self, hand: usize)
         ensures { is_free self.new hand };
 
     /// Seals what changed.
-    fn seal(&mut self) -> Result<(), Refused>;
+    fn seal(&mut self) -> Result<(), Refused>
+        ensures sealed { OnOk result (is_sealed self.new) }
+        ensures cause { IfErr result (refuses self.old to_seal) };
 
     /// Lets other hands work, where each pending key is claimed.
     fn pause(&mut self)
@@ -121,6 +144,7 @@ pub enum Ended {
 /// full it is sealed. In any case the hand has no claim at the end.
 ///
 /// Refusals: those of the hands' calls, but for `Stale`, where the hand claims again.
+#[tactic(auto, using(crate::specs::Refusing::no_claim))]
 pub fn hand_loop<R: Wait, P: Problem, H: Hands<P>, G: Gate>(
     rt: &R,
     alloc: Global,
@@ -132,22 +156,25 @@ pub fn hand_loop<R: Wait, P: Problem, H: Hands<P>, G: Gate>(
     ensures quiet { result ≡ Ok Ended.Quiet → H.rests hands.new }
     ensures stopped { result ≡ Ok Ended.Stopped → (point : Point) × G.may_stop gate.now point }
     ensures released { H.is_free hands.new hand }
+    ensures refused { IfErr result (IsLoopRefusal H.refuses hand) }
 {
     for _ in rt.forever() {
-        match hands.claim(hand)? {
-            Claimed::Task(task) => {
-                if !run_task(rt, alloc, hands, hand, task, gate)? {
-                    return Ok(Ended::Stopped);
-                }
-            }
-            Claimed::Idle => hands.pause(),
-            Claimed::Quiet => return Ok(Ended::Quiet),
+        match hands.claim(hand) {
+            Ok(Claimed::Task(task)) => match run_task(rt, alloc, hands, hand, task, gate) {
+                Ok(true) => {}
+                Ok(false) => return Ok(Ended::Stopped),
+                Err(refused) => return Err(refused),
+            },
+            Ok(Claimed::Idle) => hands.pause(),
+            Ok(Claimed::Quiet) => return Ok(Ended::Quiet),
+            Err(refused) => return Err(refused),
         }
     }
     unreachable!()
 }
 
 /// Does the task that the hand claimed, and leaves it with no claim: false where the gate stopped it.
+#[tactic(auto, using(crate::specs::Refusing::no_task))]
 pub(crate) fn run_task<R: Wait, P: Problem, H: Hands<P>, G: Gate>(
     rt: &R,
     alloc: Global,
@@ -158,6 +185,7 @@ pub(crate) fn run_task<R: Wait, P: Problem, H: Hands<P>, G: Gate>(
 ) -> Result<bool, Refused>
     ensures stopped { result ≡ Ok false → (point : Point) × G.may_stop gate.now point }
     ensures released { H.is_free hands.new hand }
+    ensures refused { IfErr result (IsLoopRefusal H.refuses hand) }
 {
     match do_task(rt, alloc, hands, hand, task, gate) {
         Ok(true) => Ok(true),
@@ -165,18 +193,32 @@ pub(crate) fn run_task<R: Wait, P: Problem, H: Hands<P>, G: Gate>(
             hands.release(hand);
             Ok(false)
         }
-        Err(Refused::Stale) => {
-            hands.release(hand);
-            Ok(true)
-        }
         Err(refused) => {
             hands.release(hand);
+            if is_stale(refused) {
+                return Ok(true);
+            }
             Err(refused)
         }
     }
 }
 
+/// Whether a batch is full: it is to be sealed first.
+fn is_full(refused: Refused) -> bool
+    ensures { IsTrue result ↔ (refused ≡ Refused.Limit) }
+{
+    matches!(refused, Refused::Limit)
+}
+
+/// Whether the work is no more what the hand has claimed: it claims again.
+fn is_stale(refused: Refused) -> bool
+    ensures { IsTrue result ↔ (refused ≡ Refused.Stale) }
+{
+    matches!(refused, Refused::Stale)
+}
+
 /// Does the parts of the task and ends the claim: false where the gate stopped it.
+#[tactic(auto, using(crate::specs::Refusing::no_memory))]
 fn do_task<R: Wait, P: Problem, H: Hands<P>, G: Gate>(
     rt: &R,
     alloc: Global,
@@ -187,6 +229,7 @@ fn do_task<R: Wait, P: Problem, H: Hands<P>, G: Gate>(
 ) -> Result<bool, Refused>
     ensures stopped { result ≡ Ok false → (point : Point) × G.may_stop gate.now point }
     ensures ended { result ≡ Ok true → H.is_free hands.new hand }
+    ensures refused { IfErr result (IsTaskRefusal H.refuses hand) }
 {
     if !gate.pass(Point::Claimed) {
         return Ok(false);
@@ -207,52 +250,83 @@ fn do_work<R: Wait, P: Problem, H: Hands<P>, G: Gate>(
 ) -> Result<bool, Refused>
     ensures stopped { result ≡ Ok false → (point : Point) × G.may_stop gate.now point }
     ensures ended { result ≡ Ok true → H.is_free hands.new hand }
+    ensures refused { IfErr result (IsTaskRefusal H.refuses hand) }
 {
     for _ in rt.forever() {
         let most = gate.stride();
-        let count = parts_with_room(hands, hand, &mut work, most)?;
-        if count > 0 && !gate.pass(Point::Parted) {
-            return Ok(false);
-        }
-        if count < most {
-            finish_with_room(hands, hand, &work)?;
-            return Ok(true);
+        match parts_with_room(rt, hands, hand, &mut work, most) {
+            Ok(count) => {
+                if count > 0 && !gate.pass(Point::Parted) {
+                    return Ok(false);
+                }
+                if count < most {
+                    return match finish_with_room(rt, hands, hand, &work) {
+                        Ok(()) => Ok(true),
+                        Err(refused) => Err(refused),
+                    };
+                }
+            }
+            Err(refused) => return Err(refused),
         }
     }
     unreachable!()
 }
 
-/// Does up to so many parts. Where a batch is full it is sealed first.
-fn parts_with_room<P: Problem, H: Hands<P>>(
+/// Does up to so many parts, and answers how many: fewer only where none is left. As often as a batch is full
+/// it is sealed.
+#[tactic(auto, using(crate::specs::Refusing::no_part, crate::specs::Refusing::no_seal))]
+fn parts_with_room<R: Wait, P: Problem, H: Hands<P>>(
+    rt: &R,
     hands: &mut H,
     hand: usize,
     work: &mut Work<P>,
     most: usize,
 ) -> Result<usize, Refused>
-    ensures { IfOk result (λ count. count ≤ most) }
+    ensures counted { IfOk result (λ count. work.new ≡ with_more work.old count) }
+    ensures all { IfOk result (λ count. count < most → work.new.done ≡ length work.new.parts) }
+    ensures refused { IfErr result (IsTaskRefusal H.refuses hand) }
 {
-    match hands.parts(hand, work, most) {
-        Err(Refused::Limit) => {
-            hands.seal()?;
-            hands.parts(hand, work, most)
+    let before = work.done();
+    for _ in rt.forever() {
+        let done = work.done() - before;
+        match hands.parts(hand, work, most - done) {
+            Ok(count) => return Ok(done + count),
+            Err(refused) => {
+                if !is_full(refused) {
+                    return Err(refused);
+                }
+                if let Err(refused) = hands.seal() {
+                    return Err(refused);
+                }
+            }
         }
-        done => done,
     }
+    unreachable!()
 }
 
-/// Ends the claim. Where a batch is full it is sealed first.
-fn finish_with_room<P: Problem, H: Hands<P>>(
+/// Ends the claim. As often as a batch is full it is sealed: another hand may fill it again.
+#[tactic(auto, using(crate::specs::Refusing::no_end, crate::specs::Refusing::no_seal))]
+fn finish_with_room<R: Wait, P: Problem, H: Hands<P>>(
+    rt: &R,
     hands: &mut H,
     hand: usize,
     work: &Work<P>,
 ) -> Result<(), Refused>
-    ensures { OnOk result (H.is_free hands.new hand) }
+    ensures free { OnOk result (H.is_free hands.new hand) }
+    ensures refused { IfErr result (IsTaskRefusal H.refuses hand) }
 {
-    match hands.finish(hand, work) {
-        Err(Refused::Limit) => {
-            hands.seal()?;
-            hands.finish(hand, work)
+    for _ in rt.forever() {
+        match hands.finish(hand, work) {
+            Ok(()) => return Ok(()),
+            Err(refused) => {
+                if !is_full(refused) {
+                    return Err(refused);
+                }
+                if let Err(refused) = hands.seal() {
+                    return Err(refused);
+                }
+            }
         }
-        ended => ended,
     }
+    unreachable!()
 }

@@ -1,6 +1,10 @@
 //! A service: a store that several hands work on at once, with one that writes what they did.
-ghost use Rattle.std.specs.Prelude.{◌≡◌, ℕ, false, Ok};
+ghost use Rattle.std.specs.Prelude.{◌≡◌, ℕ, false, Ok, IfErr};
+ghost use Rattle.ide_service.specs.Refusing.{HalfRefuses, IsLoopRefusal, IsRefusedIn, IsRefusedOver, to_seal};
 ghost use Rattle.ide_service.specs.declared.hands.Point.{Point};
+ghost use Rattle.ide_steps.specs.CloseRefusal.{IsFreezeRefusal};
+ghost use Rattle.ide_store.specs.Table.{TableData};
+ghost use Rattle.ide_store.specs.TableCalls.{IsLoadStop, IsRootStop};
 
 use crate::hands::{Ended, Gate, Point, hand_loop};
 use crate::progress::Progress;
@@ -9,7 +13,7 @@ use crate::sharing::SharingHand;
 use ide_disk::Disk;
 use ide_problem::Problem;
 use ide_steps::Closed;
-use ide_store::{Engine, Ticket};
+use ide_store::{Engine, Kept, Ticket};
 use ide_text::Program;
 use ide_wire::Refused;
 use std::alloc::Global;
@@ -56,6 +60,7 @@ impl<P: Problem, D: Disk> Service<P, D> {
         gate: &G,
     ) -> Result<Ended, Refused>
         ensures stopped { result ≡ Ok Ended.Stopped → (point : Point) × G.may_stop gate.now point }
+        ensures refused { IfErr result (IsLoopRefusal (HalfRefuses ⟦<P as Kept>⟧.analysis) hand) }
     {
         let mut hands = SharingHand::new(rt, self, gate.ahead());
         hand_loop(rt, self.alloc, &mut hands, hand, gate)
@@ -145,22 +150,30 @@ impl<P: Problem, D: Disk> Service<P, D> {
     }
 
     /// Loads a program: see [`ide_store::TableHalf::load`]. No hand has a claim then.
-    pub fn load<R: Wait>(&self, rt: &R, program: Program) -> Result<Ticket, Refused> {
+    pub fn load<R: Wait>(&self, rt: &R, program: Program) -> Result<Ticket, Refused>
+        ensures refused { IfErr result (IsRefusedIn (λ (table : TableData P.F). IsLoadStop table)) }
+    {
         self.store.lock(rt).load(program)
     }
 
     /// Makes the procedure of that name a root: see [`ide_store::TableHalf::root`].
-    pub fn root<R: Wait>(&self, rt: &R, name: &[u8]) -> Result<Ticket, Refused> {
+    pub fn root<R: Wait>(&self, rt: &R, name: &[u8]) -> Result<Ticket, Refused>
+        ensures refused { IfErr result (IsRefusedIn (λ table. IsRootStop ⟦<P as Kept>⟧.analysis table name.now)) }
+    {
         self.store.lock(rt).root(name)
     }
 
     /// Seals what changed since the last record, if anything did: see [`ide_store::TableHalf::seal`].
-    pub fn seal<R: Wait>(&self, rt: &R) -> Result<Option<Ticket>, Refused> {
+    pub fn seal<R: Wait>(&self, rt: &R) -> Result<Option<Ticket>, Refused>
+        ensures refused { IfErr result (IsRefusedOver (HalfRefuses ⟦<P as Kept>⟧.analysis) to_seal) }
+    {
         self.store.lock(rt).seal()
     }
 
     /// The image as it stands, copied: see [`ide_store::TableHalf::freeze`].
-    pub fn freeze<R: Wait>(&self, rt: &R) -> Result<Closed<P>, Refused> {
+    pub fn freeze<R: Wait>(&self, rt: &R) -> Result<Closed<P>, Refused>
+        ensures refused { IfErr result (IsRefusedIn (λ (table : TableData P.F). IsFreezeRefusal table.core)) }
+    {
         self.store.lock(rt).freeze()
     }
 

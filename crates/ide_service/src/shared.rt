@@ -1,12 +1,15 @@
 //! A store that hands share: what each does to it under one hold of its lock.
-ghost use Rattle.std.specs.Prelude.{◌≡◌, ◌≤◌, [], None, false, Ok, IfOk, OnOk};
+ghost use Rattle.std.specs.Prelude.{◌≡◌, ◌≤◌, [], None, Some, false, Ok, IfErr, IfOk, OnOk};
 ghost use Rattle.ide_image.specs.Worklist.{claim_at};
+ghost use Rattle.ide_service.specs.Refusing.{HalfRefuses, IsLoopRefusal, IsWaiting};
+ghost use Rattle.ide_steps.specs.CloseRefusal.{IsFreezeRefusal};
+ghost use Rattle.ide_store.specs.TableCalls.{IsLoadStop, IsRefusal, IsRootStop, IsSealStop, TakesTask};
 
 use crate::hands::{Hands, Open, run_task};
 use ide_disk::Disk;
 use ide_problem::Problem;
 use ide_steps::{Claimed, Closed};
-use ide_store::{Engine, Ticket};
+use ide_store::{Engine, Kept, Ticket};
 use ide_tasks::Work;
 use ide_text::Program;
 use ide_wire::Refused;
@@ -32,22 +35,31 @@ pub(crate) enum Stepped {
 
 impl<P: Problem, D: Disk> Shared<P, D> {
     /// Seals what changed since the last record, if anything did.
-    pub(crate) fn seal(&mut self) -> Result<Option<Ticket>, Refused> {
+    pub(crate) fn seal(&mut self) -> Result<Option<Ticket>, Refused>
+        ensures sealed { OnOk result (self.new.engine.table.core.changes ≡ Some []) }
+        ensures refused { IfErr result (IsRefusal self.old.engine.table (IsSealStop ⟦<P as Kept>⟧.analysis self.old.engine.table)) }
+    {
         self.engine.table.seal()
     }
 
     /// Loads the program.
-    pub(crate) fn load(&mut self, program: Program) -> Result<Ticket, Refused> {
+    pub(crate) fn load(&mut self, program: Program) -> Result<Ticket, Refused>
+        ensures { IfErr result (IsRefusal self.old.engine.table (IsLoadStop self.old.engine.table)) }
+    {
         self.engine.table.load(program)
     }
 
     /// Makes the procedure of that name a root.
-    pub(crate) fn root(&mut self, name: &[u8]) -> Result<Ticket, Refused> {
+    pub(crate) fn root(&mut self, name: &[u8]) -> Result<Ticket, Refused>
+        ensures { IfErr result (IsRefusal self.old.engine.table (IsRootStop ⟦<P as Kept>⟧.analysis self.old.engine.table name.now)) }
+    {
         self.engine.table.root(name)
     }
 
     /// The image as it stands, copied.
-    pub(crate) fn freeze(&self) -> Result<Closed<P>, Refused> {
+    pub(crate) fn freeze(&self) -> Result<Closed<P>, Refused>
+        ensures { IfErr result (IsRefusal self.now.engine.table (IsFreezeRefusal self.now.engine.table.core)) }
+    {
         self.engine.table.freeze()
     }
 
@@ -75,6 +87,7 @@ impl<P: Problem, D: Disk> Shared<P, D> {
     }
 
     /// Does up to so many whole tasks as the hand, and claims the key behind them.
+    #[tactic(auto, using(crate::specs::Refusing::no_claim))]
     pub(crate) fn claim_ahead<R: Wait>(
         &mut self,
         rt: &R,
@@ -83,14 +96,20 @@ impl<P: Problem, D: Disk> Shared<P, D> {
         tasks: usize,
     ) -> Result<Claimed<P>, Refused>
         ensures quiet { result ≡ Ok Claimed.Quiet → self.new.engine.table.core.pile.pending ≡ [] }
+        ensures idle { result ≡ Ok Claimed.Idle → IsWaiting self.new.engine.table.core }
+        ensures refused { IfErr result (IsLoopRefusal (HalfRefuses ⟦<P as Kept>⟧.analysis) hand) }
     {
         let open = Open { ahead: 0 };
         for _ in 0..tasks {
-            match Hands::claim(self, hand)? {
-                Claimed::Task(task) => {
-                    let _ = run_task(rt, alloc, self, hand, task, &open)?;
+            match Hands::claim(self, hand) {
+                Ok(Claimed::Task(task)) => {
+                    match run_task(rt, alloc, self, hand, task, &open) {
+                        Ok(_) => {}
+                        Err(refused) => return Err(refused),
+                    }
                 }
-                none => return Ok(none),
+                Ok(none) => return Ok(none),
+                Err(refused) => return Err(refused),
             }
         }
         Hands::claim(self, hand)
@@ -101,7 +120,15 @@ impl<P: Problem, D: Disk> Shared<P, D> {
 impl<P: Problem, D: Disk> Hands<P> for Shared<P, D> {
     ghost rests = { λ shared. shared.engine.table.core.pile.pending ≡ [] };
 
+    ghost waits = { λ shared. IsWaiting shared.engine.table.core };
+
     ghost is_free = { λ shared hand. shared.engine.table.failed ≡ false → claim_at shared.engine.table.core.pile hand ≡ None };
+
+    ghost takes = { λ hand old new task. TakesTask ⟦<P as Kept>⟧.analysis hand old.engine.table new.engine.table task };
+
+    ghost is_sealed = { λ shared. shared.engine.table.core.changes ≡ Some [] };
+
+    ghost refuses = { λ shared call why. HalfRefuses ⟦<P as Kept>⟧.analysis shared.engine.table call why };
 
     fn claim(&mut self, hand: usize) -> Result<Claimed<P>, Refused> {
         self.engine.table.claim(hand)
@@ -120,8 +147,10 @@ impl<P: Problem, D: Disk> Hands<P> for Shared<P, D> {
     }
 
     fn seal(&mut self) -> Result<(), Refused> {
-        let _ = Shared::seal(self)?;
-        Ok(())
+        match Shared::seal(self) {
+            Ok(_) => Ok(()),
+            Err(refused) => Err(refused),
+        }
     }
 
     fn pause(&mut self) {}

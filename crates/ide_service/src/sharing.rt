@@ -1,12 +1,14 @@
 //! A hand of a service: it takes the lock for each of its calls, and for as many tasks as its gate lets it
 //! do unasked.
-ghost use Rattle.std.specs.Prelude.{◌≡◌, true};
+ghost use Rattle.std.specs.Prelude.{◌≡◌, Some, false, true};
+ghost use Rattle.ide_service.specs.Refusing.{SharedRefuses};
 
 use crate::hands::Hands;
 use crate::service::Service;
 use ide_disk::Disk;
 use ide_problem::Problem;
 use ide_steps::Claimed;
+use ide_store::Kept;
 use ide_tasks::Work;
 use ide_wire::Refused;
 use std::sync::Wait;
@@ -18,6 +20,17 @@ const YIELDS: u32 = 16;
 /// How many microseconds it sleeps then.
 const PAUSE: u64 = 100;
 
+/// What a hand saw of the keys that were pending when it claimed.
+#[derive(Clone, Copy, PartialEq, Eq, Debug)]
+pub(crate) enum Seen {
+    /// One that it has claimed since.
+    Task,
+    /// Some, each of them claimed.
+    Idle,
+    /// None.
+    Quiet,
+}
+
 /// One hand, and the service that it works on.
 #[derive(Drop)]
 pub(crate) struct SharingHand<'a, R: Wait + Clock, P: Problem, D: Disk> {
@@ -27,8 +40,8 @@ pub(crate) struct SharingHand<'a, R: Wait + Clock, P: Problem, D: Disk> {
     ahead: usize,
     /// How often it yielded since it had a task.
     yields: u32,
-    /// Nothing was pending when it last claimed.
-    quiet: bool,
+    /// What it saw when it last claimed.
+    seen: Option<Seen>,
     /// It has no claim.
     free: bool,
 }
@@ -43,32 +56,49 @@ impl<'a, R: Wait + Clock, P: Problem, D: Disk> SharingHand<'a, R, P, D> {
             service,
             ahead,
             yields: 0,
-            quiet: false,
+            seen: None,
             free: true,
         }
     }
 }
 
-/// What a hand knows of the others ends with its hold of the lock: it rests where its last claim found
-/// nothing pending.
+/// What a hand knows of the others ends with its hold of the lock: it rests, or waits, where its last claim
+/// found the store so, and it is refused as the store was that it met.
 impl<'a, R: Wait + Clock, P: Problem, D: Disk> Hands<P> for SharingHand<'a, R, P, D> {
-    ghost rests = { λ hands. hands.quiet ≡ true };
+    ghost use Rattle.ide_service.specs.declared.sharing.Seen.{Seen};
+
+    ghost rests = { λ hands. hands.seen ≡ Some Seen.Quiet };
+
+    ghost waits = { λ hands. hands.seen ≡ Some Seen.Idle };
 
     ghost is_free = { λ hands _. hands.free ≡ true };
+
+    ghost takes = { λ _ _ new _. new.free ≡ false };
+
+    ghost is_sealed = { λ _. Unit {0} };
+
+    ghost refuses = { λ _ call why. SharedRefuses ⟦<P as Kept>⟧.analysis call why };
 
     fn claim(&mut self, hand: usize) -> Result<Claimed<P>, Refused> {
         let alloc = self.service.alloc();
         let mut shared = self.service.shared(self.rt);
-        let claimed = shared.claim_ahead(self.rt, alloc, hand, self.ahead)?;
-        match &claimed {
-            Claimed::Task(_) => {
+        match shared.claim_ahead(self.rt, alloc, hand, self.ahead) {
+            Ok(Claimed::Task(task)) => {
+                self.seen = Some(Seen::Task);
                 self.yields = 0;
                 self.free = false;
+                Ok(Claimed::Task(task))
             }
-            Claimed::Idle => {}
-            Claimed::Quiet => self.quiet = true,
+            Ok(Claimed::Idle) => {
+                self.seen = Some(Seen::Idle);
+                Ok(Claimed::Idle)
+            }
+            Ok(Claimed::Quiet) => {
+                self.seen = Some(Seen::Quiet);
+                Ok(Claimed::Quiet)
+            }
+            Err(refused) => Err(refused),
         }
-        Ok(claimed)
     }
 
     fn parts(&mut self, hand: usize, work: &mut Work<P>, most: usize) -> Result<usize, Refused> {
@@ -76,9 +106,13 @@ impl<'a, R: Wait + Clock, P: Problem, D: Disk> Hands<P> for SharingHand<'a, R, P
     }
 
     fn finish(&mut self, hand: usize, work: &Work<P>) -> Result<(), Refused> {
-        Hands::finish(&mut *self.service.shared(self.rt), hand, work)?;
-        self.free = true;
-        Ok(())
+        match Hands::finish(&mut *self.service.shared(self.rt), hand, work) {
+            Ok(()) => {
+                self.free = true;
+                Ok(())
+            }
+            Err(refused) => Err(refused),
+        }
     }
 
     fn release(&mut self, hand: usize) {
@@ -87,8 +121,10 @@ impl<'a, R: Wait + Clock, P: Problem, D: Disk> Hands<P> for SharingHand<'a, R, P
     }
 
     fn seal(&mut self) -> Result<(), Refused> {
-        let _ = self.service.seal(self.rt)?;
-        Ok(())
+        match self.service.seal(self.rt) {
+            Ok(_) => Ok(()),
+            Err(refused) => Err(refused),
+        }
     }
 
     /// It yields a few times, and then sleeps for a moment each time, so that no wake-up can be missed.

@@ -1,7 +1,11 @@
 //! A hand's loop over a store that one hand has to itself, and what its gate stops.
 use crate::gates::Counting;
 use crate::services::begun;
-use ide_service::{Ended, Open, Point, hand_loop};
+use ide_instances::CopyConst;
+use ide_service::{Ended, Hands, Open, Point, hand_loop};
+use ide_steps::Claimed;
+use ide_store::{Engine, TableHalf};
+use ide_tasks::Work;
 use ide_wire::Refused;
 use ide_worked::TWO_CALLS;
 use std::process::Abort;
@@ -57,5 +61,84 @@ fn a_hand_number_has_a_limit(rt: HostRuntime) -> Result<(), Fail> {
     assert!(rt; engine.table.core().claim_of(64).is_none());
     let ended = hand_loop(&rt, rt.alloc(), &mut engine.table, 64, &open);
     assert!(rt; ended == Err(Refused::Limit));
+    Ok(())
+}
+
+/// A half whose batch is full after each of the first parts that it does, and before the first ends of claims,
+/// so many times each.
+#[derive(Drop)]
+struct Filling {
+    table: TableHalf<CopyConst>,
+    parts: u32,
+    ends: u32,
+}
+
+impl Hands<CopyConst> for Filling {
+    ghost rests = { λ _. Unit {0} };
+
+    ghost waits = { λ _. Unit {0} };
+
+    ghost is_free = { λ _ _. Unit {0} };
+
+    ghost takes = { λ _ _ _ _. Unit {0} };
+
+    ghost is_sealed = { λ _. Unit {0} };
+
+    ghost refuses = { λ _ _ _. Unit {0} };
+
+    fn claim(&mut self, hand: usize) -> Result<Claimed<CopyConst>, Refused> {
+        self.table.claim(hand)
+    }
+
+    fn parts(
+        &mut self,
+        hand: usize,
+        work: &mut Work<CopyConst>,
+        most: usize,
+    ) -> Result<usize, Refused> {
+        if self.parts == 0 {
+            return Hands::parts(&mut self.table, hand, work, most);
+        }
+        self.parts -= 1;
+        match Hands::parts(&mut self.table, hand, work, most.min(1)) {
+            Ok(_) => Err(Refused::Limit),
+            Err(refused) => Err(refused),
+        }
+    }
+
+    fn finish(&mut self, hand: usize, work: &Work<CopyConst>) -> Result<(), Refused> {
+        if self.ends == 0 {
+            return self.table.finish(hand, work);
+        }
+        self.ends -= 1;
+        Err(Refused::Limit)
+    }
+
+    fn release(&mut self, hand: usize) {
+        Hands::release(&mut self.table, hand);
+    }
+
+    fn seal(&mut self) -> Result<(), Refused> {
+        Hands::seal(&mut self.table)
+    }
+
+    fn pause(&mut self) {}
+}
+
+// A batch may be full several times in one task: it is sealed each time, and the loop goes on.
+#[test]
+fn a_loop_seals_as_often_as_a_batch_is_full(rt: HostRuntime) -> Result<(), Fail> {
+    let Engine { table, .. } = begun(rt.alloc(), TWO_CALLS)?;
+    let mut filling = Filling {
+        table,
+        parts: 3,
+        ends: 2,
+    };
+    let open = Open { ahead: 0 };
+    let ended = hand_loop(&rt, rt.alloc(), &mut filling, 0, &open);
+    assert!(rt; ended == Ok(Ended::Quiet));
+    assert!(rt; filling.parts == 0);
+    assert!(rt; filling.ends == 0);
+    assert!(rt; filling.table.core().is_quiet());
     Ok(())
 }

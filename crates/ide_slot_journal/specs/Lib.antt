@@ -1,3 +1,4 @@
+pub mod Adopting
 pub mod Checkpoints
 pub mod Fillers
 pub mod Making

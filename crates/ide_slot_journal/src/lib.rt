@@ -5,6 +5,7 @@
 //! under way.
 #![tactic(auto)]
 
+mod adopting;
 mod calls;
 mod filler;
 mod journal;
@@ -14,5 +15,6 @@ mod spelling;
 mod stage;
 mod tag;
 
+pub use adopting::put_closed;
 pub use journal::SlotJournal;
 pub use tag::current_tag;

@@ -1,5 +1,5 @@
 //! What an opening does to the disks.
-ghost use Rattle.std.specs.Prelude.{◌≡◌, ◌⊎◌, ◌+◌, ◌<◌, ◌≤◌, length, take, OnOk, OnErr, IfOk, IfErr};
+ghost use Rattle.std.specs.Prelude.{◌≡◌, ◌⊎◌, ◌+◌, ◌<◌, ◌≤◌, length, take, OnOk, OnErr, IfOk, IfErr, IfNone, IfSome};
 ghost use Rattle.ide_disk.specs.Disk.{CrashLeaves, settled};
 ghost use Rattle.ide_disk.specs.Time.{failures_after};
 ghost use Rattle.ide_journal.specs.Moments.{LeavesNoMore, OnlyLooks};
@@ -14,7 +14,30 @@ use ide_slots::{LoadedSlot, Side, choose_slot, read_head, read_slot};
 use ide_wire::Refused;
 use std::alloc::Global;
 
-// The first page of the file on the disk, and its first gate.
+// The first page of the file on the disk, and its first gate: none where the file is shorter.
+pub(crate) fn front_of<D: Disk>(disk: &mut D) -> Result<Option<[u8; 4097]>, Refused>
+    ensures front { D.honest disk.old → IfOk result (λ it. IfSome it (λ front. front ≡ take 4097 (D.state disk.old).now)) }
+    ensures long { IfOk result (λ it. IfSome it (λ _. 4097 ≤ D.size disk.old)) }
+    ensures short { IfOk result (λ it. IfNone it (D.size disk.old ≤ 4096)) }
+    ensures same { OnlyLooks D.Disk disk.old disk.new }
+    ensures failures { CountsFaults D.Disk result disk.old disk.new }
+    ensures refused { IfErr result (λ refused. refused ≡ Refused.Disk) }
+{
+    let len = match disk.len() {
+        Ok(len) => len,
+        Err(_) => return Err(Refused::Disk),
+    };
+    if len <= 4096 {
+        return Ok(None);
+    }
+    let mut front = [0; 4097];
+    match disk.read(0, &mut front) {
+        Ok(()) => Ok(Some(front)),
+        Err(_) => Err(Refused::Disk),
+    }
+}
+
+// The same, where the file is long enough for a slot.
 #[tactic(auto, using(crate::specs::Opening::look_device, crate::specs::Opening::look_short))]
 pub(crate) fn read_front<D: Disk>(disk: &mut D) -> Result<[u8; 4097], Refused>
     ensures front { D.honest disk.old → IfOk result (λ front. front ≡ take 4097 (D.state disk.old).now) }
@@ -23,17 +46,10 @@ pub(crate) fn read_front<D: Disk>(disk: &mut D) -> Result<[u8; 4097], Refused>
     ensures failures { CountsFaults D.Disk result disk.old disk.new }
     ensures refused { D.honest disk.old → IfErr result (IsLookRefusal (D.state disk.old).now) }
 {
-    let len = match disk.len() {
-        Ok(len) => len,
-        Err(_) => return Err(Refused::Disk),
-    };
-    if len <= 4096 {
-        return Err(Refused::NotAStore);
-    }
-    let mut front = [0; 4097];
-    match disk.read(0, &mut front) {
-        Ok(()) => Ok(front),
-        Err(_) => Err(Refused::Disk),
+    match front_of(disk) {
+        Ok(Some(front)) => Ok(front),
+        Ok(None) => Err(Refused::NotAStore),
+        Err(refused) => Err(refused),
     }
 }
 

@@ -195,7 +195,7 @@ module _ {F L : Type 0} (a : Analysis F L) {P D : Type 0} {G : Ghosts D} where
   plan_stop old (Ok planned) stop = tt
   plan_stop old (Err e) stop = no_plan stop
 
-  pub image_stop : (old mid : SlotEngine P D L F G) (result : Result Bool Refused) → SealsEngine a old mid → IfErr result (IsImageStop a mid)
-      → IfErr result (IsCheckpointStop a old)
-  image_stop old mid (Ok planned) seals stop = tt
-  image_stop old mid (Err e) seals stop = no_image mid seals stop
+  pub image_stop : (old mid new : SlotEngine P D L F G) (result : Result Bool Refused) → SealsEngine a old mid → new.table ≡ mid.table
+      → mid.writer.journal ≡ old.writer.journal → IfErr result (IsImageStop a mid) → IfErr result (IsCheckpointStop a old new)
+  image_stop old mid new (Ok planned) seals table journal stop = tt
+  image_stop old mid new (Err e) seals table journal stop = no_image mid seals table journal stop

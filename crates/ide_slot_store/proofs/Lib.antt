@@ -1,3 +1,4 @@
+pub mod Adopted
 pub mod Asking
 pub mod Checkpoint
 pub mod Crashes

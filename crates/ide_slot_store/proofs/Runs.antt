@@ -7,20 +7,21 @@ use Rattle.ide_slot_journal.specs.Opened.{settled_both}
 use Rattle.ide_slot_journal.specs.Stands.{disks_of}
 use Rattle.ide_slots.specs.Sides.{Sides}
 use Rattle.ide_wire.specs.declared.refused.Refused.{Refused}
-use Rattle.ide_store.proofs.Acts.{reached_more}
+use Rattle.ide_store.proofs.Acts.{reached_more, reached_new}
 use Rattle.ide_store.proofs.Drained.{works_still, works_unchanged}
 use Rattle.ide_store.proofs.Runs.{WorksFrom, act_goes, works_go}
 use Rattle.ide_store.specs.Draining.{WorksBy}
 use Rattle.ide_store.specs.Hands.{Happens}
 use Rattle.ide_store.specs.Places.{OnTwoDisks, Place}
 use Rattle.ide_store.specs.Runs.{IsLeftByRun, IsOfTable}
-use Rattle.ide_store.specs.Table.{Analysis, IsAct, IsReached, MayDoAll, StoreAct, TableData, after_act, after_acts}
+use Rattle.ide_store.specs.Table.{Analysis, IsAct, IsReached, MayDoAll, StoreAct, TableData, after_act, after_acts, new_store}
 use Rattle.ide_store.specs.World.{Begins, Closed, Crashes, Fails, Opens, Stops}
 use Rattle.ide_slot_store.specs.Asking.{AsksOver, ComesTo, DidSeal, begins, is_refused, no_program, none_is_new, sealing, was_under_way}
 use Rattle.ide_slot_store.specs.Engine.{AreAtWork, AreOpened, MayCrash, SlotEvent, SlotWorld, StepsDisks, StepsDisksOver, after_events, all_stored, at_once, did_call, did_fail, happening, no_memory, within_call, within_opening, MayHappen}
 use Rattle.ide_slot_store.specs.Half.{Writes}
 use Rattle.ide_slot_store.specs.Runs.{AreOnRun, AreOnRunUnlessFailed, SlotEnginesStayOnRuns}
 use Rattle.ide_slot_store.specs.declared.writer.SlotWriterHalf.{SlotWriterHalf}
+use Rattle.ide_slot_store.proofs.Adopted.{adopting_stays}
 
 module _ {F L : Type 0} (a : Analysis F L) (tag : ℕ) where
   -- what events lead to leaves disks
@@ -136,11 +137,12 @@ pub slot_engines_stay_on_runs : {P F L D : Type 0} (a : Analysis F L) {G : Ghost
 slot_engines_stay_on_runs a = record {
   made = λ tag table writer new. record {
     tag = tag;
-    world = _;
-    reached = record { work = new.work; disks = disks_of writer.journal; live = new.live; acts = []; can = tt; is = refl };
+    world = new_store a (OnTwoDisks tag) new.work (disks_of writer.journal);
+    reached = reached_new a (OnTwoDisks tag) new.work (disks_of writer.journal) new.live;
     at_work = new.at_work;
   };
   opened = opening_stays a;
+  adopted = adopting_stays a;
   leaves = λ table writer on. record { world = on.world; reached = on.reached; stands = on.at_work.disks };
   crashes = crash_leaves a;
   act = act_stays a;

@@ -91,10 +91,10 @@ module _ {F L : Type 0} (a : Analysis F L) {P D : Type 0} {G : Ghosts D} where
     no_parts : {refused : Refused} → IsPartsStop a old.table refused → IsImageStop old refused
     no_plan : {refused : Refused} → IsPlanAllRefusal old.writer refused → IsImageStop old refused
 
-  -- why none begins: the current slot is of the last generation; or not all is sealed and handed over; or, once it is, none is
-  -- planned
-  pub data IsCheckpointStop (old : SlotEngine P D L F G) : Refused → Type 0 where
-    last_generation : old.table.failed ≡ false → old.writer.journal.generation ≡ 4294967295 → IsCheckpointStop old Limit
-    not_all_sealed : {refused : Refused} → IsSealAllStop old refused → IsCheckpointStop old refused
-    no_image : {refused : Refused} (mid : SlotEngine P D L F G) → SealsEngine a old mid → IsImageStop mid refused
-        → IsCheckpointStop old refused
+  -- why none begins: the current slot is of the last generation; or not all is sealed and handed over; or, once it is, as the
+  -- half that works is left, none is planned
+  pub data IsCheckpointStop (old new : SlotEngine P D L F G) : Refused → Type 0 where
+    last_generation : old.table.failed ≡ false → old.writer.journal.generation ≡ 4294967295 → IsCheckpointStop old new Limit
+    not_all_sealed : {refused : Refused} → IsSealAllStop old refused → IsCheckpointStop old new refused
+    no_image : {refused : Refused} (mid : SlotEngine P D L F G) → SealsEngine a old mid → new.table ≡ mid.table
+        → mid.writer.journal ≡ old.writer.journal → IsImageStop mid refused → IsCheckpointStop old new refused

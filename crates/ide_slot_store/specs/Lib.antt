@@ -1,3 +1,4 @@
+pub mod Adopting
 pub mod Asking
 pub mod Batches
 pub mod Checkpoint

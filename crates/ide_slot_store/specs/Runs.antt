@@ -2,6 +2,8 @@
 use Rattle.std.specs.Prelude.{◌≡◌, ℕ, Bool, false, List, Result}
 use Rattle.ide_disk.specs.Disk.{DiskState}
 use Rattle.ide_disk.specs.declared.disk.Disk.{Ghosts}
+use Rattle.ide_journal.specs.Format.{head_of}
+use Rattle.ide_journal.specs.declared.version.Version.TheVariants.{Two}
 use Rattle.ide_slot_journal.specs.Opened.{settled_both}
 use Rattle.ide_slot_journal.specs.Stands.{disks_of}
 use Rattle.ide_slots.specs.Sides.{Sides}
@@ -9,10 +11,11 @@ use Rattle.ide_steps.specs.declared.closed.Closed.{Closed}
 use Rattle.ide_wire.specs.declared.refused.Refused.{Refused}
 use Rattle.ide_store.specs.Draining.{WorksBy}
 use Rattle.ide_store.specs.Freezing.{IsImageOver}
-use Rattle.ide_store.specs.Places.{OnTwoDisks, Place}
+use Rattle.ide_store.specs.Places.{OnOneDisk, OnTwoDisks, Place}
 use Rattle.ide_store.specs.Runs.{IsImageOfRun, IsLeftByRun, IsOfTable}
 use Rattle.ide_store.specs.Table.{Analysis, IsAct, IsReached, IsSameTable, StoreAct, TableData}
 use Rattle.ide_store.specs.TableCalls.{FindsNothing}
+use Rattle.ide_slot_store.specs.Adopting.{AreAdopted}
 use Rattle.ide_slot_store.specs.Asking.{AsksOver}
 use Rattle.ide_slot_store.specs.Engine.{AreAtWork, AreNewHalves, AreOpened, MayCrash, SlotWorld, StepsDisksOver}
 use Rattle.ide_slot_store.specs.declared.writer.SlotWriterHalf.{SlotWriterHalf}
@@ -39,6 +42,9 @@ pub record SlotEnginesStayOnRuns (P : Type 0) {F L : Type 0} (a : Analysis F L) 
       → IsLeftByRun a (OnTwoDisks on.tag) (disks_of writer.journal)
   pub crashes : (tag : ℕ) (w : SlotWorld a tag) → IsReached a (OnTwoDisks tag) w → (left : Sides (List ℕ)) → MayCrash a tag w left
       → IsLeftByRun a (OnTwoDisks tag) (settled_both left)
+  -- and so does one that is adopted, from a disk that a run on it alone left
+  pub adopted : (tag : ℕ) (before : DiskState) (table : TableData F) (writer : SlotWriterHalf D G)
+      → IsLeftByRun a (OnOneDisk (head_of Two tag)) before → AreAdopted a tag before table writer → AreOnRun a table writer
   -- calls of the half that works: an act, all that one hand did, nothing to seal, or a refusal
   pub act : (old new : TableData F) (writer : SlotWriterHalf D G) (act : (place : Place) → StoreAct a place)
       → ((place : Place) → IsOfTable a place (act place)) → IsAct a old new act → AreOnRun a old writer → AreOnRun a new writer

@@ -30,7 +30,7 @@ impl<P: Problem, D: Disk> SlotEngine<P, D> {
         ensures disks { CallsNoDisk self.old self.new }
         ensures failed { self.old.table.failed ≡ true → (result ≡ Err Refused.Failed) × (self.new ≡ self.old) }
         ensures waits { self.old.table.failed ≡ false → IsCheckpointing self.old.writer.journal → (result ≡ Ok false) × (self.new ≡ self.old) }
-        ensures refused { IfErr result (IsCheckpointStop ⟦<P as Kept>⟧.analysis self.old) }
+        ensures refused { IfErr result (IsCheckpointStop ⟦<P as Kept>⟧.analysis self.old self.new) }
     {
         if self.table.is_stopped() {
             return Err(Refused::Failed);

@@ -8,6 +8,7 @@
 //! the one that works, and each call of it is some acts of such a world (`specs/Engine`).
 #![tactic(auto)]
 
+mod adopting;
 mod batches;
 mod checkpointing;
 mod commands;

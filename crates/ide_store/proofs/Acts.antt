@@ -1,8 +1,8 @@
 -- Lists of acts: they are done one behind the other, and lead from worlds that acts led to to such worlds.
-use Rattle.std.proofs.Common.{◌≡◌, ◌∙◌, ◌+◌, ◌++◌, Bool, List, [], ◌∷◌, refl, ap, sym, subst, arith}
+use Rattle.std.proofs.Common.{◌≡◌, ◌∙◌, ◌+◌, ◌++◌, Bool, List, [], ◌∷◌, refl, ap, sym, subst, arith, inl}
 use Rattle.ide_store.specs.Draining.{count_of}
-use Rattle.ide_store.specs.Places.{Place}
-use Rattle.ide_store.specs.Table.{Analysis, IsReached, MayDoAll, StoreAct, StoreWorld, after_act, after_acts, new_store}
+use Rattle.ide_store.specs.Places.{OnOneDisk, OnTwoDisks, Place}
+use Rattle.ide_store.specs.Table.{Analysis, IsNew, IsReached, IsStart, MayDoAll, StoreAct, StoreWorld, after_act, after_acts, new_store, store_at}
 
 module _ {F L : Type 0} (a : Analysis F L) (place : Place) where
   -- acts may be done behind others
@@ -24,12 +24,28 @@ module _ {F L : Type 0} (a : Analysis F L) (place : Place) where
   -- where they lead from a world that acts led to, acts led to
   pub reached_more : (w : StoreWorld a place) (acts : List (StoreAct a place)) → IsReached a place w → MayDoAll a place w acts → IsReached a place (after_acts a place w acts)
   reached_more w acts reached can =
-      let begun = new_store a place reached.work reached.disks in
+      let begun = reached.start in
       record {
-        work = reached.work;
-        disks = reached.disks;
-        live = reached.live;
+        start = begun;
+        begins = reached.begins;
         acts = reached.acts ++ acts;
         can = may_more begun reached.acts acts reached.can (subst (λ (u : StoreWorld a place). MayDoAll a place u acts) (sym reached.is) can);
         is = after_more begun reached.acts acts ∙ ap (λ (u : StoreWorld a place). after_acts a place u acts) reached.is;
       }
+
+module _ {F L : Type 0} (a : Analysis F L) where
+  -- a run may begin at a new store
+  pub begins_new : (place : Place) (start : StoreWorld a place) → IsNew a place start → IsStart a place start
+  begins_new (OnOneDisk head) start new = new
+  begins_new (OnTwoDisks tag) start new = inl new
+
+  -- so that is a world that acts led to
+  pub reached_new : (place : Place) (work : (store_at a place).Work) (disks : (store_at a place).Disks) → (store_at a place).Live [] 0 work disks
+      → IsReached a place (new_store a place work disks)
+  reached_new place work disks live = record {
+    start = new_store a place work disks;
+    begins = begins_new place (new_store a place work disks) (record { work = work; disks = disks; live = live; is = refl });
+    acts = [];
+    can = tt;
+    is = refl;
+  }

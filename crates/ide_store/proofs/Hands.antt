@@ -473,7 +473,7 @@ module _ {F L : Type 0} {Leads : Entry → ProgramImage F → ProgramImage F →
             omega (arith, both, spent, work.lowerings, work.entries, room);
       }
 
-  sound : (w : Hands F S) → IsWhole w → IsSoundWorld A B targets same forms version acts_by S w
+  pub sound : (w : Hands F S) → IsWhole w → IsSoundWorld A B targets same forms version acts_by S w
   sound w whole = record {
     recovers = recoverable acts_by exact laws w.world whole.held.world;
     answers = λ v is by.

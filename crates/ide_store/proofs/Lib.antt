@@ -1,3 +1,4 @@
+pub mod Adopted
 pub mod Good
 pub mod Half
 pub mod Hands

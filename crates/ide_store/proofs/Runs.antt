@@ -18,7 +18,7 @@ use Rattle.ide_store.specs.Answers.{GraphBy, frame_by, roots_by}
 use Rattle.ide_store.specs.Draining.{AreByDrainer, IsByHand, WorksBy}
 use Rattle.ide_store.specs.Engine.{AreAtWork, AreOpened, MayCrash, StepsDisk, StepsDiskOver, all_stored, at_once, did_call, did_fail, no_memory, within_call, within_opening}
 use Rattle.ide_store.specs.Half.{Writes}
-use Rattle.ide_store.specs.Hands.{Batches, Claims, Ends, Happens, IsSoundWorld, Loads, Parts, Releases, Roots}
+use Rattle.ide_store.specs.Hands.{Batches, Claims, Ends, Happens, IsSoundWorld, Loads, Parts, Releases, Roots, RunsAnswer}
 use Rattle.ide_store.specs.Places.{OnOneDisk, OnTwoDisks, Place, version_at}
 use Rattle.ide_store.specs.Recovery.{OneDiskAnswers, PlaceAnswers}
 use Rattle.ide_store.specs.Runs.{AreOnRun, AreOnRunUnlessFailed, EnginesStayOnRuns, IsBestImage, IsImageOfRun, IsLeftByRun, IsOfTable}
@@ -27,7 +27,7 @@ use Rattle.ide_store.specs.TwoDisksLaws.{TwoDisksAnswers}
 use Rattle.ide_store.specs.World.{Closed as Shut, Crashes, Fails, Opens, Stops}
 use Rattle.ide_store.specs.Writing.{work_of}
 use Rattle.ide_store.specs.declared.writer.WriterHalf.{WriterHalf}
-use Rattle.ide_store.proofs.Acts.{reached_more}
+use Rattle.ide_store.proofs.Acts.{reached_more, reached_new}
 use Rattle.ide_store.proofs.Drained.{works_still, works_unchanged}
 
 -- ---- the disk beneath the half that works
@@ -69,11 +69,6 @@ module _ {F L : Type 0} (a : Analysis F L) (place : Place) where
   own_of_table (Roots name first r) own = tt
   own_of_table (Batches r) own = tt
   own_of_table (Happens e) own = own
-
-  -- a new store is a world that acts led to
-  reached_new : (work : (store_at a place).Work) (disks : (store_at a place).Disks) → (store_at a place).Live [] 0 work disks
-      → IsReached a place (new_store a place work disks)
-  reached_new work disks live = record { work = work; disks = disks; live = live; acts = []; can = tt; is = refl }
 
   -- what acts lead to leaves a disk
   left_by : (w : StoreWorld a place) → IsReached a place w → (acts : List (StoreAct a place)) → MayDoAll a place w acts
@@ -192,8 +187,11 @@ module _ {F L : Type 0} (a : Analysis F L) {D : Type 0} {G : Ghosts D} where
 -- what is so of every run on one disk, and of every run on two, is so wherever the store stands
 pub places_answer : {F L : Type 0} (a : Analysis F L) → OneDiskAnswers a.lattice a.functions a.targets a.same a.proper a.form → TwoDisksAnswers a
     → (place : Place) → PlaceAnswers a place
-places_answer a one two (OnOneDisk head) = one head
-places_answer a one two (OnTwoDisks tag) = two tag
+places_answer a one two (OnOneDisk head) start new =
+    subst (λ (w : StoreWorld a (OnOneDisk head)).
+    RunsAnswer a.lattice a.functions a.targets a.same (forms_of a) head.version (rules_at a (OnOneDisk head)) (store_at a (OnOneDisk head)) w)
+    (sym new.is) (one head new.work new.disks new.live)
+places_answer a one two (OnTwoDisks tag) start begins = two tag start begins
 
 module _ {F L : Type 0} (a : Analysis F L) (answers : (place : Place) → PlaceAnswers a place) where
   -- what is so of every run is so of the world
@@ -203,7 +201,7 @@ module _ {F L : Type 0} (a : Analysis F L) (answers : (place : Place) → PlaceA
       subst (λ (u : StoreWorld a place).
       IsSoundWorld a.lattice a.functions a.targets a.same (forms_of a) (version_at place) (rules_at a place) (store_at a place) u)
       reached.is
-      (answers place reached.work reached.disks reached.live reached.acts reached.can)
+      (answers place reached.start reached.begins reached.acts reached.can)
 
   -- so the frozen image of a run answers with best values
   best_image : {P : Type 0} (closed : Closed P L F) → IsImageOfRun a closed → (by : GraphBy (program_in closed)) → IsBestImage a closed by

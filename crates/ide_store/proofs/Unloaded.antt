@@ -4,21 +4,23 @@ use Rattle.std.proofs.lemmas.Bool.{cases_lt}
 use Rattle.std.proofs.lemmas.List.{length-append, take-append-le, take-take, take_all}
 use Rattle.std.proofs.lemmas.List.Sums.{fold-append}
 use Rattle.ide_batch.specs.Fold.{ProgramImage}
-use Rattle.ide_journal.specs.Format.{Entry}
+use Rattle.ide_journal.specs.Format.{Entry, head_of}
+use Rattle.ide_journal.specs.declared.version.Version.TheVariants.{Two}
 use Rattle.ide_text.specs.Value.{ProgramValue}
 use Rattle.ide_theory.specs.Images.{Finish, Load, Part, Root}
 use Rattle.ide_theory.specs.State.{Claim}
 use Rattle.ide_theory.proofs.Laws.Changes.{none-some}
 use Rattle.ide_wire.specs.declared.key.Key.{Key}
-use Rattle.ide_store.proofs.Hands.{IsWhole, all_held, idle_held}
+use Rattle.ide_store.proofs.Hands.{IsWhole, all_held}
 use Rattle.ide_store.proofs.Marks.{mark_at, take_more}
 use Rattle.ide_store.proofs.Reached.{Knows, reached_whole}
 use Rattle.ide_store.proofs.World.{IsKept, one_image}
 use Rattle.ide_store.specs.Hands.{Batches, Claims, Ends, Happens, Loads, Parts, ProgramEvent, Releases, Roots, IsOfStore}
-use Rattle.ide_store.specs.Machine.{ProgramStep, machine}
+use Rattle.ide_store.specs.Machine.{ProgramStep}
+use Rattle.ide_store.proofs.Adopted.{start_whole}
 use Rattle.ide_store.proofs.Places.{does_at, exact_at, laws_at}
-use Rattle.ide_store.specs.Places.{Place, version_at}
-use Rattle.ide_store.specs.Table.{Analysis, IsReached, MayDo, MayDoAll, StoreAct, StoreWorld, after_act, after_acts, forms_of, new_store, rules_at, store_at}
+use Rattle.ide_store.specs.Places.{OnOneDisk, OnTwoDisks, Place, version_at}
+use Rattle.ide_store.specs.Table.{Analysis, IsLedTo, IsNew, IsReached, IsStart, MayDo, MayDoAll, StoreAct, StoreWorld, after_act, after_acts, forms_of, rules_at, store_at}
 use Rattle.ide_store.specs.World.{Acks, Begins, Calls, Crashes, Fails, IsFolded, Opens, Rules, Running, Seals, Steps, Stops, Stores, contents, image_after}
 
 -- with no program no key waits
@@ -140,33 +142,48 @@ module _ {F L : Type 0} (a : Analysis F L) (place : Place) where
     idle_still zero = λ none key. refl
     idle_still (suc n) = λ none key. refl
 
-    -- so it is of each world that acts led to
-    reached_still : (w : StoreWorld a place) → IsReached a place w → IsStillIn w
-    reached_still w reached =
-        let exact = exact_at a knows.prefix_free place in
-        let begun = new_store a place reached.work reached.disks in
-        let whole : IsWholeIn begun =
-        idle_held a.lattice a.functions a.targets a.same (forms_of a) (version_at place) (store_at a place) knows.is_same exact (laws_at a place)
-        knows.known reached.work reached.disks reached.live in
-        subst IsStillIn reached.is (acts_still begun reached.acts whole (record { images = idle_still; claims = λ none h. refl }) reached.can)
+module _ {F L : Type 0} (a : Analysis F L) (knows : Knows a) where
+  -- so it is of a new store, of what acts lead to from one, and where that was adopted
+  new_still : (place : Place) (start : StoreWorld a place) → IsNew a place start → IsStillIn a place start
+  new_still place start new = subst (IsStillIn a place) (sym new.is) (record { images = idle_still a place knows; claims = λ none h. refl })
 
-    -- while it runs, the image is still
-    pub image_still : (w : StoreWorld a place) → IsReached a place w → w.world.mode ≡ Running → IsStill w.world.image
-    image_still w reached running =
-        let history = w.world.history in
-        let kept = (reached_whole a knows place w reached).held.world in
-        subst IsStill (ap (image_after acts_by) (take_all (length history) history (omega arith)) ∙ sym (kept.image running))
-        ((reached_still w reached).images (length history))
+  led_still : (place : Place) (Start : StoreWorld a place → Type 0) → ((start : StoreWorld a place) → Start start → IsStart a place start)
+      → ((start : StoreWorld a place) → Start start → IsStillIn a place start) → (w : StoreWorld a place) → IsLedTo a place Start w
+      → IsStillIn a place w
+  led_still place Start starts still w led =
+      let whole = start_whole a knows.is_same knows.prefix_free knows.known place led.start (starts led.start led.begins) in
+      subst (IsStillIn a place) led.is (acts_still a place knows led.start led.acts whole (still led.start led.begins) led.can)
 
-    -- and so is what the sealed records give back
-    pub base_still : (w : StoreWorld a place) → IsReached a place w → (base : ProgramImage F) → IsFolded acts_by (contents w.world.sealed) base
-        → IsStill base
-    base_still w reached base folded =
-        let n : ℕ = length w.world.sealed in
-        let marks = (reached_whole a knows place w reached).held.world.marks in
-        let exact = exact_at a knows.prefix_free place in
-        let image : ProgramImage F = image_after acts_by (take (mark_at w.world.sealed n) w.world.history) in
-        let all : IsFolded acts_by (contents w.world.sealed) image =
-        subst (λ sealed. IsFolded acts_by (contents sealed) image) (take_all n w.world.sealed (omega arith)) (marks.images n) in
-        subst IsStill (one_image acts_by exact (laws_at a place) (contents w.world.sealed) acts_by.empty image base all folded)
-        ((reached_still w reached).images (mark_at w.world.sealed n))
+  start_still : (place : Place) (start : StoreWorld a place) → IsStart a place start → IsStillIn a place start
+  start_still (OnOneDisk head) start new = new_still (OnOneDisk head) start new
+  start_still (OnTwoDisks tag) start (inl new) = new_still (OnTwoDisks tag) start new
+  start_still (OnTwoDisks tag) start (inr adopted) =
+      let one = OnOneDisk (head_of Two tag) in
+      let before = led_still one (IsNew a one) (λ begun new. new) (new_still one) adopted.world adopted.run in
+      subst (IsStillIn a (OnTwoDisks tag)) (sym adopted.is) (record { images = before.images; claims = before.claims })
+
+  -- and of each world that acts led to
+  reached_still : (place : Place) (w : StoreWorld a place) → IsReached a place w → IsStillIn a place w
+  reached_still place w reached = led_still place (IsStart a place) (λ start begins. begins) (start_still place) w reached
+
+module _ {F L : Type 0} (a : Analysis F L) (place : Place) (knows : Knows a) where
+  -- while it runs, the image is still
+  pub image_still : (w : StoreWorld a place) → IsReached a place w → w.world.mode ≡ Running → IsStill w.world.image
+  image_still w reached running =
+      let history = w.world.history in
+      let kept = (reached_whole a knows place w reached).held.world in
+      subst IsStill (ap (image_after (rules_at a place)) (take_all (length history) history (omega arith)) ∙ sym (kept.image running))
+      ((reached_still a knows place w reached).images (length history))
+
+  -- and so is what the sealed records give back
+  pub base_still : (w : StoreWorld a place) → IsReached a place w → (base : ProgramImage F) → IsFolded (rules_at a place) (contents w.world.sealed) base
+      → IsStill base
+  base_still w reached base folded =
+      let n : ℕ = length w.world.sealed in
+      let marks = (reached_whole a knows place w reached).held.world.marks in
+      let exact = exact_at a knows.prefix_free place in
+      let image : ProgramImage F = image_after (rules_at a place) (take (mark_at w.world.sealed n) w.world.history) in
+      let all : IsFolded (rules_at a place) (contents w.world.sealed) image =
+      subst (λ sealed. IsFolded (rules_at a place) (contents sealed) image) (take_all n w.world.sealed (omega arith)) (marks.images n) in
+      subst IsStill (one_image (rules_at a place) exact (laws_at a place) (contents w.world.sealed) (rules_at a place).empty image base all folded)
+      ((reached_still a knows place w reached).images (mark_at w.world.sealed n))

@@ -221,8 +221,10 @@ module _ {F L : Type 0} (A : LatticeAlgebra L) (B : EdgeAlgebra F L) (targets : 
     pub answers : (v : ProgramValue) → w.world.image.program ≡ Some v → (by : GraphBy v) → AnswersBest A B targets by w.world.image
     pub work : (v : ProgramValue) → w.world.image.program ≡ Some v → (by : GraphBy v) → IsWorkFew A B targets by w.tally
 
+  -- over every list of acts from that world
+  abbrev pub RunsAnswer : Hands F S → Type 0
+  RunsAnswer start = (acts : List (Act F S)) → AreAllowed start acts → IsSoundWorld (worked start acts)
+
   -- over every list of acts from a new store
   abbrev pub EveryRunAnswers : Type 0
-  EveryRunAnswers =
-      (work : S.Work) (disks : S.Disks) → S.Live [] 0 work disks → (acts : List (Act F S)) → AreAllowed (idle work disks) acts
-      → IsSoundWorld (worked (idle work disks) acts)
+  EveryRunAnswers = (work : S.Work) (disks : S.Disks) → S.Live [] 0 work disks → RunsAnswer (idle work disks)

@@ -5,11 +5,11 @@ use Rattle.ide_journal.specs.Format.{Head}
 use Rattle.ide_lattice.specs.Algebra.{EdgeAlgebra}
 use Rattle.ide_lattice.specs.Algebra.{LatticeAlgebra}
 use Rattle.ide_problem.specs.Flow.{Targets}
-use Rattle.ide_store.specs.Hands.{EveryRunAnswers}
+use Rattle.ide_store.specs.Hands.{EveryRunAnswers, RunsAnswer}
 use Rattle.ide_store.specs.Machine.{machine}
 use Rattle.ide_store.specs.OneDisk.{one_disk}
 use Rattle.ide_store.specs.Places.{Place, version_at}
-use Rattle.ide_store.specs.Table.{Analysis, forms_of, rules_at, store_at}
+use Rattle.ide_store.specs.Table.{Analysis, IsStart, StoreWorld, forms_of, rules_at, store_at}
 use Rattle.ide_store.specs.World.{EveryRunRecovers}
 
 -- of whatever version and for whatever instance it was made
@@ -22,7 +22,7 @@ OneDiskAnswers {F} A B targets same proper form =
     let forms : Functions F = functions_by proper form same B.all_top in
     (head : Head) → EveryRunAnswers A B targets same forms head.version (machine B same forms head.version) (one_disk head)
 
--- wherever the store of the analysis stands
+-- wherever the store of the analysis stands, and wherever a run may begin there
 abbrev pub PlaceAnswers : {F L : Type 0} → Analysis F L → Place → Type 0
-PlaceAnswers a place =
-    EveryRunAnswers a.lattice a.functions a.targets a.same (forms_of a) (version_at place) (rules_at a place) (store_at a place)
+PlaceAnswers a place = (start : StoreWorld a place) → IsStart a place start
+    → RunsAnswer a.lattice a.functions a.targets a.same (forms_of a) (version_at place) (rules_at a place) (store_at a place) start

@@ -1,15 +1,21 @@
 -- The half of a store that works: what it keeps of a world, and which calls of it are which acts.
-use Rattle.std.specs.Prelude.{◌≡◌, ℕ, ◌≤◌, ◌++◌, Bool, true, false, List, [], Option, length}
+use Rattle.std.specs.Prelude.{◌≡◌, ◌⊎◌, ℕ, ◌<◌, ◌≤◌, ◌++◌, Bool, true, false, List, [], Option, length}
 use Rattle.std.specs.List.{All}
 use Rattle.std.specs.Option.{is_some}
 use Rattle.ide_batch.specs.Applied.{HasImage}
 use Rattle.ide_batch.specs.Fold.{ProgramImage, image_entry}
 use Rattle.ide_batch.specs.Items.{Functions, functions_by}
-use Rattle.ide_journal.specs.Format.{Entry, IsEntry}
+use Rattle.ide_disk.specs.Disk.{settled}
+use Rattle.ide_journal.specs.Format.{Entry, Head, IsEntry, head_of}
 use Rattle.ide_journal.specs.declared.version.Version.{Version}
+use Rattle.ide_journal.specs.declared.version.Version.TheVariants.{Two}
 use Rattle.ide_lattice.specs.Algebra.{LatticeAlgebra, EdgeAlgebra}
 use Rattle.ide_problem.specs.Flow.{Targets}
 use Rattle.ide_image.specs.Notes.{noted_count}
+use Rattle.ide_slots.specs.Sides.{two_sides}
+use Rattle.ide_slots.specs.Slot.{IsClosedSlot}
+use Rattle.ide_slots.specs.declared.side.Side.TheVariants.{First}
+use Rattle.ide_slots.specs.Two.{SlotWriter}
 use Rattle.ide_steps.specs.Changed.{entry_then}
 use Rattle.ide_steps.specs.Core.{CoreData, IsUnchanged}
 use Rattle.ide_steps.specs.State as core
@@ -18,9 +24,9 @@ use Rattle.ide_theory.specs.State.{State}
 use Rattle.ide_wire.specs.declared.key.Key.{Key}
 use Rattle.ide_store.specs.Hands.{Act, Allowed, AreAllowed, Hands, IsCaughtUp, idle, next, worked}
 use Rattle.ide_store.specs.Machine.{ProgramStep}
-use Rattle.ide_store.specs.Places.{Place, machine_at, store_on, version_at}
+use Rattle.ide_store.specs.Places.{OnOneDisk, OnTwoDisks, Place, machine_at, store_on, version_at}
 use Rattle.ide_store.specs.Store.{Store}
-use Rattle.ide_store.specs.World.{IsFolded, Rules, Running, contents}
+use Rattle.ide_store.specs.World.{Closed, IsFolded, Rules, Running, contents}
 
 -- an analysis, as contracts see it: its lattice and its functions, what its flow does, and how functions are told apart
 -- and spelled
@@ -108,31 +114,75 @@ module _ {F L : Type 0} (a : Analysis F L) (place : Place) where
   abbrev pub new_store : store_at.Work → store_at.Disks → StoreWorld
   new_store work disks = idle a.lattice a.functions a.targets a.same (forms_of a) (version_at place) rules_at store_at work disks
 
-  -- acts that could be done one after the other led to the world from a new store
-  pub record IsReached (w : StoreWorld) : Type 0 where
+  -- it is such a one
+  pub record IsNew (start : StoreWorld) : Type 0 where
     pub work : store_at.Work
     pub disks : store_at.Disks
     pub live : store_at.Live [] 0 work disks
-    pub acts : List StoreAct
-    pub can : MayDoAll (new_store work disks) acts
-    pub is : after_acts (new_store work disks) acts ≡ w
+    pub is : start ≡ new_store work disks
 
+  -- acts that could be done one after the other led to the world from one of these
+  pub record IsLedTo (Start : StoreWorld → Type 0) (w : StoreWorld) : Type 0 where
+    pub start : StoreWorld
+    pub begins : Start start
+    pub acts : List StoreAct
+    pub can : MayDoAll start acts
+    pub is : after_acts start acts ≡ w
+
+module _ {F L : Type 0} (a : Analysis F L) where
+  -- a world on one disk, as one on two: the disk as it stood is A, and these bytes are B. The store is closed
+  abbrev pub beside : (head : Head) → StoreWorld a (OnOneDisk head) → (tag : ℕ) → SlotWriter → List ℕ → StoreWorld a (OnTwoDisks tag)
+  beside head w tag work other = record {
+    world = record {
+      image = w.world.image;
+      history = w.world.history;
+      sealed = w.world.sealed;
+      stored = w.world.stored;
+      acked = w.world.acked;
+      work = work;
+      disks = two_sides First w.world.disks (settled other);
+      mode = Closed;
+    };
+    claims = w.claims;
+    tally = w.tally;
+  }
+
+  -- a store of the second version that acts led to on one disk was adopted: a closed slot was put beside it
+  pub record IsAdopted (tag : ℕ) (start : StoreWorld a (OnTwoDisks tag)) : Type 0 where
+    pub some_tag : 0 < tag
+    pub world : StoreWorld a (OnOneDisk (head_of Two tag))
+    pub run : IsLedTo a (OnOneDisk (head_of Two tag)) (IsNew a (OnOneDisk (head_of Two tag))) world
+    pub work : SlotWriter
+    pub other : List ℕ
+    pub closed : IsClosedSlot other
+    pub is : start ≡ beside (head_of Two tag) world tag work other
+
+  -- where runs begin: at a new store, and on two disks also at one that was adopted
+  abbrev pub IsStart : (place : Place) → StoreWorld a place → Type 0
+  IsStart (OnOneDisk head) start = IsNew a (OnOneDisk head) start
+  IsStart (OnTwoDisks tag) start = IsNew a (OnTwoDisks tag) start ⊎ IsAdopted tag start
+
+  -- acts that could be done one after the other led to the world
+  abbrev pub IsReached : (place : Place) → StoreWorld a place → Type 0
+  IsReached place w = IsLedTo a place (IsStart place) w
+
+module _ {F L : Type 0} (a : Analysis F L) (place : Place) where
   -- the image that the sealed records give back has the program and the roots of the world's, and the entries that keys had
   -- when changes were last asked for
-  pub record IsBase (w : StoreWorld) (core : CoreData F) : Type 0 where
+  pub record IsBase (w : StoreWorld a place) (core : CoreData F) : Type 0 where
     pub image : ProgramImage F
-    pub folded : IsFolded rules_at (contents w.world.sealed) image
+    pub folded : IsFolded (rules_at a place) (contents w.world.sealed) image
     pub program : image.program ≡ w.world.image.program
     pub roots : image.roots ≡ w.world.image.roots
     pub entries : (key : Key) → image_entry image key ≡ told (entry_then core key)
 
   -- nothing changed since the last record
-  abbrev pub HasNothingNew : StoreWorld → Type 0
-  HasNothingNew w = IsCaughtUp a.lattice a.functions a.targets a.same (forms_of a) (version_at place) rules_at store_at w
+  abbrev pub HasNothingNew : StoreWorld a place → Type 0
+  HasNothingNew w = IsCaughtUp a.lattice a.functions a.targets a.same (forms_of a) (version_at place) (rules_at a place) (store_at a place) w
 
   -- the half works on the world: its core has the image and the claims, it knows what changed since the last record, and
   -- of the sealed records these were handed over to the writer, and the others wait
-  pub record WorksOn (w : StoreWorld) (table : TableData F) (handed : List Entry) : Type 0 where
+  pub record WorksOn (w : StoreWorld a place) (table : TableData F) (handed : List Entry) : Type 0 where
     pub running : w.world.mode ≡ Running
     pub working : table.failed ≡ false
     pub version : table.version ≡ version_at place

@@ -8,8 +8,9 @@ use Rattle.ide_slots.specs.Sides.{Sides, two_sides}
 use Rattle.ide_slots.specs.Slot.{IsClosedSlot, IsPartEntry, Slot, numbered_from, records_of}
 use Rattle.ide_slots.specs.declared.side.Side.TheVariants.{First}
 use Rattle.ide_slots.specs.Two.{NotBegun, SlotWriter, first_disk, first_writer}
-use Rattle.ide_store.specs.Hands.{EveryRunAnswers}
 use Rattle.ide_store.specs.Machine.{ProgramStep, slot_machine}
+use Rattle.ide_store.specs.Places.{OnTwoDisks}
+use Rattle.ide_store.specs.Recovery.{PlaceAnswers}
 use Rattle.ide_store.specs.Store.{StoreLaws}
 use Rattle.ide_store.specs.Table.{Analysis, forms_of}
 use Rattle.ide_store.specs.TwoDisks.{BeginsTwo, CallsTwo, GiveTheSame, HoldsTwo, IsListOf, IsLiveTwo, StoresTwo, commands_of, is_command, two_disks, unnumbered}
@@ -27,10 +28,10 @@ TwoDisksKeep rules = (tag : ℕ) → StoreLaws (AreAlike rules) (two_disks rules
 abbrev pub TwoDisksRecover : {Image Step : Type 0} → Rules Image Step Entry → Type 0
 TwoDisksRecover rules = (tag : ℕ) → EveryRunRecovers (two_disks rules tag) rules
 
--- and with hands at work, with records spelled in that version, it answers with best values
+-- and with hands at work, with records spelled in that version, it answers with best values: from a new store on, and from
+-- one that was adopted from one disk
 abbrev pub TwoDisksAnswers : {F L : Type 0} → Analysis F L → Type 0
-TwoDisksAnswers a = (tag : ℕ)
-    → EveryRunAnswers a.lattice a.functions a.targets a.same (forms_of a) Two (slots_of a) (two_disks (slots_of a) tag)
+TwoDisksAnswers a = (tag : ℕ) → PlaceAnswers a (OnTwoDisks tag)
 
 -- a new store has no record; and what one on one disk holds is held beside a closed slot
 pub record TwoDisksBegin {Image Step : Type 0} (rules : Rules Image Step Entry) : Type 0 where

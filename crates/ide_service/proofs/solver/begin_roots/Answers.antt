@@ -1,4 +1,4 @@
-use Rattle.std.proofs.Common.{suc, ◌∷◌, drop, map, take, Err, ap, sym, subst}
+use Rattle.std.proofs.Common.{suc, ◌∷◌, drop, map, take, sym, subst}
 use Rattle.std.proofs.lemmas.Result.{err_from_is_err_and}
 use Rattle.ide_graph.specs.Joined.{start_at}
 use Rattle.ide_theory.specs.Sites.{edges_of}

@@ -57,4 +57,5 @@ returns-clause-new g c is =
 
 pub returns-clause-refused : goal.returns-clause-refused
 returns-clause-refused g c =
-    image_stop (kept g) c.args.self.now c.seal_all.new.self c.plan_image.result c.seal_all.ensures.seals c.plan_image.ensures.refused
+    image_stop (kept g) c.args.self.now c.seal_all.new.self c.plan_image.new.self c.plan_image.result c.seal_all.ensures.seals
+    c.plan_image.ensures.table c.seal_all.ensures.journal c.plan_image.ensures.refused
