@@ -30,8 +30,9 @@ pub fn slot_halves_open<P: Problem, D: Disk>()
 }
 
 /// Whichever calls of its halves are made, an engine on two disks stays on a run, until a call of a disk
-/// fails: the halves are at work on a world that acts led to from a new store. An opening goes on with the
-/// run that left its disks, whatever crashed; and what is frozen is of that run, and so answers with best
+/// fails: the halves are at work on a world that acts led to from a new store, or from one that was adopted
+/// from one disk. An opening goes on with the run that left its disks, whatever crashed, and so does an
+/// adoption with the run that left its disk; and what is frozen is of that run, and so answers with best
 /// values, as `engines_stay_on_runs` of `ide_store` says of each run.
 pub fn slot_engines_stay_on_runs<P: Problem, D: Disk>()
     ensures { SlotEnginesStayOnRuns P ⟦<P as Kept>⟧.analysis D.Disk }

@@ -10,7 +10,7 @@ use std::alloc::AllocGlobal;
 use std::process::Abort;
 
 /// Asserts whether a checkpoint begins.
-fn expect_begin<P: Problem>(
+pub(crate) fn expect_begin<P: Problem>(
     rt: &(impl Abort + AllocGlobal),
     engine: &mut SlotEngine<P, MemDisk>,
     begins: bool,
@@ -23,7 +23,7 @@ fn expect_begin<P: Problem>(
 }
 
 /// Asserts that so many records are stored, in a slot of that generation.
-fn expect_stored<P: Problem>(
+pub(crate) fn expect_stored<P: Problem>(
     rt: &impl Abort,
     engine: &SlotEngine<P, MemDisk>,
     records: u64,

@@ -63,7 +63,9 @@ pub fn every_run_answers<P: Problem>()
 
 /// As [`every_run_answers`], of a store on two disks, whose slots are of the second version, with the
 /// beginnings and the calls of checkpoints among what happens: over each checkpoint, each crash and each
-/// opening the values that follow stay the best ones, and the bounds of the work are the same.
+/// opening the values that follow stay the best ones, and the bounds of the work are the same. A run begins
+/// at a new store, or at one of that version which a run on one disk left, and beside which a closed slot
+/// was put.
 pub fn every_run_answers_on_two_disks<P: Problem>()
     ensures { TwoDisksAnswers ⟦<P as Kept>⟧.analysis }
 {
