@@ -97,7 +97,10 @@ impl Hands<CopyConst> for Filling {
         most: usize,
     ) -> Result<usize, Refused> {
         if self.parts == 0 {
-            return Hands::parts(&mut self.table, hand, work, most);
+            return match Hands::parts(&mut self.table, hand, work, most) {
+                Ok(count) => Ok(count),
+                Err(refused) => Err(refused),
+            };
         }
         self.parts -= 1;
         match Hands::parts(&mut self.table, hand, work, most.min(1)) {
