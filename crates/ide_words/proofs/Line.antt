@@ -1,5 +1,5 @@
 -- How the program's command line is made, and a line's command by what clap finds on it.
-use Rattle.std.proofs.Common.{◌≡◌, ◌∙◌, List, [], Bool, true, refl, ap, sym}
+use Rattle.std.proofs.Common.{◌≡◌, ◌∙◌, List, [], true, refl, ap, sym}
 use Rattle.std.specs.Prelude.{Option, Some, None, Box, option_map}
 use Rattle.clap.specs.Faults.{fault_of, is_simple_and_free}
 use Rattle.clap.specs.Built.{AddsSubcommand}

@@ -31,6 +31,10 @@ workers = numbered 1 64 (record (new_rule (codes "N")) { long = Some (codes "wor
 abbrev pub quiet : Rule
 quiet = record (new_rule (codes "quiet")) { long = Some (codes "quiet"); action = Some SetTrue }
 
+-- `--checkpoint-every RECORDS`, 1 to 4294967295; where it is left out, 1024
+abbrev pub checkpoint_every : Rule
+checkpoint_every = numbered 1 4294967295 (record (new_rule (codes "RECORDS")) { long = Some (codes "checkpoint-every"); action = Some Set; defaults = codes "1024" ∷ [] })
+
 -- a command and the words that it takes
 abbrev pub command : Text → List Rule → Shape
 command name words = record (new_shape name) { rules = words }
@@ -64,9 +68,12 @@ check = command (codes "check") (wanted (codes "FILE") ∷ [])
 abbrev pub explain : Bor (List (Bor Text)) → Shape
 explain names = command (codes "explain") (wanted_among names (codes "NAME") ∷ [])
 
--- `create STORE INSTANCE`, `load STORE FILE` and `root STORE PROC`
+-- `create STORE INSTANCE`, `adopt STORE`, `load STORE FILE` and `root STORE PROC`
 abbrev pub create : Bor (List (Bor Text)) → Shape
 create analyses = on_store (codes "create") (wanted_among analyses (codes "INSTANCE") ∷ [])
+
+abbrev pub adopt : Shape
+adopt = on_store (codes "adopt") []
 
 abbrev pub load : Shape
 load = on_store (codes "load") (wanted (codes "FILE") ∷ [])
@@ -74,10 +81,17 @@ load = on_store (codes "load") (wanted (codes "FILE") ∷ [])
 abbrev pub root : Shape
 root = on_store (codes "root") (wanted (codes "PROC") ∷ [])
 
--- `work STORE --workers N --quiet`, `ask STORE PROC NODE FACT`, `dump STORE` and `status STORE`
+-- `work STORE --workers N --quiet --checkpoint-every RECORDS`, `checkpoint STORE` and `migrate STORE`
 abbrev pub work : Shape
-work = on_store (codes "work") (workers ∷ quiet ∷ [])
+work = on_store (codes "work") (workers ∷ quiet ∷ checkpoint_every ∷ [])
 
+abbrev pub checkpoint : Shape
+checkpoint = on_store (codes "checkpoint") []
+
+abbrev pub migrate : Shape
+migrate = on_store (codes "migrate") []
+
+-- `ask STORE PROC NODE FACT`, `dump STORE` and `status STORE`
 abbrev pub ask : Shape
 ask = on_store (codes "ask") (wanted (codes "PROC") ∷ numbered 0 4294967295 (wanted (codes "NODE")) ∷ wanted (codes "FACT") ∷ [])
 
@@ -95,7 +109,7 @@ idesolve solved names created = record {
     has_version = true;
     subcommand_required = true;
   };
-  subs = once solved ∷ check ∷ explain names ∷ create created ∷ load ∷ root ∷ work ∷ ask ∷ dump ∷ status ∷ [];
+  subs = once solved ∷ check ∷ explain names ∷ create created ∷ adopt ∷ load ∷ root ∷ work ∷ checkpoint ∷ migrate ∷ ask ∷ dump ∷ status ∷ [];
 }
 
 -- the command line is the program's

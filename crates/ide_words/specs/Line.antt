@@ -1,5 +1,5 @@
 -- A line of words, as clap reads it.
-use Rattle.std.specs.Prelude.{◌≡◌, ℕ, List, [], ◌∷◌, Some, codes, unwrap_or}
+use Rattle.std.specs.Prelude.{◌≡◌, ℕ, List, [], Some, codes, unwrap_or}
 use Rattle.std.specs.Str.{bytes_eq}
 use Rattle.std.specs.Str.Parse.{IsNumeral, digits_value, without_leading_plus}
 use Rattle.clap.specs.Faults.{fault_of}
@@ -8,9 +8,9 @@ use Rattle.clap.specs.Walk.{Row, Text, first_of}
 use Rattle.ide_words.specs.Commands.{IsIdesolve, name_of}
 use Rattle.ide_words.specs.declared.words.Instance.{Instance}
 use Rattle.ide_words.specs.declared.words.Words.{Words}
-use Rattle.ide_words.specs.declared.words.Words.TheVariants.{Once, Check, Explain, Create, On}
+use Rattle.ide_words.specs.declared.words.Words.TheVariants.{Once, Check, Explain, Create, Adopt, On}
 use Rattle.ide_words.specs.declared.words.StoreCommand.{StoreCommand}
-use Rattle.ide_words.specs.declared.words.StoreCommand.TheVariants.{Load, Root, Work, Ask, Dump, Status}
+use Rattle.ide_words.specs.declared.words.StoreCommand.TheVariants.{Load, Root, Work, Checkpoint, Migrate, Ask, Dump, Status}
 
 -- the text that was given for a word
 abbrev pub given_words : Text → List Row → Text
@@ -28,8 +28,10 @@ SpellsNumber text number = IsNumeral 10 (without_leading_plus text) × (number �
 abbrev pub IsStoreCommand : StoreCommand → Text → List Row → Type 0
 IsStoreCommand (Load file) name rows = (name ≡ codes "load") × (file.now ≡ given_words (codes "FILE") rows)
 IsStoreCommand (Root procedure) name rows = (name ≡ codes "root") × (procedure.now ≡ given_words (codes "PROC") rows)
-IsStoreCommand (Work workers quiet) name rows = (name ≡ codes "work") × SpellsNumber (given_words (codes "N") rows) workers
-    × (quiet ≡ bytes_eq (given_words (codes "quiet") rows) (codes "true"))
+IsStoreCommand (Work workers quiet checkpoint_every) name rows = (name ≡ codes "work") × SpellsNumber (given_words (codes "N") rows) workers
+    × (quiet ≡ bytes_eq (given_words (codes "quiet") rows) (codes "true")) × SpellsNumber (given_words (codes "RECORDS") rows) checkpoint_every
+IsStoreCommand Checkpoint name rows = name ≡ codes "checkpoint"
+IsStoreCommand Migrate name rows = name ≡ codes "migrate"
 IsStoreCommand (Ask procedure position fact) name rows = (name ≡ codes "ask") × (procedure.now ≡ given_words (codes "PROC") rows)
     × SpellsNumber (given_words (codes "NODE") rows) position × (fact.now ≡ given_words (codes "FACT") rows)
 IsStoreCommand Dump name rows = name ≡ codes "dump"
@@ -43,6 +45,7 @@ IsCommand (Once instance file procedure workers) name rows = (name ≡ codes "on
 IsCommand (Check file) name rows = (name ≡ codes "check") × (file.now ≡ given_words (codes "FILE") rows)
 IsCommand (Explain asked) name rows = (name ≡ codes "explain") × (asked.now ≡ given_words (codes "NAME") rows)
 IsCommand (Create store instance) name rows = (name ≡ codes "create") × (store.now ≡ given_words (codes "STORE") rows) × IsGiven instance rows
+IsCommand (Adopt store) name rows = (name ≡ codes "adopt") × (store.now ≡ given_words (codes "STORE") rows)
 IsCommand (On store command) name rows = (store.now ≡ given_words (codes "STORE") rows) × IsStoreCommand command name rows
 
 -- clap finds no fault in the line, and this is the command that it names, with its words

@@ -1,7 +1,7 @@
 //! The commands of the program, as `clap` is to read them.
 ghost use Rattle.std.specs.Prelude.{◌≡◌, [], false, IfOk};
 ghost use Rattle.clap.specs.Words.{app_of, rule_of};
-ghost use Rattle.ide_words.specs.Commands.{HasShape, IsCreate, IsExplain, IsIdesolve, IsOnce, IsOnceAlone, ask, check, dump, load, numbered, on_store, quiet, root, status, wanted, work, workers};
+ghost use Rattle.ide_words.specs.Commands.{HasShape, IsCreate, IsExplain, IsIdesolve, IsOnce, IsOnceAlone, adopt, ask, check, checkpoint, checkpoint_every, dump, load, migrate, numbered, on_store, quiet, root, status, wanted, work, workers};
 
 use crate::words::{INSTANCES, NAMES};
 use clap::builder::ValueParser;
@@ -21,6 +21,8 @@ shift   constants, through sums and differences with a number too";
 
 /// The most workers.
 const MOST_WORKERS: u64 = 64;
+/// The most records up to a checkpoint.
+const MOST_RECORDS: u64 = 4_294_967_295;
 /// The last position that a word may spell.
 const LAST_POSITION: u64 = 4_294_967_295;
 
@@ -38,9 +40,12 @@ pub(crate) fn idesolve<'a>(alloc: Global) -> Result<Command<'a>, Error>
             .subcommand(check(alloc)?)?
             .subcommand(explain(alloc)?)?
             .subcommand(create(alloc)?)?
+            .subcommand(adopt(alloc)?)?
             .subcommand(load(alloc)?)?
             .subcommand(root(alloc)?)?
             .subcommand(work(alloc)?)?
+            .subcommand(checkpoint(alloc)?)?
+            .subcommand(migrate(alloc)?)?
             .subcommand(ask(alloc)?)?
             .subcommand(dump(alloc)?)?
             .subcommand(status(alloc)?)?,
@@ -98,9 +103,17 @@ fn create<'a>(alloc: Global) -> Result<Command<'a>, Error>
     ensures { IfOk result IsCreate }
 {
     let instance = required(alloc, "INSTANCE", "The analysis").value_parser(INSTANCES.as_slice());
-    let about = "Makes a store with no program in a file; an old file is replaced";
+    let about = "Makes a store with no program; old files of its name are replaced";
     let command = on_store(alloc, "create", about)?;
     Ok(command.after_help(ANALYSES).arg(instance)?)
+}
+
+/// `adopt STORE`
+fn adopt<'a>(alloc: Global) -> Result<Command<'a>, Error>
+    ensures { IfOk result (HasShape adopt) }
+{
+    let about = "Goes on with a store of one file: makes its second file";
+    on_store(alloc, "adopt", about)
 }
 
 /// `load STORE FILE`
@@ -119,12 +132,33 @@ fn root<'a>(alloc: Global) -> Result<Command<'a>, Error>
     Ok(command.arg(required(alloc, "PROC", "The root procedure"))?)
 }
 
-/// `work STORE --workers N --quiet`
+/// `work STORE --workers N --quiet --checkpoint-every RECORDS`
 fn work<'a>(alloc: Global) -> Result<Command<'a>, Error>
     ensures { IfOk result (HasShape work) }
 {
     let command = on_store(alloc, "work", "Does what is pending, and stores it")?;
-    Ok(command.arg(workers(alloc))?.arg(quiet(alloc))?)
+    Ok(
+        command
+            .arg(workers(alloc))?
+            .arg(quiet(alloc))?
+            .arg(checkpoint_every(alloc))?,
+    )
+}
+
+/// `checkpoint STORE`
+fn checkpoint<'a>(alloc: Global) -> Result<Command<'a>, Error>
+    ensures { IfOk result (HasShape checkpoint) }
+{
+    let about = "Writes the image into the store's other file, and prints its generation";
+    on_store(alloc, "checkpoint", about)
+}
+
+/// `migrate STORE`
+fn migrate<'a>(alloc: Global) -> Result<Command<'a>, Error>
+    ensures { IfOk result (HasShape migrate) }
+{
+    let about = "Writes a store of an older version anew, and prints its version";
+    on_store(alloc, "migrate", about)
 }
 
 /// `ask STORE PROC NODE FACT`
@@ -207,4 +241,17 @@ fn quiet<'a>(alloc: Global) -> Arg<'a>
         .long("quiet")
         .help("Leaves out the progress on the standard error")
         .action(ArgAction::SetTrue)
+}
+
+/// `--checkpoint-every RECORDS`
+fn checkpoint_every<'a>(alloc: Global) -> Arg<'a>
+    ensures rule { rule_of result ≡ checkpoint_every }
+    ensures local { result.global ≡ false }
+{
+    let records = Arg::new(alloc, "RECORDS")
+        .long("checkpoint-every")
+        .help("A checkpoint after so many records")
+        .action(ArgAction::Set)
+        .default_value("1024");
+    numbered(records, 1, MOST_RECORDS)
 }

@@ -34,6 +34,10 @@ pub enum Words<'a> {
         store: &'a str,
         instance: Instance,
     },
+    /// `adopt STORE`: apart from the commands on a store, since it opens one in another way.
+    Adopt {
+        store: &'a str,
+    },
     /// A command on the store in that file.
     On {
         store: &'a str,
@@ -52,11 +56,16 @@ pub enum StoreCommand<'a> {
     Root {
         procedure: &'a str,
     },
-    /// `work STORE --workers N --quiet`
+    /// `work STORE --workers N --quiet --checkpoint-every RECORDS`
     Work {
         workers: usize,
         quiet: bool,
+        checkpoint_every: u32,
     },
+    /// `checkpoint STORE`
+    Checkpoint,
+    /// `migrate STORE`
+    Migrate,
     /// `ask STORE PROC NODE FACT`
     Ask {
         procedure: &'a str,
@@ -140,6 +149,9 @@ fn words_of<'a>(name: &str, given: &ArgMatches<'a>) -> Option<Words<'a>>
             store: text_of(given, "STORE"),
             instance: Instance::of(text_of(given, "INSTANCE")),
         },
+        "adopt" => Words::Adopt {
+            store: text_of(given, "STORE"),
+        },
         _ => Words::On {
             store: text_of(given, "STORE"),
             command: store_command(name, given)?,
@@ -162,7 +174,10 @@ fn store_command<'a>(name: &str, given: &ArgMatches<'a>) -> Option<StoreCommand<
         "work" => StoreCommand::Work {
             workers: number_of(given, "N")? as usize,
             quiet: text_of(given, "quiet") == "true",
+            checkpoint_every: number_of(given, "RECORDS")?,
         },
+        "checkpoint" => StoreCommand::Checkpoint,
+        "migrate" => StoreCommand::Migrate,
         "ask" => StoreCommand::Ask {
             procedure: text_of(given, "PROC"),
             position: number_of(given, "NODE")?,
