@@ -37,7 +37,7 @@ module _ {F L : Type 0} (a : Analysis F L) where
   -- a run may begin at a new store
   pub begins_new : (place : Place) (start : StoreWorld a place) → IsNew a place start → IsStart a place start
   begins_new (OnOneDisk head) start new = new
-  begins_new (OnTwoDisks tag) start new = inl new
+  begins_new (OnTwoDisks head) start new = inl new
 
   -- so that is a world that acts led to
   pub reached_new : (place : Place) (work : (store_at a place).Work) (disks : (store_at a place).Disks) → (store_at a place).Live [] 0 work disks

@@ -2,8 +2,7 @@
 use Rattle.std.proofs.Common.{◌≡◌, ◌<◌, ℕ, List, [], ◌∷◌, Some, take, refl, sym, subst, inl, inr}
 use Rattle.ide_batch.specs.Fold.{ProgramImage, procedures}
 use Rattle.ide_disk.specs.Disk.{DiskState, settled}
-use Rattle.ide_journal.specs.Format.{Entry, head_of}
-use Rattle.ide_journal.specs.declared.version.Version.TheVariants.{Two}
+use Rattle.ide_journal.specs.Format.{Entry, Head}
 use Rattle.ide_slots.specs.Sides.{two_sides}
 use Rattle.ide_slots.specs.declared.side.Side.TheVariants.{First}
 use Rattle.ide_slots.specs.Slot.{IsClosedSlot}
@@ -27,12 +26,12 @@ use Rattle.ide_store.proofs.Places.{does_at, exact_at, laws_at}
 use Rattle.ide_store.proofs.TwoDisksBegin.{two_disks_begin}
 use Rattle.ide_store.proofs.World.{IsKept, one_image}
 
-module _ {F L : Type 0} (a : Analysis F L) (tag : ℕ) where
+module _ {F L : Type 0} (a : Analysis F L) (head : Head) where
   abbrev on_one : Rules (ProgramImage F) (ProgramStep F) Entry
-  on_one = rules_at a (OnOneDisk (head_of Two tag))
+  on_one = rules_at a (OnOneDisk head)
 
   abbrev on_two : Rules (ProgramImage F) (ProgramStep F) Entry
-  on_two = rules_at a (OnTwoDisks tag)
+  on_two = rules_at a (OnTwoDisks head)
 
   -- what records lead to on one disk they lead to on two
   leads_there : (records : List Entry) (before now : ProgramImage F) → LeadTo on_one records before now → LeadTo on_two records before now
@@ -47,20 +46,20 @@ module _ {F L : Type 0} (a : Analysis F L) (tag : ℕ) where
   }
 
   -- whatever a crash leaves holds on two disks what it holds on one
-  safe_there : (records : List Entry) (stored : ℕ) (disk : DiskState) (other : List ℕ) → 0 < tag → IsClosedSlot other
-      → IsSafe (one_disk (head_of Two tag)) records stored disk
-      → IsSafe (store_at a (OnTwoDisks tag)) records stored (two_sides First disk (settled other))
+  safe_there : (records : List Entry) (stored : ℕ) (disk : DiskState) (other : List ℕ) → 0 < head.tag → IsClosedSlot other
+      → IsSafe (one_disk head) records stored disk
+      → IsSafe (store_at a (OnTwoDisks head)) records stored (two_sides First disk (settled other))
   safe_there records stored disk other some closed safe = record {
     each = λ left leaves.
         let one = safe.each left.a leaves.0 in
-        let same : left.b ≡ other = (laws_at a (OnOneDisk (head_of Two tag))).crashed_leaves other left.b leaves.1 in
+        let same : left.b ≡ other = (laws_at a (OnOneDisk head)).crashed_leaves other left.b leaves.1 in
         let still : IsClosedSlot left.b = subst IsClosedSlot (sym same) closed in
-        (one.0, (two_disks_begin on_two).adopted (head_of Two tag) one.0 left.a left.b some one.1 still, one.2);
-    possible = (safe.possible, (laws_at a (OnOneDisk (head_of Two tag))).crashed_reads other);
+        (one.0, (two_disks_begin on_two).adopted head one.0 left.a left.b some one.1 still, one.2);
+    possible = (safe.possible, (laws_at a (OnOneDisk head)).crashed_reads other);
   }
 
-  kept_there : (w : StoreWorld a (OnOneDisk (head_of Two tag))) (work : SlotWriter) (other : List ℕ) → 0 < tag → IsClosedSlot other
-      → IsKept on_one w.world → IsKept on_two (beside a (head_of Two tag) w tag work other).world
+  kept_there : (w : StoreWorld a (OnOneDisk head)) (work : SlotWriter) (other : List ℕ) → 0 < head.tag → IsClosedSlot other
+      → IsKept on_one w.world → IsKept on_two (beside a head w work other).world
   kept_there w work other some closed kept = record {
     image = λ runs. cc (runs);
     live = λ runs. cc (runs);
@@ -93,13 +92,13 @@ module _ {F L : Type 0} (a : Analysis F L) (is_same : IsSame a.same) (free : IsP
       (laws_at a place) known (does_at a place) led.start led.acts (starts led.start led.begins) led.can)
 
   -- and so it is of one that was adopted
-  beside_whole : (tag : ℕ) (w : StoreWorld a (OnOneDisk (head_of Two tag))) (work : SlotWriter) (other : List ℕ) → 0 < tag → IsClosedSlot other
-      → IsWholeAt (OnOneDisk (head_of Two tag)) w → IsWholeAt (OnTwoDisks tag) (beside a (head_of Two tag) w tag work other)
-  beside_whole tag w work other some closed whole = record {
+  beside_whole : (head : Head) (w : StoreWorld a (OnOneDisk head)) (work : SlotWriter) (other : List ℕ) → 0 < head.tag → IsClosedSlot other
+      → IsWholeAt (OnOneDisk head) w → IsWholeAt (OnTwoDisks head) (beside a head w work other)
+  beside_whole head w work other some closed whole = record {
     held = record {
-      world = kept_there a tag w work other some closed whole.held.world;
+      world = kept_there a head w work other some closed whole.held.world;
       stored = λ n image folded.
-          let one : ProgramImage F = image_after (on_one a tag) (take (mark_at w.world.sealed n) w.world.history) in
+          let one : ProgramImage F = image_after (on_one a head) (take (mark_at w.world.sealed n) w.world.history) in
           let folds = whole.held.world.marks.images n in
           subst (λ (i : ProgramImage F). (v : ProgramValue) → i.program ≡ Some v → (by : GraphBy v)
           → IsGood procedures (frame_by a.lattice a.functions a.targets by) v i)
@@ -108,31 +107,31 @@ module _ {F L : Type 0} (a : Analysis F L) (is_same : IsSame a.same) (free : IsP
       begun = whole.held.begun;
     };
     noted = λ base folded.
-        let one = some_base a.lattice a.functions a.targets a.same (forms_of a) Two (store_at a (OnOneDisk (head_of Two tag))) is_same
-        (exact_at a free (OnOneDisk (head_of Two tag))) (laws_at a (OnOneDisk (head_of Two tag))) known w whole.held in
+        let one = some_base a.lattice a.functions a.targets a.same (forms_of a) head.version (store_at a (OnOneDisk head)) is_same
+        (exact_at a free (OnOneDisk head)) (laws_at a (OnOneDisk head)) known w whole.held in
         let is : one.0 ≡ base = same_image (contents w.world.sealed) one.0 base one.1 folded in
-        let noted = whole.noted base (subst (λ (i : ProgramImage F). IsFolded (on_one a tag) (contents w.world.sealed) i) is one.1) in
+        let noted = whole.noted base (subst (λ (i : ProgramImage F). IsFolded (on_one a head) (contents w.world.sealed) i) is one.1) in
         record { program = noted.program; roots = noted.roots; present = noted.present };
   }
     where
-      same_image : (records : List Entry) (one two : ProgramImage F) → IsFolded (on_one a tag) records one → IsFolded (on_two a tag) records two
+      same_image : (records : List Entry) (one two : ProgramImage F) → IsFolded (on_one a head) records one → IsFolded (on_two a head) records two
           → one ≡ two
       same_image records one two first second =
-          one_image (on_two a tag) (exact_at a free (OnTwoDisks tag)) (laws_at a (OnTwoDisks tag)) records (on_two a tag).empty one two
-          (leads_there a tag records (on_one a tag).empty one first) second
+          one_image (on_two a head) (exact_at a free (OnTwoDisks head)) (laws_at a (OnTwoDisks head)) records (on_two a head).empty one two
+          (leads_there a head records (on_one a head).empty one first) second
 
-  adopted_whole : (tag : ℕ) (start : StoreWorld a (OnTwoDisks tag)) → IsAdopted a tag start → IsWholeAt (OnTwoDisks tag) start
-  adopted_whole tag start adopted =
-      let place = OnOneDisk (head_of Two tag) in
+  adopted_whole : (head : Head) (start : StoreWorld a (OnTwoDisks head)) → IsAdopted a head start → IsWholeAt (OnTwoDisks head) start
+  adopted_whole head start adopted =
+      let place = OnOneDisk head in
       let whole = led_whole place (IsNew a place) (new_whole place) adopted.world adopted.run in
-      subst (IsWholeAt (OnTwoDisks tag)) (sym adopted.is)
-      (beside_whole tag adopted.world adopted.work adopted.other adopted.some_tag adopted.closed whole)
+      subst (IsWholeAt (OnTwoDisks head)) (sym adopted.is)
+      (beside_whole head adopted.world adopted.work adopted.other adopted.some_tag adopted.closed whole)
 
   -- so it is wherever a run may begin
   pub start_whole : (place : Place) (start : StoreWorld a place) → IsStart a place start → IsWholeAt place start
   start_whole (OnOneDisk head) start new = new_whole (OnOneDisk head) start new
-  start_whole (OnTwoDisks tag) start (inl new) = new_whole (OnTwoDisks tag) start new
-  start_whole (OnTwoDisks tag) start (inr adopted) = adopted_whole tag start adopted
+  start_whole (OnTwoDisks head) start (inl new) = new_whole (OnTwoDisks head) start new
+  start_whole (OnTwoDisks head) start (inr adopted) = adopted_whole head start adopted
 
   -- and each run answers
   pub place_answers : (place : Place) → PlaceAnswers a place

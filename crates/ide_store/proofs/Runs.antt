@@ -191,7 +191,7 @@ places_answer a one two (OnOneDisk head) start new =
     subst (λ (w : StoreWorld a (OnOneDisk head)).
     RunsAnswer a.lattice a.functions a.targets a.same (forms_of a) head.version (rules_at a (OnOneDisk head)) (store_at a (OnOneDisk head)) w)
     (sym new.is) (one head new.work new.disks new.live)
-places_answer a one two (OnTwoDisks tag) start begins = two tag start begins
+places_answer a one two (OnTwoDisks head) start begins = two head start begins
 
 module _ {F L : Type 0} (a : Analysis F L) (answers : (place : Place) → PlaceAnswers a place) where
   -- what is so of every run is so of the world

@@ -4,8 +4,7 @@ use Rattle.std.proofs.lemmas.Bool.{cases_lt}
 use Rattle.std.proofs.lemmas.List.{length-append, take-append-le, take-take, take_all}
 use Rattle.std.proofs.lemmas.List.Sums.{fold-append}
 use Rattle.ide_batch.specs.Fold.{ProgramImage}
-use Rattle.ide_journal.specs.Format.{Entry, head_of}
-use Rattle.ide_journal.specs.declared.version.Version.TheVariants.{Two}
+use Rattle.ide_journal.specs.Format.{Entry}
 use Rattle.ide_text.specs.Value.{ProgramValue}
 use Rattle.ide_theory.specs.Images.{Finish, Load, Part, Root}
 use Rattle.ide_theory.specs.State.{Claim}
@@ -156,11 +155,11 @@ module _ {F L : Type 0} (a : Analysis F L) (knows : Knows a) where
 
   start_still : (place : Place) (start : StoreWorld a place) → IsStart a place start → IsStillIn a place start
   start_still (OnOneDisk head) start new = new_still (OnOneDisk head) start new
-  start_still (OnTwoDisks tag) start (inl new) = new_still (OnTwoDisks tag) start new
-  start_still (OnTwoDisks tag) start (inr adopted) =
-      let one = OnOneDisk (head_of Two tag) in
+  start_still (OnTwoDisks head) start (inl new) = new_still (OnTwoDisks head) start new
+  start_still (OnTwoDisks head) start (inr adopted) =
+      let one = OnOneDisk head in
       let before = led_still one (IsNew a one) (λ begun new. new) (new_still one) adopted.world adopted.run in
-      subst (IsStillIn a (OnTwoDisks tag)) (sym adopted.is) (record { images = before.images; claims = before.claims })
+      subst (IsStillIn a (OnTwoDisks head)) (sym adopted.is) (record { images = before.images; claims = before.claims })
 
   -- and of each world that acts led to
   reached_still : (place : Place) (w : StoreWorld a place) → IsReached a place w → IsStillIn a place w

@@ -6,9 +6,8 @@ use Rattle.ide_batch.specs.Applied.{HasImage}
 use Rattle.ide_batch.specs.Fold.{ProgramImage, image_entry}
 use Rattle.ide_batch.specs.Items.{Functions, functions_by}
 use Rattle.ide_disk.specs.Disk.{settled}
-use Rattle.ide_journal.specs.Format.{Entry, Head, IsEntry, head_of}
+use Rattle.ide_journal.specs.Format.{Entry, Head, IsEntry}
 use Rattle.ide_journal.specs.declared.version.Version.{Version}
-use Rattle.ide_journal.specs.declared.version.Version.TheVariants.{Two}
 use Rattle.ide_lattice.specs.Algebra.{LatticeAlgebra, EdgeAlgebra}
 use Rattle.ide_problem.specs.Flow.{Targets}
 use Rattle.ide_image.specs.Notes.{noted_count}
@@ -131,8 +130,8 @@ module _ {F L : Type 0} (a : Analysis F L) (place : Place) where
 
 module _ {F L : Type 0} (a : Analysis F L) where
   -- a world on one disk, as one on two: the disk as it stood is A, and these bytes are B. The store is closed
-  abbrev pub beside : (head : Head) → StoreWorld a (OnOneDisk head) → (tag : ℕ) → SlotWriter → List ℕ → StoreWorld a (OnTwoDisks tag)
-  beside head w tag work other = record {
+  abbrev pub beside : (head : Head) → StoreWorld a (OnOneDisk head) → SlotWriter → List ℕ → StoreWorld a (OnTwoDisks head)
+  beside head w work other = record {
     world = record {
       image = w.world.image;
       history = w.world.history;
@@ -147,20 +146,20 @@ module _ {F L : Type 0} (a : Analysis F L) where
     tally = w.tally;
   }
 
-  -- a store of the second version that acts led to on one disk was adopted: a closed slot was put beside it
-  pub record IsAdopted (tag : ℕ) (start : StoreWorld a (OnTwoDisks tag)) : Type 0 where
-    pub some_tag : 0 < tag
-    pub world : StoreWorld a (OnOneDisk (head_of Two tag))
-    pub run : IsLedTo a (OnOneDisk (head_of Two tag)) (IsNew a (OnOneDisk (head_of Two tag))) world
+  -- a store that acts led to on one disk was adopted: a closed slot was put beside it
+  pub record IsAdopted (head : Head) (start : StoreWorld a (OnTwoDisks head)) : Type 0 where
+    pub some_tag : 0 < head.tag
+    pub world : StoreWorld a (OnOneDisk head)
+    pub run : IsLedTo a (OnOneDisk head) (IsNew a (OnOneDisk head)) world
     pub work : SlotWriter
     pub other : List ℕ
     pub closed : IsClosedSlot other
-    pub is : start ≡ beside (head_of Two tag) world tag work other
+    pub is : start ≡ beside head world work other
 
   -- where runs begin: at a new store, and on two disks also at one that was adopted
   abbrev pub IsStart : (place : Place) → StoreWorld a place → Type 0
   IsStart (OnOneDisk head) start = IsNew a (OnOneDisk head) start
-  IsStart (OnTwoDisks tag) start = IsNew a (OnTwoDisks tag) start ⊎ IsAdopted tag start
+  IsStart (OnTwoDisks head) start = IsNew a (OnTwoDisks head) start ⊎ IsAdopted head start
 
   -- acts that could be done one after the other led to the world
   abbrev pub IsReached : (place : Place) → StoreWorld a place → Type 0

@@ -3,7 +3,7 @@ use Rattle.std.specs.Prelude.{◌≡◌, ◌≢◌, ◌⊎◌, ◌<◌, ◌≤�
 use Rattle.ide_batch.specs.Fold.{ProgramImage}
 use Rattle.ide_disk.specs.Disk.{DiskState}
 use Rattle.ide_journal.specs.Format.{Entry, Head, Holds}
-use Rattle.ide_journal.specs.declared.version.Version.TheVariants.{Two}
+use Rattle.ide_journal.specs.declared.version.Version.{Version}
 use Rattle.ide_slots.specs.Sides.{Sides, two_sides}
 use Rattle.ide_slots.specs.Slot.{IsClosedSlot, IsPartEntry, Slot, numbered_from, records_of}
 use Rattle.ide_slots.specs.declared.side.Side.TheVariants.{First}
@@ -16,9 +16,9 @@ use Rattle.ide_store.specs.Table.{Analysis, forms_of}
 use Rattle.ide_store.specs.TwoDisks.{BeginsTwo, CallsTwo, GiveTheSame, HoldsTwo, IsListOf, IsLiveTwo, StoresTwo, commands_of, is_command, two_disks, unnumbered}
 use Rattle.ide_store.specs.World.{AreAlike, EveryRunRecovers, IsFolded, LeadTo, Rules}
 
--- what records and parts do over slots of the second version
-abbrev pub slots_of : {F L : Type 0} → Analysis F L → Rules (ProgramImage F) (ProgramStep F) Entry
-slots_of a = slot_machine a.functions a.same (forms_of a) Two
+-- what records and parts do over slots of that version
+abbrev pub slots_of : {F L : Type 0} → Analysis F L → Version → Rules (ProgramImage F) (ProgramStep F) Entry
+slots_of a version = slot_machine a.functions a.same (forms_of a) version
 
 -- for the instance of each tag they keep what a store has to
 abbrev pub TwoDisksKeep : {Image Step : Type 0} → Rules Image Step Entry → Type 0
@@ -28,10 +28,10 @@ TwoDisksKeep rules = (tag : ℕ) → StoreLaws (AreAlike rules) (two_disks rules
 abbrev pub TwoDisksRecover : {Image Step : Type 0} → Rules Image Step Entry → Type 0
 TwoDisksRecover rules = (tag : ℕ) → EveryRunRecovers (two_disks rules tag) rules
 
--- and with hands at work, with records spelled in that version, it answers with best values: from a new store on, and from
--- one that was adopted from one disk
+-- and with hands at work, of whatever version and for whatever instance, it answers with best values: from a new store on,
+-- and from one that was adopted from one disk
 abbrev pub TwoDisksAnswers : {F L : Type 0} → Analysis F L → Type 0
-TwoDisksAnswers a = (tag : ℕ) → PlaceAnswers a (OnTwoDisks tag)
+TwoDisksAnswers a = (head : Head) → PlaceAnswers a (OnTwoDisks head)
 
 -- a new store has no record; and what one on one disk holds is held beside a closed slot
 pub record TwoDisksBegin {Image Step : Type 0} (rules : Rules Image Step Entry) : Type 0 where

@@ -8,7 +8,7 @@ ghost use Rattle.ide_store.specs.Handing.{HandsAll, HandsTo};
 ghost use Rattle.ide_store.specs.Table.{IsSameTable};
 
 use crate::table::TableHalf;
-use ide_journal::RawRecord;
+use ide_journal::{RawRecord, Version};
 use ide_problem::Problem;
 use ide_wire::Refused;
 use std::collections::VecDeque;
@@ -48,6 +48,14 @@ impl<P: Problem> TableHalf<P> {
         ensures { self.new ≡ record self.old { failed = true } }
     {
         self.failed = true;
+    }
+
+    /// Spells records in that version from now on, as the slot wants them that a checkpoint turns to. Those that
+    /// wait stay as they are.
+    pub fn spell_in(&mut self, version: Version)
+        ensures { self.new ≡ record self.old { version = version } }
+    {
+        self.version = version;
     }
 
     /// Whether a call of the writer failed.

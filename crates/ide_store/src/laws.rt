@@ -1,5 +1,6 @@
 //! Laws of the store. The functions do nothing: their clauses are the laws.
 ghost use Rattle.ide_batch.specs.Items.{functions_by};
+ghost use Rattle.ide_journal.specs.declared.version.Version.{Version};
 ghost use Rattle.ide_store.specs.Acting.{CallsAreActs};
 ghost use Rattle.ide_store.specs.Engine.{HalvesOpen};
 ghost use Rattle.ide_store.specs.Opening.{HalvesBegin};
@@ -27,23 +28,23 @@ pub fn every_run_recovers<P: Problem>()
     ensures { OneDiskRecovers P.F.edge P.F.eq (functions_by P.F.proper P.F.form P.F.eq P.F.edge.all_top) }
 {}
 
-/// Two slots on two disks, of the second version, are a store as well: they keep what a store has to; a
+/// Two slots on two disks, of either version, are a store as well: they keep what a store has to; a
 /// new store has no record, and what one disk holds is held beside a closed slot; wherever records are
 /// still to be stored, or a checkpoint is begun, some call can be made; all that stands in a slot gives
 /// back the image of the records, and its commands are theirs; and where there are parts of that image,
 /// a checkpoint over all records can be planned.
 pub fn two_disks_are_a_store<P: Problem>()
-    ensures keep { TwoDisksKeep (slots_of ⟦<P as Kept>⟧.analysis) }
-    ensures begin { TwoDisksBegin (slots_of ⟦<P as Kept>⟧.analysis) }
-    ensures go_on { TwoDisksGoOn (slots_of ⟦<P as Kept>⟧.analysis) }
-    ensures give_back { SlotsGiveBack (slots_of ⟦<P as Kept>⟧.analysis) }
-    ensures plan { CheckpointsCanBePlanned (slots_of ⟦<P as Kept>⟧.analysis) }
+    ensures keep { (version : Version) → TwoDisksKeep (slots_of ⟦<P as Kept>⟧.analysis version) }
+    ensures begin { (version : Version) → TwoDisksBegin (slots_of ⟦<P as Kept>⟧.analysis version) }
+    ensures go_on { (version : Version) → TwoDisksGoOn (slots_of ⟦<P as Kept>⟧.analysis version) }
+    ensures give_back { (version : Version) → SlotsGiveBack (slots_of ⟦<P as Kept>⟧.analysis version) }
+    ensures plan { (version : Version) → CheckpointsCanBePlanned (slots_of ⟦<P as Kept>⟧.analysis version) }
 {}
 
 /// As [`every_run_recovers`], of a store on two disks, with the beginnings and the calls of checkpoints
 /// among what happens.
 pub fn every_run_recovers_on_two_disks<P: Problem>()
-    ensures { TwoDisksRecover (slots_of ⟦<P as Kept>⟧.analysis) }
+    ensures { (version : Version) → TwoDisksRecover (slots_of ⟦<P as Kept>⟧.analysis version) }
 {}
 
 /// Over every list of claims, parts, ends and releases of any hands, loads, roots, batches, disk calls,
@@ -61,7 +62,7 @@ pub fn every_run_answers<P: Problem>()
     keys_stand_at_nodes::<P>();
 }
 
-/// As [`every_run_answers`], of a store on two disks, whose slots are of the second version, with the
+/// As [`every_run_answers`], of a store on two disks, whose slots are of either version, with the
 /// beginnings and the calls of checkpoints among what happens: over each checkpoint, each crash and each
 /// opening the values that follow stay the best ones, and the bounds of the work are the same. A run begins
 /// at a new store, or at one of that version which a run on one disk left, and beside which a closed slot

@@ -1,4 +1,3 @@
-use Rattle.ide_journal.specs.declared.version.Version.TheVariants.{Two}
 use Rattle.ide_store.proofs.Machine.{slot_machine_is_exact}
 use Rattle.ide_store.proofs.TwoDisks.{two_disks_keep}
 use Rattle.ide_store.proofs.TwoDisksBegin.{two_disks_begin, two_disks_go_on}
@@ -8,7 +7,7 @@ use Rattle.ide_store.specs.TwoDisksLaws.{slots_of}
 use Rattle.ide_store.proofs.laws.two_disks_are_a_store.Goals as goal
 
 pub returns-clause-keep : goal.returns-clause-keep
-returns-clause-keep g c =
+returns-clause-keep g c = λ version.
     let a : Analysis g.row.P-F.Denot g.row.P-L.Denot = record {
       lattice = g.P.L.Lattice.algebra;
       functions = g.P.F.EdgeFn.edge;
@@ -17,10 +16,10 @@ returns-clause-keep g c =
       proper = g.P.F.Wire.proper;
       form = g.P.F.Wire.form;
     } in
-    two_disks_keep (slots_of a)
+    two_disks_keep (slots_of a version)
 
 pub returns-clause-begin : goal.returns-clause-begin
-returns-clause-begin g c =
+returns-clause-begin g c = λ version.
     let a : Analysis g.row.P-F.Denot g.row.P-L.Denot = record {
       lattice = g.P.L.Lattice.algebra;
       functions = g.P.F.EdgeFn.edge;
@@ -29,10 +28,10 @@ returns-clause-begin g c =
       proper = g.P.F.Wire.proper;
       form = g.P.F.Wire.form;
     } in
-    two_disks_begin (slots_of a)
+    two_disks_begin (slots_of a version)
 
 pub returns-clause-go_on : goal.returns-clause-go_on
-returns-clause-go_on g c =
+returns-clause-go_on g c = λ version.
     let a : Analysis g.row.P-F.Denot g.row.P-L.Denot = record {
       lattice = g.P.L.Lattice.algebra;
       functions = g.P.F.EdgeFn.edge;
@@ -41,10 +40,10 @@ returns-clause-go_on g c =
       proper = g.P.F.Wire.proper;
       form = g.P.F.Wire.form;
     } in
-    two_disks_go_on (slots_of a)
+    two_disks_go_on (slots_of a version)
 
 pub returns-clause-give_back : goal.returns-clause-give_back
-returns-clause-give_back g c =
+returns-clause-give_back g c = λ version.
     let a : Analysis g.row.P-F.Denot g.row.P-L.Denot = record {
       lattice = g.P.L.Lattice.algebra;
       functions = g.P.F.EdgeFn.edge;
@@ -53,10 +52,10 @@ returns-clause-give_back g c =
       proper = g.P.F.Wire.proper;
       form = g.P.F.Wire.form;
     } in
-    slots_give_back (slots_of a)
+    slots_give_back (slots_of a version)
 
 pub returns-clause-plan : goal.returns-clause-plan
-returns-clause-plan g c =
+returns-clause-plan g c = λ version.
     let a : Analysis g.row.P-F.Denot g.row.P-L.Denot = record {
       lattice = g.P.L.Lattice.algebra;
       functions = g.P.F.EdgeFn.edge;
@@ -65,4 +64,4 @@ returns-clause-plan g c =
       proper = g.P.F.Wire.proper;
       form = g.P.F.Wire.form;
     } in
-    checkpoints_can_be_planned (slots_of a) (slot_machine_is_exact g.P.F.EdgeFn.edge g.P.F.PartialEq.eq (forms_of a) g.met.P.F.Wire.prefix_free Two)
+    checkpoints_can_be_planned (slots_of a version) (slot_machine_is_exact g.P.F.EdgeFn.edge g.P.F.PartialEq.eq (forms_of a) g.met.P.F.Wire.prefix_free version)
