@@ -3,7 +3,8 @@ use Rattle.std.proofs.Common.{◌≡◌, ◌<◌, ◌++◌, ℕ, List, [], ◌�
 use Rattle.std.specs.Prelude.{IfErr, IfOk}
 use Rattle.ide_disk.specs.Disk.{DiskState}
 use Rattle.ide_disk.specs.declared.disk.Disk.{Ghosts}
-use Rattle.ide_journal.specs.Format.{head_of, header}
+use Rattle.ide_journal.specs.Format.{Head, head_of, header}
+use Rattle.ide_journal.specs.declared.version.Version.{Version}
 use Rattle.ide_journal.specs.declared.version.Version.TheVariants.{Two}
 use Rattle.ide_slot_journal.specs.Opened.{states_of}
 use Rattle.ide_slot_journal.specs.Stands.{disks_of}
@@ -23,62 +24,63 @@ use Rattle.ide_slot_store.specs.Runs.{AreOnRun}
 use Rattle.ide_slot_store.specs.declared.engine.SlotEngine.{SlotEngine}
 use Rattle.ide_slot_store.specs.declared.writer.SlotWriterHalf.{SlotWriterHalf}
 
-module _ {F L : Type 0} (a : Analysis F L) (tag : ℕ) (some : 0 < tag) where
+module _ {F L : Type 0} (a : Analysis F L) (head : Head) (some : 0 < head.tag) where
   -- a run on one disk goes on beside a closed slot
-  pub goes_on : (w : OneWorld a tag) (work : SlotWriter) (other : List ℕ) → IsClosedSlot other → IsReached a (OnOneDisk (head_of Two tag)) w
-      → IsReached a (OnTwoDisks tag) (beside a (head_of Two tag) w tag work other)
+  pub goes_on : (w : OneWorld a head) (work : SlotWriter) (other : List ℕ) → IsClosedSlot other → IsReached a (OnOneDisk head) w
+      → IsReached a (OnTwoDisks head) (beside a head w work other)
   goes_on w work other closed reached = record {
-    start = beside a (head_of Two tag) w tag work other;
+    start = beside a head w work other;
     begins = inr (record { some_tag = some; world = w; run = reached; work = work; other = other; closed = closed; is = refl });
     acts = [];
     can = tt;
     is = refl;
   }
 
-  module _ {D : Type 0} {G : Ghosts D} (first closed : D) (is : G.state closed ≡ first_disk (head_of Two tag)) where
-    -- so does one that is opened beside it
-    taken_over : (table : TableData F) (writer : SlotWriterHalf D G) → AreOpened a tag (states_of G first closed) table writer
-        → AreAdopted a tag (G.state first) table writer
-    taken_over table writer opened w reached stands =
-        let head = head_of Two tag in
-        let other = header head ++ 0 ∷ [] in
-        let slot : IsClosedSlot other = closed_first head (first_disk head) refl in
-        let stood = first_writer 4096 in
-        let did = opened (beside a head w tag stood other) (goes_on w stood other slot reached) (λ i. record { a = stands i; b = sym is i }) in
-        record {
-          some_tag = some;
-          stood = stood;
-          other = other;
-          closed = slot;
-          found = did.0;
-          image = did.1;
-          work = did.2;
-          can = did.3.0;
-          at_work = did.3.1;
-        }
+module _ {F L : Type 0} (a : Analysis F L) (tag : ℕ) (some : 0 < tag) {D : Type 0} {G : Ghosts D} (first closed : D)
+    (is : G.state closed ≡ first_disk (head_of Two tag)) where
+  -- so does one that is opened beside it
+  taken_over : (version : Version) (table : TableData F) (writer : SlotWriterHalf D G)
+      → AreOpened a (head_of version tag) (states_of G first closed) table writer → AreAdopted a (head_of version tag) (G.state first) table writer
+  taken_over version table writer opened w reached stands =
+      let head = head_of version tag in
+      let bare = head_of Two tag in
+      let other = header bare ++ 0 ∷ [] in
+      let slot : IsClosedSlot other = closed_first bare (first_disk bare) refl in
+      let stood = first_writer 4096 in
+      let did = opened (beside a head w stood other) (goes_on a head some w stood other slot reached) (λ i. record { a = stands i; b = sym is i }) in
+      record {
+        some_tag = some;
+        stood = stood;
+        other = other;
+        closed = slot;
+        found = did.0;
+        image = did.1;
+        work = did.2;
+        can = did.3.0;
+        at_work = did.3.1;
+      }
 
-    pub adopted : {P E : Type 0} (result : Result (SlotEngine P D L F G) E) → OpensEngine a tag first closed result → G.honest first → G.honest closed
-        → IfOk result (λ engine. engine.writer.journal.version ≡ Two → AreAdopted a tag (G.state first) engine.table engine.writer)
-    adopted (Ok engine) opens first_honest closed_honest =
-        λ version. taken_over engine.table engine.writer (opens first_honest closed_honest version)
-    adopted (Err e) opens first_honest closed_honest = tt
+  pub adopted : {P E : Type 0} (result : Result (SlotEngine P D L F G) E) → OpensEngine a tag first closed result → G.honest first → G.honest closed
+      → IfOk result (λ engine. AreAdopted a (head_of engine.writer.journal.version tag) (G.state first) engine.table engine.writer)
+  adopted (Ok engine) opens first_honest closed_honest =
+      taken_over engine.writer.journal.version engine.table engine.writer (opens first_honest closed_honest)
+  adopted (Err e) opens first_honest closed_honest = tt
 
-    pub not_adopted : {P : Type 0} (second : D) (result : Result (SlotEngine P D L F G) (Refused × D × D)) → RefusesEngine a tag first closed result
-        → G.honest first → G.honest closed → IfErr result (λ all. IsAdoptingStop a G tag first second all.1 all.2 all.0)
-    not_adopted second (Ok engine) refuses first_honest closed_honest = tt
-    not_adopted second (Err all) refuses first_honest closed_honest = not_opened closed is (refuses first_honest closed_honest)
+  pub not_adopted : {P : Type 0} (second : D) (result : Result (SlotEngine P D L F G) (Refused × D × D)) → RefusesEngine a tag first closed result
+      → G.honest first → G.honest closed → IfErr result (λ all. IsAdoptingStop a G tag first second all.1 all.2 all.0)
+  not_adopted second (Ok engine) refuses first_honest closed_honest = tt
+  not_adopted second (Err all) refuses first_honest closed_honest = not_opened closed is (refuses first_honest closed_honest)
 
 module _ {F L : Type 0} (a : Analysis F L) {D : Type 0} {G : Ghosts D} where
   -- an engine over it is on a run
-  pub adopting_stays : (tag : ℕ) (before : DiskState) (table : TableData F) (writer : SlotWriterHalf D G)
-      → IsLeftByRun a (OnOneDisk (head_of Two tag)) before → AreAdopted a tag before table writer → AreOnRun a table writer
-  adopting_stays tag before table writer left adopts =
+  pub adopting_stays : (head : Head) (before : DiskState) (table : TableData F) (writer : SlotWriterHalf D G)
+      → IsLeftByRun a (OnOneDisk head) before → AreAdopted a head before table writer → AreOnRun a head table writer
+  adopting_stays head before table writer left adopts =
       let is = adopts left.world left.reached left.stands in
-      let start = beside a (head_of Two tag) left.world tag is.stood is.other in
-      let act : StoreAct a (OnTwoDisks tag) = Happens (Opens is.found is.image is.work (disks_of writer.journal)) in
+      let start = beside a head left.world is.stood is.other in
+      let act : StoreAct a (OnTwoDisks head) = Happens (Opens is.found is.image is.work (disks_of writer.journal)) in
       record {
-        tag = tag;
-        world = after_act a (OnTwoDisks tag) start act;
-        reached = reached_more a (OnTwoDisks tag) start (act ∷ []) (goes_on a tag is.some_tag left.world is.stood is.other is.closed left.reached) (is.can, tt);
+        world = after_act a (OnTwoDisks head) start act;
+        reached = reached_more a (OnTwoDisks head) start (act ∷ []) (goes_on a head is.some_tag left.world is.stood is.other is.closed left.reached) (is.can, tt);
         at_work = is.at_work;
       }

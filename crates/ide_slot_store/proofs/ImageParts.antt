@@ -251,12 +251,12 @@ module _ {F : Type 0} where
 module _ {F L : Type 0} (a : Analysis F L) where
   pub commands_stay_below : CommandsStayBelow a
   commands_stay_below records now folded =
-      commands_below a.functions a.same (forms_of a) Two 0 records (slots_of a).empty (slots_of a).empty now (below_itself (slots_of a).empty) folded
+      commands_below a.functions a.same (forms_of a) Two 0 records (slots_of a Two).empty (slots_of a Two).empty now (below_itself (slots_of a Two).empty) folded
 
   -- parts lead to the image that their items make
   parts_lead : (items : List (Item F)) (parts : List Entry) (image now : ProgramImage F) → AreInParts (forms_of a) items parts
       → image.program ≡ now.program → image.roots ≡ now.roots → ((key : Key) → unwrap_or (named items key) (image_entry image key) ≡ image_entry now key)
-      → LeadTo (slots_of a) parts image now
+      → LeadTo (slots_of a Two) parts image now
   parts_lead items [] image now none program roots made =
       let same : (key : Key) → image_entry image key ≡ image_entry now key =
       λ key. subst (λ (xs : List (Item F)). unwrap_or (named xs key) (image_entry image key) ≡ image_entry now key) none (made key) in

@@ -7,7 +7,7 @@ use Rattle.std.proofs.lemmas.List.Elements.{All-cons, All-nil}
 use Rattle.std.proofs.lemmas.List.{append-nil, drop-append-le, drop_all, length-append, length-map, take-append-le}
 use Rattle.ide_disk.specs.Disk.{DiskState}
 use Rattle.ide_disk.specs.declared.disk.Disk.{Ghosts}
-use Rattle.ide_journal.specs.Format.{Entry, IsEntry}
+use Rattle.ide_journal.specs.Format.{Entry, Head, IsEntry}
 use Rattle.ide_journal.specs.Lists.{entries_of, entry_of}
 use Rattle.ide_slot_journal.specs.Stands.{AreHonest, StandsOn, disks_of, slot_writer}
 use Rattle.ide_slot_journal.specs.declared.journal.SlotJournal.{SlotJournal}
@@ -65,9 +65,9 @@ same_refusal one other is = same_Some one other (ap result_err is)
 pub taken_honest : {D : Type 0} {G : Ghosts D} (old mid : SlotWriterHalf D G) → mid.journal ≡ old.journal → AreHonest old.journal → AreHonest mid.journal
 taken_honest old mid same honest = subst AreHonest (sym same) honest
 
-module _ {F L : Type 0} (a : Analysis F L) {D : Type 0} {G : Ghosts D} (tag : ℕ) where
+module _ {F L : Type 0} (a : Analysis F L) {D : Type 0} {G : Ghosts D} (head : Head) where
   -- ---- sealed records are handed over
-  module _ (w : SlotWorld a tag) (table mid_table : TableData F) (old mid : SlotWriterHalf D G) (at : AreAtWork a tag w table old)
+  module _ (w : SlotWorld a head) (table mid_table : TableData F) (old mid : SlotWriterHalf D G) (at : AreAtWork a head w table old)
       (journal : mid.journal ≡ old.journal) (commands : mid.commands.items ≡ old.commands.items) (few : table.sealed ≤ 4294967295)
       (proper : All IsEntry (entries_of mid.waiting.items)) where
     abbrev same_work : w.world.work ≡ slot_writer at.other mid.journal
@@ -81,7 +81,7 @@ module _ {F L : Type 0} (a : Analysis F L) {D : Type 0} {G : Ghosts D} (tag : �
     first_left None is = tt
     first_left (Some entry) is = more_get at.handed table.waiting entry w.world.stored is
 
-    pub all_handed_at_work : HandsAll table mid_table old.waiting.items mid.waiting.items → AreAtWork a tag w mid_table mid
+    pub all_handed_at_work : HandsAll table mid_table old.waiting.items mid.waiting.items → AreAtWork a head w mid_table mid
     all_handed_at_work hands =
         let handed : List Entry = at.handed ++ table.waiting in
         let before = at.writes.behind in
@@ -94,8 +94,8 @@ module _ {F L : Type 0} (a : Analysis F L) {D : Type 0} {G : Ghosts D} (tag : �
         let longer = length-append at.handed table.waiting in
         record {
           handed = handed;
-          works = subst (λ (t : TableData F). WorksOn a (OnTwoDisks tag) w t handed) (sym hands.rest)
-              (works_after a (OnTwoDisks tag) w table w.world.stored w.world.work w.world.disks handed [] at.works
+          works = subst (λ (t : TableData F). WorksOn a (OnTwoDisks head) w t handed) (sym hands.rest)
+              (works_after a (OnTwoDisks head) w table w.world.stored w.world.work w.world.disks handed [] at.works
               (at.works.waits ∙ sym (append-nil handed)));
           slot = at.slot;
           other = at.other;
@@ -117,10 +117,10 @@ module _ {F L : Type 0} (a : Analysis F L) {D : Type 0} {G : Ghosts D} (tag : �
           disks = same_disks;
         }
 
-    pub handed_at_work : HandsTo table mid_table old.waiting.items mid.waiting.items → AreAtWork a tag w mid_table mid
+    pub handed_at_work : HandsTo table mid_table old.waiting.items mid.waiting.items → AreAtWork a head w mid_table mid
     handed_at_work (kept some items same) = record {
       handed = at.handed;
-      works = subst (λ (t : TableData F). WorksOn a (OnTwoDisks tag) w t at.handed) (sym same) at.works;
+      works = subst (λ (t : TableData F). WorksOn a (OnTwoDisks head) w t at.handed) (sym same) at.works;
       slot = at.slot;
       other = at.other;
       writes = record {
@@ -136,7 +136,7 @@ module _ {F L : Type 0} (a : Analysis F L) {D : Type 0} {G : Ghosts D} (tag : �
         all_handed_at_work (record { waits = took ∙ ap (λ (rs : List _). entries_of rs ++ table.waiting) (sym none); rest = same })
 
   -- ---- what the writer did is what happens to the store
-  module _ (w : SlotWorld a tag) (table : TableData F) (old new : SlotWriterHalf D G) (at : AreAtWork a tag w table old) where
+  module _ (w : SlotWorld a head) (table : TableData F) (old new : SlotWriterHalf D G) (at : AreAtWork a head w table old) where
     abbrev split : contents w.world.sealed ≡ at.handed ++ table.waiting
     split = at.works.waits
 
@@ -150,11 +150,11 @@ module _ {F L : Type 0} (a : Analysis F L) {D : Type 0} {G : Ghosts D} (tag : �
     new_disks = disks_of new.journal
 
     -- the halves are at work on the world of which so many records are stored
-    at_work_on : (slot : Slot) (stored : ℕ) → slot.head.tag ≡ tag → Writes slot at.other at.handed stored new
-        → AreAtWork a tag (record w { world = record w.world { stored = stored; work = new_work; disks = new_disks } }) table new
+    at_work_on : (slot : Slot) (stored : ℕ) → slot.head.tag ≡ head.tag → Writes slot at.other at.handed stored new
+        → AreAtWork a head (record w { world = record w.world { stored = stored; work = new_work; disks = new_disks } }) table new
     at_work_on slot stored tagged writes = record {
       handed = at.handed;
-      works = works_after a (OnTwoDisks tag) w table stored new_work new_disks at.handed left at.works split;
+      works = works_after a (OnTwoDisks head) w table stored new_work new_disks at.handed left at.works split;
       slot = slot;
       other = at.other;
       writes = writes;
@@ -164,19 +164,19 @@ module _ {F L : Type 0} (a : Analysis F L) {D : Type 0} {G : Ghosts D} (tag : �
     }
 
     -- a good call, behind the beginning of a checkpoint's calls or not
-    called : HasCalled at.slot at.other at.handed w.world.stored old new → DidCalls a tag w table table new
+    called : HasCalled at.slot at.other at.handed w.world.stored old new → DidCalls a head w table table new
     called one = by one.event.first
       where
-        then : AreAtWork a tag (record w { world = record w.world { stored = w.world.stored; work = new_work; disks = new_disks } }) table new
+        then : AreAtWork a head (record w { world = record w.world { stored = w.world.stored; work = new_work; disks = new_disks } }) table new
         then = at_work_on one.now w.world.stored (one.tag ∙ at.tag_is) one.writes
 
         call : CallsTwo (at.handed ++ left) w.world.stored one.event.mid (disks_of old.journal) new_work new_disks
         call = calls_over at.handed left w.world.stored one.event.mid new_work (disks_of old.journal) new_disks one.event.event
 
-        by : BeginsFirst at.handed w.world.stored (slot_writer at.other old.journal) (disks_of old.journal) one.event.mid → DidCalls a tag w table table new
+        by : BeginsFirst at.handed w.world.stored (slot_writer at.other old.journal) (disks_of old.journal) one.event.mid → DidCalls a head w table table new
         by (inl same) = record {
           events = world.Calls new_work new_disks ∷ [];
-          own = All-cons (IsGoodCall a tag) (world.Calls new_work new_disks) [] tt (All-nil (IsGoodCall a tag));
+          own = All-cons (IsGoodCall a head) (world.Calls new_work new_disks) [] tt (All-nil (IsGoodCall a head));
           can = ((tt, (at.works.running, rw (split, at.work ∙ sym same, at.disks) call)), tt);
           at_work = then;
         }
@@ -185,8 +185,8 @@ module _ {F L : Type 0} (a : Analysis F L) {D : Type 0} {G : Ghosts D} (tag : �
             begins in
             record {
               events = world.Calls one.event.mid (disks_of old.journal) ∷ world.Calls new_work new_disks ∷ [];
-              own = All-cons (IsGoodCall a tag) (world.Calls one.event.mid (disks_of old.journal)) (world.Calls new_work new_disks ∷ []) tt
-                  (All-cons (IsGoodCall a tag) (world.Calls new_work new_disks) [] tt (All-nil (IsGoodCall a tag)));
+              own = All-cons (IsGoodCall a head) (world.Calls one.event.mid (disks_of old.journal)) (world.Calls new_work new_disks ∷ []) tt
+                  (All-cons (IsGoodCall a head) (world.Calls new_work new_disks) [] tt (All-nil (IsGoodCall a head)));
               can = (
                 (tt, (at.works.running, rw (split, at.work, at.disks) first)),
                 ((tt, (at.works.running, rw split call)), tt),
@@ -195,19 +195,19 @@ module _ {F L : Type 0} (a : Analysis F L) {D : Type 0} {G : Ghosts D} (tag : �
             }
 
     -- one that stores a record
-    stored_one : HasStored at.slot at.other at.handed w.world.stored old new → DidCalls a tag w table table new
+    stored_one : HasStored at.slot at.other at.handed w.world.stored old new → DidCalls a head w table table new
     stored_one one =
         let call = stores_over at.handed left w.world.stored (slot_writer at.other old.journal) new_work (disks_of old.journal) new_disks one.event in
         record {
           events = world.Stores new_work new_disks ∷ [];
-          own = All-cons (IsGoodCall a tag) (world.Stores new_work new_disks) [] tt (All-nil (IsGoodCall a tag));
+          own = All-cons (IsGoodCall a head) (world.Stores new_work new_disks) [] tt (All-nil (IsGoodCall a head));
           can = ((tt, (at.works.running, rw (split, at.work, at.disks) call)), tt);
           at_work = at_work_on _ (w.world.stored + 1) at.tag_is one.writes;
         }
 
     -- one that failed
     failed : (new_table : TableData F) → new_table ≡ record table { failed = true }
-        → DidFail at.other at.handed w.world.stored old.journal new.journal → FailedThen a tag w table new_table new
+        → DidFail at.other at.handed w.world.stored old.journal new.journal → FailedThen a head w table new_table new
     failed new_table is one = by one.first
       where
         then : new_table ≡ record table { waiting = new_table.waiting; failed = true }
@@ -217,10 +217,10 @@ module _ {F L : Type 0} (a : Analysis F L) {D : Type 0} {G : Ghosts D} (tag : �
         call = fails_over at.handed left w.world.stored one.mid (disks_of old.journal) new_disks one.event
 
         by : BeginsFirst at.handed w.world.stored (slot_writer at.other old.journal) (disks_of old.journal) one.mid
-            → FailedThen a tag w table new_table new
+            → FailedThen a head w table new_table new
         by (inl same) = record {
           events = [];
-          own = All-nil (IsGoodCall a tag);
+          own = All-nil (IsGoodCall a head);
           can = ((tt, (at.works.running, rw (split, at.work ∙ sym same, at.disks) call)), tt);
           failed = then;
         }
@@ -229,7 +229,7 @@ module _ {F L : Type 0} (a : Analysis F L) {D : Type 0} {G : Ghosts D} (tag : �
             begins in
             record {
               events = world.Calls one.mid (disks_of old.journal) ∷ [];
-              own = All-cons (IsGoodCall a tag) (world.Calls one.mid (disks_of old.journal)) [] tt (All-nil (IsGoodCall a tag));
+              own = All-cons (IsGoodCall a head) (world.Calls one.mid (disks_of old.journal)) [] tt (All-nil (IsGoodCall a head));
               can = (
                 (tt, (at.works.running, rw (split, at.work, at.disks) first)),
                 ((tt, (at.works.running, rw split call)), tt),
@@ -239,7 +239,7 @@ module _ {F L : Type 0} (a : Analysis F L) {D : Type 0} {G : Ghosts D} (tag : �
 
     -- where no call was made, they are at work as they were
     still : Writes at.slot at.other at.handed w.world.stored new → new_work ≡ slot_writer at.other old.journal → new_disks ≡ disks_of old.journal
-        → AreAtWork a tag w table new
+        → AreAtWork a head w table new
     still writes work disks = record {
       handed = at.handed;
       works = at.works;
@@ -252,7 +252,7 @@ module _ {F L : Type 0} (a : Analysis F L) {D : Type 0} {G : Ghosts D} (tag : �
     }
 
     -- where all that were handed over are stored and nothing is left with the half that works, all that were sealed are
-    rested : left ≡ [] → HasRested at.slot at.other at.handed w.world.stored old new → (w.world.stored ≡ length w.world.sealed) × AreAtWork a tag w table new
+    rested : left ≡ [] → HasRested at.slot at.other at.handed w.world.stored old new → (w.world.stored ≡ length w.world.sealed) × AreAtWork a head w table new
     rested none one =
         let whole : contents w.world.sealed ≡ at.handed = split ∙ ap (λ (xs : List Entry). at.handed ++ xs) none ∙ append-nil at.handed in
         let count : length w.world.sealed ≡ length at.handed = sym (length-map w.world.sealed (λ s. s.content)) ∙ ap length whole in
@@ -265,7 +265,7 @@ module _ {F L : Type 0} (a : Analysis F L) {D : Type 0} {G : Ghosts D} (tag : �
           still writes (ap (slot_writer at.other) one.same.journal) (ap disks_of one.same.journal),
         )
 
-    waited : HasWaited at.slot at.other at.handed w.world.stored old new → AreAtWork a tag w table new
+    waited : HasWaited at.slot at.other at.handed w.world.stored old new → AreAtWork a head w table new
     waited one =
         still one.writes (one.quiet.work at.other)
         (λ i. two_sides (one.quiet.side i) (G.state (one.quiet.current i)) (G.state (one.quiet.other i)))
@@ -273,23 +273,23 @@ module _ {F L : Type 0} (a : Analysis F L) {D : Type 0} {G : Ghosts D} (tag : �
     -- what a step of the writer is to the store
     pub stepped : (new_table : TableData F) (result : Result Bool Refused) → StepsTo at.slot at.other at.handed w.world.stored old new result
         → (w.world.stored ≡ length at.handed → left ≡ []) → (result ≡ Err Disk → new_table ≡ record table { failed = true })
-        → ((result ≡ Err Disk → ⊥) → new_table ≡ table) → StepsDisks a tag w table new_table new result
+        → ((result ≡ Err Disk → ⊥) → new_table ≡ table) → StepsDisks a head w table new_table new result
     stepped new_table _ (makes (calls one)) none failing going =
-        subst (λ (t : TableData F). StepsDisks a tag w table t new (Ok true)) (sym (going (λ no. cc (no)))) (did_call (called one))
+        subst (λ (t : TableData F). StepsDisks a head w table t new (Ok true)) (sym (going (λ no. cc (no)))) (did_call (called one))
     stepped new_table _ (makes (stores one)) none failing going =
-        subst (λ (t : TableData F). StepsDisks a tag w table t new (Ok true)) (sym (going (λ no. cc (no)))) (did_call (stored_one one))
+        subst (λ (t : TableData F). StepsDisks a head w table t new (Ok true)) (sym (going (λ no. cc (no)))) (did_call (stored_one one))
     stepped new_table _ (makes (fails one)) none failing going = did_fail (failed new_table (failing refl) one)
     stepped new_table _ (rests one) none failing going =
         let rest = rested (none one.all) one in
-        subst (λ (t : TableData F). StepsDisks a tag w table t new (Ok false)) (sym (going (λ no. cc (no)))) (all_stored rest.0 rest.1)
+        subst (λ (t : TableData F). StepsDisks a head w table t new (Ok false)) (sym (going (λ no. cc (no)))) (all_stored rest.0 rest.1)
     stepped new_table _ (waits one) none failing going =
-        subst (λ (t : TableData F). StepsDisks a tag w table t new (Err NoMemory)) (sym (going (λ no. cc (no)))) (no_memory (waited one))
+        subst (λ (t : TableData F). StepsDisks a head w table t new (Err NoMemory)) (sym (going (λ no. cc (no)))) (no_memory (waited one))
 
   -- ---- a step, behind the records that were handed over
   module _ (table mid_table : TableData F) (old mid : SlotWriterHalf D G) (journal : mid.journal ≡ old.journal)
       (commands : mid.commands.items ≡ old.commands.items) (few : table.sealed ≤ 4294967295) (proper : All IsEntry (entries_of mid.waiting.items)) where
     -- where all that were handed over are stored, none is left
-    none_left : (w : SlotWorld a tag) (at : AreAtWork a tag w table old) (hands : HandsTo table mid_table old.waiting.items mid.waiting.items)
+    none_left : (w : SlotWorld a head) (at : AreAtWork a head w table old) (hands : HandsTo table mid_table old.waiting.items mid.waiting.items)
         → w.world.stored ≡ length (handed_at_work w table mid_table old mid at journal commands few proper hands).handed → mid_table.waiting ≡ []
     unfolding handed_at_work
     none_left w at (gave none took same) all = ap (λ (t : TableData F). t.waiting) same
@@ -305,8 +305,8 @@ module _ {F L : Type 0} (a : Analysis F L) {D : Type 0} {G : Ghosts D} (tag : �
     failed_from (kept some items same) new_table is =
         is ∙ ap (λ (t : TableData F). record t { waiting = new_table.waiting; failed = true }) same
 
-    told_from : HandsTo table mid_table old.waiting.items mid.waiting.items → (w : SlotWorld a tag) (new_table : TableData F) (new : SlotWriterHalf D G)
-        (result : Result Bool Refused) → StepsDisks a tag w mid_table new_table new result → StepsDisks a tag w table new_table new result
+    told_from : HandsTo table mid_table old.waiting.items mid.waiting.items → (w : SlotWorld a head) (new_table : TableData F) (new : SlotWriterHalf D G)
+        (result : Result Bool Refused) → StepsDisks a head w mid_table new_table new result → StepsDisks a head w table new_table new result
     told_from hands w new_table new _ (did_call call) = did_call (record { events = call.events; own = call.own; can = call.can; at_work = call.at_work })
     told_from hands w new_table new _ (did_fail fail) =
         did_fail (record { events = fail.events; own = fail.own; can = fail.can; failed = failed_from hands new_table fail.failed })
@@ -315,7 +315,7 @@ module _ {F L : Type 0} (a : Analysis F L) {D : Type 0} {G : Ghosts D} (tag : �
 
     pub stepped_disks : HandsTo table mid_table old.waiting.items mid.waiting.items → (new_table : TableData F) (new : SlotWriterHalf D G)
         (result : Result Bool Refused) → StepsOver mid new result → (result ≡ Err Disk → new_table ≡ record mid_table { failed = true })
-        → ((result ≡ Err Disk → ⊥) → new_table ≡ mid_table) → StepsDisksOver a tag table new_table old new result
+        → ((result ≡ Err Disk → ⊥) → new_table ≡ mid_table) → StepsDisksOver a head table new_table old new result
     stepped_disks hands new_table new result steps failing going w reached at =
         let there = handed_at_work w table mid_table old mid at journal commands few proper hands in
         told_from hands w new_table new result

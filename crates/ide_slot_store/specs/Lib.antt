@@ -8,5 +8,6 @@ pub mod Half
 pub mod Openings
 pub mod Parts
 pub mod Runs
+pub mod Sizes
 pub mod Storing
 pub mod Writing

@@ -63,16 +63,16 @@ pub record IsBelow {F : Type 0} (before now : ProgramImage F) : Type 0 where
 module _ {F L : Type 0} (a : Analysis F L) where
   -- the commands among records give back an image below the one that all of them do
   abbrev pub CommandsStayBelow : Type 0
-  CommandsStayBelow = (records : List Entry) (now : ProgramImage F) → IsFolded (slots_of a) records now
-      → (before : ProgramImage F) × IsFolded (slots_of a) (map unnumbered (commands_of records)) before × IsBelow before now
+  CommandsStayBelow = (records : List Entry) (now : ProgramImage F) → IsFolded (slots_of a Two) records now
+      → (before : ProgramImage F) × IsFolded (slots_of a Two) (map unnumbered (commands_of records)) before × IsBelow before now
 
   -- from each image below that of a core the parts of this one lead to it
   abbrev pub PartsLeadUp : Type 0
   PartsLeadUp = (table : TableData F) (parts : List Entry) (before now : ProgramImage F) → AreImageParts a table parts
-      → HasImage now table.core → IsBelow before now → LeadTo (slots_of a) parts before now
+      → HasImage now table.core → IsBelow before now → LeadTo (slots_of a Two) parts before now
 
   -- so the parts of a core's image are parts of the records that give back this image, if there is a command among them
   abbrev pub ImagePartsMakeCheckpoints : Type 0
   ImagePartsMakeCheckpoints = (table : TableData F) (records parts : List Entry) (now : ProgramImage F)
-      → AreImageParts a table parts → IsFolded (slots_of a) records now → HasImage now table.core
-      → 0 < length (commands_of records) → ArePartsOf (slots_of a) records parts
+      → AreImageParts a table parts → IsFolded (slots_of a Two) records now → HasImage now table.core
+      → 0 < length (commands_of records) → ArePartsOf (slots_of a Two) records parts

@@ -16,10 +16,9 @@ impl<P: Problem, D: Disk> SlotEngine<P, D> {
     ghost use Rattle.ide_slot_store.specs.Engine.{engine_sides_after};
 
     /// Adopts the store of this analysis that the disk A alone holds: a closed slot is put on B, in the place
-    /// of what that held, and the store is opened, as by [`SlotEngine::open`]. It goes on with the run that A
-    /// was left by: its image is the fold of the records of A, all of them acknowledged. Of a store of the
-    /// first version nothing is told yet. A crash meanwhile leaves A as it was: B is emptied then, and the
-    /// store adopted again.
+    /// of what that held, and the store, of either version, is opened, as by [`SlotEngine::open`]. It goes on
+    /// with the run that A was left by: its image is the fold of the records of A, all of them acknowledged. A
+    /// crash meanwhile leaves A as it was: B is emptied then, and the store adopted again.
     ///
     /// Refusals: `Already`, where B has an open slot of generation 1 or more, whose first page is valid, and
     /// nothing is changed; `NoMemory` and `Disk`, of B; those of [`SlotEngine::open`]. The disks come back.

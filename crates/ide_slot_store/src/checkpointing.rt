@@ -1,10 +1,12 @@
 //! A checkpoint of all that is sealed, which the engine is asked for.
-ghost use Rattle.std.specs.Prelude.{◌≡◌, ◌<◌, [], false, true, Err, Ok, Some, IfErr, OnOk};
+ghost use Rattle.std.specs.Prelude.{◌≡◌, ◌↔◌, ◌<◌, [], false, true, Err, Ok, Some, IfErr, IsTrue, OnOk};
+ghost use Rattle.ide_journal.specs.declared.version.Version.TheVariants.{Two};
 
 use crate::engine::SlotEngine;
 use crate::laws::slot_checkpoints_begin;
 use crate::parts::image_parts;
 use ide_disk::Disk;
+use ide_journal::Version;
 use ide_problem::Problem;
 use ide_store::Kept;
 use ide_wire::Refused;
@@ -12,12 +14,15 @@ use std::alloc::Global;
 
 impl<P: Problem, D: Disk> SlotEngine<P, D> {
     ghost use Rattle.ide_slot_journal.specs.Stands.{IsCheckpointing};
-    ghost use Rattle.ide_slot_store.specs.Asking.{AsksEngine, CallsNoDisk, IsCheckpointStop, IsImageStop, IsSealAllStop, PlansEngine, SealsEngine};
+    ghost use Rattle.ide_slot_store.specs.Asking.{AsksEngine, CallsNoDisk, IsCheckpointStop, IsImageStop, IsSealAllStop, IsWorthACheckpoint, PlansEngine, SealsEngine};
 
     /// Seals what changed, and begins a checkpoint of all that is sealed, by the image as it stands: once the
     /// records below it are stored, [`SlotEngine::disk_step`] makes its calls. Meanwhile the store goes on,
-    /// and its records wait. False, where none begins: where one is under way, and nothing is done; where no
-    /// sealed record stands at or past the base of the current slot; or where no program is loaded.
+    /// and its records wait, spelled in the second version, as the slot has them that it turns to. False,
+    /// where none begins: where one is under way, and nothing is done; where the current slot is of the second
+    /// version and no sealed record stands at or past its base; or where no program is loaded.
+    ///
+    /// Of a slot of the first version a checkpoint is not told: no clause says on which run the store is then.
     ///
     /// Refusals, in this order: `Failed`, where a call failed before; `Limit`, where the current slot is of
     /// generation 4,294,967,295; those of [`TableHalf::seal`]; `NoMemory`, `Limit` or `Failed`, where the
@@ -26,7 +31,8 @@ impl<P: Problem, D: Disk> SlotEngine<P, D> {
     /// [`TableHalf::seal`]: ide_store::TableHalf::seal
     pub fn checkpoint(&mut self, alloc: Global) -> Result<bool, Refused>
         ensures asks { AsksEngine ⟦<P as Kept>⟧.analysis self.old self.new result }
-        ensures new { result ≡ Ok true → self.old.writer.journal.base < self.new.table.sealed }
+        ensures new { result ≡ Ok true → IsWorthACheckpoint self.old.writer.journal self.new.table.sealed }
+        ensures version { result ≡ Ok true → self.new.table.version ≡ Two }
         ensures disks { CallsNoDisk self.old self.new }
         ensures failed { self.old.table.failed ≡ true → (result ≡ Err Refused.Failed) × (self.new ≡ self.old) }
         ensures waits { self.old.table.failed ≡ false → IsCheckpointing self.old.writer.journal → (result ≡ Ok false) × (self.new ≡ self.old) }
@@ -44,10 +50,26 @@ impl<P: Problem, D: Disk> SlotEngine<P, D> {
         if let Err(refused) = self.seal_all() {
             return Err(refused);
         }
-        if self.table.sealed() <= u64::from(self.writer.base()) {
+        if !self.is_worth_a_checkpoint() {
             return Ok(false);
         }
-        self.plan_image(alloc)
+        match self.plan_image(alloc) {
+            Ok(true) => {
+                self.table.spell_in(Version::Two);
+                Ok(true)
+            }
+            Ok(false) => Ok(false),
+            Err(refused) => Err(refused),
+        }
+    }
+
+    /// Whether a checkpoint would change what the disks hold: a sealed record stands at or past the base of
+    /// the current slot, or that is of the first version.
+    fn is_worth_a_checkpoint(&self) -> bool
+        ensures { IsTrue result ↔ IsWorthACheckpoint self.now.writer.journal self.now.table.sealed }
+    {
+        self.table.sealed() > u64::from(self.writer.base())
+            || matches!(self.writer.version(), Version::One)
     }
 
     /// Seals what changed, and hands all that is sealed over to the writer.

@@ -1,5 +1,5 @@
 //! A store on two disks that works and writes: a core whose steps are kept on the current disk.
-ghost use Rattle.std.specs.Prelude.{◌≡◌, ◌⊎◌, ◌↔◌, true, Err, IfErr, IfOk, IsTrue, OnOk};
+ghost use Rattle.std.specs.Prelude.{◌≡◌, ◌⊎◌, ◌↔◌, false, true, Err, Ok, IfErr, IfOk, IsTrue, OnOk};
 ghost use Rattle.ide_slot_journal.specs.Stands.{records_stored};
 ghost use Rattle.ide_slot_store.specs.Batches.{batches_of};
 ghost use Rattle.ide_slot_store.specs.Engine.{IsTableStop};
@@ -29,7 +29,7 @@ pub struct SlotEngine<P: Problem, D: Disk> {
 impl<P: Problem, D: Disk> SlotEngine<P, D> {
     ghost use Rattle.ide_disk.specs.OneCall.{FailsOnce};
     ghost use Rattle.ide_slot_journal.specs.Making.{IsMakingRefusal};
-    ghost use Rattle.ide_slot_journal.specs.Stands.{AreHonest, pair_of, sides_of};
+    ghost use Rattle.ide_slot_journal.specs.Stands.{AreHonest, IsFilling, pair_of, sides_of};
     ghost use Rattle.ide_slot_store.specs.Engine.{CrashesEngine, CrashesEngineOpening, MakesEngine, OpensEngine, RefusesEngine, StepsEngine, StopsEngineOpening, engine_sides_after};
     ghost use Rattle.ide_slot_store.specs.Half.{FailsNone, FailsOne};
 
@@ -51,8 +51,7 @@ impl<P: Problem, D: Disk> SlotEngine<P, D> {
     }
 
     /// Opens the store of this analysis that the disks A and B hold: its image is the fold of the records
-    /// of its current slot, all of them are acknowledged, and no hand has a claim. Of a slot of the first
-    /// version nothing is told yet.
+    /// of its current slot, of either version, all of them are acknowledged, and no hand has a claim.
     ///
     /// Refusals: those of [`SlotWriterHalf::open`] and of [`TableHalf::open`]; `NoMemory`; the disks come
     /// back.
@@ -94,6 +93,9 @@ impl<P: Problem, D: Disk> SlotEngine<P, D> {
     pub fn disk_step(&mut self) -> Result<bool, Refused>
         ensures steps { StepsEngine ⟦<P as Kept>⟧.analysis self.old self.new result }
         ensures honest { AreHonest self.old.writer.journal → AreHonest self.new.writer.journal }
+
+        // Where there was no call to make, it is no checkpoint's turn either.
+        ensures rests { result ≡ Ok false → IsFilling self.new.writer.journal → ⊥ }
 
         // What a crash at any moment of the call leaves, one of each world on which the halves were at
         // work may leave.

@@ -1,4 +1,5 @@
 //! Laws of a store on two disks. The functions do nothing: their clauses are the laws.
+ghost use Rattle.ide_journal.specs.declared.version.Version.{Version};
 ghost use Rattle.ide_slot_store.specs.Checkpoint.{CheckpointsBegin, CheckpointsStayOnRuns};
 ghost use Rattle.ide_slot_store.specs.Openings.{SlotHalvesOpen};
 ghost use Rattle.ide_slot_store.specs.Runs.{SlotEnginesStayOnRuns};
@@ -9,18 +10,18 @@ use ide_disk::Disk;
 use ide_problem::Problem;
 use ide_store::{Kept, every_run_answers, every_run_answers_on_two_disks};
 
-/// A journal on two disks that stands behind the stored records is a writer of a store on two disks. Each
-/// call that it makes, for the next record or of a checkpoint, is an event of the store, after which it
-/// stands behind the records again: a good one, one that stores a record, or one that failed. So is the
-/// plan of a checkpoint that has all the records. One that was opened stands behind whatever records the
-/// disks hold, and a new one behind none. What a crash leaves, within a call too, holds the stored
-/// records, and perhaps the next one.
+/// A journal on two disks that stands behind the stored records is a writer of a store on two disks, of
+/// either version. Each call that it makes, for the next record or of a checkpoint, is an event of the
+/// store, after which it stands behind the records again: a good one, one that stores a record, or one that
+/// failed. So is the plan of a checkpoint that has all the records. One that was opened stands behind
+/// whatever records the disks hold, and a new one behind none. What a crash leaves, within a call too, holds
+/// the stored records, and perhaps the next one.
 pub fn slot_journals_write_stores<P: Problem, D: Disk>()
-    ensures { JournalsWriteTwo D.Disk (slots_of ⟦<P as Kept>⟧.analysis) }
+    ensures { (version : Version) → JournalsWriteTwo D.Disk (slots_of ⟦<P as Kept>⟧.analysis version) }
 {}
 
-/// The two halves of a store on two disks that was opened are at work on it: the one that goes on from the
-/// records that were found, and the one that found them.
+/// The two halves of a store on two disks that was opened, of either version, are at work on it: the one
+/// that goes on from the records that were found, and the one that found them.
 pub fn slot_halves_open<P: Problem, D: Disk>()
     ensures { SlotHalvesOpen ⟦<P as Kept>⟧.analysis D.Disk }
 {
@@ -33,14 +34,16 @@ pub fn slot_halves_open<P: Problem, D: Disk>()
 /// fails: the halves are at work on a world that acts led to from a new store, or from one that was adopted
 /// from one disk. An opening goes on with the run that left its disks, whatever crashed, and so does an
 /// adoption with the run that left its disk; and what is frozen is of that run, and so answers with best
-/// values, as `engines_stay_on_runs` of `ide_store` says of each run.
+/// values, as `engines_stay_on_runs` of `ide_store` says of each run. The slots of a run are of either
+/// version; of a slot of the first version a checkpoint is not told.
 pub fn slot_engines_stay_on_runs<P: Problem, D: Disk>()
     ensures { SlotEnginesStayOnRuns P ⟦<P as Kept>⟧.analysis D.Disk }
 {}
 
 /// A checkpoint that stands for all that is sealed, with the image as it stands in parts, is one that the
-/// store may begin, wherever the halves are at work, nothing has changed since the last record, and all
-/// records are handed over. So an engine that is on a run stays on it.
+/// store may begin, wherever the halves are at work on slots of the second version, nothing has changed
+/// since the last record, and all records are handed over. So an engine that is on a run of that version
+/// stays on it. Of a slot of the first version a checkpoint is not told.
 pub fn slot_checkpoints_begin<P: Problem, D: Disk>()
     ensures begins { CheckpointsBegin ⟦<P as Kept>⟧.analysis D.Disk }
     ensures stays { CheckpointsStayOnRuns ⟦<P as Kept>⟧.analysis D.Disk }

@@ -227,6 +227,9 @@ impl<D: Disk> SlotWriterHalf<D> {
         ensures steps { AreHonest self.old.journal → StepsOver self.old self.new result }
         ensures honest { AreHonest self.old.journal → AreHonest self.new.journal }
 
+        // Where there was none to make, it is no checkpoint's turn either.
+        ensures rests { result ≡ Ok false → IsFilling self.new.journal → ⊥ }
+
         // A crash at any moment of the step leaves what one before it may leave, or what one behind a call
         // that failed may.
         ensures any_moment { AreHonest self.old.journal → CrashesStep self.old self.new }
@@ -280,6 +283,7 @@ impl<D: Disk> SlotWriterHalf<D> {
         requires busy { HasNoNext self.old.journal → ⊥ }
         requires turn { IsTurn self.old.journal }
         ensures calls { AreHonest self.old.journal → CallsOver self.old self.new result }
+        ensures made { result ≡ Ok false → ⊥ }
         ensures honest { AreHonest self.old.journal → AreHonest self.new.journal }
         ensures any_moment { AreHonest self.old.journal → LeavesInRecord self.old.journal self.new.journal }
         ensures failures { OnOk result (FailsNone self.old.journal self.new.journal) }
@@ -302,6 +306,7 @@ impl<D: Disk> SlotWriterHalf<D> {
     fn fill(&mut self) -> Result<bool, Refused>
         requires { IsFilling self.old.journal }
         ensures calls { AreHonest self.old.journal → CallsOver self.old self.new result }
+        ensures made { result ≡ Ok false → ⊥ }
         ensures honest { AreHonest self.old.journal → AreHonest self.new.journal }
         ensures any_moment { AreHonest self.old.journal → LeavesInCheckpoint self.old.journal self.new.journal }
         ensures failures { OnOk result (FailsNone self.old.journal self.new.journal) }

@@ -13,3 +13,5 @@ mod engine;
 mod parts;
 #[cfg(test)]
 mod stops;
+#[cfg(test)]
+mod versions;

@@ -1,13 +1,11 @@
-use Rattle.std.proofs.Common.{◌∙◌, ℕ, [], subst, sym}
+use Rattle.std.proofs.Common.{ℕ, [], subst, sym}
 use Rattle.ide_journal.specs.Format.{head_of}
-use Rattle.ide_journal.specs.declared.version.Version.{Version}
 use Rattle.ide_journal.specs.declared.version.Version.TheVariants.{Two}
 use Rattle.ide_slot_journal.specs.Opened.{IsOpeningRefusal, StopsAnywhere, states_of}
 use Rattle.ide_slot_journal.specs.Opening.{now_of}
 use Rattle.ide_slot_journal.specs.Stands.{disks_of, sides_of, slot_writer}
 use Rattle.ide_slots.specs.Slot.{first_slot}
 use Rattle.ide_slots.specs.TwoCalls.{StopsTwo}
-use Rattle.ide_store.specs.Opening.{HaveFold}
 use Rattle.ide_store.specs.Table.{Analysis}
 use Rattle.ide_slot_store.specs.Batches.{batches_of}
 use Rattle.ide_slot_store.specs.Engine.{no_journal, no_table}
@@ -29,28 +27,27 @@ kept g = record {
 
 -- ---- it is opened
 pub returns-in-Ok-table_over-clause-opened : goal.returns-in-Ok-table_over-clause-opened
-returns-in-Ok-table_over-clause-opened g c first second version =
+returns-in-Ok-table_over-clause-opened g c first second =
     let writer = c.in-Ok.writer in
     let found = c.in-Ok.found.items in
     c.slot_halves_open.ensures g.P.Problem.TAG c.args.a c.args.b writer found c.in-Ok-table_over.table
     (subst (λ (tag : ℕ). OpensStore tag c.args.a c.args.b writer found) c.TAG.ensures (c.in-Ok.ensures.opened first second))
-    (subst (λ (v : Version). HaveFold (kept g) v (batches_of found)) version c.in-Ok-table_over.ensures.folds)
-    c.in-Ok-table_over.ensures.opened (c.in-Ok-table_over.ensures.version ∙ version) c.in-Ok-table_over.ensures.sealed
+    c.in-Ok-table_over.ensures.folds c.in-Ok-table_over.ensures.opened c.in-Ok-table_over.ensures.version c.in-Ok-table_over.ensures.sealed
 
 pub returns-in-Ok-table_over-clause-crashes : goal.returns-in-Ok-table_over-clause-crashes
-returns-in-Ok-table_over-clause-crashes g c first second tag =
-    opening_crashes (kept g) tag g.D.Disk c.args.a c.args.b (sides_of c.in-Ok.writer.journal) (c.in-Ok.ensures.any_moment first second)
+returns-in-Ok-table_over-clause-crashes g c first second head =
+    opening_crashes (kept g) head g.D.Disk c.args.a c.args.b (sides_of c.in-Ok.writer.journal) (c.in-Ok.ensures.any_moment first second)
 
 -- ---- the records make no half that works
 pub returns-in-Err-table_over-clause-crashes : goal.returns-in-Err-table_over-clause-crashes
-returns-in-Err-table_over-clause-crashes g c first second tag =
+returns-in-Err-table_over-clause-crashes g c first second head =
     let back = c.into_disks-a.result in
-    opening_crashes (kept g) tag g.D.Disk c.args.a c.args.b (record { a = back.0; b = back.1 })
+    opening_crashes (kept g) head g.D.Disk c.args.a c.args.b (record { a = back.0; b = back.1 })
     (subst (λ (pair : g.row.D.Denot × g.row.D.Denot). StopsAnywhere g.D.Disk c.args.a c.args.b (record { a = pair.0; b = pair.1 }))
     (sym c.into_disks-a.ensures) (c.in-Ok.ensures.any_moment first second))
 
 pub returns-in-Err-table_over-clause-stops : goal.returns-in-Err-table_over-clause-stops
-returns-in-Err-table_over-clause-stops g c first second tag =
+returns-in-Err-table_over-clause-stops g c first second head =
     let G = g.D.Disk in
     let back = c.into_disks-a.result in
     let journal = c.in-Ok.writer.journal in
@@ -62,7 +59,7 @@ returns-in-Err-table_over-clause-stops g c first second tag =
     (g.met.D.Disk.possible c.args.b second) in
     let held : StopsTwo before (states_of G (sides_of journal).a (sides_of journal).b) =
     subst (StopsTwo before) (sym (held_by G journal.side journal.current journal.other)) done in
-    opening_stops (kept g) tag G c.args.a c.args.b (record { a = back.0; b = back.1 })
+    opening_stops (kept g) head G c.args.a c.args.b (record { a = back.0; b = back.1 })
     (subst (λ (pair : g.row.D.Denot × g.row.D.Denot). StopsTwo before (states_of G pair.0 pair.1)) (sym c.into_disks-a.ensures) held)
 
 pub returns-in-Err-table_over-clause-refused : goal.returns-in-Err-table_over-clause-refused
