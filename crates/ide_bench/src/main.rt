@@ -7,10 +7,11 @@
 //! - `print FILE` solves the text and makes the dump of its values, and prints how long that is;
 //! - `fill FILE WORKERS` does so with so many workers, and prints the microseconds of the clock that start values, the
 //!   fill and the dump took;
-//! - `keep FILE` solves as far as `tabulate`, in a store on a disk in memory, and prints how many records
-//!   were stored, how long the disk is, and how many keys and tasks there were;
-//! - `resume FILE` does so, opens the store from its disk and prints the same of it;
-//! - `bytes FILE` does what `keep` does and copies the bytes of the disk once;
+//! - `keep FILE` solves as far as `tabulate`, in a store on two disks in memory, and prints how many records
+//!   were stored, how long the disks are, and how many keys and tasks there were;
+//! - `resume FILE` does so, opens the store from its disks and prints the same of it;
+//! - `checkpoint FILE` does what `keep` does, makes a checkpoint and prints the same;
+//! - `bytes FILE` does what `keep` does and copies the bytes of the first disk once;
 //! - `work FILE WORKERS AHEAD` does what `keep` does, with so many hands, each of which does so many tasks in one
 //!   hold of the store's lock, and one that writes;
 //! - `append LENGTH COUNT` stores so many records with bodies of that length in a journal on a disk
@@ -43,7 +44,7 @@ use std::sync::Wait;
 use std::thread::Threads;
 use std::time::Clock;
 use std::{env, fs};
-use stores::{Amounts, copy_disk, keep, resume, work};
+use stores::{Amounts, checkpoint, copy_disk, keep, resume, work};
 
 fn main(rt: HostRuntime) -> Result<()> {
     let words: Vec<String> = env::args(&rt)?.collect(rt.alloc())?;
@@ -98,9 +99,10 @@ fn run_phase(rt: &HostRuntime, phase: &str, text: &[u8]) -> Result<()> {
         "print" => print_bytes(rt, measure_dump(rt.alloc(), text)?),
         "keep" => print_amounts(rt, keep(rt.alloc(), text)?),
         "resume" => print_amounts(rt, resume(rt.alloc(), text)?),
+        "checkpoint" => print_amounts(rt, checkpoint(rt.alloc(), text)?),
         "bytes" => print_bytes(rt, copy_disk(rt.alloc(), text)?),
         _ => bail!(
-            "parse, graph, tabulate, solve, print, fill, keep, resume, bytes, work, append, reopen, copy, spell, read or recopy is wanted"
+            "parse, graph, tabulate, solve, print, fill, keep, resume, checkpoint, bytes, work, append, reopen, copy, spell, read or recopy is wanted"
         ),
     }
 }

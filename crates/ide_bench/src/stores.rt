@@ -1,4 +1,4 @@
-//! A text's run by copy constants in a store on a disk in memory, and what copying the bytes of that disk takes.
+//! A text's run by copy constants in a store on two disks in memory, and what copying the bytes of one takes.
 ghost use Rattle.std.specs.Prelude.{◌≡◌, IfOk};
 ghost use Rattle.ide_disk.specs.Memory.{memory_size};
 ghost use Rattle.ide_bench.specs.Stores.{AreAmountsOf};
@@ -6,21 +6,20 @@ ghost use Rattle.ide_bench.specs.Stores.{AreAmountsOf};
 use anyhow::Result;
 use ide_disk::{Disk, MemDisk};
 use ide_instances::CopyConst;
-use ide_journal::Version;
 use ide_service::{Crew, Open, Service, work_together};
-use ide_store::Engine;
+use ide_slot_store::SlotEngine;
 use ide_text::parse;
 use std::alloc::Global;
 use std::sync::Wait;
 use std::thread::Threads;
 use std::time::Clock;
 
-/// The most bytes of a store.
+/// The most bytes of a disk.
 const ROOM: usize = 16_777_216;
-/// The most calls of its disk.
+/// The most calls of it.
 const CALLS: usize = 1_024;
 
-/// How many records a store has stored, how long its disk is, how many keys it has, and how many tasks that took.
+/// How many records a store has stored, how long its disks are, how many keys it has, and how many tasks that took.
 #[derive(Clone, Copy)]
 pub(crate) struct Amounts {
     pub(crate) records: u64,
@@ -30,31 +29,36 @@ pub(crate) struct Amounts {
 }
 
 /// A store with no record.
-fn create(alloc: Global) -> Result<Engine<CopyConst, MemDisk>> {
-    let disk = MemDisk::new(alloc, ROOM, ROOM + CALLS)?;
-    match Engine::create(alloc, disk, Version::Two) {
+fn create(alloc: Global) -> Result<SlotEngine<CopyConst, MemDisk>> {
+    let a = MemDisk::new(alloc, ROOM, ROOM + CALLS)?;
+    let b = MemDisk::new(alloc, ROOM, ROOM + CALLS)?;
+    match SlotEngine::create(alloc, a, b) {
         Ok(engine) => Ok(engine),
-        Err((refused, _)) => Err(refused.into()),
+        Err((refused, _, _)) => Err(refused.into()),
     }
 }
 
-/// The store that the disk holds.
-fn open(alloc: Global, disk: MemDisk) -> Result<Engine<CopyConst, MemDisk>> {
-    match Engine::open(alloc, disk) {
+/// The store that the disks hold.
+fn open(alloc: Global, a: MemDisk, b: MemDisk) -> Result<SlotEngine<CopyConst, MemDisk>> {
+    match SlotEngine::open(alloc, a, b) {
         Ok(engine) => Ok(engine),
-        Err((refused, _)) => Err(refused.into()),
+        Err((refused, _, _)) => Err(refused.into()),
     }
 }
 
 /// Loads a text's program, with `main` as the root.
-fn begin(alloc: Global, engine: &mut Engine<CopyConst, MemDisk>, text: &[u8]) -> Result<()> {
+fn begin(alloc: Global, engine: &mut SlotEngine<CopyConst, MemDisk>, text: &[u8]) -> Result<()> {
     engine.table.load(parse(alloc, text)?)?;
     engine.table.root(b"main")?;
     Ok(())
 }
 
 /// Tabulates a text's program, stores what that did, and answers how many tasks it took.
-fn store_run(alloc: Global, engine: &mut Engine<CopyConst, MemDisk>, text: &[u8]) -> Result<u64> {
+fn store_run(
+    alloc: Global,
+    engine: &mut SlotEngine<CopyConst, MemDisk>,
+    text: &[u8],
+) -> Result<u64> {
     begin(alloc, engine, text)?;
     let tasks = engine.table.drain()?;
     engine.table.seal()?;
@@ -63,15 +67,17 @@ fn store_run(alloc: Global, engine: &mut Engine<CopyConst, MemDisk>, text: &[u8]
 }
 
 /// What the store came to, by so many tasks.
-fn measure_store(engine: Engine<CopyConst, MemDisk>, tasks: u64) -> Result<Amounts>
+fn measure_store(engine: SlotEngine<CopyConst, MemDisk>, tasks: u64) -> Result<Amounts>
     ensures { IfOk result (AreAmountsOf engine tasks) }
 {
     let records = engine.acked();
     let keys = engine.table.core().key_count();
-    let bytes = engine.into_disk().len()?;
+    let (mut a, mut b) = engine.into_disks();
+    let first = a.len()?;
+    let second = b.len()?;
     Ok(Amounts {
         records,
-        bytes,
+        bytes: first.saturating_add(second),
         keys,
         tasks,
     })
@@ -104,18 +110,28 @@ pub(crate) fn work<R: Threads + Wait + Clock + Sync + AllocGlobal>(
     measure_store(service.into_engine(), 0)
 }
 
-/// Keeps a text's run in a store, and opens that store from its disk.
+/// Keeps a text's run in a store, and opens that store from its disks.
 pub(crate) fn resume(alloc: Global, text: &[u8]) -> Result<Amounts> {
     let mut engine = create(alloc)?;
     let tasks = store_run(alloc, &mut engine, text)?;
-    measure_store(open(alloc, engine.into_disk())?, tasks)
+    let (a, b) = engine.into_disks();
+    measure_store(open(alloc, a, b)?, tasks)
 }
 
-/// Keeps a text's run in a store, reads its disk as an opening does, and answers how many bytes there are.
+/// Keeps a text's run in a store, and makes a checkpoint of it.
+pub(crate) fn checkpoint(alloc: Global, text: &[u8]) -> Result<Amounts> {
+    let mut engine = create(alloc)?;
+    let tasks = store_run(alloc, &mut engine, text)?;
+    engine.checkpoint(alloc)?;
+    engine.store_all()?;
+    measure_store(engine, tasks)
+}
+
+/// Keeps a text's run in a store, reads its first disk as an opening does, and answers how many bytes there are.
 pub(crate) fn copy_disk(alloc: Global, text: &[u8]) -> Result<usize> {
     let mut engine = create(alloc)?;
     store_run(alloc, &mut engine, text)?;
-    let mut disk = engine.into_disk();
+    let (mut disk, _) = engine.into_disks();
     copied(alloc, &mut disk)
 }
 

@@ -10,7 +10,7 @@ pub(crate) fn meaning_of(name: &str) -> &'static str {
         "E3" =>
             "Failed: an earlier call on this store ended in E2, and nothing is done until it is opened again.",
         "E4" =>
-            "Not a store: the file has no valid header of a store. It may be another file, or one whose creation was stopped before it was done.",
+            "Not a store: the file has no valid header of a store, or its second file has none. It may be another file, or one whose creation was stopped before it was done.",
         "E5" =>
             "Wrong instance: the store was made for another analysis. Its answers mean nothing to this one.",
         "E6" =>
@@ -21,7 +21,8 @@ pub(crate) fn meaning_of(name: &str) -> &'static str {
         "E9" => "No procedure of the program has that name.",
         "E10" =>
             "Has parameters: a root is where analysis begins, with nothing passed to it, so a procedure with parameters is none. Print a procedure without parameters that calls it.",
-        "E11" => "Already: the procedure is a root already.",
+        "E11" =>
+            "Already: the procedure is a root already. Or, of a store that is to be adopted, its second file has a checkpoint: it stands in two files already.",
         "E12" =>
             "Unfinished: some work is still pending, so no value is final. Let the work be done, and ask again.",
         "E13" =>

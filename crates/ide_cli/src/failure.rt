@@ -9,6 +9,8 @@ use std::rt::Files;
 pub(crate) enum Failure<'a> {
     /// The file of that name cannot be opened or read.
     CannotRead(&'a str),
+    /// The second file of the store of that name cannot be opened.
+    CannotReadSecond(&'a str),
     /// A call was refused.
     Refused(Refused),
 }

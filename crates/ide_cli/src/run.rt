@@ -4,7 +4,7 @@ ghost use Rattle.ide_cli.specs.Dump.{IsDump};
 
 use crate::explain::meaning_of;
 use crate::failure::{Failure, read_file};
-use crate::stores::{create, obey};
+use crate::stores::{SECOND, adopt, create, obey};
 use clap::error::ErrorKind;
 use ide_commands::check;
 use ide_instances::{CopyConst, ShiftConst, Uninit};
@@ -50,6 +50,9 @@ where
     match answer(rt, words, terminal, &mut text) {
         Ok(()) => status_of(DONE, write_out(out, text.as_slice())),
         Err(Failure::CannotRead(file)) => status_of(REFUSED, writeln!(err, "cannot read {file}")),
+        Err(Failure::CannotReadSecond(store)) => {
+            status_of(REFUSED, writeln!(err, "cannot read {store}{SECOND}"))
+        }
         Err(Failure::Refused(refused)) => status_of(REFUSED, writeln!(err, "{refused}")),
     }
 }
@@ -110,6 +113,7 @@ fn answer<'a, R: Files<File = File> + AllocGlobal + Threads + Wait + Clock + Syn
         }
         Words::Explain { name } => explain(name, out)?,
         Words::Create { store, instance } => create(rt, store, instance, out)?,
+        Words::Adopt { store } => adopt(rt, store, out)?,
         Words::On { store, command } => obey(rt, store, command, terminal, out)?,
     }
     Ok(())

@@ -1,4 +1,4 @@
-//! Work on a store in a file, by several hands and one that writes.
+//! Work on a store in two files, by several hands and one that writes.
 //!
 //! It is written for each analysis by itself: the kit gives no proof of threads that are sent what rests on a
 //! bound on a type parameter's own type, as that a problem's functions may be sent.
@@ -17,10 +17,11 @@ use std::time::{Clock, Instant};
 /// which a lock that is handed on costs little.
 const AHEAD: usize = 64;
 
-/// Lets so many hands do all that is pending in the engine while one stores what they do, and appends `quiet`.
+/// Lets so many hands do all that is pending in the engine while one stores what they do, with a checkpoint each
+/// so many records, and appends `quiet`.
 macro_rules! work_on {
-    ($rt:expr, $engine:expr, $workers:expr, $terminal:expr, $out:expr) => {{
-        let service = Service::new($rt.alloc(), $engine);
+    ($rt:expr, $engine:expr, $workers:expr, $every:expr, $terminal:expr, $out:expr) => {{
+        let service = Service::with_checkpoints($rt.alloc(), $engine, $every);
         let gate = Telling {
             rt: $rt,
             service: &service,
@@ -41,18 +42,20 @@ macro_rules! work_on {
     }};
 }
 
-/// Lets so many hands do all that is pending in the store while one stores what they do, and appends `quiet` once
-/// the last batch is stored. How far that has come is told on the terminal, if there is one.
+/// Lets so many hands do all that is pending in the store while one stores what they do, with a checkpoint each
+/// time where so many records are stored past the last one, and appends `quiet` once the last batch is stored. How
+/// far that has come is told on the terminal, if there is one.
 pub(crate) fn work<R: Threads + Wait + Clock + Sync + AllocGlobal>(
     rt: &R,
     store: Store<FileDisk<File>>,
     workers: usize,
+    checkpoint_every: u32,
     terminal: Option<Stderr>,
     out: &mut Vec<u8>,
 ) -> Result<(), Refused> {
     match store {
-        Store::Uninit(engine) => work_on!(rt, engine, workers, terminal, out),
-        Store::Copy(engine) => work_on!(rt, engine, workers, terminal, out),
-        Store::Shift(engine) => work_on!(rt, engine, workers, terminal, out),
+        Store::Uninit(engine) => { work_on!(rt, engine, workers, checkpoint_every, terminal, out) }
+        Store::Copy(engine) => { work_on!(rt, engine, workers, checkpoint_every, terminal, out) }
+        Store::Shift(engine) => { work_on!(rt, engine, workers, checkpoint_every, terminal, out) }
     }
 }

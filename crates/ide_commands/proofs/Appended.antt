@@ -14,8 +14,7 @@ four_appended old x y z w one two three all first second third fourth =
 pub count_appended : (old counted all : List ℕ) (n m : ℕ) → all ≡ old ++ (counted ++ decimal n) → n ≡ m → all ≡ old ++ (counted ++ decimal m)
 count_appended old counted all n m appended same = appended ∙ ap (λ (k : ℕ). old ++ (counted ++ decimal k)) same
 
-pub six_appended : (old x y z w u v one two three four five all : List ℕ) → one ≡ old ++ x → two ≡ one ++ y → three ≡ two ++ z → four ≡ three ++ w
-    → five ≡ four ++ u → all ≡ five ++ v → all ≡ old ++ (x ++ (y ++ (z ++ (w ++ (u ++ v)))))
-six_appended old x y z w u v one two three four five all first second third fourth fifth sixth =
-    two_appended old x (y ++ (z ++ (w ++ (u ++ v)))) one all first
-    (two_appended one y (z ++ (w ++ (u ++ v))) two all second (four_appended two z w u v three four five all third fourth fifth sixth))
+pub five_appended : (old x y z w u one two three four all : List ℕ) → one ≡ old ++ x → two ≡ one ++ y → three ≡ two ++ z → four ≡ three ++ w
+    → all ≡ four ++ u → all ≡ old ++ (x ++ (y ++ (z ++ (w ++ u))))
+five_appended old x y z w u one two three four all first second third fourth fifth =
+    two_appended old x (y ++ (z ++ (w ++ u))) one all first (four_appended one y z w u two three four all second third fourth fifth)

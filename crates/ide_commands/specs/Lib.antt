@@ -1,5 +1,6 @@
 pub mod Asked
 pub mod Counts
+pub mod Lines
 pub mod Obeyed
 pub mod Opened
 pub mod Status

@@ -1,19 +1,19 @@
 -- What the commands that change a store do with it, and what they print.
 use Rattle.std.specs.Global.{Vec}
-use Rattle.std.specs.Prelude.{◌≡◌, ◌++◌, ℕ, List, [], codes, decimal}
+use Rattle.std.specs.Prelude.{◌≡◌, ◌++◌, ℕ, Bool, List, [], Ok, codes}
 use Rattle.ide_disk.specs.declared.disk.Disk.{Ghosts}
+use Rattle.ide_journal.specs.declared.version.Version.TheVariants.{One, Two}
 use Rattle.ide_store.specs.Draining.{DrainsBy}
-use Rattle.ide_store.specs.Storing.{StoreAll}
 use Rattle.ide_store.specs.Table.{Analysis, TableData}
 use Rattle.ide_store.specs.TableCalls.{BeginsRoot, FindsNothing, LoadsProgram, SealsBatch}
-use Rattle.ide_store.specs.declared.engine.Engine.{Engine}
+use Rattle.ide_slot_journal.specs.Stands.{IsFilling}
+use Rattle.ide_slot_store.specs.Asking.{AsksOver}
+use Rattle.ide_slot_store.specs.Storing.{StoreAll}
+use Rattle.ide_slot_store.specs.declared.engine.SlotEngine.{SlotEngine}
 use Rattle.ide_text.specs.Parsed.{IsParsed}
 use Rattle.ide_text.specs.Program.{value_of}
 use Rattle.ide_text.specs.declared.program.Program.{Program}
-
--- the line of the number of a stored record
-abbrev pub stored_line : ℕ → List ℕ
-stored_line number = codes "stored " ++ (decimal number ++ codes "\n")
+use Rattle.ide_commands.specs.Lines.{stored_line}
 
 -- the line of a store in which nothing is pending
 abbrev pub quiet_line : List ℕ
@@ -32,7 +32,7 @@ pub data SealsRest {F L : Type 0} (a : Analysis F L) (drained kept : TableData F
   seals_nothing : FindsNothing a drained kept → SealsRest a drained kept
   seals_batch : (number : ℕ) → SealsBatch a drained kept number → SealsRest a drained kept
 
-module _ {F L : Type 0} (a : Analysis F L) {P D : Type 0} {G : Ghosts D} (old new : Engine P D L F G) where
+module _ {F L : Type 0} (a : Analysis F L) {P D : Type 0} {G : Ghosts D} (old new : SlotEngine P D L F G) where
   -- the program that the text spells is loaded, with that number, and then all that was sealed is stored
   pub record StoresText (text : List ℕ) (number : ℕ) : Type 0 where
     pub program : Program
@@ -56,3 +56,16 @@ module _ {F L : Type 0} (a : Analysis F L) {P D : Type 0} {G : Ghosts D} (old ne
     pub kept : TableData F
     pub seals : SealsRest a drained kept
     pub stores : StoreAll a kept new.table old.writer new.writer
+
+  -- a checkpoint is asked for, and then all that was sealed is stored, until no call of a checkpoint is left to make
+  pub record MakesCheckpoint : Type 0 where
+    pub begun : Bool
+    pub asked : SlotEngine P D L F G
+    pub asks : (tag : ℕ) → AsksOver a tag old.table asked.table old.writer asked.writer (Ok begun)
+    pub stores : StoreAll a asked.table new.table asked.writer new.writer
+    pub rests : IsFilling new.writer.journal → ⊥
+
+  -- where the current slot is of the first version; and else nothing is done
+  pub data Migrates : Type 0 where
+    is_old : old.writer.journal.version ≡ One → MakesCheckpoint → Migrates
+    is_new : old.writer.journal.version ≡ Two → new ≡ old → Migrates

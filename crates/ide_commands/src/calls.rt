@@ -1,22 +1,25 @@
 //! What each command on a store does, over any disk, and what it prints.
 ghost use Rattle.std.specs.Prelude.{◌≡◌, ◌++◌, ℕ, List, OnOk, IfOk};
 ghost use Rattle.ide_commands.specs.Asked.{Answers, AreNow, Dumps, Prints};
-ghost use Rattle.ide_commands.specs.Stored.{StoresText, MakesRoot, PrintsQuiet, PrintsStored, WorksAll, stored_line};
+ghost use Rattle.ide_commands.specs.Lines.{generation_line, stored_line, version_line};
+ghost use Rattle.ide_commands.specs.Stored.{MakesCheckpoint, MakesRoot, Migrates, PrintsQuiet, PrintsStored, StoresText, WorksAll};
 
+use crate::lines::{append_line, number_of};
 use ide_disk::Disk;
+use ide_journal::Version;
 use ide_lattice::Lattice;
 use ide_problem::Problem;
-use ide_store::{Engine, Kept, TableHalf, Ticket};
+use ide_slot_store::SlotEngine;
+use ide_store::{Kept, TableHalf, Ticket};
 use ide_text::parse;
 use ide_values::{ValuePhase, Values};
 use ide_wire::Refused;
-use itoa::Buffer;
 use std::alloc::{AllocError, Global};
 
 /// Loads the program that the text spells, and appends its record's number once it is stored.
 pub(crate) fn load<P: Problem, D: Disk>(
     alloc: Global,
-    engine: &mut Engine<P, D>,
+    engine: &mut SlotEngine<P, D>,
     text: &[u8],
     out: &mut Vec<u8>,
 ) -> Result<(), Refused>
@@ -31,7 +34,7 @@ pub(crate) fn load<P: Problem, D: Disk>(
 
 /// Makes the procedure of that name a root, and appends its record's number once it is stored.
 pub(crate) fn root<P: Problem, D: Disk>(
-    engine: &mut Engine<P, D>,
+    engine: &mut SlotEngine<P, D>,
     name: &[u8],
     out: &mut Vec<u8>,
 ) -> Result<(), Refused>
@@ -46,7 +49,7 @@ pub(crate) fn root<P: Problem, D: Disk>(
 /// Does what the hands left pending, and appends `quiet` once all is stored. Where nothing is pending and all is
 /// stored, as the hands leave it, it makes no disk call.
 pub fn end_work<P: Problem, D: Disk>(
-    engine: &mut Engine<P, D>,
+    engine: &mut SlotEngine<P, D>,
     out: &mut Vec<u8>,
 ) -> Result<(), Refused>
     ensures { OnOk result (PrintsQuiet (WorksAll ⟦<P as Kept>⟧.analysis engine.old engine.new) out.old out.new) }
@@ -57,7 +60,7 @@ pub fn end_work<P: Problem, D: Disk>(
 }
 
 /// Does all that is pending by one hand, and stores it.
-fn work_alone<P: Problem, D: Disk>(engine: &mut Engine<P, D>) -> Result<(), Refused>
+fn work_alone<P: Problem, D: Disk>(engine: &mut SlotEngine<P, D>) -> Result<(), Refused>
     ensures { OnOk result (WorksAll ⟦<P as Kept>⟧.analysis engine.old engine.new) }
 {
     let _ = engine.table.drain()?;
@@ -66,13 +69,65 @@ fn work_alone<P: Problem, D: Disk>(engine: &mut Engine<P, D>) -> Result<(), Refu
     Ok(())
 }
 
+/// Makes a checkpoint, where one begins, and appends the generation of the current slot then.
+pub(crate) fn checkpoint<P: Problem, D: Disk>(
+    alloc: Global,
+    engine: &mut SlotEngine<P, D>,
+    out: &mut Vec<u8>,
+) -> Result<(), Refused>
+    ensures checkpoint { OnOk result (MakesCheckpoint ⟦<P as Kept>⟧.analysis engine.old engine.new) }
+    ensures prints { OnOk result (out.new.items ≡ out.old.items ++ generation_line engine.new.writer.journal.generation) }
+{
+    make_checkpoint(alloc, engine)?;
+    append_line(b"generation ", u64::from(engine.generation()), out)?;
+    Ok(())
+}
+
+/// Makes a checkpoint of a store of the first version, where one begins, so that it is of the second then, and
+/// appends the version of the current slot.
+pub(crate) fn migrate<P: Problem, D: Disk>(
+    alloc: Global,
+    engine: &mut SlotEngine<P, D>,
+    out: &mut Vec<u8>,
+) -> Result<(), Refused>
+    ensures migrates { OnOk result (Migrates ⟦<P as Kept>⟧.analysis engine.old engine.new) }
+    ensures prints { OnOk result (out.new.items ≡ out.old.items ++ version_line engine.new.writer.journal.version) }
+{
+    write_anew(alloc, engine)?;
+    append_line(b"version ", number_of(engine.version()), out)?;
+    Ok(())
+}
+
+/// Makes a checkpoint of a store of the first version; of one of the second it does nothing.
+fn write_anew<P: Problem, D: Disk>(
+    alloc: Global,
+    engine: &mut SlotEngine<P, D>,
+) -> Result<(), Refused>
+    ensures { OnOk result (Migrates ⟦<P as Kept>⟧.analysis engine.old engine.new) }
+{
+    match engine.version() {
+        Version::One => make_checkpoint(alloc, engine),
+        Version::Two => Ok(()),
+    }
+}
+
+/// Asks for a checkpoint, and makes disk calls until none is left to make.
+fn make_checkpoint<P: Problem, D: Disk>(
+    alloc: Global,
+    engine: &mut SlotEngine<P, D>,
+) -> Result<(), Refused>
+    ensures { OnOk result (MakesCheckpoint ⟦<P as Kept>⟧.analysis engine.old engine.new) }
+{
+    let _ = engine.checkpoint(alloc)?;
+    engine.store_all()?;
+    Ok(())
+}
+
 /// Appends the number of a stored record.
 fn append_stored(ticket: Ticket, out: &mut Vec<u8>) -> Result<(), AllocError>
     ensures { OnOk result (out.new.items ≡ out.old.items ++ stored_line ticket.number) }
 {
-    out.extend_from_slice(b"stored ")?;
-    out.extend_from_slice(Buffer::new().format(ticket.number).as_bytes())?;
-    out.extend_from_slice(b"\n")
+    append_line(b"stored ", ticket.number, out)
 }
 
 /// Appends the value of a fact at a position of a procedure.

@@ -1,15 +1,16 @@
 //! What the commands of the program do, over any disk, and what they print.
 //!
 //! [`check`] counts what a text's program has. [`create`] and [`open`] make and open a store of one of the
-//! program's analyses, [`call`] makes the calls of a command on it by one hand, and [`end_work`] ends the work
-//! of several.
+//! program's analyses on two disks, and [`adopt`] goes on with one that stands on one disk. [`call`] makes the
+//! calls of a command on an open store by one hand, and [`end_work`] ends the work of several.
 #![tactic(auto)]
 
 mod calls;
 mod counts;
+mod lines;
 mod status;
 mod stores;
 
 pub use calls::end_work;
 pub use counts::check;
-pub use stores::{Store, call, create, open};
+pub use stores::{Store, adopt, call, create, open};

@@ -1,18 +1,21 @@
 //! Stores of the program's analyses, and which calls each command on one makes.
-ghost use Rattle.std.specs.Prelude.{IfOk, OnOk};
+ghost use Rattle.std.specs.Prelude.{◌≡◌, IfOk, OnOk};
 ghost use Rattle.ide_commands.specs.Obeyed.{Obeys};
-ghost use Rattle.ide_commands.specs.Opened.{IsOpened};
-ghost use Rattle.ide_journal.specs.Format.{head_of};
-ghost use Rattle.ide_journal.specs.declared.version.Version.TheVariants.{Two};
-ghost use Rattle.ide_store.specs.Engine.{MakesEngine, OpensEngine};
+ghost use Rattle.ide_commands.specs.Opened.{IsAdopted, IsOpened};
+ghost use Rattle.ide_slot_journal.specs.Opened.{states_of};
+ghost use Rattle.ide_slot_store.specs.Adopting.{AdoptsEngine};
+ghost use Rattle.ide_slot_store.specs.Engine.{MakesEngine, OpensEngine};
+ghost use Rattle.ide_words.specs.declared.words.StoreCommand.TheVariants.{Status};
 
 use crate::calls;
-use crate::status::Status;
+use crate::status::append_status;
 use ide_disk::Disk;
 use ide_instances::{CopyConst, ShiftConst, Uninit};
-use ide_journal::{Version, tag};
+use ide_journal::tag;
 use ide_problem::Problem;
-use ide_store::{Engine, Kept};
+use ide_slot_journal::current_tag;
+use ide_slot_store::SlotEngine;
+use ide_store::Kept;
 use ide_wire::Refused;
 use ide_words::StoreCommand;
 use std::alloc::Global;
@@ -20,59 +23,101 @@ use std::alloc::Global;
 /// An open store, by its analysis.
 #[derive(Drop)]
 pub enum Store<D: Disk> {
-    Uninit(Engine<Uninit, D>),
-    Copy(Engine<CopyConst, D>),
-    Shift(Engine<ShiftConst, D>),
+    Uninit(SlotEngine<Uninit, D>),
+    Copy(SlotEngine<CopyConst, D>),
+    Shift(SlotEngine<ShiftConst, D>),
 }
 
-/// A new store of an analysis, of the second version, whatever the disk held.
+/// A new store of an analysis, whatever the disks A and B held.
 ///
 /// Refusals: `NoMemory`; `Disk`.
-pub fn create<P: Problem, D: Disk + Drop>(alloc: Global, disk: D) -> Result<Engine<P, D>, Refused>
-    ensures { MakesEngine ⟦<P as Kept>⟧.analysis (head_of Two P.TAG) disk result }
+pub fn create<P: Problem, D: Disk + Drop>(
+    alloc: Global,
+    a: D,
+    b: D,
+) -> Result<SlotEngine<P, D>, Refused>
+    ensures { MakesEngine ⟦<P as Kept>⟧.analysis P.TAG a b result }
 {
-    match Engine::create(alloc, disk, Version::Two) {
+    match SlotEngine::create(alloc, a, b) {
         Ok(engine) => Ok(engine),
-        Err((refused, _)) => Err(refused),
+        Err((refused, _, _)) => Err(refused),
     }
 }
 
-/// Opens the store that the disk holds, of the analysis whose tag it has.
+/// Opens the store that the disks A and B hold, of the analysis whose tag its current slot has.
 ///
 /// Refusals, in this order: `Disk` and `NotAStore`, where no tag can be read; `WrongInstance`, where the tag
-/// is of no analysis of the program; those of [`Engine::open`].
-pub fn open<D: Disk + Drop>(alloc: Global, mut disk: D) -> Result<Store<D>, Refused>
-    ensures { D.honest disk → IfOk result (IsOpened ⟦<Uninit as Kept>⟧.analysis ⟦<CopyConst as Kept>⟧.analysis ⟦<ShiftConst as Kept>⟧.analysis (D.state disk)) }
+/// is of no analysis of the program; those of [`SlotEngine::open`].
+pub fn open<D: Disk + Drop>(alloc: Global, mut a: D, mut b: D) -> Result<Store<D>, Refused>
+    ensures { D.honest a → D.honest b → IfOk result (IsOpened ⟦<Uninit as Kept>⟧.analysis ⟦<CopyConst as Kept>⟧.analysis ⟦<ShiftConst as Kept>⟧.analysis (states_of D.Disk a b)) }
 {
-    let tag = tag(&mut disk)?;
+    let tag = current_tag(&mut a, &mut b)?;
     if tag == Uninit::TAG {
-        Ok(Store::Uninit(opened(alloc, disk)?))
+        Ok(Store::Uninit(opened(alloc, a, b)?))
     } else if tag == CopyConst::TAG {
-        Ok(Store::Copy(opened(alloc, disk)?))
+        Ok(Store::Copy(opened(alloc, a, b)?))
     } else if tag == ShiftConst::TAG {
-        Ok(Store::Shift(opened(alloc, disk)?))
+        Ok(Store::Shift(opened(alloc, a, b)?))
     } else {
         Err(Refused::WrongInstance)
     }
 }
 
-/// Opens the store of an analysis that the disk holds.
-fn opened<P: Problem, D: Disk + Drop>(alloc: Global, disk: D) -> Result<Engine<P, D>, Refused>
-    ensures { OpensEngine ⟦<P as Kept>⟧.analysis P.TAG disk result }
+/// Opens the store of an analysis that the disks A and B hold.
+fn opened<P: Problem, D: Disk + Drop>(
+    alloc: Global,
+    a: D,
+    b: D,
+) -> Result<SlotEngine<P, D>, Refused>
+    ensures { OpensEngine ⟦<P as Kept>⟧.analysis P.TAG a b result }
 {
-    match Engine::open(alloc, disk) {
+    match SlotEngine::open(alloc, a, b) {
         Ok(engine) => Ok(engine),
-        Err((refused, _)) => Err(refused),
+        Err((refused, _, _)) => Err(refused),
+    }
+}
+
+/// Goes on with the store that the disk A alone holds, of the analysis whose tag it has: a closed slot is put on
+/// B, in the place of what that held.
+///
+/// Refusals, in this order: `Disk` and `NotAStore`, where A has no tag; `WrongInstance`, where the tag is of no
+/// analysis of the program; those of [`SlotEngine::adopt`].
+pub fn adopt<D: Disk + Drop>(alloc: Global, mut a: D, b: D) -> Result<Store<D>, Refused>
+    ensures { D.honest a → D.honest b → IfOk result (IsAdopted ⟦<Uninit as Kept>⟧.analysis ⟦<CopyConst as Kept>⟧.analysis ⟦<ShiftConst as Kept>⟧.analysis (D.state a)) }
+{
+    let tag = tag(&mut a)?;
+    if tag == Uninit::TAG {
+        Ok(Store::Uninit(adopted(alloc, a, b)?))
+    } else if tag == CopyConst::TAG {
+        Ok(Store::Copy(adopted(alloc, a, b)?))
+    } else if tag == ShiftConst::TAG {
+        Ok(Store::Shift(adopted(alloc, a, b)?))
+    } else {
+        Err(Refused::WrongInstance)
+    }
+}
+
+/// Adopts the store of an analysis that the disk A alone holds.
+fn adopted<P: Problem, D: Disk + Drop>(
+    alloc: Global,
+    a: D,
+    b: D,
+) -> Result<SlotEngine<P, D>, Refused>
+    ensures { AdoptsEngine ⟦<P as Kept>⟧.analysis P.TAG a b result }
+{
+    match SlotEngine::adopt(alloc, a, b) {
+        Ok(engine) => Ok(engine),
+        Err((refused, _, _)) => Err(refused),
     }
 }
 
 /// Makes the calls of a command on an open store by one hand, and appends what it prints. The text is the one
 /// to be loaded, where one is; of `work` it makes the last calls ([`end_work`](crate::end_work)).
 ///
-/// It is refused as the calls of the store are, which [`Engine`] and its halves state.
+/// It is refused as the calls of the store are, which [`SlotEngine`] and its halves state.
 pub fn call<P: Problem, D: Disk + Drop>(
     alloc: Global,
-    mut engine: Engine<P, D>,
+    mut engine: SlotEngine<P, D>,
     command: StoreCommand<'_>,
     text: &[u8],
     out: &mut Vec<u8>,
@@ -80,9 +125,29 @@ pub fn call<P: Problem, D: Disk + Drop>(
     ensures { OnOk result (Obeys ⟦<P as Kept>⟧.analysis P.L.shown engine command.entry text.now out.old out.new) }
 {
     match command {
-        StoreCommand::Load { .. } => calls::load(alloc, &mut engine, text, out),
-        StoreCommand::Root { procedure } => calls::root(&mut engine, procedure.as_bytes(), out),
-        StoreCommand::Work { .. } => calls::end_work(&mut engine, out),
+        StoreCommand::Status => append_status(engine, out),
+        asked => obey(alloc, &mut engine, asked, text, out),
+    }
+}
+
+/// The same of each command but `status`, which takes the store apart. The store is lent, so that no arm has to let
+/// go of it.
+fn obey<P: Problem, D: Disk>(
+    alloc: Global,
+    engine: &mut SlotEngine<P, D>,
+    command: StoreCommand<'_>,
+    text: &[u8],
+    out: &mut Vec<u8>,
+) -> Result<(), Refused>
+    requires { command ≡ Status → ⊥ }
+    ensures { OnOk result (Obeys ⟦<P as Kept>⟧.analysis P.L.shown engine.old command.entry text.now out.old out.new) }
+{
+    match command {
+        StoreCommand::Load { .. } => calls::load(alloc, engine, text, out),
+        StoreCommand::Root { procedure } => calls::root(engine, procedure.as_bytes(), out),
+        StoreCommand::Work { .. } => calls::end_work(engine, out),
+        StoreCommand::Checkpoint => calls::checkpoint(alloc, engine, out),
+        StoreCommand::Migrate => calls::migrate(alloc, engine, out),
         StoreCommand::Ask {
             procedure,
             position,
@@ -96,9 +161,6 @@ pub fn call<P: Problem, D: Disk + Drop>(
             out,
         ),
         StoreCommand::Dump => calls::dump(alloc, &engine.table, out),
-        StoreCommand::Status => {
-            Status::of(engine)?.append(out)?;
-            Ok(())
-        }
+        StoreCommand::Status => unreachable!(),
     }
 }

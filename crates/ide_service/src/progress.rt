@@ -1,10 +1,10 @@
 //! How far a run has come, for who looks on.
 ghost use Rattle.std.specs.Prelude.{◌≡◌, length};
-ghost use Rattle.ide_journal.specs.Stands.{stored_count};
+ghost use Rattle.ide_slot_journal.specs.Stands.{records_stored};
 
 use ide_disk::Disk;
 use ide_problem::Problem;
-use ide_store::Engine;
+use ide_slot_store::SlotEngine;
 
 /// How many keys have an entry, how many are pending, and how many records are stored.
 #[derive(Clone, Copy, PartialEq, Eq, Debug)]
@@ -19,10 +19,10 @@ pub struct Progress {
 
 impl Progress {
     /// How far the run of an engine has come. It counts nothing anew.
-    pub fn of<P: Problem, D: Disk>(engine: &Engine<P, D>) -> Progress
+    pub fn of<P: Problem, D: Disk>(engine: &SlotEngine<P, D>) -> Progress
         ensures keys { result.keys ≡ length engine.now.table.core.table.entries }
         ensures pending { result.pending ≡ length engine.now.table.core.pile.pending }
-        ensures records { result.records ≡ stored_count engine.now.writer.journal }
+        ensures records { result.records ≡ records_stored engine.now.writer.journal }
     {
         let core = engine.table.core();
         Progress {

@@ -12,8 +12,9 @@ use crate::shared::{Shared, Stepped};
 use crate::sharing::SharingHand;
 use ide_disk::Disk;
 use ide_problem::Problem;
+use ide_slot_store::SlotEngine;
 use ide_steps::Closed;
-use ide_store::{Engine, Kept, Ticket};
+use ide_store::{Kept, Ticket};
 use ide_text::Program;
 use ide_wire::Refused;
 use std::alloc::Global;
@@ -23,6 +24,10 @@ use std::time::{Clock, Duration};
 /// How many milliseconds a committer sleeps between two seals: as much work may be lost where the process
 /// is killed.
 const BETWEEN_SEALS: u64 = 100;
+
+/// How many records are stored past a checkpoint before a committer makes the next one, where nothing else was
+/// asked for.
+const CHECKPOINT_EVERY: u32 = 1_024;
 
 /// A store that hands share, under one lock. Each of its calls takes the lock for single calls of the
 /// engine, and lets it go.
@@ -34,16 +39,29 @@ pub struct Service<P: Problem, D: Disk> {
     stop: Mutex<bool>,
     /// Told where that changes.
     stopped: Condvar,
+    /// How many records are stored past a checkpoint before the committer makes the next one.
+    checkpoint_every: u32,
 }
 
 impl<P: Problem, D: Disk> Service<P, D> {
-    /// A service over the engine.
-    pub fn new(alloc: Global, engine: Engine<P, D>) -> Self {
+    /// A service over the engine, whose committer makes a checkpoint where 1,024 records are stored past the
+    /// last one.
+    pub fn new(alloc: Global, engine: SlotEngine<P, D>) -> Self {
+        Service::with_checkpoints(alloc, engine, CHECKPOINT_EVERY)
+    }
+
+    /// The same, with a checkpoint where so many records are stored past the last one.
+    pub fn with_checkpoints(
+        alloc: Global,
+        engine: SlotEngine<P, D>,
+        checkpoint_every: u32,
+    ) -> Self {
         Service {
             alloc,
             store: Mutex::new(Shared { engine }),
             stop: Mutex::new(false),
             stopped: Condvar::new(),
+            checkpoint_every,
         }
     }
 
@@ -67,7 +85,9 @@ impl<P: Problem, D: Disk> Service<P, D> {
     }
 
     /// Seals what changed and stores what was sealed, again and again, until stop is raised and nothing is
-    /// left to seal or to store, or until the gate stops it. Where it is refused it raises stop.
+    /// left to seal or to store, or until the gate stops it. Where enough records are stored past the last
+    /// checkpoint, a round makes one; what memory is wanting for is left to a later round. Where it is refused
+    /// it raises stop.
     ///
     /// Refusals: `Failed`; `Limit`, as of a seal; `NoMemory`; `Disk`, after which each call is refused.
     pub fn commit<R: Wait + Clock, G: Gate>(&self, rt: &R, gate: &G) -> Result<Ended, Refused>
@@ -87,6 +107,7 @@ impl<P: Problem, D: Disk> Service<P, D> {
         for _ in rt.forever() {
             let last = self.wait_for_stop(rt);
             let _ = self.seal(rt)?;
+            self.checkpoint_if_due(rt)?;
             if !self.store_all(rt, gate)? {
                 return Ok(Ended::Stopped);
             }
@@ -97,7 +118,15 @@ impl<P: Problem, D: Disk> Service<P, D> {
         unreachable!()
     }
 
-    /// Makes disk calls until all that was sealed is stored: false where the gate stopped it.
+    /// Begins a checkpoint, where enough records are stored past the last one: its calls come behind those of
+    /// the records that wait.
+    fn checkpoint_if_due<R: Wait>(&self, rt: &R) -> Result<(), Refused> {
+        let mut store = self.store.lock(rt);
+        store.checkpoint_after(self.alloc, self.checkpoint_every)
+    }
+
+    /// Makes disk calls until all that was sealed is stored, and a checkpoint that began is made: false where
+    /// the gate stopped it.
     fn store_all<R: Wait, G: Gate>(&self, rt: &R, gate: &G) -> Result<bool, Refused>
         ensures stopped { result ≡ Ok false → (point : Point) × G.may_stop gate.now point }
     {
@@ -116,8 +145,8 @@ impl<P: Problem, D: Disk> Service<P, D> {
         unreachable!()
     }
 
-    /// Stores the oldest record that is sealed and not stored, if there is one, by one hold of the lock for
-    /// each disk call.
+    /// Stores the oldest record that is sealed and not stored, if there is one, or makes the checkpoint that
+    /// began, by one hold of the lock for each disk call.
     fn store_next<R: Wait>(&self, rt: &R) -> Result<(), Refused> {
         for _ in rt.forever() {
             match self.store.lock(rt).disk_step()? {
@@ -128,7 +157,7 @@ impl<P: Problem, D: Disk> Service<P, D> {
         unreachable!()
     }
 
-    /// Whether all that was sealed is stored.
+    /// Whether all that was sealed is stored, and no checkpoint is under way.
     fn is_stored<R: Wait>(&self, rt: &R) -> bool {
         self.store.lock(rt).is_stored()
     }
@@ -198,12 +227,13 @@ impl<P: Problem, D: Disk> Service<P, D> {
     }
 
     /// The engine, once nobody works on it.
-    pub fn into_engine(self) -> Engine<P, D> {
+    pub fn into_engine(self) -> SlotEngine<P, D> {
         let Service {
             alloc: _,
             store,
             stop: _,
             stopped: _,
+            checkpoint_every: _,
         } = self;
         let Shared { engine } = store.into_inner();
         engine

@@ -8,8 +8,9 @@ ghost use Rattle.ide_store.specs.TableCalls.{IsLoadStop, IsRefusal, IsRootStop, 
 use crate::hands::{Hands, Open, run_task};
 use ide_disk::Disk;
 use ide_problem::Problem;
+use ide_slot_store::SlotEngine;
 use ide_steps::{Claimed, Closed};
-use ide_store::{Engine, Kept, Ticket};
+use ide_store::{Kept, Ticket};
 use ide_tasks::Work;
 use ide_text::Program;
 use ide_wire::Refused;
@@ -19,17 +20,17 @@ use std::sync::Wait;
 /// An engine under a lock. Whoever takes the lock does calls of the engine, and nothing else.
 #[derive(Drop)]
 pub(crate) struct Shared<P: Problem, D: Disk> {
-    pub(crate) engine: Engine<P, D>,
+    pub(crate) engine: SlotEngine<P, D>,
 }
 
 /// What a step of the disk came to.
 #[derive(Clone, Copy, PartialEq, Eq, Debug)]
 pub(crate) enum Stepped {
-    /// All that was sealed is stored: there was no call to make.
+    /// All that was sealed is stored, and no checkpoint under way: there was no call to make.
     AllStored,
     /// A call was made.
     Called,
-    /// A call was made, which stored a record.
+    /// A call was made, which stored a record or ended a checkpoint.
     Stored,
 }
 
@@ -68,18 +69,36 @@ impl<P: Problem, D: Disk> Shared<P, D> {
         self.engine.acked()
     }
 
-    /// Whether all that was sealed is stored.
+    /// Whether all that was sealed is stored, and no checkpoint is under way.
     pub(crate) fn is_stored(&self) -> bool {
-        self.engine.acked() == self.engine.table.sealed()
+        self.engine.acked() == self.engine.table.sealed() && !self.engine.writer.is_checkpointing()
     }
 
-    /// Makes the next disk call for the oldest record that is not stored.
+    /// Begins a checkpoint, where so many records are stored past the base of the current slot. Where memory is
+    /// wanting for it, or it has no room, the run goes on without it, and it is asked for again.
+    pub(crate) fn checkpoint_after(&mut self, alloc: Global, records: u32) -> Result<(), Refused>
+        ensures { IfErr result (λ why. why ≡ Refused.Failed) }
+    {
+        let past = self
+            .engine
+            .acked()
+            .saturating_sub(u64::from(self.engine.writer.base()));
+        if past < u64::from(records) {
+            return Ok(());
+        }
+        match self.engine.checkpoint(alloc) {
+            Err(Refused::Failed) => Err(Refused::Failed),
+            _ => Ok(()),
+        }
+    }
+
+    /// Makes the next disk call for the oldest record that is not stored, or of a checkpoint.
     pub(crate) fn disk_step(&mut self) -> Result<Stepped, Refused> {
-        let before = self.engine.acked();
+        let before = (self.engine.acked(), self.engine.generation());
         if !self.engine.disk_step()? {
             return Ok(Stepped::AllStored);
         }
-        if self.engine.acked() == before {
+        if (self.engine.acked(), self.engine.generation()) == before {
             Ok(Stepped::Called)
         } else {
             Ok(Stepped::Stored)

@@ -3,8 +3,9 @@ use crate::gates::Counting;
 use crate::services::begun;
 use ide_instances::CopyConst;
 use ide_service::{Ended, Hands, Open, Point, hand_loop};
+use ide_slot_store::SlotEngine;
 use ide_steps::Claimed;
-use ide_store::{Engine, TableHalf};
+use ide_store::TableHalf;
 use ide_tasks::Work;
 use ide_wire::Refused;
 use ide_worked::TWO_CALLS;
@@ -131,7 +132,7 @@ impl Hands<CopyConst> for Filling {
 // A batch may be full several times in one task: it is sealed each time, and the loop goes on.
 #[test]
 fn a_loop_seals_as_often_as_a_batch_is_full(rt: HostRuntime) -> Result<(), Fail> {
-    let Engine { table, .. } = begun(rt.alloc(), TWO_CALLS)?;
+    let SlotEngine { table, .. } = begun(rt.alloc(), TWO_CALLS)?;
     let mut filling = Filling {
         table,
         parts: 3,

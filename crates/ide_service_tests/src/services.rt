@@ -1,32 +1,32 @@
 //! Services over stores on disks in memory.
 use ide_disk::MemDisk;
 use ide_instances::CopyConst;
-use ide_journal::Version;
 use ide_service::Service;
-use ide_store::Engine;
+use ide_slot_store::SlotEngine;
 use ide_text::{Program, parse};
 use ide_values::ValuePhase;
 use ide_wire::{Fact, Node, Refused};
 use std::alloc::Global;
 use std::sync::Wait;
 
-/// A store by copy constants, on a disk in memory.
-pub(crate) type Store = Engine<CopyConst, MemDisk>;
+/// A store by copy constants, on two disks in memory.
+pub(crate) type Store = SlotEngine<CopyConst, MemDisk>;
 
 /// A new store.
 pub(crate) fn create(alloc: Global) -> Result<Store, Refused> {
-    let disk = MemDisk::new(alloc, 200_000, 400_000)?;
-    match Engine::create(alloc, disk, Version::Two) {
+    let a = MemDisk::new(alloc, 200_000, 400_000)?;
+    let b = MemDisk::new(alloc, 200_000, 400_000)?;
+    match SlotEngine::create(alloc, a, b) {
         Ok(engine) => Ok(engine),
-        Err((refused, _)) => Err(refused),
+        Err((refused, _, _)) => Err(refused),
     }
 }
 
-/// The store that the disk holds.
-pub(crate) fn open(alloc: Global, disk: MemDisk) -> Result<Store, Refused> {
-    match Engine::open(alloc, disk) {
+/// The store that the disks hold.
+pub(crate) fn open(alloc: Global, disks: (MemDisk, MemDisk)) -> Result<Store, Refused> {
+    match SlotEngine::open(alloc, disks.0, disks.1) {
         Ok(engine) => Ok(engine),
-        Err((refused, _)) => Err(refused),
+        Err((refused, _, _)) => Err(refused),
     }
 }
 

@@ -31,7 +31,7 @@ fn expect_solved<R: Threads + Wait + Clock + Sync + Abort + AllocGlobal>(
     let engine = service.into_engine();
     assert!(rt; engine.acked() == engine.table.sealed());
     let keys = engine.table.core().key_count();
-    let again = open(rt.alloc(), engine.into_disk())?;
+    let again = open(rt.alloc(), engine.into_disks())?;
     assert!(rt; again.table.core().is_quiet());
     assert!(rt; again.table.core().key_count() == keys);
     Ok(())
@@ -98,5 +98,26 @@ fn a_gate_stops_a_committer_between_two_records(rt: HostRuntime) -> Result<(), F
     let one = service.commit(&rt, &Counting::new(Point::Stored, 0));
     assert!(rt; one == Ok(Ended::Stopped));
     assert!(rt; service.acked(&rt) == 1);
+    Ok(())
+}
+
+/// Asserts that a committer which was told that the hands have ended comes to its end.
+fn expect_committed<R: Wait + Clock + Abort>(rt: &R, service: &Service<CopyConst, MemDisk>) {
+    assert!(rt; service.commit(rt, &Open { ahead: 0 }) == Ok(Ended::Quiet));
+    assert!(rt; service.acked(rt) == 2);
+}
+
+// A committer makes a checkpoint where enough records are stored past the last one.
+#[test]
+fn a_committer_makes_checkpoints(rt: HostRuntime) -> Result<(), Fail> {
+    let engine = begun(rt.alloc(), NUMBER)?;
+    let service = Service::with_checkpoints(rt.alloc(), engine, 2);
+    service.raise_stop(&rt);
+    expect_committed(&rt, &service);
+    expect_committed(&rt, &service);
+    expect_committed(&rt, &service);
+    let engine = service.into_engine();
+    assert!(rt; engine.generation() == 1);
+    assert!(rt; engine.writer.base() == 2);
     Ok(())
 }

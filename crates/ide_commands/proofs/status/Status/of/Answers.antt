@@ -1,7 +1,8 @@
 use Rattle.std.proofs.Common.{rules, ◌≡◌, ◌∙◌, ℕ, List, ap, length}
 use Rattle.std.specs.Prelude.{is_some}
 use Rattle.ide_text.specs.Program.{value_of}
-use Rattle.ide_commands.proofs.Told.{is_there}
+use Rattle.ide_commands.specs.Lines.{number_of}
+use Rattle.ide_commands.proofs.Told.{bytes_are, is_there}
 use Rattle.ide_commands.proofs.status.Status.of.Goals as goal
 
 pub returns : goal.returns
@@ -13,5 +14,10 @@ returns g c =
       keys = c.key_count-keys.ensures ∙ ap (λ core. length core.table.entries) c.core-core.ensures;
       pending = c.pending_count-pending.ensures ∙ ap (λ core. length core.pile.pending) c.core-core.ensures;
       records = c.acked-records.ensures;
-      bytes = c.in-Ok.ensures.length ∙ ap (λ disk. g.D.Disk.size disk) c.into_disk.ensures;
+      bytes = bytes_are _ _ _ _ _ c.saturating_add.ensures
+          (c.in_ok-first.ensures ∙ ap (λ pair. g.D.Disk.size pair.0) c.into_disks-a.ensures)
+          (c.in_ok-second.ensures ∙ ap (λ pair. g.D.Disk.size pair.1) c.into_disks-a.ensures);
+      generation = c.from-generation.ensures ∙ c.generation.ensures;
+      base = c.from-base.ensures ∙ c.base.ensures;
+      version = c.number_of-version.ensures ∙ ap number_of c.version.ensures;
     }
