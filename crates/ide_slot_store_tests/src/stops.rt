@@ -1,8 +1,10 @@
 //! A run with a checkpoint that ends at each of its calls, over both disks, and is opened again.
-use crate::engine::{crashed, create, create_on, disk, given, open};
+use crate::engine::{crashed, create_on, disk, given, open};
+use crate::versions::make_old;
 use ide_disk::{Leave, MemDisk};
 use ide_engines::{load, seal_empty_main};
 use ide_instances::Uninit;
+use ide_journal::Version;
 use ide_problem::Problem;
 use ide_slot_store::SlotEngine;
 use ide_wire::Refused;
@@ -54,6 +56,19 @@ fn run<P: Problem>(
     }
 }
 
+/// A new store of that version on these disks.
+fn create_of(rt: &(impl Abort + AllocGlobal), version: Version, a: MemDisk, b: MemDisk) -> Engine {
+    let engine: Engine = create_on(rt, a, b);
+    match version {
+        Version::Two => engine,
+        Version::One => {
+            let (mut a, b) = engine.into_disks();
+            make_old(rt, &mut a);
+            open(rt, a, b)
+        }
+    }
+}
+
 /// How a call of a disk ends a run: none is answered from it on, or it alone fails.
 #[derive(Clone, Copy)]
 enum End {
@@ -72,22 +87,24 @@ fn ending(rt: &(impl Abort + AllocGlobal), end: End, calls: u64) -> MemDisk {
 }
 
 /// How many calls either disk has answered after so many of the run.
-fn counts_after(rt: &(impl Abort + AllocGlobal), calls: usize) -> (u64, u64) {
-    let mut engine: Engine = create(rt);
+fn counts_after(rt: &(impl Abort + AllocGlobal), version: Version, calls: usize) -> (u64, u64) {
+    let mut engine = create_of(rt, version, disk(rt), disk(rt));
     run(rt, &mut engine, calls);
     let (a, b) = engine.into_disks();
     (a.calls(), b.calls())
 }
 
-/// The disks of a run that ended so behind so many calls, after a crash of that kind.
+/// The disks of a run in a store of that version that ended so behind so many calls, after a crash of that kind.
 fn end_run(
     rt: &(impl Abort + AllocGlobal),
+    version: Version,
     end: End,
     calls: usize,
     leave: Leave,
 ) -> (MemDisk, MemDisk) {
-    let (first, second) = counts_after(rt, calls);
-    let mut engine: Engine = create_on(rt, ending(rt, end, first), ending(rt, end, second));
+    let (first, second) = counts_after(rt, version, calls);
+    let (a, b) = (ending(rt, end, first), ending(rt, end, second));
+    let mut engine = create_of(rt, version, a, b);
     run(rt, &mut engine, CALLS);
     crashed(engine, leave)
 }
@@ -144,28 +161,40 @@ fn expect_found(rt: &(impl Abort + AllocGlobal), disks: (MemDisk, MemDisk), call
 }
 
 /// Asserts what each end of that kind leaves, with that kind of crash.
-fn expect_ends(rt: &(impl Abort + AllocGlobal), end: End, leave: Leave) {
+fn expect_ends(rt: &(impl Abort + AllocGlobal), version: Version, end: End, leave: Leave) {
     for calls in 0..CALLS {
-        expect_found(rt, end_run(rt, end, calls, leave), calls);
+        expect_found(rt, end_run(rt, version, end, calls, leave), calls);
     }
 }
 
 /// Asserts what each end of that kind leaves, with each kind of crash.
-fn expect_all_ends(rt: &(impl Abort + AllocGlobal), end: End) {
-    expect_ends(rt, end, Leave::Old);
-    expect_ends(rt, end, Leave::New);
-    expect_ends(rt, end, Leave::Half);
-    expect_ends(rt, end, Leave::Fill(9));
+fn expect_all_ends(rt: &(impl Abort + AllocGlobal), version: Version, end: End) {
+    expect_ends(rt, version, end, Leave::Old);
+    expect_ends(rt, version, end, Leave::New);
+    expect_ends(rt, version, end, Leave::Half);
+    expect_ends(rt, version, end, Leave::Fill(0));
+    expect_ends(rt, version, end, Leave::Fill(0x37));
 }
 
 #[test]
 fn stops_leave_stored_records(rt: HostRuntime) {
-    expect_all_ends(&rt, End::Stop);
+    expect_all_ends(&rt, Version::Two, End::Stop);
 }
 
 #[test]
 fn faults_leave_stored_records(rt: HostRuntime) {
-    expect_all_ends(&rt, End::Fault);
+    expect_all_ends(&rt, Version::Two, End::Fault);
+}
+
+// The checkpoint of a store of the first version is of the second: what a stop leaves is the same.
+#[test]
+fn stops_leave_stored_records_of_the_first_version(rt: HostRuntime) {
+    expect_all_ends(&rt, Version::One, End::Stop);
+}
+
+#[test]
+fn faults_leave_stored_records_of_the_first_version(rt: HostRuntime) {
+    expect_all_ends(&rt, Version::One, End::Fault);
 }
 
 /// Opens disks of which either stops in the call behind so many more, and crashes them. The opening
@@ -195,7 +224,7 @@ fn open_and_stop(
 fn openings_that_stop_leave_stored_records(rt: HostRuntime) {
     for calls in 0..CALLS {
         for more in 1..8 {
-            let disks = end_run(&rt, End::Stop, calls, Leave::Half);
+            let disks = end_run(&rt, Version::Two, End::Stop, calls, Leave::Half);
             let disks = open_and_stop(&rt, disks, more, Leave::Fill(9));
             expect_found(&rt, disks, calls);
         }

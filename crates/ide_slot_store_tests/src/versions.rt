@@ -39,7 +39,7 @@ fn overwrite(rt: &impl Abort, disk: &mut MemDisk, at: u64, bytes: &[u8]) {
 }
 
 /// Has the slot on the disk say that it is of the first version.
-fn make_old(rt: &impl Abort, disk: &mut MemDisk) {
+pub(crate) fn make_old(rt: &impl Abort, disk: &mut MemDisk) {
     overwrite(rt, disk, VERSION, b"1");
 }
 
