@@ -5,7 +5,10 @@ use ide_commands::{Store, adopt as adopt_on, call, create as create_on, open};
 use ide_file::{FileDisk, FileFault};
 use ide_instances::{CopyConst, ShiftConst, Uninit};
 use ide_journal::tag;
+use ide_problem::Problem;
+use ide_wire::Refused;
 use ide_words::{Instance, StoreCommand};
+use std::alloc::Global;
 use std::fs::{File, Files};
 use std::io::Stderr;
 use std::path::Path;
@@ -39,10 +42,30 @@ fn open_both<'a, R: Files<File = File> + AllocGlobal>(
     store: &'a str,
 ) -> Result<(Disk, Disk), Failure<'a>> {
     let first = first_of(store, FileDisk::open(rt, Path::new(store)))?;
-    let name = format!(in rt.alloc(); "{store}{SECOND}")?;
-    match FileDisk::open(rt, Path::new(&name)) {
+    match open_second(rt, store) {
         Ok(second) => Ok((first, second)),
-        Err(_) => Err(Failure::CannotReadSecond(store)),
+        Err(failure) => Err(failure),
+    }
+}
+
+/// Opens the second file of a store.
+fn open_second<'a, R: Files<File = File> + AllocGlobal>(
+    rt: &R,
+    store: &'a str,
+) -> Result<Disk, Failure<'a>> {
+    let name = format!(in rt.alloc(); "{store}{SECOND}")?;
+    FileDisk::open(rt, Path::new(&name)).map_err(|_| Failure::CannotReadSecond(store))
+}
+
+/// Makes the two files of a store, where they are not there.
+fn make_both<'a, R: Files<File = File> + AllocGlobal>(
+    rt: &R,
+    store: &'a str,
+) -> Result<(Disk, Disk), Failure<'a>> {
+    let first = first_of(store, FileDisk::create(rt, Path::new(store)))?;
+    match make_second(rt, store) {
+        Ok(second) => Ok((first, second)),
+        Err(failure) => Err(failure),
     }
 }
 
@@ -53,15 +76,22 @@ pub(crate) fn create<'a, R: Files<File = File> + AllocGlobal>(
     instance: Instance,
     out: &mut Vec<u8>,
 ) -> Result<(), Failure<'a>> {
-    let a = first_of(store, FileDisk::create(rt, Path::new(store)))?;
-    let b = make_second(rt, store)?;
+    let (a, b) = make_both(rt, store)?;
     match instance {
-        Instance::Uninit => drop(create_on::<Uninit, _>(rt.alloc(), a, b)?),
-        Instance::Copy => drop(create_on::<CopyConst, _>(rt.alloc(), a, b)?),
-        Instance::Shift => drop(create_on::<ShiftConst, _>(rt.alloc(), a, b)?),
+        Instance::Uninit => create_of::<Uninit>(rt.alloc(), a, b)?,
+        Instance::Copy => create_of::<CopyConst>(rt.alloc(), a, b)?,
+        Instance::Shift => create_of::<ShiftConst>(rt.alloc(), a, b)?,
     }
     out.extend_from_slice(b"created\n")?;
     Ok(())
+}
+
+/// Makes a store of an analysis on the disks.
+fn create_of<P: Problem>(alloc: Global, a: Disk, b: Disk) -> Result<(), Refused> {
+    match create_on::<P, _>(alloc, a, b) {
+        Ok(_) => Ok(()),
+        Err(refused) => Err(refused),
+    }
 }
 
 /// Goes on with the store in the one file of that name: its second file is made, where it is not there and the
@@ -71,12 +101,33 @@ pub(crate) fn adopt<'a, R: Files<File = File> + AllocGlobal>(
     store: &'a str,
     out: &mut Vec<u8>,
 ) -> Result<(), Failure<'a>> {
-    let mut a = first_of(store, FileDisk::open(rt, Path::new(store)))?;
-    let _ = tag(&mut a)?;
-    let b = make_second(rt, store)?;
-    drop(adopt_on(rt.alloc(), a, b)?);
+    let (a, b) = open_first(rt, store)?;
+    adopt_of(rt.alloc(), a, b)?;
     out.extend_from_slice(b"adopted\n")?;
     Ok(())
+}
+
+/// Opens the first file of a store, and makes the second one, where it is not there and the first is a store's.
+fn open_first<'a, R: Files<File = File> + AllocGlobal>(
+    rt: &R,
+    store: &'a str,
+) -> Result<(Disk, Disk), Failure<'a>> {
+    let mut first = first_of(store, FileDisk::open(rt, Path::new(store)))?;
+    if let Err(refused) = tag(&mut first) {
+        return Err(Failure::Refused(refused));
+    }
+    match make_second(rt, store) {
+        Ok(second) => Ok((first, second)),
+        Err(failure) => Err(failure),
+    }
+}
+
+/// Adopts the store that the first disk holds.
+fn adopt_of(alloc: Global, a: Disk, b: Disk) -> Result<(), Refused> {
+    match adopt_on(alloc, a, b) {
+        Ok(_) => Ok(()),
+        Err(refused) => Err(refused),
+    }
 }
 
 /// Does a command on the store in the files of that name, and appends what it prints.
@@ -91,10 +142,33 @@ pub(crate) fn obey<'a, R: Files<File = File> + AllocGlobal + Threads + Wait + Cl
     out: &mut Vec<u8>,
 ) -> Result<(), Failure<'a>> {
     let (a, b) = open_both(rt, store)?;
-    let text = match command {
-        StoreCommand::Load { file } => read_file(rt, file)?,
-        _ => Vec::new(rt.alloc()),
-    };
+    match text_of(rt, command) {
+        Ok(text) => Ok(obey_on(rt, a, b, command, &text, terminal, out)?),
+        Err(failure) => Err(failure),
+    }
+}
+
+/// The text that the command reads, if it reads one.
+fn text_of<'a, R: Files<File = File> + AllocGlobal>(
+    rt: &R,
+    command: StoreCommand<'a>,
+) -> Result<Vec<u8>, Failure<'a>> {
+    match command {
+        StoreCommand::Load { file } => read_file(rt, file),
+        _ => Ok(Vec::new(rt.alloc())),
+    }
+}
+
+/// Opens the store on the disks, and does the command.
+fn obey_on<R: AllocGlobal + Threads + Wait + Clock + Sync>(
+    rt: &R,
+    a: Disk,
+    b: Disk,
+    command: StoreCommand<'_>,
+    text: &[u8],
+    terminal: Option<Stderr>,
+    out: &mut Vec<u8>,
+) -> Result<(), Refused> {
     let opened = open(rt.alloc(), a, b)?;
     if let StoreCommand::Work {
         workers,
@@ -103,13 +177,22 @@ pub(crate) fn obey<'a, R: Files<File = File> + AllocGlobal + Threads + Wait + Cl
     } = command
     {
         let told = if quiet { None } else { terminal };
-        work(rt, opened, workers, checkpoint_every, told, out)?;
-        return Ok(());
+        return work(rt, opened, workers, checkpoint_every, told, out);
     }
-    match opened {
-        Store::Uninit(engine) => call(rt.alloc(), engine, command, &text, out)?,
-        Store::Copy(engine) => call(rt.alloc(), engine, command, &text, out)?,
-        Store::Shift(engine) => call(rt.alloc(), engine, command, &text, out)?,
+    call_on(rt.alloc(), opened, command, text, out)
+}
+
+/// Makes the calls of a command but `work` on a store.
+fn call_on(
+    alloc: Global,
+    store: Store<Disk>,
+    command: StoreCommand<'_>,
+    text: &[u8],
+    out: &mut Vec<u8>,
+) -> Result<(), Refused> {
+    match store {
+        Store::Uninit(engine) => call(alloc, engine, command, text, out),
+        Store::Copy(engine) => call(alloc, engine, command, text, out),
+        Store::Shift(engine) => call(alloc, engine, command, text, out),
     }
-    Ok(())
 }

@@ -5,6 +5,7 @@
 use crate::telling::Telling;
 use ide_commands::{Store, end_work};
 use ide_file::FileDisk;
+use ide_problem::Problem;
 use ide_service::{Crew, Service, work_together};
 use ide_wire::Refused;
 use std::fs::File;
@@ -36,10 +37,23 @@ macro_rules! work_on {
         };
         let worked = work_together($rt, $rt.alloc(), &crew, $workers);
         gate.end();
-        worked?;
-        let mut engine = service.into_engine();
-        end_work(&mut engine, $out)
+        end(service, worked, $out)
     }};
+}
+
+/// Ends the work of a service, where it was not refused, and appends `quiet`.
+fn end<P: Problem>(
+    service: Service<P, FileDisk<File>>,
+    worked: Result<(), Refused>,
+    out: &mut Vec<u8>,
+) -> Result<(), Refused> {
+    match worked {
+        Ok(()) => {
+            let mut engine = service.into_engine();
+            end_work(&mut engine, out)
+        }
+        Err(refused) => Err(refused),
+    }
 }
 
 /// Lets so many hands do all that is pending in the store while one stores what they do, with a checkpoint each
@@ -54,8 +68,8 @@ pub(crate) fn work<R: Threads + Wait + Clock + Sync + AllocGlobal>(
     out: &mut Vec<u8>,
 ) -> Result<(), Refused> {
     match store {
-        Store::Uninit(engine) => { work_on!(rt, engine, workers, checkpoint_every, terminal, out) }
-        Store::Copy(engine) => { work_on!(rt, engine, workers, checkpoint_every, terminal, out) }
-        Store::Shift(engine) => { work_on!(rt, engine, workers, checkpoint_every, terminal, out) }
+        Store::Uninit(engine) => work_on!(rt, engine, workers, checkpoint_every, terminal, out),
+        Store::Copy(engine) => work_on!(rt, engine, workers, checkpoint_every, terminal, out),
+        Store::Shift(engine) => work_on!(rt, engine, workers, checkpoint_every, terminal, out),
     }
 }

@@ -1,6 +1,6 @@
 -- What the calls of a store say of it, put together: what a seal came to, and the values of an image.
 use Rattle.std.proofs.Common.{◌≡◌, ◌∙◌, ℕ, Bool, List, [], refl, ap, sym, subst}
-use Rattle.std.specs.Prelude.{◌+◌, ◌-◌, ◌^◌, Option, Some, None, Result, Ok, Err, IfSome, OnOk, is_some, min, option_map}
+use Rattle.std.specs.Prelude.{◌-◌, Option, Some, None, Result, Ok, Err, IfSome, OnOk, is_some, option_map}
 use Rattle.std.specs.Option.{option_copied}
 use Rattle.std.specs.Borrow.{Bor}
 use Rattle.ide_graph.specs.Supergraph.{Supergraph}
@@ -43,11 +43,6 @@ pub is_there : {X Y : Type 0} (f : X → Y) (o : Option (Bor X)) (p : Option Y) 
     → b ≡ is_some p
 is_there {X} {Y} f None p b same is = same ∙ ap (λ (q : Option Y). is_some q) is
 is_there {X} {Y} f (Some x) p b same is = same ∙ ap (λ (q : Option Y). is_some q) is
-
--- the sum of what both disks have is that of the disks themselves
-pub bytes_are : (sum first second x y : ℕ) → sum ≡ min (first + second) (2 ^ 64 - 1) → first ≡ x → second ≡ y → sum ≡ min (x + y) (2 ^ 64 - 1)
-bytes_are sum first second x y is one two =
-    is ∙ ap (λ (n : ℕ). min (n + second) (2 ^ 64 - 1)) one ∙ ap (λ (n : ℕ). min (x + n) (2 ^ 64 - 1)) two
 
 -- what holds of a call that is not refused holds together
 pub both_on_ok : {T E : Type 0} (P Q : Type 0) (result : Result T E) → OnOk result P → OnOk result Q → OnOk result (P × Q)

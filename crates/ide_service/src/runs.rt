@@ -27,8 +27,7 @@ use ide_theory::{graphs_are_supergraphs, keys_stand_at_nodes};
 ///    given back and entries of roots; and lowerings and entries at most `HEIGHT` for each jump of a node
 ///    and two facts and each summary of a call and two facts.
 ///
-/// It does nothing: its clause is the law. What each call of an [`ide_store::Engine`] is among these, the
-/// contract of the call says.
+/// It does nothing: its clause is the law, of the definitions alone: no engine of one disk stands here.
 pub fn every_run<P: Problem>()
     ensures { OneDiskAnswers P.L.algebra P.F.edge P.targets P.F.eq P.F.proper P.F.form }
 {
@@ -42,8 +41,8 @@ pub fn every_run<P: Problem>()
 /// crash between any two calls, within a disk call, within a checkpoint or within an opening, with any bytes
 /// that the disks may then leave: all that [`every_run`] says of one disk, in the same words (1 to 5).
 ///
-/// It does nothing: its clause is the law, of the definitions alone. The engine on two disks stands in a
-/// crate of its own; an [`ide_store::Engine`] has one disk.
+/// It does nothing: its clause is the law. What each call of an [`ide_slot_store::SlotEngine`] is among
+/// these, the contract of the call says.
 pub fn every_run_on_two_disks<P: Problem>()
     ensures { TwoDisksAnswers ⟦<P as Kept>⟧.analysis }
 {

@@ -34,7 +34,7 @@ use Rattle.ide_slots.specs.declared.record.NumberedRecord.{NumberedRecord}
 use Rattle.ide_slots.specs.declared.side.Side.{Side}
 use Rattle.ide_slots.specs.declared.side.Side.TheVariants.{First, Second}
 use Rattle.ide_wire.specs.declared.refused.Refused.{Refused}
-use Rattle.ide_store.proofs.Half.{front_next, none_waits, sealed_waits}
+use Rattle.ide_store.proofs.Waiting.{front_next, none_waits, sealed_waits}
 use Rattle.ide_store.proofs.OneDisk.{kept_get, next_taken}
 use Rattle.ide_store.specs.TwoDisks.{CallsTwo, FailsTwo, commands_from, commands_of, is_command}
 use Rattle.ide_slot_store.specs.Half.{CallsOver, CallsTo, CrashesStep, HasStoredAll, IsBeginRefusal, IsNewHalf, IsQuiet, KeepsWriting, MayLeave, OpensStore, PlansWriting, StepsOver, Writes, at_once, calls, fails, limit, makes, memory, stores, waits}

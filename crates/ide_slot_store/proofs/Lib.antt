@@ -13,3 +13,4 @@ pub mod Stepping
 pub mod Stopping
 pub mod Stored
 pub mod Writing
+pub mod Sizes

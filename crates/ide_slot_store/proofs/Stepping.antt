@@ -23,7 +23,8 @@ use Rattle.ide_store.specs.Table.{Analysis, TableData, WorksOn}
 use Rattle.ide_store.specs.TwoDisks.{AtCheckpoint, AtRecord, BeginsCalls, CallsTwo, FailsTwo, ForRecord, InCheckpoint, IsNextBehind, LastInCheckpoint, StoresTwo, commands_of}
 use Rattle.ide_store.specs.World as world
 use Rattle.ide_store.specs.World.{contents}
-use Rattle.ide_store.proofs.Stepping.{more_get, none_mapped, works_after}
+use Rattle.ide_store.proofs.Stepping.{works_after}
+use Rattle.ide_store.proofs.Waiting.{more_get, none_mapped}
 use Rattle.ide_slot_store.specs.Engine.{AreAtWork, DidCalls, DidFail as FailedThen, IsGoodCall, SlotWorld, StepsDisks, StepsDisksOver, all_stored, did_call, did_fail, no_memory}
 use Rattle.ide_slot_store.specs.Half.{HasCalled, HasRested, HasStored, HasWaited, StepsOver, StepsTo, Writes, calls, fails, makes, rests, stores, waits}
 use Rattle.ide_slot_store.specs.Writing.{BeginsFirst, DidFail, IsFirstLeft, StandsBehind}

@@ -23,7 +23,7 @@ use Rattle.ide_slots.proofs.Standing.{idle_left}
 use Rattle.ide_store.specs.Handing.{HandsTo}
 use Rattle.ide_wire.specs.declared.refused.Refused.{Refused}
 use Rattle.ide_wire.specs.declared.refused.Refused.TheVariants.{Disk}
-use Rattle.ide_store.proofs.MayCrash.{half_not_disk}
+use Rattle.ide_store.proofs.OpenStops.{half_not_disk}
 use Rattle.ide_store.specs.Opening.{IsOpenStop}
 use Rattle.ide_store.specs.Table.{Analysis, TableData}
 use Rattle.ide_store.specs.TwoDisks.{FailsTwo}

@@ -34,7 +34,7 @@ pub fn slot_halves_open<P: Problem, D: Disk>()
 /// fails: the halves are at work on a world that acts led to from a new store, or from one that was adopted
 /// from one disk. An opening goes on with the run that left its disks, whatever crashed, and so does an
 /// adoption with the run that left its disk; and what is frozen is of that run, and so answers with best
-/// values, as `engines_stay_on_runs` of `ide_store` says of each run. The slots of a run are of either
+/// values, as `frozen_images_answer` of `ide_store` says of each run. The slots of a run are of either
 /// version; of a slot of the first version a checkpoint is not told.
 pub fn slot_engines_stay_on_runs<P: Problem, D: Disk>()
     ensures { SlotEnginesStayOnRuns P ⟦<P as Kept>⟧.analysis D.Disk }

@@ -1,6 +1,5 @@
 pub mod Adopted
 pub mod Good
-pub mod Half
 pub mod Hands
 pub mod Known
 pub mod Machine
@@ -27,12 +26,10 @@ pub mod Unloaded
 pub mod Sealed
 pub mod Runs
 pub mod Openings
+pub mod OpenStops
 pub mod Stepping
+pub mod Waiting
 pub mod Begins
 pub mod Said
-pub mod Opened
 pub mod Drained
 pub mod Frozen
-pub mod Crashes
-pub mod MayCrash
-pub mod Stored

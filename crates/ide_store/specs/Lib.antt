@@ -1,9 +1,7 @@
 pub mod Acting
 pub mod Answers
-pub mod Half
 pub mod Hands
 pub mod Draining
-pub mod Engine
 pub mod Freezing
 pub mod Handing
 pub mod Machine
@@ -14,7 +12,6 @@ pub mod Recovery
 pub mod Roots
 pub mod Runs
 pub mod Store
-pub mod Storing
 pub mod Table
 pub mod TableCalls
 pub mod Tally

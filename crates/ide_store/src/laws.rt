@@ -2,10 +2,9 @@
 ghost use Rattle.ide_batch.specs.Items.{functions_by};
 ghost use Rattle.ide_journal.specs.declared.version.Version.{Version};
 ghost use Rattle.ide_store.specs.Acting.{CallsAreActs};
-ghost use Rattle.ide_store.specs.Engine.{HalvesOpen};
 ghost use Rattle.ide_store.specs.Opening.{HalvesBegin};
 ghost use Rattle.ide_store.specs.Recovery.{OneDiskAnswers, OneDiskRecovers};
-ghost use Rattle.ide_store.specs.Runs.{EnginesStayOnRuns};
+ghost use Rattle.ide_store.specs.Runs.{ActsLeaveDisks, FrozenImagesAnswer};
 ghost use Rattle.ide_store.specs.TwoDisksLaws.{CheckpointsCanBePlanned, SlotsGiveBack, TwoDisksAnswers, TwoDisksBegin, TwoDisksGoOn, TwoDisksKeep, TwoDisksRecover, slots_of};
 ghost use Rattle.ide_store.specs.Writing.{JournalsWriteStores};
 
@@ -103,17 +102,17 @@ pub fn halves_begin<P: Problem>()
     tasks_owe_their_parts::<P>();
 }
 
-/// The two halves of a store that was opened are at work on it: the one that goes on from the records that
-/// were found, and the one that found them.
-pub fn halves_open<P: Problem, D: Disk>()
-    ensures { HalvesOpen ⟦<P as Kept>⟧.analysis D.Disk }
+/// What the half that works does leaves the disks, and what is stored on them, as they are, wherever the
+/// store stands.
+pub fn acts_leave_disks<P: Problem>()
+    ensures { ActsLeaveDisks ⟦<P as Kept>⟧.analysis }
 {}
 
-/// Whichever calls of its halves are made, an engine stays on a run, until a call of its disk fails: the
-/// halves are at work on a world that acts led to from a new store. An opening goes on with the run that
-/// left its disk, whatever crashed; and what is frozen is of that run, and answers with best values.
-pub fn engines_stay_on_runs<P: Problem, D: Disk>()
-    ensures { EnginesStayOnRuns P ⟦<P as Kept>⟧.analysis D.Disk }
+/// Where an image that a run of a store came to is frozen, over each graph of its program the values that
+/// follow from it are the best ones for the program and the roots of that run. What a run is, a crate whose
+/// engine stays on one says.
+pub fn frozen_images_answer<P: Problem>()
+    ensures { FrozenImagesAnswer P ⟦<P as Kept>⟧.analysis }
 {
     every_run_answers::<P>();
     every_run_answers_on_two_disks::<P>();

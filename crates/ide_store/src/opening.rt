@@ -5,9 +5,8 @@ ghost use Rattle.ide_store.specs.Opening.{BeginsOn, GoesOnFrom, HaveFold, IsOpen
 
 use crate::kept::Kept;
 use crate::laws::halves_begin;
-use crate::outbox::Outbox;
+use crate::outbox::{MOST_RECORDS, Outbox};
 use crate::table::TableHalf;
-use crate::writer::MOST_RECORDS;
 use ide_batch::{apply_all, new_cores_are_empty};
 use ide_journal::{RawRecord, Version};
 use ide_problem::Problem;

@@ -8,6 +8,9 @@ use ide_journal::RawRecord;
 use std::alloc::AllocError;
 use std::collections::VecDeque;
 
+/// The most records of a store.
+pub const MOST_RECORDS: u64 = 4_294_967_295;
+
 /// The number of a sealed record, from 0 on.
 #[derive(Clone, Copy, PartialEq, Eq, Debug)]
 pub struct Ticket {

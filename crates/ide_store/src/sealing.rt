@@ -10,9 +10,8 @@ ghost use Rattle.ide_store.specs.TableCalls.{BeginsRoot, FindsNothing, IsLoadSto
 
 use crate::kept::Kept;
 use crate::laws::calls_are_acts;
-use crate::outbox::Ticket;
+use crate::outbox::{MOST_RECORDS, Ticket};
 use crate::table::TableHalf;
-use crate::writer::MOST_RECORDS;
 use ide_batch::{Record, may_be_spelled, to_raw};
 use ide_journal::RawRecord;
 use ide_problem::Problem;

@@ -1,11 +1,7 @@
-use Rattle.std.proofs.Common.{◌≡◌, ◌∙◌, ◌+◌, ◌-◌, ◌^◌, ℕ, ap, length, min, refl}
+use Rattle.std.proofs.Common.{◌∙◌, ◌-◌, ap, length, refl}
 use Rattle.ide_disk.specs.Memory.{memory_size}
+use Rattle.ide_slot_store.proofs.Sizes.{bytes_are}
 use Rattle.ide_bench.proofs.stores.measure_store.Goals as goal
-
--- the sum of what both disks have is that of the disks themselves
-bytes_are : (sum first second x y : ℕ) → sum ≡ min (first + second) (2 ^ 64 - 1) → first ≡ x → second ≡ y → sum ≡ min (x + y) (2 ^ 64 - 1)
-bytes_are sum first second x y is one two =
-    is ∙ ap (λ (n : ℕ). min (n + second) (2 ^ 64 - 1)) one ∙ ap (λ (n : ℕ). min (x + n) (2 ^ 64 - 1)) two
 
 pub returns : goal.returns
 returns c =

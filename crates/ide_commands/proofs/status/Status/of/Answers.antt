@@ -2,7 +2,8 @@ use Rattle.std.proofs.Common.{rules, ◌≡◌, ◌∙◌, ℕ, List, ap, length
 use Rattle.std.specs.Prelude.{is_some}
 use Rattle.ide_text.specs.Program.{value_of}
 use Rattle.ide_commands.specs.Lines.{number_of}
-use Rattle.ide_commands.proofs.Told.{bytes_are, is_there}
+use Rattle.ide_slot_store.proofs.Sizes.{bytes_are}
+use Rattle.ide_commands.proofs.Told.{is_there}
 use Rattle.ide_commands.proofs.status.Status.of.Goals as goal
 
 pub returns : goal.returns

@@ -1,5 +1,5 @@
 use Rattle.std.proofs.Common.{arith, refl}
-use Rattle.ide_store.proofs.Half.{found_is}
+use Rattle.ide_store.proofs.Waiting.{found_is}
 use Rattle.ide_slot_store.proofs.Half.{none_writes, put_writes, within_limit}
 use Rattle.ide_slot_store.specs.Half.{limit}
 use Rattle.ide_slot_store.proofs.writer.SlotWriterHalf.begin_next.Goals as goal

@@ -1,5 +1,5 @@
 use Rattle.std.proofs.Common.{refl}
-use Rattle.ide_store.proofs.Half.{pushed_items}
+use Rattle.ide_store.proofs.Waiting.{pushed_items}
 use Rattle.ide_slot_store.proofs.Half.{seal_writes}
 use Rattle.ide_slot_store.proofs.writer.SlotWriterHalf.seal.Goals as goal
 

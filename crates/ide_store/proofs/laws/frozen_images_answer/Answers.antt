@@ -1,0 +1,15 @@
+use Rattle.ide_store.proofs.Runs.{best_image, places_answer}
+use Rattle.ide_store.specs.Table.{Analysis}
+use Rattle.ide_store.proofs.laws.frozen_images_answer.Goals as goal
+
+pub returns : goal.returns
+returns g c =
+    let a : Analysis g.row.P-F.Denot g.row.P-L.Denot = record {
+      lattice = g.P.L.Lattice.algebra;
+      functions = g.P.F.EdgeFn.edge;
+      targets = g.P.Problem.targets;
+      same = g.P.F.PartialEq.eq;
+      proper = g.P.F.Wire.proper;
+      form = g.P.F.Wire.form;
+    } in
+    best_image a (places_answer a c.every_run_answers.ensures c.every_run_answers_on_two_disks.ensures)
