@@ -1,25 +1,49 @@
 //! Stores on one disk that are adopted.
+//!
+//! No engine makes one any more. The slot on A of a new store on two disks, of generation 0, has byte for byte
+//! the form of a store on one disk, in either version: so a store is made, and its disk A is taken alone, with
+//! a fresh disk beside it. A journal on one disk reads it.
 use crate::checkpoints::{expect_begin, expect_stored};
-use crate::engine::{disk, expect_step, given, open};
+use crate::engine::{disk, expect_calls, expect_step, open};
+use crate::versions::create_of;
 use ide_disk::{Disk, MemDisk};
-use ide_engines::{create, seal_empty_main, store_all};
+use ide_engines::seal_empty_main;
 use ide_instances::Uninit;
-use ide_journal::Version;
+use ide_journal::{Journal, Version};
 use ide_problem::Problem;
 use ide_slot_store::SlotEngine;
-use ide_store::Engine;
 use ide_wire::Refused;
 use std::alloc::AllocGlobal;
 use std::process::Abort;
 
-/// The disk of a store of that version with the run of an empty main, three records.
-fn expect_one_disk(rt: &(impl Abort + AllocGlobal), version: Version) -> MemDisk {
-    let mut engine: Engine<Uninit, MemDisk> = given(rt, create(rt.alloc(), version));
+/// The disk of a journal on one disk of that version, in which three records are.
+fn expect_journal(rt: &(impl Abort + AllocGlobal), version: Version, disk: MemDisk) -> MemDisk {
+    match Journal::open(rt.alloc(), disk, 1) {
+        Ok((journal, records)) => {
+            assert!(rt; records.len() == 3);
+            assert!(rt; journal.version() == version);
+            journal.into_disk()
+        }
+        Err((refused, _)) => panic!(rt; "{refused}"),
+    }
+}
+
+/// Seals the run of an empty main, three records, and stores it.
+fn store_empty_main<P: Problem>(
+    rt: &(impl Abort + AllocGlobal),
+    engine: &mut SlotEngine<P, MemDisk>,
+) {
     assert!(rt; seal_empty_main(rt.alloc(), &mut engine.table) == Ok(true));
-    assert!(rt; store_all(&mut engine) == Ok(()));
-    let mut disk = engine.into_disk();
-    assert!(rt; disk.len() == Ok(16_385));
-    disk
+    expect_calls(rt, engine, 12);
+}
+
+/// The disk of a store of that version with the run of an empty main.
+fn expect_one_disk(rt: &(impl Abort + AllocGlobal), version: Version) -> MemDisk {
+    let mut engine: SlotEngine<Uninit, MemDisk> = create_of(rt, version, disk(rt), disk(rt));
+    store_empty_main(rt, &mut engine);
+    let (mut a, _) = engine.into_disks();
+    assert!(rt; a.len() == Ok(16_385));
+    expect_journal(rt, version, a)
 }
 
 /// The store of an empty main, adopted: its three records are acknowledged.

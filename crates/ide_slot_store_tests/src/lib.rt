@@ -10,8 +10,18 @@ mod checkpoints;
 #[cfg(test)]
 mod engine;
 #[cfg(test)]
+mod failures;
+#[cfg(test)]
+mod harms;
+#[cfg(test)]
+mod kept;
+#[cfg(test)]
+mod openings;
+#[cfg(test)]
 mod parts;
 #[cfg(test)]
 mod stops;
+#[cfg(test)]
+mod turns;
 #[cfg(test)]
 mod versions;

@@ -1,12 +1,13 @@
-//! A run with a checkpoint that ends at each of its calls, over both disks, and is opened again.
-use crate::engine::{crashed, create_on, disk, given, open};
-use crate::versions::make_old;
+//! A run with a checkpoint that ends at each of its calls, over both disks, is opened again, and goes on.
+use crate::engine::{crashed, disk, given, open};
+use crate::versions::create_of;
 use ide_disk::{Leave, MemDisk};
-use ide_engines::{load, seal_empty_main};
+use ide_engines::{Hand, load, root, seal, seal_empty_main};
 use ide_instances::Uninit;
 use ide_journal::Version;
 use ide_problem::Problem;
 use ide_slot_store::SlotEngine;
+use ide_store::TableHalf;
 use ide_wire::Refused;
 use ide_worked::EMPTY;
 use std::alloc::{AllocGlobal, Global};
@@ -16,6 +17,12 @@ type Engine = SlotEngine<Uninit, MemDisk>;
 
 /// The disk calls of the run: of three records, of the checkpoint, and of one record more.
 const CALLS: usize = 26;
+
+/// Which of them, where the first is 0, write the gates of the four records.
+const RECORD_GATES: [usize; 4] = [2, 6, 10, 24];
+
+/// Which of them writes that of the checkpoint.
+const CHECKPOINT_GATE: usize = 20;
 
 /// Where there is no disk call to make, asks for a checkpoint of the three records first, and then seals
 /// one record more.
@@ -56,30 +63,28 @@ fn run<P: Problem>(
     }
 }
 
-/// A new store of that version on these disks.
-fn create_of(rt: &(impl Abort + AllocGlobal), version: Version, a: MemDisk, b: MemDisk) -> Engine {
-    let engine: Engine = create_on(rt, a, b);
-    match version {
-        Version::Two => engine,
-        Version::One => {
-            let (mut a, b) = engine.into_disks();
-            make_old(rt, &mut a);
-            open(rt, a, b)
-        }
-    }
-}
-
-/// How a call of a disk ends a run: none is answered from it on, or it alone fails.
-#[derive(Clone, Copy)]
+/// How a run ends: between two calls of the disks; or in a call of a disk, where none is answered from it on,
+/// or it alone fails.
+#[derive(Clone, Copy, PartialEq, Eq)]
 enum End {
+    Between,
     Stop,
     Fault,
+}
+
+/// A run that ends: how, behind how many calls, and what the crash then leaves.
+#[derive(Clone, Copy)]
+struct Ended {
+    end: End,
+    calls: usize,
+    leave: Leave,
 }
 
 /// A disk that ends the run so in the call behind so many.
 fn ending(rt: &(impl Abort + AllocGlobal), end: End, calls: u64) -> MemDisk {
     let mut disk = disk(rt);
     match end {
+        End::Between => {}
         End::Stop => disk.stop_at(calls.saturating_add(1)),
         End::Fault => disk.fail_at(calls.saturating_add(1)),
     }
@@ -88,82 +93,134 @@ fn ending(rt: &(impl Abort + AllocGlobal), end: End, calls: u64) -> MemDisk {
 
 /// How many calls either disk has answered after so many of the run.
 fn counts_after(rt: &(impl Abort + AllocGlobal), version: Version, calls: usize) -> (u64, u64) {
-    let mut engine = create_of(rt, version, disk(rt), disk(rt));
+    let mut engine: Engine = create_of(rt, version, disk(rt), disk(rt));
     run(rt, &mut engine, calls);
     let (a, b) = engine.into_disks();
     (a.calls(), b.calls())
 }
 
-/// The disks of a run in a store of that version that ended so behind so many calls, after a crash of that kind.
-fn end_run(
+/// Makes the disk calls of the run up to its end, and asserts how many records are acknowledged then, and
+/// that the store is stopped where a call failed.
+fn run_to_end<P: Problem>(
     rt: &(impl Abort + AllocGlobal),
-    version: Version,
-    end: End,
-    calls: usize,
-    leave: Leave,
-) -> (MemDisk, MemDisk) {
-    let (first, second) = counts_after(rt, version, calls);
-    let (a, b) = (ending(rt, end, first), ending(rt, end, second));
-    let mut engine = create_of(rt, version, a, b);
-    run(rt, &mut engine, CALLS);
-    crashed(engine, leave)
+    engine: &mut SlotEngine<P, MemDisk>,
+    ended: Ended,
+) {
+    let between = ended.end == End::Between;
+    run(rt, engine, if between { ended.calls } else { CALLS });
+    assert!(rt;
+        engine.acked() == (ended.calls as u64 / 4).min(3),
+        "behind {}",
+        ended.calls
+    );
+    assert!(rt;
+        engine.table.is_stopped() == !between,
+        "behind {}",
+        ended.calls
+    );
 }
 
-/// How many records are there then at least, and at most.
-fn records_behind(calls: usize) -> (u64, u64) {
-    if calls < 12 {
-        let stored = calls as u64 / 4;
-        (stored, if calls % 4 < 2 { stored } else { stored + 1 })
-    } else if calls < 24 {
-        (3, 3)
-    } else {
-        (3, 4)
+/// The disks of such a run in a store of that version.
+fn end_run(rt: &(impl Abort + AllocGlobal), version: Version, ended: Ended) -> (MemDisk, MemDisk) {
+    let (first, second) = counts_after(rt, version, ended.calls);
+    let (a, b) = (ending(rt, ended.end, first), ending(rt, ended.end, second));
+    let mut engine: Engine = create_of(rt, version, a, b);
+    run_to_end(rt, &mut engine, ended);
+    crashed(engine, ended.leave)
+}
+
+/// Whether a crash of that kind leaves a gate open that was written and not synced.
+pub(crate) fn leaves_gate(leave: Leave) -> bool {
+    match leave {
+        Leave::New => true,
+        Leave::Fill(byte) => byte != 0,
+        _ => false,
     }
 }
 
-/// The generation of the current slot then, at least and at most.
-fn generations_behind(calls: usize) -> (u32, u32) {
-    if calls < 20 {
-        (0, 0)
-    } else if calls < 22 {
-        (0, 1)
-    } else {
-        (1, 1)
+/// Whether the gate that is written by the call of that number, where the first is 0, is open behind the end:
+/// where the next call, which syncs it, went well; or where the crash leaves it, and it was written, be it by a
+/// call that failed.
+fn is_open(ended: Ended, gate: usize) -> bool {
+    if ended.calls > gate.saturating_add(1) {
+        return true;
     }
+    let written = if ended.end == End::Between {
+        ended.calls > gate
+    } else {
+        ended.calls >= gate
+    };
+    written && leaves_gate(ended.leave)
 }
 
-/// Asserts that the store has what an end behind so many calls leaves, and with three records the whole
-/// image.
-fn expect_left<P: Problem>(rt: &impl Abort, engine: &SlotEngine<P, MemDisk>, calls: usize) {
-    let (least, most) = records_behind(calls);
-    let found = engine.acked();
+/// How many records are there then.
+fn records_left(ended: Ended) -> u64 {
+    let mut records: u64 = 0;
+    for gate in RECORD_GATES {
+        records = records.saturating_add(u64::from(is_open(ended, gate)));
+    }
+    records
+}
+
+/// Asserts that the store has what the end leaves, and with three records the whole image.
+fn expect_left<P: Problem>(rt: &impl Abort, engine: &SlotEngine<P, MemDisk>, ended: Ended) {
     assert!(rt;
-        least <= found && found <= most,
-        "{found} records behind {calls}"
+        engine.acked() == records_left(ended),
+        "behind {}",
+        ended.calls
     );
-    let (least, most) = generations_behind(calls);
-    let told = engine.generation();
     assert!(rt;
-        least <= told && told <= most,
-        "generation {told} behind {calls}"
+        engine.generation() == u32::from(is_open(ended, CHECKPOINT_GATE)),
+        "behind {}",
+        ended.calls
     );
     assert!(rt;
-        found != 3 || engine.table.core().is_quiet(),
-        "behind {calls}"
+        engine.acked() != 3 || engine.table.core().is_quiet(),
+        "behind {}",
+        ended.calls
     );
 }
 
-/// Asserts that the disks hold what an end behind so many calls leaves.
-fn expect_found(rt: &(impl Abort + AllocGlobal), disks: (MemDisk, MemDisk), calls: usize) {
+/// Loads the empty main and makes it a root, as far as that is not done, does all tasks, and seals what they
+/// changed.
+pub(crate) fn go_on<P: Problem>(rt: &(impl Abort + AllocGlobal), table: &mut TableHalf<P>) {
+    if table.core().program().is_none() {
+        given(rt, load(rt.alloc(), table, EMPTY));
+    }
+    if table.core().roots().is_empty() {
+        given(rt, root(table, "main"));
+    }
+    given(rt, Hand::new(0).drain(rt.alloc(), table));
+    given(rt, seal(table));
+}
+
+/// Asserts that the run goes on to the same three keys, wherever it was stopped, and to the same three records;
+/// behind a second load, which is record 3, there are a root and a batch more.
+fn expect_goes_on<P: Problem>(
+    rt: &(impl Abort + AllocGlobal),
+    engine: &mut SlotEngine<P, MemDisk>,
+) {
+    let records = if engine.acked() > 3 { 6 } else { 3 };
+    go_on(rt, &mut engine.table);
+    given(rt, engine.store_all());
+    assert!(rt; engine.acked() == records);
+    assert!(rt; engine.table.core().key_count() == 3);
+    assert!(rt; engine.table.core().is_quiet());
+}
+
+/// Asserts that the disks hold what the end leaves, and that the run goes on from it.
+fn expect_found(rt: &(impl Abort + AllocGlobal), disks: (MemDisk, MemDisk), ended: Ended) {
     let (a, b) = disks;
-    let engine: Engine = open(rt, a, b);
-    expect_left(rt, &engine, calls);
+    let mut engine: Engine = open(rt, a, b);
+    expect_left(rt, &engine, ended);
+    expect_goes_on(rt, &mut engine);
 }
 
 /// Asserts what each end of that kind leaves, with that kind of crash.
 fn expect_ends(rt: &(impl Abort + AllocGlobal), version: Version, end: End, leave: Leave) {
     for calls in 0..CALLS {
-        expect_found(rt, end_run(rt, version, end, calls, leave), calls);
+        let ended = Ended { end, calls, leave };
+        expect_found(rt, end_run(rt, version, ended), ended);
     }
 }
 
@@ -174,6 +231,11 @@ fn expect_all_ends(rt: &(impl Abort + AllocGlobal), version: Version, end: End) 
     expect_ends(rt, version, end, Leave::Half);
     expect_ends(rt, version, end, Leave::Fill(0));
     expect_ends(rt, version, end, Leave::Fill(0x37));
+}
+
+#[test]
+fn crashes_between_calls_leave_stored_records(rt: HostRuntime) {
+    expect_all_ends(&rt, Version::Two, End::Between);
 }
 
 #[test]
@@ -219,14 +281,24 @@ fn open_and_stop(
     }
 }
 
+/// Asserts that an opening that stops in any of its calls leaves what the end leaves.
+fn expect_openings(rt: &(impl Abort + AllocGlobal), ended: Ended) {
+    for more in 1..8 {
+        let disks = end_run(rt, Version::Two, ended);
+        let disks = open_and_stop(rt, disks, more, Leave::Fill(9));
+        expect_found(rt, disks, ended);
+    }
+}
+
 // An opening that stops leaves what one that does not finds.
 #[test]
 fn openings_that_stop_leave_stored_records(rt: HostRuntime) {
     for calls in 0..CALLS {
-        for more in 1..8 {
-            let disks = end_run(&rt, Version::Two, End::Stop, calls, Leave::Half);
-            let disks = open_and_stop(&rt, disks, more, Leave::Fill(9));
-            expect_found(&rt, disks, calls);
-        }
+        let ended = Ended {
+            end: End::Stop,
+            calls,
+            leave: Leave::Half,
+        };
+        expect_openings(&rt, ended);
     }
 }

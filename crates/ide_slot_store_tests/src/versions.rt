@@ -1,6 +1,7 @@
 //! Stores whose current slot is of the first version: they go on in it until a checkpoint.
 use crate::checkpoints::{expect_begin, expect_stored};
-use crate::engine::{create, expect_step, given, open};
+use crate::engine::{create, create_on, expect_step, given, open};
+use crate::harms::overwrite;
 use ide_disk::{Disk, MemDisk};
 use ide_engines::{Hand, begin, seal, seal_empty_main};
 use ide_instances::Uninit;
@@ -29,18 +30,33 @@ const OLD_PART: [u8; 44] = [
     0, 0, 0, //
 ];
 
-/// Writes these bytes over those of a disk at a place.
-fn overwrite(rt: &impl Abort, disk: &mut MemDisk, at: u64, bytes: &[u8]) {
-    let Ok(length) = disk.len() else {
-        panic!(rt; "a disk in memory has a length");
-    };
-    assert!(rt; at <= length);
-    assert!(rt; disk.write(at, bytes).is_ok());
+/// Has the slot on the disk say that it is of the first version.
+fn make_old(rt: &impl Abort, disk: &mut MemDisk) {
+    overwrite(rt, disk, VERSION, b"1");
 }
 
-/// Has the slot on the disk say that it is of the first version.
-pub(crate) fn make_old(rt: &impl Abort, disk: &mut MemDisk) {
-    overwrite(rt, disk, VERSION, b"1");
+/// The new store, whose current slot is made to say that it is of the first version.
+fn made_old<P: Problem>(
+    rt: &(impl Abort + AllocGlobal),
+    engine: SlotEngine<P, MemDisk>,
+) -> SlotEngine<P, MemDisk> {
+    let (mut a, b) = engine.into_disks();
+    make_old(rt, &mut a);
+    open(rt, a, b)
+}
+
+/// A new store of that version on these disks.
+pub(crate) fn create_of<P: Problem>(
+    rt: &(impl Abort + AllocGlobal),
+    version: Version,
+    a: MemDisk,
+    b: MemDisk,
+) -> SlotEngine<P, MemDisk> {
+    let engine = create_on(rt, a, b);
+    match version {
+        Version::Two => engine,
+        Version::One => made_old(rt, engine),
+    }
 }
 
 /// Makes all disk calls that are left, and asserts how many these are.
