@@ -2,17 +2,16 @@
 //!
 //! The program is as wide as a text may be, so that a few tasks change so many keys: the tests are also
 //! run with checks and unproved, where a task costs a thousand times as much.
-use ide_disk::MemDisk;
-use ide_engines::{Given, Hand, create, load, root, seal};
+use crate::half::given;
+use ide_engines::{Given, Hand, load, root, seal};
 use ide_instances::CopyConst;
 use ide_journal::Version;
 use ide_problem::Problem;
 use ide_steps::Parted;
-use ide_store::{Engine, TableHalf};
+use ide_store::TableHalf;
 use ide_wire::Refused;
-use std::alloc::{AllocError, Global};
+use std::alloc::{AllocError, AllocGlobal, Global};
 use std::process::Abort;
-use std::test::Fail;
 
 /// How many procedures have locals.
 const WIDE: usize = 16;
@@ -38,38 +37,41 @@ fn add_procedures(text: &mut String, count: usize) -> Result<(), AllocError> {
     Ok(())
 }
 
-/// The text of so many procedures with locals, and of an empty `main` behind them.
-fn wide_text(alloc: Global, count: usize) -> Result<String, AllocError> {
-    let mut text = String::new(alloc);
-    add_procedures(&mut text, count)?;
+/// Adds so many procedures with locals, and an empty `main` behind them.
+fn add_wide(text: &mut String, count: usize) -> Result<(), AllocError> {
+    add_procedures(text, count)?;
     text.push_str("proc main\nend\n")?;
-    Ok(text)
+    Ok(())
+}
+
+/// The text of these procedures.
+fn wide_text(rt: &(impl Abort + AllocGlobal), count: usize) -> String {
+    let mut text = String::new(rt.alloc());
+    assert!(rt; add_wide(&mut text, count).is_ok());
+    text
+}
+
+/// The name of the procedure of that number.
+fn name_of(alloc: Global, number: usize) -> Result<String, Refused> {
+    let name = format!(in alloc; "p{number}")?;
+    Ok(name)
 }
 
 /// Makes so many procedures roots, the last first.
-fn root_all<P: Problem>(
-    alloc: Global,
-    table: &mut TableHalf<P>,
-    count: usize,
-) -> Result<(), Refused> {
+fn root_all<P: Problem>(rt: &(impl Abort + AllocGlobal), table: &mut TableHalf<P>, count: usize) {
     for number in (0..count).rev() {
-        let name = format!(in alloc; "p{number}")?;
-        root(table, name.as_str())?;
+        let name = given(rt, name_of(rt.alloc(), number));
+        given(rt, root(table, name.as_str()));
     }
-    Ok(())
 }
 
 /// Loads the program, and makes each procedure a root.
-fn begin_wide<P: Problem>(
-    rt: &(impl Abort + AllocGlobal),
-    table: &mut TableHalf<P>,
-) -> Result<(), Fail> {
-    let text = wide_text(rt.alloc(), WIDE)?;
+fn begin_wide<P: Problem>(rt: &(impl Abort + AllocGlobal), table: &mut TableHalf<P>) {
+    let text = wide_text(rt, WIDE);
     assert!(rt; load(rt.alloc(), table, text.as_str()) == Ok(0));
     assert!(rt; root(table, "main") == Ok(1));
-    root_all(rt.alloc(), table, WIDE)?;
+    root_all(rt, table, WIDE);
     assert!(rt; seal(table) == Ok(None));
-    Ok(())
 }
 
 /// The hand of that number, with a claim.
@@ -77,13 +79,19 @@ fn claimed<P: Problem>(
     rt: &(impl Abort + AllocGlobal),
     table: &mut TableHalf<P>,
     number: usize,
-) -> Result<Hand<P>, Fail> {
+) -> Hand<P> {
     let mut hand = Hand::new(number);
     assert!(rt;
         hand.claim(rt.alloc(), table) == Ok(Given::Task),
         "hand {number}"
     );
-    Ok(hand)
+    hand
+}
+
+/// Adds a hand to those that are there.
+fn add<P: Problem>(hands: &mut Vec<Hand<P>>, hand: Hand<P>) -> Result<(), Refused> {
+    hands.push(hand)?;
+    Ok(())
 }
 
 /// So many hands, each with a claim.
@@ -91,12 +99,12 @@ fn claim_all<P: Problem>(
     rt: &(impl Abort + AllocGlobal),
     table: &mut TableHalf<P>,
     count: usize,
-) -> Result<Vec<Hand<P>>, Fail> {
+) -> Vec<Hand<P>> {
     let mut hands = Vec::new(rt.alloc());
     for number in 0..count {
-        hands.push(claimed(rt, table, number)?)?;
+        given(rt, add(&mut hands, claimed(rt, table, number)));
     }
-    Ok(hands)
+    hands
 }
 
 /// Asserts that each hand does 4,096 parts.
@@ -151,21 +159,17 @@ fn expect_room<P: Problem>(
 }
 
 /// Asserts it of a half with no program.
-fn expect_full_batch<P: Problem>(
-    rt: &(impl Abort + AllocGlobal),
-    table: &mut TableHalf<P>,
-) -> Result<(), Fail> {
-    begin_wide(rt, table)?;
-    let mut hands = claim_all(rt, table, WIDE)?;
-    let mut last = claimed(rt, table, WIDE)?;
+fn expect_full_batch<P: Problem>(rt: &(impl Abort + AllocGlobal), table: &mut TableHalf<P>) {
+    begin_wide(rt, table);
+    let mut hands = claim_all(rt, table, WIDE);
+    let mut last = claimed(rt, table, WIDE);
     expect_full(rt, table, hands.as_mut_slice(), &mut last);
     expect_room(rt, table, hands.as_mut_slice(), &mut last);
-    Ok(())
 }
 
 // The step that would change key 65,537 is refused until what changed is sealed, be it a part or an end.
 #[test]
-fn a_full_batch_is_sealed_before_one_key_more(rt: HostRuntime) -> Result<(), Fail> {
-    let mut engine: Engine<CopyConst, MemDisk> = create(rt.alloc(), Version::Two)?;
-    expect_full_batch(&rt, &mut engine.table)
+fn a_full_batch_is_sealed_before_one_key_more(rt: HostRuntime) {
+    let mut table: TableHalf<CopyConst> = TableHalf::new(rt.alloc(), Version::Two);
+    expect_full_batch(&rt, &mut table);
 }

@@ -1,17 +1,15 @@
 //! Draining: all that is left is done by one hand, and batches that are full are sealed on the way.
-use crate::kept::expect_kept;
-use ide_disk::MemDisk;
-use ide_engines::{begin, create, items_of, load, root, seal};
+use crate::half::{expect_sealed, given};
+use ide_engines::{begin, items_of, load, root, seal};
 use ide_instances::{CopyConst, ShiftConst, Uninit};
 use ide_journal::Version;
 use ide_problem::Problem;
 use ide_steps::Claimed;
-use ide_store::{Engine, TableHalf};
+use ide_store::TableHalf;
 use ide_wire::Refused;
 use ide_worked::{EMPTY, RECURSION, TWO_CALLS};
-use std::alloc::{AllocError, Global};
+use std::alloc::{AllocError, AllocGlobal};
 use std::process::Abort;
-use std::test::Fail;
 
 /// How many locals and how many statements the wide procedure has.
 const SIDE: usize = 300;
@@ -22,54 +20,69 @@ fn drain<P: Problem>(table: &mut TableHalf<P>) -> Result<u64, Refused> {
     Ok(tasks)
 }
 
-/// The text of a `main` with so many locals and as many statements that do nothing.
-fn square_text(alloc: Global, side: usize) -> Result<String, AllocError> {
-    let mut text = String::new(alloc);
-    text.push_str("proc main\n")?;
-    for number in 0..side {
+/// Adds the declarations of so many locals.
+fn add_locals(text: &mut String, count: usize) -> Result<(), AllocError> {
+    for number in 0..count {
         writeln!(text, "var v{number}")?;
     }
-    for _ in 0..side {
+    Ok(())
+}
+
+/// Adds so many statements that do nothing.
+fn add_skips(text: &mut String, count: usize) -> Result<(), AllocError> {
+    for _ in 0..count {
         text.push_str("skip\n")?;
     }
-    text.push_str("end\n")?;
-    Ok(text)
+    Ok(())
 }
 
-/// Asserts how many tasks a drain does, and that a second one does none.
-fn expect_tasks<P: Problem>(
-    rt: &(impl Abort + AllocGlobal),
-    table: &mut TableHalf<P>,
-    text: &str,
-    tasks: u64,
-) -> Result<(), Fail> {
-    begin(rt.alloc(), table, text)?;
-    assert!(rt; drain(table) == Ok(tasks), "{text}");
+/// Adds a `main` with so many locals and as many statements that do nothing.
+fn add_square(text: &mut String, side: usize) -> Result<(), AllocError> {
+    text.push_str("proc main\n")?;
+    add_locals(text, side)?;
+    add_skips(text, side)?;
+    text.push_str("end\n")?;
+    Ok(())
+}
+
+/// The text of such a `main`.
+fn square_text(rt: &(impl Abort + AllocGlobal), side: usize) -> String {
+    let mut text = String::new(rt.alloc());
+    assert!(rt; add_square(&mut text, side).is_ok());
+    text
+}
+
+/// Asserts that a drain does the three tasks of an empty main, and that a second one does none: what they
+/// changed is one record.
+fn expect_three_tasks<P: Problem>(rt: &(impl Abort + AllocGlobal), table: &mut TableHalf<P>) {
+    given(rt, begin(rt.alloc(), table, EMPTY));
+    assert!(rt; drain(table) == Ok(3));
     assert!(rt; table.core().is_quiet());
     assert!(rt; drain(table) == Ok(0));
-    Ok(())
+    assert!(rt; seal(table) == Ok(Some(2)));
+    expect_sealed(rt, table, 3);
 }
 
-// It claims as many tasks as the same run in memory, and the records give back what it did.
+// It claims as many tasks as the same run in memory.
 #[test]
-fn drains_what_is_left(rt: HostRuntime) -> Result<(), Fail> {
-    let mut engine: Engine<Uninit, MemDisk> = create(rt.alloc(), Version::Two)?;
-    expect_tasks(&rt, &mut engine.table, EMPTY, 3)?;
-    assert!(rt; seal(&mut engine.table) == Ok(Some(2)));
-    let again = expect_kept(&rt, engine, 12)?;
-    assert!(rt; again.table.core().is_quiet());
-    Ok(())
+fn drains_what_is_left(rt: HostRuntime) {
+    let mut table: TableHalf<Uninit> = TableHalf::new(rt.alloc(), Version::Two);
+    expect_three_tasks(&rt, &mut table);
+}
+
+/// Asserts that a root behind a drain is record 3, and that there is a drain behind it.
+fn expect_root<P: Problem>(rt: &(impl Abort + AllocGlobal), table: &mut TableHalf<P>) {
+    given(rt, begin(rt.alloc(), table, RECURSION));
+    assert!(rt; drain(table).is_ok());
+    assert!(rt; root(table, "rec") == Ok(3));
+    assert!(rt; drain(table).is_ok());
 }
 
 // A root behind it seals what it did, under the number before its own.
 #[test]
-fn a_root_seals_what_was_drained(rt: HostRuntime) -> Result<(), Fail> {
-    let mut engine: Engine<ShiftConst, MemDisk> = create(rt.alloc(), Version::One)?;
-    begin(rt.alloc(), &mut engine.table, RECURSION)?;
-    assert!(rt; drain(&mut engine.table).is_ok());
-    assert!(rt; root(&mut engine.table, "rec") == Ok(3));
-    assert!(rt; drain(&mut engine.table).is_ok());
-    Ok(())
+fn a_root_seals_what_was_drained(rt: HostRuntime) {
+    let mut table: TableHalf<ShiftConst> = TableHalf::new(rt.alloc(), Version::One);
+    expect_root(&rt, &mut table);
 }
 
 /// Asserts that a drain is refused for that reason.
@@ -85,33 +98,47 @@ fn claims<P: Problem>(table: &mut TableHalf<P>, hand: usize) -> Result<bool, Ref
     }
 }
 
+/// Asserts that a drain is refused while the hand of that number has a claim.
+fn expect_refused_beside<P: Problem>(
+    rt: &impl Abort,
+    table: &mut TableHalf<P>,
+    hand: usize,
+    want: Refused,
+) {
+    assert!(rt; claims(table, hand) == Ok(true));
+    expect_refused(rt, table, want);
+    assert!(rt; table.release(hand) == Ok(()));
+}
+
+/// Asserts when a drain is refused, and that it is not once no hand has a claim.
+fn expect_no_claims<P: Problem>(rt: &(impl Abort + AllocGlobal), table: &mut TableHalf<P>) {
+    expect_refused(rt, table, Refused::NoProgram);
+    given(rt, begin(rt.alloc(), table, TWO_CALLS));
+    expect_refused_beside(rt, table, 3, Refused::Unfinished);
+    expect_refused_beside(rt, table, 0, Refused::Busy);
+    assert!(rt; drain(table).is_ok());
+}
+
 // It is refused with no program, and where a hand has a claim.
 #[test]
-fn drains_with_no_claim_alone(rt: HostRuntime) -> Result<(), Fail> {
-    let mut engine: Engine<CopyConst, MemDisk> = create(rt.alloc(), Version::Two)?;
-    let table = &mut engine.table;
-    expect_refused(&rt, table, Refused::NoProgram);
-    begin(rt.alloc(), table, TWO_CALLS)?;
-    assert!(rt; claims(table, 3) == Ok(true));
-    expect_refused(&rt, table, Refused::Unfinished);
-    assert!(rt; table.release(3) == Ok(()));
-    assert!(rt; claims(table, 0) == Ok(true));
-    expect_refused(&rt, table, Refused::Busy);
-    assert!(rt; table.release(0) == Ok(()));
+fn drains_with_no_claim_alone(rt: HostRuntime) {
+    let mut table: TableHalf<CopyConst> = TableHalf::new(rt.alloc(), Version::Two);
+    expect_no_claims(&rt, &mut table);
+}
+
+/// Asserts that a drain of the wide procedure seals one batch, and leaves another to be sealed.
+fn expect_two_batches<P: Problem>(rt: &(impl Abort + AllocGlobal), table: &mut TableHalf<P>) {
+    let text = square_text(rt, SIDE);
+    assert!(rt; load(rt.alloc(), table, text.as_str()) == Ok(0));
+    assert!(rt; root(table, "main") == Ok(1));
     assert!(rt; drain(table).is_ok());
-    Ok(())
+    assert!(rt; given(rt, items_of(table)).len() == 90_903);
+    assert!(rt; seal(table) == Ok(Some(3)));
 }
 
 // Of a run of more keys than a batch may have, one batch is sealed on the way.
 #[test]
-fn a_full_batch_is_sealed_on_the_way(rt: HostRuntime) -> Result<(), Fail> {
-    let mut engine: Engine<CopyConst, MemDisk> = create(rt.alloc(), Version::Two)?;
-    let table = &mut engine.table;
-    let text = square_text(rt.alloc(), SIDE)?;
-    assert!(rt; load(rt.alloc(), table, text.as_str()) == Ok(0));
-    assert!(rt; root(table, "main") == Ok(1));
-    assert!(rt; drain(table).is_ok());
-    assert!(rt; items_of(table)?.len() == 90_903);
-    assert!(rt; seal(table) == Ok(Some(3)));
-    Ok(())
+fn a_full_batch_is_sealed_on_the_way(rt: HostRuntime) {
+    let mut table: TableHalf<CopyConst> = TableHalf::new(rt.alloc(), Version::Two);
+    expect_two_batches(&rt, &mut table);
 }

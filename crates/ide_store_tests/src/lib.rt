@@ -1,4 +1,4 @@
-//! Tests of what writes a store, and of stores that work and write.
+//! Tests of the half of a store that works, by itself: with no engine and no disk.
 //!
 //! They stand apart from `ide_store`, since a crate that has tests is proved twice.
 #![tactic(auto)]
@@ -8,8 +8,6 @@ mod batches;
 #[cfg(test)]
 mod draining;
 #[cfg(test)]
-mod engine;
+mod half;
 #[cfg(test)]
-mod kept;
-#[cfg(test)]
-mod writer;
+mod table;
