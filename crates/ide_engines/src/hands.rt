@@ -1,4 +1,4 @@
-//! Hands that work in a store, each with the work of its claim.
+//! Hands that work with the half of a store that works, each with the work of its claim.
 use ide_problem::Problem;
 use ide_steps::{Claimed, Parted};
 use ide_store::TableHalf;
