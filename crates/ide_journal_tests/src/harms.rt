@@ -1,4 +1,4 @@
-//! What is done to a disk in memory between the calls of a store, and how long the disk is then.
+//! What is done to a disk in memory between the calls of a journal, and how long the disk is then.
 use ide_disk::{DeviceFault, Disk, MemDisk};
 
 /// Whether the disk has so many bytes.
