@@ -37,6 +37,7 @@ bench: idesolve
 	bench/phases
 	bench/stores
 	bench/workers
+	bench/files
 	bench/fills
 	bench/journal
 	bench/batches
