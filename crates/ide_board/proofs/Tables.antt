@@ -32,14 +32,14 @@ module _ {R : Type 0} where
       → (at ≡ l.table) × (sealed_in role ≡ l.sealed) × (handed_in role ≡ l.handed) × (before_in role ≡ l.before)
   table_known l seats at role is k = subst (λ r. KnowsLedger l seats at r) is k
 
-  pub seals : (slots id : ℕ) (me : Sitter R) (x : Marked R) (entry : List (Marked R)) → entry ≡ x ∷ [] → IsTableRole me.0.role → length (sealed_in me.0.role) < 4294967295
+  pub seals : (slots id : ℕ) (me : Sitter R) (entry : List (Marked R)) → length entry ≡ 1 → IsTableRole me.0.role → length (sealed_in me.0.role) < 4294967295
       → Allows (Kept 0) slots id me 0 (λ n. (n + 1) % 2 ^ 64) (Sealing entry any_step me)
-  seals slots id me x entry one is room = allows slots id 0 (λ n. (n + 1) % 2 ^ 64) me (Sealing entry any_step me) (λ l seats nested knows recalls.
+  seals slots id me entry one is room = allows slots id 0 (λ n. (n + 1) % 2 ^ 64) me (Sealing entry any_step me) (λ l seats nested knows recalls.
       let role : Role R = me.0.role in
       let k = table_known l seats id role (table_has role is) knows in
       let handed = nested.handed in
       let same : length (sealed_in role) ≡ length l.sealed = ap length k.1 in
-      let more : length (l.sealed ++ entry) ≡ length l.sealed + 1 = length-append l.sealed entry ∙ ap (λ e. length l.sealed + length e) one in
+      let more : length (l.sealed ++ entry) ≡ length l.sealed + 1 = length-append l.sealed entry ∙ ap (λ n. length l.sealed + n) one in
       record {
         after = record l { sealed = l.sealed ++ entry };
         view = without_note (Table (sealed_in role ++ entry) (handed_in role) (handed_in role));

@@ -1,5 +1,5 @@
 //! The board itself, and each step on it.
-ghost use Rattle.std.specs.Prelude.{◌≡◌, Err, ◌+◌, ◌-◌, ◌<◌, ◌≤◌, ◌⊎◌, [], ◌∷◌, length, max, IfOk, IsOkUnless};
+ghost use Rattle.std.specs.Prelude.{◌≡◌, Err, ◌+◌, ◌-◌, ◌<◌, ◌≤◌, ◌⊎◌, ◌++◌, [], length, max, IfOk, IsOkUnless};
 ghost use mathlib.Core.List.{IsPrefix};
 ghost use Rattle.ide_wire.specs.declared.refused.Refused.TheVariants.{NoMemory, Limit};
 ghost use Rattle.ide_board.specs.Records.{AreSealed, AreStoredBelow, AscendInNumber, IsLastOf, IsNotNoted, given_clients, last_pair, new_client, new_clients, new_table, new_writer, with_own, with_sealed, with_stored};
@@ -8,7 +8,7 @@ ghost use Rattle.ide_board.specs.Steps.{told_of};
 
 use crate::plays::{
     Adds, Admits, Base, Compares, Confirms, Counts, Ends, Entry, Founds, Learns, Notes, Numbered,
-    Publishes, Reads, Seals, Takes,
+    Publishes, Reads, Seals, Shows, Takes,
 };
 use crate::seats::{ClientSeat, TableSeat, WriterSeat};
 use crate::view::{Law, View};
@@ -78,7 +78,16 @@ impl<R: Drop> Board<R> {
         requires room { length table.old.sealed < 4294967295 }
         ensures { table.new ≡ with_sealed table.old (item.now, by) }
     {
-        self.add::<Brand>(table, item, by);
+        self.add::<Brand, R>(table, item, by);
+    }
+
+    /// The same of the record that a value shows: it need be no value of the program's own.
+    pub fn seal_shown<S: Shows<T, R>, T>(&self, table: &mut TableSeat<R>, from: &T, by: Option<u64>)
+        requires board { table.old.board ≡ self.now }
+        requires room { length table.old.sealed < 4294967295 }
+        ensures { table.new ≡ with_sealed table.old (S.shown from.now, by) }
+    {
+        self.add::<Brand, T>(table, from, by);
     }
 
     /// Hands all sealed records over to the writer. Before and afterwards the writer has exactly as
@@ -245,11 +254,13 @@ impl<R: Drop> Board<R> {
         }
     }
 
-    fn add<E: Entry<R>>(&self, table: &mut TableSeat<R>, item: &R, by: Option<u64>)
+    // Adds one record with its mark. Its call picks both, from what shows the record and from the client's
+    // number, which are lent for that alone.
+    fn add<E: Entry<R>, T>(&self, table: &mut TableSeat<R>, _from: &T, _by: Option<u64>)
         requires board { table.old.board ≡ self.now }
         requires room { length table.old.sealed < 4294967295 }
-        requires entry { E.entry ≡ (item.now, by) ∷ [] }
-        ensures { table.new ≡ with_sealed table.old (item.now, by) }
+        requires one { length E.entry ≡ 1 }
+        ensures { table.new ≡ record table.old { sealed = table.old.sealed ++ E.entry } }
     {
         self.table
             .shared

@@ -16,5 +16,5 @@ mod view;
 
 pub use board::Board;
 pub use naming::Naming;
-pub use plays::Base;
+pub use plays::{Base, Shows};
 pub use seats::{ClientSeat, TableSeat, WriterSeat};

@@ -18,6 +18,11 @@ impl<R> Entry<R> for Brand {
     ghost entry = { [] };
 }
 
+/// What a value shows as the record that is sealed, where records are no values of the program's own.
+pub trait Shows<T, R> {
+    ghost shown: { T → R };
+}
+
 /// The number of a client.
 pub(crate) trait Numbered {
     ghost use Rattle.std.specs.Prelude.{ℕ};

@@ -1,5 +1,5 @@
 //! The seats at a board: of the table, of the writer, and of each client.
-ghost use Rattle.std.specs.Prelude.{◌≡◌};
+ghost use Rattle.std.specs.Prelude.{◌≡◌, length};
 
 use crate::view::View;
 use atomic_table::Seat;
@@ -61,6 +61,15 @@ impl<R> Model for ClientSeat<R> {
     ghost view = { λ s. client_view s.seat.table_id s.seat.me.0.role };
 
     ghost invariant = { λ s. IsClientSeat s.number s.seen s.seat.me.0.role };
+}
+
+impl<R> WriterSeat<R> {
+    /// How many records are stored.
+    pub fn stored(&self) -> u64
+        ensures { result ≡ length self.now.stored }
+    {
+        self.stored
+    }
 }
 
 impl<R> ClientSeat<R> {

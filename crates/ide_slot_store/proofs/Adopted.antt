@@ -1,5 +1,5 @@
 -- A store that was adopted from one disk goes on with the run that left it.
-use Rattle.std.proofs.Common.{◌≡◌, ◌<◌, ◌++◌, ℕ, List, [], ◌∷◌, Result, Ok, Err, inr, refl, sym}
+use Rattle.std.proofs.Common.{◌≡◌, ◌<◌, ◌++◌, ℕ, List, [], ◌∷◌, Result, Ok, Err, refl, sym}
 use Rattle.std.specs.Prelude.{IfErr, IfOk}
 use Rattle.ide_disk.specs.Disk.{DiskState}
 use Rattle.ide_disk.specs.declared.disk.Disk.{Ghosts}
@@ -16,7 +16,7 @@ use Rattle.ide_store.proofs.Acts.{reached_more}
 use Rattle.ide_store.specs.Hands.{Happens}
 use Rattle.ide_store.specs.Places.{OnOneDisk, OnTwoDisks}
 use Rattle.ide_store.specs.Runs.{IsLeftByRun}
-use Rattle.ide_store.specs.Table.{Analysis, IsReached, StoreAct, TableData, after_act, beside}
+use Rattle.ide_store.specs.Table.{Analysis, at_adopted, IsReached, StoreAct, TableData, after_act, beside}
 use Rattle.ide_store.specs.World.{Opens}
 use Rattle.ide_slot_store.specs.Adopting.{AreAdopted, IsAdoptingStop, OneWorld, not_opened}
 use Rattle.ide_slot_store.specs.Engine.{AreOpened, OpensEngine, RefusesEngine}
@@ -30,7 +30,7 @@ module _ {F L : Type 0} (a : Analysis F L) (head : Head) (some : 0 < head.tag) w
       → IsReached a (OnTwoDisks head) (beside a head w work other)
   goes_on w work other closed reached = record {
     start = beside a head w work other;
-    begins = inr (record { some_tag = some; world = w; run = reached; work = work; other = other; closed = closed; is = refl });
+    begins = at_adopted (record { some_tag = some; world = w; run = reached; work = work; other = other; closed = closed; is = refl });
     acts = [];
     can = tt;
     is = refl;

@@ -19,7 +19,7 @@ use Rattle.ide_steps.specs.Changed.{entry_then, standing_entry}
 use Rattle.ide_wire.specs.Form.{IsPrefixFree}
 use Rattle.ide_wire.specs.declared.key.Key.{Key}
 use Rattle.ide_store.specs.Places.{OnTwoDisks}
-use Rattle.ide_store.specs.Table.{Analysis, IsReached, TableData, WorksOn, told}
+use Rattle.ide_store.specs.Table.{Analysis, TableData, WorksOn, told}
 use Rattle.ide_store.specs.TwoDisks.{BeginsTwo, IsListOf, commands_of}
 use Rattle.ide_store.specs.TwoDisksLaws.{ArePartsOf, slots_of}
 use Rattle.ide_store.specs.World.{Begins, IsFolded, contents}
@@ -30,7 +30,6 @@ use Rattle.ide_store.proofs.TwoDisksPlans.{parts_give}
 use Rattle.ide_slot_store.specs.Checkpoint.{CheckpointsStayOnRuns, PlansImage}
 use Rattle.ide_slot_store.specs.Engine.{AreAtWork, MayHappen, SlotEvent, SlotWorld, after_events, happening}
 use Rattle.ide_slot_store.specs.Half.{PlansAll}
-use Rattle.ide_slot_store.specs.Runs.{AreOnRun}
 use Rattle.ide_slot_store.specs.declared.writer.SlotWriterHalf.{SlotWriterHalf}
 use Rattle.ide_slot_store.proofs.ImageParts.{image_parts_make}
 use Rattle.ide_slot_store.proofs.Stopping.{held_by}

@@ -1,8 +1,8 @@
 -- Lists of acts: they are done one behind the other, and lead from worlds that acts led to to such worlds.
-use Rattle.std.proofs.Common.{◌≡◌, ◌∙◌, ◌+◌, ◌++◌, Bool, List, [], ◌∷◌, refl, ap, sym, subst, arith, inl}
+use Rattle.std.proofs.Common.{◌≡◌, ◌∙◌, ◌+◌, ◌++◌, Bool, List, [], ◌∷◌, refl, ap, sym, subst, arith}
 use Rattle.ide_store.specs.Draining.{count_of}
 use Rattle.ide_store.specs.Places.{OnOneDisk, OnTwoDisks, Place}
-use Rattle.ide_store.specs.Table.{Analysis, IsNew, IsReached, IsStart, MayDoAll, StoreAct, StoreWorld, after_act, after_acts, new_store, store_at}
+use Rattle.ide_store.specs.Table.{Analysis, at_new, IsNew, IsReached, IsStart, MayDoAll, StoreAct, StoreWorld, after_act, after_acts, new_store, store_at}
 
 module _ {F L : Type 0} (a : Analysis F L) (place : Place) where
   -- acts may be done behind others
@@ -37,7 +37,7 @@ module _ {F L : Type 0} (a : Analysis F L) where
   -- a run may begin at a new store
   pub begins_new : (place : Place) (start : StoreWorld a place) → IsNew a place start → IsStart a place start
   begins_new (OnOneDisk head) start new = new
-  begins_new (OnTwoDisks head) start new = inl new
+  begins_new (OnTwoDisks head) start new = at_new new
 
   -- so that is a world that acts led to
   pub reached_new : (place : Place) (work : (store_at a place).Work) (disks : (store_at a place).Disks) → (store_at a place).Live [] 0 work disks

@@ -1,9 +1,10 @@
 -- A store that was adopted from one disk: what was kept on the one disk is kept beside a closed slot.
-use Rattle.std.proofs.Common.{◌≡◌, ◌<◌, ℕ, List, [], ◌∷◌, Some, take, refl, sym, subst, inl, inr}
+use Rattle.std.proofs.Common.{◌≡◌, ◌<◌, ℕ, List, [], ◌∷◌, Some, take, arith, refl, sym, subst, inl}
+use Rattle.std.proofs.lemmas.List.{length-map}
 use Rattle.ide_batch.specs.Fold.{ProgramImage, procedures}
 use Rattle.ide_disk.specs.Disk.{DiskState, settled}
 use Rattle.ide_journal.specs.Format.{Entry, Head}
-use Rattle.ide_slots.specs.Sides.{two_sides}
+use Rattle.ide_slots.specs.Sides.{Sides, two_sides}
 use Rattle.ide_slots.specs.declared.side.Side.TheVariants.{First}
 use Rattle.ide_slots.specs.Slot.{IsClosedSlot}
 use Rattle.ide_slots.specs.Two.{SlotWriter}
@@ -17,7 +18,7 @@ use Rattle.ide_store.specs.OneDisk.{one_disk}
 use Rattle.ide_store.specs.Places.{OnOneDisk, OnTwoDisks, Place, version_at}
 use Rattle.ide_store.specs.Recovery.{PlaceAnswers}
 use Rattle.ide_store.specs.Store.{IsSafe}
-use Rattle.ide_store.specs.Table.{Analysis, IsAdopted, IsLedTo, IsNew, IsStart, StoreWorld, beside, forms_of, rules_at, store_at}
+use Rattle.ide_store.specs.Table.{Analysis, at_adopted, at_meeting, at_new, BeginsOnTwo, IsAdopted, IsLedTo, IsNew, IsStart, StoreWorld, after_acts, beside, forms_of, gone_on, rules_at, store_at}
 use Rattle.ide_store.specs.World.{IsFolded, LeadTo, Rules, Sealed, contents, image_after}
 use Rattle.ide_store.proofs.Good.{IsGood}
 use Rattle.ide_store.proofs.Hands.{IsWhole, Known, all_held, idle_held, some_base, sound}
@@ -127,11 +128,45 @@ module _ {F L : Type 0} (a : Analysis F L) (is_same : IsSame a.same) (free : IsP
       subst (IsWholeAt (OnTwoDisks head)) (sym adopted.is)
       (beside_whole head adopted.world adopted.work adopted.other adopted.some_tag adopted.closed whole)
 
+  -- and it stays so where the half that writes went on by itself
+  gone_on_whole : (head : Head) (w : StoreWorld a (OnTwoDisks head)) (stored : ℕ) (work : SlotWriter) (disks : Sides DiskState)
+      → (store_at a (OnTwoDisks head)).Live (contents w.world.sealed) stored work disks → IsWholeAt (OnTwoDisks head) w
+      → IsWholeAt (OnTwoDisks head) (gone_on a head w stored work disks)
+  gone_on_whole head w stored work disks live whole =
+      let some = live.some in
+      let count = length-map w.world.sealed (λ (s : Sealed Entry). s.content) in
+      record {
+        held = record {
+          world = record {
+            image = whole.held.world.image;
+            live = λ runs. live;
+            safe = (laws_at a (OnTwoDisks head)).live_safe (contents w.world.sealed) stored work disks live;
+            marks = whole.held.world.marks;
+            some = omega (arith, some, count);
+            acked = omega arith;
+          };
+          stored = whole.held.stored;
+          work = whole.held.work;
+          begun = whole.held.begun;
+        };
+        noted = λ base folded.
+            let noted = whole.noted base folded in
+            record { program = noted.program; roots = noted.roots; present = noted.present };
+      }
+
+  two_whole : (head : Head) (start : StoreWorld a (OnTwoDisks head)) → BeginsOnTwo a head start → IsWholeAt (OnTwoDisks head) start
+  two_whole head start (at_new new) = new_whole (OnTwoDisks head) start new
+  two_whole head start (at_adopted adopted) = adopted_whole head start adopted
+  two_whole head _ (at_meeting begun begins acts can stored work disks live) =
+      let place = OnTwoDisks head in
+      let led = all_held a.lattice a.functions a.targets a.same (forms_of a) (version_at place) (store_at a place) is_same (exact_at a free place)
+      (laws_at a place) known (does_at a place) begun acts (two_whole head begun begins) can in
+      gone_on_whole head (after_acts a place begun acts) stored work disks live led
+
   -- so it is wherever a run may begin
   pub start_whole : (place : Place) (start : StoreWorld a place) → IsStart a place start → IsWholeAt place start
   start_whole (OnOneDisk head) start new = new_whole (OnOneDisk head) start new
-  start_whole (OnTwoDisks head) start (inl new) = new_whole (OnTwoDisks head) start new
-  start_whole (OnTwoDisks head) start (inr adopted) = adopted_whole head start adopted
+  start_whole (OnTwoDisks head) start begins = two_whole head start begins
 
   -- and each run answers
   pub place_answers : (place : Place) → PlaceAnswers a place

@@ -4,7 +4,7 @@ use Rattle.std.proofs.lemmas.Bool.{cases_lt}
 use Rattle.std.proofs.lemmas.List.{length-append, take-append-le, take-take, take_all}
 use Rattle.std.proofs.lemmas.List.Sums.{fold-append}
 use Rattle.ide_batch.specs.Fold.{ProgramImage}
-use Rattle.ide_journal.specs.Format.{Entry}
+use Rattle.ide_journal.specs.Format.{Entry, Head}
 use Rattle.ide_text.specs.Value.{ProgramValue}
 use Rattle.ide_theory.specs.Images.{Finish, Load, Part, Root}
 use Rattle.ide_theory.specs.State.{Claim}
@@ -19,7 +19,7 @@ use Rattle.ide_store.specs.Machine.{ProgramStep}
 use Rattle.ide_store.proofs.Adopted.{start_whole}
 use Rattle.ide_store.proofs.Places.{does_at, exact_at, laws_at}
 use Rattle.ide_store.specs.Places.{OnOneDisk, OnTwoDisks, Place, version_at}
-use Rattle.ide_store.specs.Table.{Analysis, IsLedTo, IsNew, IsReached, IsStart, MayDo, MayDoAll, StoreAct, StoreWorld, after_act, after_acts, forms_of, rules_at, store_at}
+use Rattle.ide_store.specs.Table.{Analysis, at_adopted, at_meeting, at_new, BeginsOnTwo, IsLedTo, IsNew, IsReached, IsStart, MayDo, MayDoAll, StoreAct, StoreWorld, after_act, after_acts, forms_of, rules_at, store_at}
 use Rattle.ide_store.specs.World.{Acks, Begins, Calls, Crashes, Fails, IsFolded, Opens, Rules, Running, Seals, Steps, Stops, Stores, contents, image_after}
 
 -- with no program no key waits
@@ -153,13 +153,21 @@ module _ {F L : Type 0} (a : Analysis F L) (knows : Knows a) where
       let whole = start_whole a knows.is_same knows.prefix_free knows.known place led.start (starts led.start led.begins) in
       subst (IsStillIn a place) led.is (acts_still a place knows led.start led.acts whole (still led.start led.begins) led.can)
 
-  start_still : (place : Place) (start : StoreWorld a place) → IsStart a place start → IsStillIn a place start
-  start_still (OnOneDisk head) start new = new_still (OnOneDisk head) start new
-  start_still (OnTwoDisks head) start (inl new) = new_still (OnTwoDisks head) start new
-  start_still (OnTwoDisks head) start (inr adopted) =
+  two_still : (head : Head) (start : StoreWorld a (OnTwoDisks head)) → BeginsOnTwo a head start → IsStillIn a (OnTwoDisks head) start
+  two_still head start (at_new new) = new_still (OnTwoDisks head) start new
+  two_still head start (at_adopted adopted) =
       let one = OnOneDisk head in
       let before = led_still one (IsNew a one) (λ begun new. new) (new_still one) adopted.world adopted.run in
       subst (IsStillIn a (OnTwoDisks head)) (sym adopted.is) (record { images = before.images; claims = before.claims })
+  two_still head _ (at_meeting begun begins acts can stored work disks live) =
+      let place = OnTwoDisks head in
+      let whole = start_whole a knows.is_same knows.prefix_free knows.known place begun begins in
+      let before = acts_still a place knows begun acts whole (two_still head begun begins) can in
+      record { images = before.images; claims = before.claims }
+
+  start_still : (place : Place) (start : StoreWorld a place) → IsStart a place start → IsStillIn a place start
+  start_still (OnOneDisk head) start new = new_still (OnOneDisk head) start new
+  start_still (OnTwoDisks head) start begins = two_still head start begins
 
   -- and of each world that acts led to
   reached_still : (place : Place) (w : StoreWorld a place) → IsReached a place w → IsStillIn a place w

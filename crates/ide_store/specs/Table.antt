@@ -1,17 +1,17 @@
 -- The half of a store that works: what it keeps of a world, and which calls of it are which acts.
-use Rattle.std.specs.Prelude.{◌≡◌, ◌⊎◌, ℕ, ◌<◌, ◌≤◌, ◌++◌, Bool, true, false, List, [], Option, length}
+use Rattle.std.specs.Prelude.{◌≡◌, ℕ, ◌<◌, ◌≤◌, ◌++◌, Bool, true, false, List, [], Option, length}
 use Rattle.std.specs.List.{All}
 use Rattle.std.specs.Option.{is_some}
 use Rattle.ide_batch.specs.Applied.{HasImage}
 use Rattle.ide_batch.specs.Fold.{ProgramImage, image_entry}
 use Rattle.ide_batch.specs.Items.{Functions, functions_by}
-use Rattle.ide_disk.specs.Disk.{settled}
+use Rattle.ide_disk.specs.Disk.{DiskState, settled}
 use Rattle.ide_journal.specs.Format.{Entry, Head, IsEntry}
 use Rattle.ide_journal.specs.declared.version.Version.{Version}
 use Rattle.ide_lattice.specs.Algebra.{LatticeAlgebra, EdgeAlgebra}
 use Rattle.ide_problem.specs.Flow.{Targets}
 use Rattle.ide_image.specs.Notes.{noted_count}
-use Rattle.ide_slots.specs.Sides.{two_sides}
+use Rattle.ide_slots.specs.Sides.{Sides, two_sides}
 use Rattle.ide_slots.specs.Slot.{IsClosedSlot}
 use Rattle.ide_slots.specs.declared.side.Side.TheVariants.{First}
 use Rattle.ide_slots.specs.Two.{SlotWriter}
@@ -156,10 +156,25 @@ module _ {F L : Type 0} (a : Analysis F L) where
     pub closed : IsClosedSlot other
     pub is : start ≡ beside head world work other
 
-  -- where runs begin: at a new store, and on two disks also at one that was adopted
+  -- the half that writes went on by itself: so many of the sealed records are stored, and acknowledged, and it stands there
+  abbrev pub gone_on : (head : Head) → StoreWorld a (OnTwoDisks head) → ℕ → SlotWriter → Sides DiskState → StoreWorld a (OnTwoDisks head)
+  gone_on head w stored work disks =
+      record w { world = record w.world { stored = stored; acked = stored; work = work; disks = disks } }
+
+  -- where runs on two disks begin: at a new store; at one that was adopted; or where halves that went on apart from each other
+  -- meet: the one that works is led there from a beginning, and the one that writes is live with the records that were sealed
+  pub data BeginsOnTwo (head : Head) : StoreWorld a (OnTwoDisks head) → Type 0 where
+    at_new : {start : StoreWorld a (OnTwoDisks head)} → IsNew a (OnTwoDisks head) start → BeginsOnTwo head start
+    at_adopted : {start : StoreWorld a (OnTwoDisks head)} → IsAdopted head start → BeginsOnTwo head start
+    at_meeting : (begun : StoreWorld a (OnTwoDisks head)) → BeginsOnTwo head begun → (acts : List (StoreAct a (OnTwoDisks head)))
+        → MayDoAll a (OnTwoDisks head) begun acts → (stored : ℕ) (work : SlotWriter) (disks : Sides DiskState)
+        → (store_at a (OnTwoDisks head)).Live (contents (after_acts a (OnTwoDisks head) begun acts).world.sealed) stored work disks
+        → BeginsOnTwo head (gone_on head (after_acts a (OnTwoDisks head) begun acts) stored work disks)
+
+  -- where runs begin
   abbrev pub IsStart : (place : Place) → StoreWorld a place → Type 0
   IsStart (OnOneDisk head) start = IsNew a (OnOneDisk head) start
-  IsStart (OnTwoDisks head) start = IsNew a (OnTwoDisks head) start ⊎ IsAdopted head start
+  IsStart (OnTwoDisks head) start = BeginsOnTwo head start
 
   -- acts that could be done one after the other led to the world
   abbrev pub IsReached : (place : Place) → StoreWorld a place → Type 0

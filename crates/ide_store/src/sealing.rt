@@ -1,5 +1,5 @@
 //! What is sealed: the records of loads and of roots, and of the keys that changed.
-ghost use Rattle.std.specs.Prelude.{◌≡◌, ◌<◌, None, false, Ok, option_map, IfErr, IfOk, IfSome, OnErr, OnOk};
+ghost use Rattle.std.specs.Prelude.{◌≡◌, ◌<◌, ◌≤◌, None, false, Ok, option_map, IfErr, IfOk, IfSome, OnErr, OnOk};
 ghost use Rattle.ide_batch.specs.Records as records;
 ghost use Rattle.ide_journal.specs.Lists.{entry_of};
 ghost use Rattle.ide_text.specs.Parsed.{IsParsed};
@@ -29,6 +29,7 @@ impl<P: Problem> TableHalf<P> {
         ensures seals { IfOk result (λ sealed. IfSome sealed (λ ticket. SealsBatch ⟦<P as Kept>⟧.analysis self.old self.new ticket.number)) }
         ensures nothing { result ≡ Ok None → FindsNothing ⟦<P as Kept>⟧.analysis self.old self.new }
         ensures anew { OnOk result (BeginsAnew self.old.core self.new.core) }
+        ensures few { self.new.sealed ≤ 4294967295 }
         ensures working { OnOk result (self.old.failed ≡ false) }
         ensures refused { IfErr result (IsRefusal self.old (IsSealStop ⟦<P as Kept>⟧.analysis self.old)) }
         ensures unchanged { OnErr result (IsSameTable self.old self.new) }
@@ -46,6 +47,7 @@ impl<P: Problem> TableHalf<P> {
     /// Nothing is loaded then, and the program is dropped.
     pub fn load(&mut self, program: Program) -> Result<Ticket, Refused>
         ensures loads { IfOk result (λ ticket. LoadsProgram ⟦<P as Kept>⟧.analysis (value_of program) self.old self.new ticket.number) }
+        ensures few { self.new.sealed ≤ 4294967295 }
         ensures working { OnOk result (self.old.failed ≡ false) }
         ensures refused { IfErr result (IsRefusal self.old (IsLoadStop self.old)) }
         ensures unchanged { OnErr result (IsSameTable self.old self.new) }
@@ -72,6 +74,7 @@ impl<P: Problem> TableHalf<P> {
     /// sealed then.
     pub fn root(&mut self, name: &[u8]) -> Result<Ticket, Refused>
         ensures begins { IfOk result (λ ticket. BeginsRoot ⟦<P as Kept>⟧.analysis name.now self.old self.new ticket.number) }
+        ensures few { self.new.sealed ≤ 4294967295 }
         ensures working { OnOk result (self.old.failed ≡ false) }
         ensures refused { IfErr result (IsRefusal self.old (IsRootStop ⟦<P as Kept>⟧.analysis self.old name.now)) }
         ensures unchanged { OnErr result (IsSameTable self.old self.new) }
@@ -98,6 +101,7 @@ impl<P: Problem> TableHalf<P> {
         ensures seals { IfOk result (λ sealed. IfSome sealed (λ ticket. SealsBatch ⟦<P as Kept>⟧.analysis self.old self.new ticket.number)) }
         ensures nothing { result ≡ Ok None → FindsNothing ⟦<P as Kept>⟧.analysis self.old self.new }
         ensures anew { OnOk result (BeginsAnew self.old.core self.new.core) }
+        ensures few { self.new.sealed ≤ 4294967295 }
         ensures refused { IfErr result (IsSealStop ⟦<P as Kept>⟧.analysis self.old) }
         ensures unchanged { OnErr result ((self.new.core ≡ self.old.core) × KeepsRest self.old self.new) }
     {

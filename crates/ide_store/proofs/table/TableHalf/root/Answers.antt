@@ -72,3 +72,11 @@ returns-clause-begins g c =
     (begins_root _ c.calls_are_acts.ensures _ _ c.cores_are_whole.ensures c.args.self.now c.self.view_is c.args.name.now first raw c.root.new.self c.push_behind.result.number
     c.in_ok-first.ensures.spells c.in_ok-raw.ensures.spells (omega (arith, room)) c.in_ok-root.ensures.begun c.take_changes.ensures.stays
     (record { version = refl; failed = refl; waiting = waits; sealed = more ∙ ap (λ n. n + length (behind_first first raw)) same }) c.push_behind.ensures.ticket)
+
+pub returns-clause-few : goal.returns-clause-few
+returns-clause-few g c =
+    let room = c.if-self-2.false in
+    let more = c.push_behind.ensures.sealed in
+    let same = c.in_ok-reserve.ensures.sealed in
+    let few = behind_few (option_map entry_of c.in_ok-first.first) (entry_of c.in_ok-raw.raw) in
+    omega (arith, more, same, few, room)

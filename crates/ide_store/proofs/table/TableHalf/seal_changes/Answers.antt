@@ -49,3 +49,11 @@ returns-clause-seals g c =
       sealed = c.push.ensures.sealed ∙ ap (λ n. n + 1) c.in_ok-reserve.ensures.sealed;
     })
     c.take_changes-2.ensures.stays (c.push.ensures.ticket ∙ c.in_ok-reserve.ensures.sealed))
+
+pub returns-clause-few : goal.returns-clause-few
+returns-clause-few g c =
+    let room = where_some c.in_ok-batch.field-0 c.in-Some.batch c.in-Some.is c.in_ok-batch.ensures.room in
+    let sealed = ap (λ table. table.sealed) c.self.view_is in
+    let one = c.push.ensures.sealed in
+    let same = c.in_ok-reserve.ensures.sealed in
+    omega (arith, one, same, room, sealed)

@@ -1,0 +1,269 @@
+-- Halves that went on apart meet: what was sealed goes over to the half that writes, which is live with it then; and the two are
+-- at work on one world again, from which a run goes on.
+use Rattle.std.proofs.Common.{◌≡◌, ◌∙◌, ◌≤◌, ◌++◌, ℕ, Bool, false, List, [], ◌∷◌, Option, Some, None, length, drop, map, refl, ap, sym, subst, arith}
+use Rattle.std.specs.List.{All, AllByRecursion}
+use Rattle.std.proofs.lemmas.List.{append-nil, append_assoc, drop-append-le, drop_all, length-append, take-append-drop, take-append-le, take_all}
+use Rattle.std.proofs.lemmas.List.Elements.{recursion_from_All}
+use mathlib.Core.List.{IsPrefix}
+use Rattle.ide_board.specs.Records.{TableView, WriterView}
+use Rattle.ide_disk.specs.Disk.{DiskState}
+use Rattle.ide_disk.specs.declared.disk.Disk.{Ghosts}
+use Rattle.ide_journal.specs.Format.{Entry, IsEntry}
+use Rattle.ide_journal.specs.Lists.{entries_of, entry_of}
+use Rattle.ide_journal.specs.declared.record.RawRecord.{RawRecord}
+use Rattle.ide_journal.specs.declared.version.Version.TheVariants.{Two}
+use Rattle.ide_slot_journal.specs.Stands.{AreHonest, StandsOn, disks_of, slot_writer}
+use Rattle.ide_slot_journal.specs.declared.journal.SlotJournal.{SlotJournal}
+use Rattle.ide_slots.specs.Records.{all_numbered}
+use Rattle.ide_slots.specs.Sides.{Sides}
+use Rattle.ide_slots.specs.Two.{SlotWriter}
+use Rattle.ide_slot_store.specs.Engine.{AreAtWork, SlotWorld}
+use Rattle.ide_slot_store.specs.Half.{Writes}
+use Rattle.ide_slot_store.specs.Writing.{IsFirstLeft}
+use Rattle.ide_slot_store.specs.declared.writer.SlotWriterHalf.{SlotWriterHalf}
+use Rattle.ide_store.proofs.Places.{fits_at}
+use Rattle.ide_store.proofs.Stepping.{works_after}
+use Rattle.ide_store.proofs.Waiting.{more_get, none_mapped}
+use Rattle.ide_store.specs.Handing.{HandsAll, HandsTo, gave, kept}
+use Rattle.ide_store.specs.Places.{OnTwoDisks}
+use Rattle.ide_store.specs.Table.{Analysis, IsReached, TableData, WorksOn, after_acts, at_meeting, gone_on}
+use Rattle.ide_store.specs.TwoDisks.{IsLiveTwo, commands_of}
+use Rattle.ide_store.specs.TwoDisksLaws.{TwoDisksKeep, slots_of}
+use Rattle.ide_store.specs.World.{contents}
+use Rattle.ide_desks.specs.Desks.{CountsSealed, IsTableDesk, IsWriterDesk}
+use Rattle.ide_desks.specs.Keeping.{WorksOnRun, WritesLive, handed_of, records_in, two}
+use Rattle.ide_desks.proofs.Lists.{first_of, prefix_length, records_count, records_take, take_prefix}
+
+-- what is so of all is so of the last ones
+last_all : {X : Type 0} (P : X → Type 0) (xs ys : List X) → AllByRecursion P (xs ++ ys) → AllByRecursion P ys
+last_all P [] ys all = all
+last_all P (x ∷ xs) ys all = last_all P xs ys all.1
+
+module _ {F L : Type 0} (a : Analysis F L) (tag : ℕ) (keep : TwoDisksKeep (slots_of a Two)) where
+  abbrev LiveWith : List Entry → ℕ → SlotWriter → Sides DiskState → Type 0
+  LiveWith records stored work disks = IsLiveTwo (slots_of a Two) tag records stored work disks
+
+  -- a writer is live with records that are sealed besides
+  live_more : (records more : List Entry) (stored : ℕ) (work : SlotWriter) (disks : Sides DiskState) → LiveWith records stored work disks
+      → AllByRecursion IsEntry more → length (records ++ more) ≤ 4294967295 → LiveWith (records ++ more) stored work disks
+  live_more records [] stored work disks live proper few =
+      subst (λ (rs : List Entry). LiveWith rs stored work disks) (sym (append-nil records)) live
+  live_more records (entry ∷ more) stored work disks live proper few =
+      let whole : (records ++ entry ∷ []) ++ more ≡ records ++ entry ∷ more = append_assoc records (entry ∷ []) more in
+      let longer = length-append records (entry ∷ more) in
+      let fits = fits_at a (OnTwoDisks (two tag)) (length records) entry proper.0 (omega (arith, few, longer)) in
+      subst (λ (rs : List Entry). LiveWith rs stored work disks) whole
+      (live_more (records ++ entry ∷ []) more stored work disks ((keep tag).sealed records stored entry work disks live fits) proper.1
+      (subst (λ (rs : List Entry). length rs ≤ 4294967295) (sym whole) few))
+
+  -- ---- what was sealed goes over: to the half that writes
+  module _ {D : Type 0} {G : Ghosts D} (table mid_table : TableData F) (old mid : SlotWriterHalf D G) (handed : List Entry) (stored : ℕ)
+      (journal : mid.journal ≡ old.journal) (commands : mid.commands.items ≡ old.commands.items)
+      (few : length (handed ++ table.waiting) ≤ 4294967295) (proper : All IsEntry (entries_of mid.waiting.items))
+      (hands : HandsAll table mid_table old.waiting.items mid.waiting.items) (on : WritesLive a tag handed stored old) where
+    abbrev all : List Entry
+    all = handed ++ table.waiting
+
+    waiting_proper : AllByRecursion IsEntry table.waiting
+    waiting_proper =
+        last_all IsEntry (entries_of old.waiting.items) table.waiting
+        (subst (AllByRecursion IsEntry) hands.waits (recursion_from_All IsEntry (entries_of mid.waiting.items) proper))
+
+    -- the next record that is under way is still the first that is left
+    first_left : (next : Option Entry) → IsFirstLeft handed stored next → IsFirstLeft all stored next
+    first_left None is = tt
+    first_left (Some entry) is = more_get handed table.waiting entry stored is
+
+    writes_all : Writes on.slot on.other all stored mid
+    writes_all =
+        let before = on.writes.behind in
+        let rest : drop stored all ≡ drop stored handed ++ table.waiting = drop-append-le stored handed table.waiting before.some in
+        let waiting : map entry_of mid.waiting.items ≡ drop stored all =
+        hands.waits ∙ ap (λ (es : List Entry). es ++ table.waiting) on.writes.waiting ∙ sym rest in
+        let longer = length-append handed table.waiting in
+        record {
+          behind = record {
+            next = before.next;
+            stands = subst (λ (j : SlotJournal D G). StandsOn on.slot before.next on.other j) (sym journal) before.stands;
+            is_next = first_left before.next before.is_next;
+            count = before.count;
+            some = (let some = before.some in omega (arith, some, longer));
+            few = few;
+            proper = subst (λ (rs : List Entry). All IsEntry rs) waiting proper;
+          };
+          waiting = waiting;
+          commands = ap all_numbered commands ∙ on.writes.commands ∙ ap commands_of (sym (take-append-le stored handed table.waiting before.some));
+        }
+
+    pub writer_handed : WritesLive a tag all stored mid
+    writer_handed = record {
+      slot = on.slot;
+      other = on.other;
+      writes = writes_all;
+      tag_is = on.tag_is;
+      live = subst (λ (j : SlotJournal D G). LiveWith all stored (slot_writer on.other j) (disks_of j)) (sym journal)
+          (live_more handed table.waiting stored (slot_writer on.other old.journal) (disks_of old.journal) on.live waiting_proper few);
+    }
+
+  -- and from the half that works
+  pub table_handed : (table mid_table : TableData F) (handed : List Entry) → mid_table ≡ record table { waiting = [] }
+      → WorksOnRun a tag table handed → WorksOnRun a tag mid_table (handed ++ table.waiting)
+  table_handed table mid_table handed rest works =
+      let w = works.world in
+      let all : List Entry = handed ++ table.waiting in
+      record {
+        world = w;
+        reached = works.reached;
+        works = subst (λ (t : TableData F). WorksOn a (OnTwoDisks (two tag)) w t all) (sym rest)
+            (works_after a (OnTwoDisks (two tag)) w table w.world.stored w.world.work w.world.disks all [] works.works
+            (works.works.waits ∙ sym (append-nil all)));
+      }
+
+  -- ---- where none waits, the halves are at work on one world
+  module _ {D : Type 0} {G : Ghosts D} (table : TableData F) (half : SlotWriterHalf D G) (handed : List Entry) (stored : ℕ)
+      (none : table.waiting ≡ []) (works : WorksOnRun a tag table handed) (on : WritesLive a tag handed stored half) where
+    abbrev work : SlotWriter
+    work = slot_writer on.other half.journal
+
+    abbrev met : SlotWorld a (two tag)
+    met = gone_on a (two tag) works.world stored work (disks_of half.journal)
+
+    all_handed : contents works.world.world.sealed ≡ handed
+    all_handed = works.works.waits ∙ ap (λ (more : List Entry). handed ++ more) none ∙ append-nil handed
+
+    pub met_reached : IsReached a (OnTwoDisks (two tag)) met
+    met_reached =
+        let place = OnTwoDisks (two tag) in
+        let led = works.reached in
+        let live : LiveWith (contents works.world.world.sealed) stored work (disks_of half.journal) =
+        subst (λ (rs : List Entry). LiveWith rs stored work (disks_of half.journal)) (sym all_handed) on.live in
+        let there : LiveWith (contents (after_acts a place led.start led.acts).world.sealed) stored work (disks_of half.journal) =
+        subst (λ (w : SlotWorld a (two tag)). LiveWith (contents w.world.sealed) stored work (disks_of half.journal)) (sym led.is) live in
+        record {
+          start = gone_on a (two tag) (after_acts a place led.start led.acts) stored work (disks_of half.journal);
+          begins = at_meeting led.start led.begins led.acts led.can stored work (disks_of half.journal) there;
+          acts = [];
+          can = tt;
+          is = ap (λ (w : SlotWorld a (two tag)). gone_on a (two tag) w stored work (disks_of half.journal)) led.is;
+        }
+
+    abbrev pub met_at_work : AreAtWork a (two tag) met table half
+    met_at_work = record {
+      handed = handed;
+      works = record {
+        running = works.works.running;
+        working = works.works.working;
+        version = works.works.version;
+        image = works.works.image;
+        claims = works.works.claims;
+        base = record {
+          image = works.works.base.image;
+          folded = works.works.base.folded;
+          program = works.works.base.program;
+          roots = works.works.base.roots;
+          entries = works.works.base.entries;
+        };
+        sealed = works.works.sealed;
+        waits = works.works.waits;
+      };
+      slot = on.slot;
+      other = on.other;
+      writes = on.writes;
+      tag_is = on.tag_is;
+      work = refl;
+      disks = refl;
+    }
+
+-- ---- what both desks keep then
+module _ {F L : Type 0} (a : Analysis F L) (tag : ℕ) (first : List Entry) (keep : TwoDisksKeep (slots_of a Two))
+    {D : Type 0} {G : Ghosts D} (table new_table : TableData F) (old new : SlotWriterHalf D G) (seat : TableView Entry)
+    (writer : WriterView Entry) (counts : CountsSealed table seat) (kept : IsTableDesk a tag first table seat)
+    (begins : IsPrefix writer.taken seat.sealed) (count : length writer.taken ≡ seat.handed) where
+  some_sealed : length first ≤ length seat.sealed
+  some_sealed = let some = kept.begun in let few = counts.handed in omega (arith, some, few)
+
+  sealed_count : length (records_in first seat.sealed) ≡ length seat.sealed
+  sealed_count = records_count first seat.sealed some_sealed
+
+  -- all that is sealed: what was handed over, and what waits
+  all_sealed : handed_of first seat ++ table.waiting ≡ records_in first seat.sealed
+  all_sealed =
+      ap (λ (xs : List Entry). handed_of first seat ++ xs) kept.waits ∙ take-append-drop seat.handed (records_in first seat.sealed)
+
+  taken_is : records_in first writer.taken ≡ handed_of first seat
+  taken_is =
+      ap (records_in first) (first_of writer.taken seat.sealed seat.handed begins count)
+      ∙ records_take first seat.sealed seat.handed kept.begun counts.handed
+
+  pub table_desk : new_table ≡ record table { waiting = [] } → IsTableDesk a tag first new_table (record seat { handed = length seat.sealed })
+  table_desk rest =
+      let same = sealed_count in
+      record {
+        begun = some_sealed;
+        waits = ap (λ (t : TableData F). t.waiting) rest ∙ sym (drop_all (length seat.sealed) (records_in first seat.sealed) (omega (arith, same)));
+        run = λ working.
+            subst (WorksOnRun a tag new_table)
+            (all_sealed ∙ sym (take_all (length seat.sealed) (records_in first seat.sealed) (omega (arith, same))))
+            (table_handed a tag keep table new_table (handed_of first seat) rest
+            (kept.run (sym (ap (λ (t : TableData F). t.failed) rest) ∙ working)));
+      }
+
+  pub writer_desk : IsWriterDesk a tag first old writer false → length writer.stored ≤ length writer.taken → new.journal ≡ old.journal
+      → new.commands.items ≡ old.commands.items → table.sealed ≤ 4294967295 → All IsEntry (entries_of new.waiting.items)
+      → HandsAll table new_table old.waiting.items new.waiting.items
+      → IsWriterDesk a tag first new (record writer { taken = seat.sealed }) false
+  writer_desk writes some journal commands few proper hands =
+      let within : length writer.taken ≤ length seat.sealed = prefix_length writer.taken seat.sealed begins in
+      let least = writes.begun in
+      let long = ap length all_sealed ∙ sealed_count ∙ sym counts.count in
+      record {
+        begun = omega (arith, least, within);
+        unknown_first = take_prefix (length first) writer.taken seat.sealed begins least ∙ writes.unknown_first;
+        honest = subst AreHonest (sym journal) writes.honest;
+        keeps =
+            subst (λ (rs : List Entry). WritesLive a tag rs (length writer.stored) new) all_sealed
+            (writer_handed a tag keep table new_table old new (handed_of first seat) (length writer.stored) journal commands
+            (omega (arith, long, few)) proper hands
+            (subst (λ (rs : List Entry). WritesLive a tag rs (length writer.stored) old) taken_is writes.keeps));
+      }
+
+-- where none waits in the queue, all that waits with the half that works goes over
+pub hands_all : {F : Type 0} (old new : TableData F) (before after : List RawRecord) → HandsTo old new before after → before ≡ [] → HandsAll old new before after
+hands_all old new before after (gave none took same) empty = record { waits = took ∙ ap (λ (rs : List RawRecord). entries_of rs ++ old.waiting) (sym empty); rest = same }
+hands_all old new before after (kept some items same) empty = absurd (some empty)
+
+-- nothing is sealed or lost where records go over
+pub handed_sealed : {F : Type 0} (old new : TableData F) (before after : List RawRecord) → HandsTo old new before after → new.sealed ≡ old.sealed
+handed_sealed {F = F} old new before after (gave none took same) = ap (λ (t : TableData F). t.sealed) same
+handed_sealed {F = F} old new before after (kept some items same) = ap (λ (t : TableData F). t.sealed) same
+
+module _ {F L : Type 0} (a : Analysis F L) (tag : ℕ) (first : List Entry) (keep : TwoDisksKeep (slots_of a Two))
+    {D : Type 0} {G : Ghosts D} (table new_table : TableData F) (old new : SlotWriterHalf D G) (seat : TableView Entry)
+    (writer : WriterView Entry) (failed : Bool) (works : failed ≡ false) (counts : CountsSealed table seat)
+    (begins : IsPrefix writer.taken seat.sealed) (count : length writer.taken ≡ seat.handed) (all : length writer.stored ≡ length writer.taken)
+    (hands : HandsTo table new_table old.waiting.items new.waiting.items) where
+  going : IsWriterDesk a tag first old writer failed → IsWriterDesk a tag first old writer false
+  going desk = subst (IsWriterDesk a tag first old writer) works desk
+
+  -- the writer has nothing left
+  none_left : IsWriterDesk a tag first old writer failed → old.waiting.items ≡ []
+  none_left desk =
+      let one = going desk in
+      let long = records_count first writer.taken one.begun in
+      none_mapped entry_of old.waiting.items
+      (one.keeps.writes.waiting ∙ drop_all (length writer.stored) (records_in first writer.taken) (omega (arith, long, all)))
+
+  pub table_takes : IsTableDesk a tag first table seat → IsWriterDesk a tag first old writer failed
+      → IsTableDesk a tag first new_table (record seat { handed = length seat.sealed })
+  table_takes desk writes =
+      let over = hands_all table new_table old.waiting.items new.waiting.items hands (none_left writes) in
+      table_desk a tag first keep table new_table old new seat writer counts desk begins count over.rest
+
+  pub writer_takes : IsTableDesk a tag first table seat → IsWriterDesk a tag first old writer failed → new.journal ≡ old.journal
+      → new.commands.items ≡ old.commands.items → table.sealed ≤ 4294967295 → All IsEntry (entries_of new.waiting.items)
+      → IsWriterDesk a tag first new (record writer { taken = seat.sealed }) failed
+  writer_takes desk writes journal commands few proper =
+      let over = hands_all table new_table old.waiting.items new.waiting.items hands (none_left writes) in
+      subst (IsWriterDesk a tag first new (record writer { taken = seat.sealed })) (sym works)
+      (writer_desk a tag first keep table new_table old new seat writer counts desk begins count (going writes) (omega (arith, all)) journal commands few
+      proper over)

@@ -1,0 +1,226 @@
+-- What the table's desk keeps from call to call: acts of the half that works lead on from the world on which it works.
+use Rattle.std.proofs.Common.{◌≡◌, ◌∙◌, ◌+◌, ◌≤◌, ◌++◌, ◌<◌, ℕ, true, false, List, [], ◌∷◌, Option, None, Some, Result, Ok, Err, length, map, refl, ap, sym, subst, arith, inl, inr}
+use Rattle.std.proofs.Math.Logic.{∥∥₁_map}
+use Rattle.std.specs.Prelude.{OnErr, OnOk}
+use Rattle.std.proofs.lemmas.List.{append_assoc, length-append}
+use Rattle.ide_board.specs.Records.{Marked, TableView}
+use Rattle.ide_journal.specs.Format.{Entry}
+use Rattle.ide_steps.specs.Claiming.{FindsIdle, FindsQuiet, IfTask}
+use Rattle.ide_steps.specs.Drain.{HasDonePart}
+use Rattle.ide_steps.specs.State.{claim_of}
+use Rattle.ide_steps.specs.Steps.{FindsNone}
+use Rattle.ide_steps.specs.declared.claim.Claimed.{Claimed}
+use Rattle.ide_steps.specs.declared.claim.Claimed.TheVariants.{Idle, Quiet, Task}
+use Rattle.ide_steps.specs.declared.part.Parted.{Parted}
+use Rattle.ide_steps.specs.declared.part.Parted.TheVariants.{Lowered, NoPart, Same}
+use Rattle.ide_tasks.specs.Parts.{owed}
+use Rattle.ide_tasks.specs.Work.{WorkData}
+use Rattle.ide_wire.specs.declared.refused.Refused.{Refused}
+use Rattle.ide_store.proofs.Drained.{unchanged_equal, works_unchanged}
+use Rattle.ide_store.proofs.Runs.{act_goes, works_go}
+use Rattle.ide_store.specs.Draining.{WorksBy}
+use Rattle.ide_store.specs.Hands.{Claims, Ends, Parts, Releases}
+use Rattle.ide_store.specs.Places.{OnTwoDisks, Place}
+use Rattle.ide_store.specs.Runs.{IsOfTable}
+use Rattle.ide_store.specs.Table.{Analysis, IsAct, IsSameTable, KeepsRest, StoreAct, TableData}
+use Rattle.ide_store.specs.TableCalls.{DoesPart, EndsClaim, FindsNothing, GivesClaimBack, SealsOne, TakesTask, behind_first}
+use Rattle.ide_desks.specs.Desks.{CountsSealed, IsTableDesk, last_but_one, last_entry, with_last, with_last_two}
+use Rattle.ide_desks.specs.Keeping.{WorksOnRun, handed_of, two}
+use Rattle.ide_desks.proofs.Lists.{handed_more, last_but_pushed, last_of_two, last_pushed, waiting_more}
+
+module _ {F L : Type 0} (a : Analysis F L) (tag : ℕ) (handed : List Entry) (old new : TableData F) where
+  pub acted : (act : (place : Place) → StoreAct a place) → ((place : Place) → IsOfTable a place (act place)) → IsAct a old new act
+      → WorksOnRun a tag old handed → WorksOnRun a tag new handed
+  acted act of is on =
+      let goes = act_goes a old new act of is (OnTwoDisks (two tag)) on.world handed on.reached on.works in
+      record { world = goes.world; reached = goes.reached; works = goes.works }
+
+  worked_by : (claims releases : ℕ) → WorksBy a old new claims releases → WorksOnRun a tag old handed → WorksOnRun a tag new handed
+  worked_by claims releases by on =
+      let goes = works_go a old new claims releases by (OnTwoDisks (two tag)) on.world handed on.reached on.works in
+      record { world = goes.world; reached = goes.reached; works = goes.works }
+
+  pub stayed : IsSameTable old new → WorksOnRun a tag old handed → WorksOnRun a tag new handed
+  stayed same = worked_by 0 0 (works_unchanged a old new same.rest same.core)
+
+  pub same_core : new.core ≡ old.core → KeepsRest old new → WorksOnRun a tag old handed → WorksOnRun a tag new handed
+  same_core is rest = worked_by 0 0 (works_unchanged a old new rest (unchanged_equal old.core new.core is))
+
+  pub found_nothing : FindsNothing a old new → WorksOnRun a tag old handed → WorksOnRun a tag new handed
+  found_nothing finds on = record {
+    world = on.world;
+    reached = on.reached;
+    works = (finds.caught_up (OnTwoDisks (two tag)) on.world handed on.reached on.works).1;
+  }
+
+  -- ---- what a call answers tells how it goes on
+  pub claimed : {Q : Type 0} (result : Result (Claimed Q L F) Refused) (hand : ℕ) → IfTask result (TakesTask a hand old new)
+      → (result ≡ Ok Idle → FindsIdle old.core new.core) → (result ≡ Ok Quiet → FindsQuiet old.core new.core) → KeepsRest old new
+      → OnErr result (IsSameTable old new) → WorksOnRun a tag old handed → WorksOnRun a tag new handed
+  claimed (Ok (Task task)) hand takes idle quiet rest unchanged =
+      acted (λ place. Claims hand task.key (owed a.functions a.targets task)) (λ place. tt) (takes task refl)
+  claimed (Ok Idle) hand takes idle quiet rest unchanged = same_core (idle refl).waits rest
+  claimed (Ok Quiet) hand takes idle quiet rest unchanged = same_core (quiet refl).nothing rest
+  claimed (Err refused) hand takes idle quiet rest unchanged = stayed unchanged
+
+  pub parted : (result : Result Parted Refused) (hand : ℕ) (work after : WorkData F) → (HasDonePart result → DoesPart a hand old new work after)
+      → (result ≡ Ok NoPart → FindsNone old.core new.core work after) → KeepsRest old new
+      → OnErr result (IsSameTable old new × (after ≡ work)) → WorksOnRun a tag old handed → WorksOnRun a tag new handed
+  parted (Ok Lowered) hand work after does none rest unchanged =
+      let part = does (inl refl) in acted (λ place. Parts hand part.part.0 part.part.1) (λ place. tt) part.act
+  parted (Ok Same) hand work after does none rest unchanged =
+      let part = does (inr refl) in acted (λ place. Parts hand part.part.0 part.part.1) (λ place. tt) part.act
+  parted (Ok NoPart) hand work after does none rest unchanged = same_core (none refl).1 rest
+  parted (Err refused) hand work after does none rest unchanged = stayed unchanged.0
+
+  pub finished : {T : Type 0} (result : Result T Refused) (hand : ℕ) → OnOk result (EndsClaim a hand old new) → OnErr result (IsSameTable old new)
+      → WorksOnRun a tag old handed → WorksOnRun a tag new handed
+  finished (Ok x) hand ends unchanged = acted (λ place. Ends hand (claim_of a.functions a.targets ends.held)) (λ place. tt) ends.act
+  finished (Err refused) hand ends unchanged = stayed unchanged
+
+  pub released : {T : Type 0} (result : Result T Refused) (hand : ℕ) → OnOk result (GivesClaimBack a hand old new) → OnErr result (IsSameTable old new)
+      → WorksOnRun a tag old handed → WorksOnRun a tag new handed
+  released (Ok x) hand gives unchanged = acted (λ place. Releases hand) (λ place. tt) gives
+  released (Err refused) hand gives unchanged = stayed unchanged
+
+-- ---- what the desk keeps, where the seat stays
+module _ {F L : Type 0} (a : Analysis F L) (tag : ℕ) (first : List Entry) (old new : TableData F) (seat after : TableView Entry) where
+  pub kept_on : IsTableDesk a tag first old seat → KeepsRest old new → after ≡ seat
+      → ((handed : List Entry) → WorksOnRun a tag old handed → WorksOnRun a tag new handed) → IsTableDesk a tag first new after
+  kept_on kept rest same goes = subst (IsTableDesk a tag first new) (sym same) (record {
+    begun = kept.begun;
+    waits = rest.waiting ∙ kept.waits;
+    run = λ working. goes (handed_of first seat) (kept.run (sym rest.failed ∙ working));
+  })
+
+  -- where it is told of a failure, nothing more is
+  pub kept_stopped : IsTableDesk a tag first old seat → new ≡ record old { failed = true } → after ≡ seat → IsTableDesk a tag first new after
+  kept_stopped kept is same = subst (IsTableDesk a tag first new) (sym same) (record {
+    begun = kept.begun;
+    waits = ap (λ (t : TableData F). t.waiting) is ∙ kept.waits;
+    run = λ working. (let no : true ≡ false = sym (ap (λ (t : TableData F). t.failed) is) ∙ working in cc (no));
+  })
+
+  -- more records were sealed, and stand in the seat behind the others, with their marks
+  kept_more : (marks : List (Marked Entry)) → CountsSealed old seat → IsTableDesk a tag first old seat → old.failed ≡ false
+      → new.waiting ≡ old.waiting ++ map (λ m. m.0) marks → after ≡ record seat { sealed = seat.sealed ++ marks }
+      → ((handed : List Entry) → WorksOnRun a tag old handed → WorksOnRun a tag new handed) → IsTableDesk a tag first new after
+  kept_more marks counts kept working waits same goes =
+      let few = counts.handed in
+      let some = kept.begun in
+      subst (IsTableDesk a tag first new) (sym same) (record {
+        begun = kept.begun;
+        waits = waits ∙ ap (λ (xs : List Entry). xs ++ map (λ m. m.0) marks) kept.waits
+            ∙ sym (waiting_more first seat.sealed marks seat.handed (omega (arith, some, few)) few);
+        run = λ now.
+            subst (WorksOnRun a tag new) (sym (handed_more first seat.sealed marks seat.handed (omega (arith, some, few)) few))
+            (goes (handed_of first seat) (kept.run working));
+      })
+
+  -- one
+  pub kept_sealed : (entry : Entry) (number : ℕ) (by : Option ℕ) → CountsSealed old seat → IsTableDesk a tag first old seat → old.failed ≡ false
+      → SealsOne old new entry number → after ≡ with_last seat new by
+      → ((handed : List Entry) → WorksOnRun a tag old handed → WorksOnRun a tag new handed) → IsTableDesk a tag first new after
+  kept_sealed entry number by counts kept working seals same goes =
+      let last : last_entry new.waiting ≡ entry = ap last_entry seals.waits ∙ last_pushed old.waiting entry in
+      kept_more ((last_entry new.waiting, by) ∷ []) counts kept working
+      (seals.waits ∙ ap (λ (e : Entry). old.waiting ++ e ∷ []) (sym last)) same goes
+
+  -- what changed, if anything did, and a root
+  pub kept_rooted : (one : Option Entry) (entry : Entry) (by : Option ℕ) → CountsSealed old seat → IsTableDesk a tag first old seat
+      → old.failed ≡ false → new.waiting ≡ old.waiting ++ behind_first one entry
+      → (one ≡ None → after ≡ with_last seat new by) → ((one ≡ None → ⊥) → after ≡ with_last_two seat new by)
+      → ((handed : List Entry) → WorksOnRun a tag old handed → WorksOnRun a tag new handed) → IsTableDesk a tag first new after
+  kept_rooted None entry by counts kept working waits alone both goes =
+      let last : last_entry new.waiting ≡ entry = ap last_entry waits ∙ last_pushed old.waiting entry in
+      kept_more ((last_entry new.waiting, by) ∷ []) counts kept working
+      (waits ∙ ap (λ (e : Entry). old.waiting ++ e ∷ []) (sym last)) (alone refl) goes
+  kept_rooted (Some one) entry by counts kept working waits alone both goes =
+      let last : last_entry new.waiting ≡ entry = ap last_entry waits ∙ last_of_two old.waiting one entry in
+      let before : last_but_one new.waiting ≡ one = ap last_but_one waits ∙ last_but_pushed old.waiting one entry in
+      let mark : Marked Entry = (last_but_one new.waiting, None) in
+      let more : Marked Entry = (last_entry new.waiting, by) in
+      kept_more (mark ∷ more ∷ []) counts kept working
+      (waits ∙ λ i. old.waiting ++ sym before i ∷ sym last i ∷ [])
+      (both (λ no. cc (no)) ∙ ap (λ (ms : List (Marked Entry)). record seat { sealed = ms }) (append_assoc seat.sealed (mark ∷ []) (more ∷ [])))
+      goes
+
+-- ---- and so do both facts of the desk, where the seat stays
+pub still_counted : {F : Type 0} (old new : TableData F) (seat : TableView Entry) → KeepsRest old new → CountsSealed old seat → CountsSealed new seat
+still_counted old new seat rest counts = record { count = rest.sealed ∙ counts.count; handed = counts.handed }
+
+module _ {F L : Type 0} (a : Analysis F L) (tag : ℕ) {Told : Type 0} {first : Told → List Entry} (old new : TableData F) (seat : TableView Entry)
+    (rest : KeepsRest old new) where
+  pub still_kept : ((handed : List Entry) → WorksOnRun a tag old handed → WorksOnRun a tag new handed)
+      → ((told : Told) → ∥ IsTableDesk a tag (first told) old seat ∥₁) → (told : Told) → ∥ IsTableDesk a tag (first told) new seat ∥₁
+  still_kept goes kept told = ∥∥₁_map (kept told) (λ (one : IsTableDesk a tag (first told) old seat). kept_on a tag (first told) old new seat seat one rest refl goes)
+
+-- ---- the desk after records were sealed
+module _ {F : Type 0} (old new : TableData F) (seat after : TableView Entry) (counts : CountsSealed old seat) where
+  pub one_counted : (entry : Entry) (number : ℕ) (by : Option ℕ) → SealsOne old new entry number → after ≡ with_last seat new by → CountsSealed new after
+  one_counted entry number by seals same =
+      let few = counts.handed in
+      let longer = length-append seat.sealed ((last_entry new.waiting, by) ∷ []) in
+      subst (CountsSealed new) (sym same) (record {
+        count = seals.sealed ∙ ap (λ (n : ℕ). n + 1) counts.count ∙ sym longer;
+        handed = omega (arith, few, longer);
+      })
+
+  pub root_counted : (one : Option Entry) (entry : Entry) (by : Option ℕ) → new.sealed ≡ old.sealed + length (behind_first one entry)
+      → (one ≡ None → after ≡ with_last seat new by) → ((one ≡ None → ⊥) → after ≡ with_last_two seat new by) → CountsSealed new after
+  root_counted None entry by sealed alone both =
+      let few = counts.handed in
+      let longer = length-append seat.sealed ((last_entry new.waiting, by) ∷ []) in
+      subst (CountsSealed new) (sym (alone refl)) (record {
+        count = sealed ∙ ap (λ (n : ℕ). n + 1) counts.count ∙ sym longer;
+        handed = omega (arith, few, longer);
+      })
+  root_counted (Some one) entry by sealed alone both =
+      let few = counts.handed in
+      let mark : Marked Entry = (last_but_one new.waiting, None) in
+      let more : Marked Entry = (last_entry new.waiting, by) in
+      let longer = length-append seat.sealed (mark ∷ []) in
+      let again = length-append (seat.sealed ++ mark ∷ []) (more ∷ []) in
+      let count = counts.count in
+      subst (CountsSealed new) (sym (both (λ no. cc (no)))) (record {
+        count = sealed ∙ omega (arith, count, longer, again);
+        handed = omega (arith, few, longer, again);
+      })
+
+module _ {F L : Type 0} (a : Analysis F L) (tag : ℕ) {Told : Type 0} {first : Told → List Entry} (old new : TableData F) (seat after : TableView Entry)
+    (counts : CountsSealed old seat) (working : old.failed ≡ false) where
+  pub one_kept : (entry : Entry) (number : ℕ) (by : Option ℕ) → SealsOne old new entry number → after ≡ with_last seat new by
+      → (act : (place : Place) → StoreAct a place) → ((place : Place) → IsOfTable a place (act place)) → IsAct a old new act
+      → ((told : Told) → ∥ IsTableDesk a tag (first told) old seat ∥₁) → (told : Told) → ∥ IsTableDesk a tag (first told) new after ∥₁
+  one_kept entry number by seals same act of is kept told =
+      ∥∥₁_map (kept told) (λ (one : IsTableDesk a tag (first told) old seat).
+      kept_sealed a tag (first told) old new seat after entry number by counts one working seals same (λ handed. acted a tag handed old new act of is))
+
+  pub root_kept : (one : Option Entry) (entry : Entry) (by : Option ℕ) → new.waiting ≡ old.waiting ++ behind_first one entry
+      → (one ≡ None → after ≡ with_last seat new by) → ((one ≡ None → ⊥) → after ≡ with_last_two seat new by)
+      → (act : (place : Place) → StoreAct a place) → ((place : Place) → IsOfTable a place (act place)) → IsAct a old new act
+      → ((told : Told) → ∥ IsTableDesk a tag (first told) old seat ∥₁) → (told : Told) → ∥ IsTableDesk a tag (first told) new after ∥₁
+  root_kept one entry by waits alone both act of is kept told =
+      ∥∥₁_map (kept told) (λ (desk : IsTableDesk a tag (first told) old seat).
+      kept_rooted a tag (first told) old new seat after one entry by counts desk working waits alone both (λ handed. acted a tag handed old new act of is))
+
+-- whether what changed was sealed first is told by the number of the root
+pub sealed_first : {F : Type 0} (old new : TableData F) (one : Option Entry) (entry : Entry) (number : ℕ)
+    → new.sealed ≡ old.sealed + length (behind_first one entry) → number + 1 ≡ new.sealed → old.sealed < number → one ≡ None → ⊥
+sealed_first old new one entry number sealed is more none =
+    let count = ap (λ (o : Option Entry). length (behind_first o entry)) none in omega (arith, sealed, is, more, count)
+
+pub sealed_alone : {F : Type 0} (old new : TableData F) (one : Option Entry) (entry : Entry) (number : ℕ)
+    → new.sealed ≡ old.sealed + length (behind_first one entry) → number + 1 ≡ new.sealed → number ≤ old.sealed → (one ≡ None → ⊥) → ⊥
+sealed_alone old new None entry number sealed is few some = some refl
+sealed_alone old new (Some one) entry number sealed is few some = omega (arith, sealed, is, few)
+
+pub sealed_last : {F : Type 0} (old new : TableData F) (one : Option Entry) (entry : Entry) (number : ℕ)
+    → new.sealed ≡ old.sealed + length (behind_first one entry) → number + 1 ≡ new.sealed → number ≤ old.sealed → number ≡ old.sealed
+sealed_last old new None entry number sealed is few = omega (arith, sealed, is, few)
+sealed_last old new (Some one) entry number sealed is few = absurd (omega (arith, sealed, is, few))
+
+pub sealed_both : {F : Type 0} (old new : TableData F) (one : Option Entry) (entry : Entry) (number : ℕ)
+    → new.sealed ≡ old.sealed + length (behind_first one entry) → number + 1 ≡ new.sealed → old.sealed < number → number ≡ old.sealed + 1
+sealed_both old new None entry number sealed is more = absurd (omega (arith, sealed, is, more))
+sealed_both old new (Some one) entry number sealed is more = omega (arith, sealed, is, more)

@@ -1,0 +1,15 @@
+use Rattle.ide_desks.proofs.Works.{claimed, still_counted, still_kept}
+use Rattle.ide_desks.proofs.table.TableDesk.claim.Goals as goal
+
+pub invariant_of-self : goal.invariant_of-self
+invariant_of-self g c =
+    let old = c.args.self.now in
+    let call = c.claim in
+    let rest = call.ensures.rest in
+    record {
+      named = old.named;
+      counts = still_counted old.half call.new.self old.seat rest old.counts;
+      kept = still_kept _ _ old.half call.new.self old.seat rest
+          (λ handed. claimed _ _ handed old.half call.new.self call.result c.args.hand call.ensures.task call.ensures.idle call.ensures.quiet rest call.ensures.unchanged)
+          old.kept;
+    }

@@ -1,0 +1,67 @@
+use Rattle.std.proofs.Common.{◌≡◌, ◌∙◌, ap, arith, length, subst, sym}
+use Rattle.std.proofs.Math.Logic.{∥∥₁_map₂}
+use Rattle.ide_journal.specs.declared.version.Version.TheVariants.{Two}
+use Rattle.ide_desks.specs.Desks.{CountsSealed, CountsTaken, IsTableDesk, IsWriterDesk}
+use Rattle.ide_desks.proofs.Lists.{first_of_more, prefix_length}
+use Rattle.ide_desks.proofs.Meeting.{handed_sealed, table_takes, writer_takes}
+use Rattle.ide_store.specs.Table.{Analysis}
+use Rattle.ide_desks.proofs.table.TableDesk.hand_over.Given.{Over}
+use Rattle.ide_desks.proofs.table.TableDesk.hand_over.Goals as goal
+
+-- the analysis of the store
+abbrev kept : (g : Over) → Analysis g.row.P-F.Denot g.row.P-L.Denot
+kept g = record {
+  lattice = g.P.L.Lattice.algebra;
+  functions = g.P.F.EdgeFn.edge;
+  targets = g.P.Problem.targets;
+  same = g.P.F.PartialEq.eq;
+  proper = g.P.F.Wire.proper;
+  form = g.P.F.Wire.form;
+}
+
+pub invariant_of-self : goal.invariant_of-self
+invariant_of-self g c =
+    let old = c.args.self.now in
+    let writer = c.args.writer.now in
+    let over = c.hand_over.ensures in
+    let within = writer.counts.within in
+    let taken = writer.counts.count in
+    let stored = c.stored.ensures in
+    let some = c.if-stored-writer.false in
+    let all : length writer.seat.stored ≡ length writer.seat.taken = omega (arith, within, taken, stored, some) in
+    record {
+      named = (old.named.0, ap (λ s. s.board) over.table ∙ old.named.1);
+      counts = subst (CountsSealed c.take_from.new.table) (sym over.table) (record {
+        count = handed_sealed old.half c.take_from.new.table _ _ c.take_from.ensures.hands ∙ old.counts.count;
+        handed = omega arith;
+      });
+      kept = λ told. ∥∥₁_map₂ (old.kept told) (writer.kept told) (λ desk writes.
+          subst (IsTableDesk _ _ _ c.take_from.new.table) (sym over.table)
+          (table_takes _ _ _ (c.two_disks_are_a_store.ensures.keep Two) old.half c.take_from.new.table writer.half c.take_from.new.self old.seat writer.seat writer.failed
+          c.if-writer.false old.counts over.begins over.all all c.take_from.ensures.hands desk writes));
+    }
+
+pub invariant_of-writer : goal.invariant_of-writer
+invariant_of-writer g c =
+    let old = c.args.self.now in
+    let writer = c.args.writer.now in
+    let over = c.hand_over.ensures in
+    let within = writer.counts.within in
+    let taken = writer.counts.count in
+    let stored = c.stored.ensures in
+    let some = c.if-stored-writer.false in
+    let all : length writer.seat.stored ≡ length writer.seat.taken = omega (arith, within, taken, stored, some) in
+    let more = prefix_length writer.seat.taken old.seat.sealed over.begins in
+    record {
+      named = (writer.named.0, ap (λ s. s.board) over.writer ∙ writer.named.1);
+      counts = subst (λ w. CountsTaken w c.sealed-writer.result) (sym over.writer) (record {
+        count = c.sealed-writer.ensures ∙ handed_sealed old.half c.take_from.new.table _ _ c.take_from.ensures.hands ∙ old.counts.count;
+        within = omega (arith, within, more);
+        beginning = first_of_more writer.seat.stored writer.seat.taken old.seat.sealed over.begins writer.counts.beginning within;
+      });
+      kept = λ told. ∥∥₁_map₂ (old.kept told) (writer.kept told) (λ desk writes.
+          subst (λ w. IsWriterDesk (kept g) g.P.Problem.TAG (g.J.Accord.first told) c.take_from.new.self w writer.failed) (sym over.writer)
+          (writer_takes _ _ _ (c.two_disks_are_a_store.ensures.keep Two) old.half c.take_from.new.table writer.half c.take_from.new.self old.seat writer.seat writer.failed
+          c.if-writer.false old.counts over.begins over.all all c.take_from.ensures.hands desk writes c.take_from.ensures.journal c.take_from.ensures.commands
+          c.take_from.ensures.few c.take_from.ensures.proper));
+    }

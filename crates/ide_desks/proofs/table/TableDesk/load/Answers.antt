@@ -1,0 +1,28 @@
+use Rattle.std.proofs.Common.{◌∙◌, Some, ap}
+use Rattle.ide_store.specs.Hands.{Loads}
+use Rattle.ide_desks.proofs.Works.{one_counted, one_kept, stayed, still_counted, still_kept}
+use Rattle.ide_desks.proofs.table.TableDesk.load.Goals as goal
+
+pub invariant_of-self : goal.invariant_of-self
+invariant_of-self g c =
+    let old = c.args.self.now in
+    let new = c.load.new.self in
+    let loads = c.in-Ok.ensures.loads in
+    let seat = c.note_last.new.seat in
+    let by = Some c.args.client.now.number in
+    record {
+      named = (old.named.0, ap (λ s. s.board) c.note_last.ensures.seat ∙ old.named.1);
+      counts = one_counted old.half new old.seat seat old.counts loads.entry _ by loads.seals c.note_last.ensures.seat;
+      kept = one_kept _ _ old.half new old.seat seat old.counts c.in-Ok.ensures.working loads.entry _ by loads.seals c.note_last.ensures.seat
+          (λ place. Loads _ loads.entry) (λ place. tt) loads.act old.kept;
+    }
+
+pub invariant_of-self-in-Err-1 : goal.invariant_of-self-in-Err-1
+invariant_of-self-in-Err-1 g c =
+    let old = c.args.self.now in
+    let same = c.in-Err.ensures.unchanged in
+    record {
+      named = old.named;
+      counts = still_counted old.half c.load.new.self old.seat same.rest old.counts;
+      kept = still_kept _ _ old.half c.load.new.self old.seat same.rest (λ handed. stayed _ _ handed old.half c.load.new.self same) old.kept;
+    }

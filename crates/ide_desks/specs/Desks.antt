@@ -1,0 +1,77 @@
+-- What lies under the two locks of a service: under each a half of the store, and a seat of one board.
+use Rattle.std.specs.Prelude.{◌≡◌, ℕ, ◌+◌, ◌≤◌, Bool, false, List, [], ◌∷◌, Option, None, Some, length, replicate, take}
+use Rattle.ide_board.specs.Records.{TableView, WriterView, with_sealed, with_stored}
+use Rattle.ide_desks.specs.declared.writer.Stepped.{Stepped}
+use Rattle.ide_desks.specs.declared.writer.Stepped.TheVariants.{Called, Rested, Stored}
+use Rattle.ide_desks.specs.Keeping.{KeepsWriting, WorksOnRun, handed_of, records_in, unknown, waiting_of}
+use Rattle.ide_disk.specs.declared.disk.Disk.{Ghosts}
+use Rattle.ide_journal.specs.Format.{Entry}
+use Rattle.ide_slot_journal.specs.Stands.{AreHonest}
+use Rattle.ide_slot_store.specs.declared.writer.SlotWriterHalf.{SlotWriterHalf}
+use Rattle.ide_store.specs.Table.{Analysis, TableData}
+
+-- the last of some records, and the last but one; of none, an empty one
+abbrev pub last_entry : List Entry → Entry
+last_entry [] = (0, [])
+last_entry (entry ∷ []) = entry
+last_entry (entry ∷ next ∷ rest) = last_entry (next ∷ rest)
+
+abbrev pub last_but_one : List Entry → Entry
+last_but_one [] = (0, [])
+last_but_one (entry ∷ []) = (0, [])
+last_but_one (entry ∷ last ∷ []) = entry
+last_but_one (entry ∷ next ∷ last ∷ rest) = last_but_one (next ∷ last ∷ rest)
+
+-- the seat after one more record was sealed, the last that waits, with that mark
+abbrev pub with_last : {F : Type 0} → TableView Entry → TableData F → Option ℕ → TableView Entry
+with_last seat table by = with_sealed seat (last_entry table.waiting, by)
+
+-- after what changed was, the last but one
+abbrev pub with_changes : {F : Type 0} → TableView Entry → TableData F → TableView Entry
+with_changes seat table = with_sealed seat (last_but_one table.waiting, None)
+
+-- and then one more
+abbrev pub with_last_two : {F : Type 0} → TableView Entry → TableData F → Option ℕ → TableView Entry
+with_last_two seat table by = with_last (with_changes seat table) table by
+
+-- a root is sealed for the client, and before it what changed, if anything did, for none
+pub data IsMarked {F : Type 0} (seat after : TableView Entry) (table : TableData F) (client : ℕ) : Type 0 where
+  alone : after ≡ with_last seat table (Some client) → IsMarked seat after table client
+  behind_changes : after ≡ with_last_two seat table (Some client) → IsMarked seat after table client
+
+-- the seat of the table knows all that the half sealed
+pub record CountsSealed {F : Type 0} (table : TableData F) (seat : TableView Entry) : Type 0 where
+  pub count : table.sealed ≡ length seat.sealed
+  pub handed : seat.handed ≤ length seat.sealed
+
+-- the writer's desk counts what was taken over, and the stored records are the first of them
+pub record CountsTaken (seat : WriterView Entry) (taken : ℕ) : Type 0 where
+  pub count : taken ≡ length seat.taken
+  pub within : length seat.stored ≤ length seat.taken
+  pub beginning : seat.stored ≡ take (length seat.stored) seat.taken
+
+-- what the two desks of a service keep besides, where these are the records that their board began with
+module _ {F L : Type 0} (a : Analysis F L) (tag : ℕ) (first : List Entry) where
+  -- of the records that were not handed over the half has each; and until it is told of a failure it works on a run
+  pub record IsTableDesk (table : TableData F) (seat : TableView Entry) : Type 0 where
+    pub begun : length first ≤ seat.handed
+    pub waits : table.waiting ≡ waiting_of first seat
+    pub run : table.failed ≡ false → WorksOnRun a tag table (handed_of first seat)
+
+  -- the disks keep the stored ones of the records that were taken over
+  pub record IsWriterDesk {D : Type 0} {G : Ghosts D} (half : SlotWriterHalf D G) (seat : WriterView Entry) (failed : Bool) : Type 0 where
+    pub begun : length first ≤ length seat.taken
+    pub unknown_first : take (length first) seat.taken ≡ replicate (length first) unknown
+    pub honest : AreHonest half.journal
+    pub keeps : KeepsWriting a tag failed (records_in first seat.taken) (length seat.stored) half
+
+-- the writer's seat after a step: one more record is stored, or none
+abbrev pub seat_after : Stepped → WriterView Entry → WriterView Entry
+seat_after Rested seat = seat
+seat_after Called seat = seat
+seat_after Stored seat = with_stored seat (length seat.stored + 1)
+
+-- all that is sealed is handed over: the writer's seat has taken it
+pub record HandsOver (old new : TableView Entry) (before after : WriterView Entry) : Type 0 where
+  pub table : new ≡ record old { handed = length old.sealed }
+  pub writer : after ≡ record before { taken = old.sealed }

@@ -1,0 +1,4 @@
+pub mod Desks
+pub mod Keeping
+pub mod Opened
+pub mod Apart

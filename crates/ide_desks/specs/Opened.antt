@@ -1,0 +1,35 @@
+-- The desks of a new board over an engine.
+use Rattle.std.specs.Prelude.{◌≡◌, ◌≤◌, ℕ, List, [], replicate}
+use Rattle.atomic_table.specs.Seated.{TableId}
+use Rattle.ide_board.specs.Records.{TableView, WriterView}
+use Rattle.ide_disk.specs.declared.disk.Disk.{Ghosts}
+use Rattle.ide_journal.specs.Format.{Entry}
+use Rattle.ide_slot_journal.specs.Stands.{AreHonest, records_stored}
+use Rattle.ide_slot_store.specs.Runs.{AreOnRun}
+use Rattle.ide_slot_store.specs.declared.engine.SlotEngine.{SlotEngine}
+use Rattle.ide_store.specs.Table.{Analysis}
+use Rattle.ide_desks.specs.Keeping.{two, unknown}
+
+-- the board knows of as many records as the engine sealed, and of none what it is; all were handed over, and as many of them are
+-- stored as are on the disks
+pub record AreNewSeats {P D L F : Type 0} {G : Ghosts D} (board : TableId) (engine : SlotEngine P D L F G) (table : TableView Entry)
+    (writer : WriterView Entry) : Type 0 where
+  pub table_at : table.board ≡ board
+  pub writer_at : writer.board ≡ board
+  pub sealed : table.sealed ≡ replicate engine.table.sealed unknown
+  pub handed : table.handed ≡ engine.table.sealed
+  pub none : engine.table.waiting ≡ []
+  pub few : records_stored engine.writer.journal ≤ engine.table.sealed
+  pub taken : writer.taken ≡ table.sealed
+  pub stored : writer.stored ≡ replicate (records_stored engine.writer.journal) unknown
+
+-- the engine is on a run of the second version, on honest disks, and these are the records that its writer was handed
+pub record IsToldOf {P D L F : Type 0} {G : Ghosts D} (a : Analysis F L) (tag : ℕ) (engine : SlotEngine P D L F G) (first : List Entry)
+    : Type 0 where
+  pub run : AreOnRun a (two tag) engine.table engine.writer
+  pub honest : AreHonest engine.writer.journal
+  pub is : first ≡ run.at_work.handed
+
+-- an engine that is on a run of that version is on it still
+abbrev pub StaysOnRun : {P D L F : Type 0} {G : Ghosts D} → Analysis F L → ℕ → (old new : SlotEngine P D L F G) → Type 0
+StaysOnRun a tag old new = AreOnRun a (two tag) old.table old.writer → AreOnRun a (two tag) new.table new.writer

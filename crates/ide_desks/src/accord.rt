@@ -1,0 +1,27 @@
+//! What the two desks of a service agree on.
+use std::marker::Brand;
+
+/// What the two desks of a service agree on: the board of both seats; what has to be told for what they keep
+/// besides; and which records the board began with, where that is told. Each call of a program picks them.
+pub trait Accord {
+    ghost use Rattle.std.specs.Prelude.{List};
+    ghost use Rattle.atomic_table.specs.Seated.{TableId};
+    ghost use Rattle.ide_journal.specs.Format.{Entry};
+
+    ghost board: { TableId };
+
+    ghost told: { Type 0 };
+
+    ghost first: { told → List Entry };
+}
+
+impl Accord for Brand {
+    ghost use Rattle.std.specs.Prelude.{[]};
+    ghost use Rattle.ide_board.specs.Records.{no_board};
+
+    ghost board = { no_board };
+
+    ghost told = { ⊥ };
+
+    ghost first = { λ _. [] };
+}
