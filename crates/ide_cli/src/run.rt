@@ -1,6 +1,11 @@
 //! Commands: what each does, and what it prints.
-ghost use Rattle.std.specs.Prelude.{◌≡◌, ◌⊎◌, ◌++◌, ℕ, List, IsErr, IsOk, OnOk};
+ghost use Rattle.std.specs.Prelude.{◌≡◌, ◌⊎◌, ◌++◌, ℕ, List, IsErr, IsOk, IsTrue, OnOk, map};
+ghost use Rattle.std.specs.Io.KnownBytes.{Appends};
 ghost use Rattle.ide_cli.specs.Dump.{IsDump};
+ghost use Rattle.ide_cli.specs.Ended.{IsDone, IsRefused};
+ghost use Rattle.ide_cli.specs.Explained.{explained};
+ghost use Rattle.ide_cli.specs.Help.{AsksForHelp, is_help_word};
+ghost use Rattle.ide_cli.specs.Printed.{AppendsAnswer};
 
 use crate::explain::meaning_of;
 use crate::failure::{Failure, read_file};
@@ -27,8 +32,8 @@ const REFUSED: u8 = 1;
 const WRONG_WORDS: u8 = 2;
 
 /// Runs the command of a line, whose first word is the program's name, and answers the status.
-/// Nothing is written to `out` before the command has its whole answer. A command that takes long tells on the
-/// terminal, if there is one, how far it has come.
+/// Nothing is written to `out` but the answer of the command, and that not before it is whole. A command that takes
+/// long tells on the terminal, if there is one, how far it has come.
 pub(crate) fn run<R, S: AsStr, O: Write, E: Write>(
     rt: &R,
     line: &[S],
@@ -40,15 +45,19 @@ where
     R: Files<File = File> + AllocGlobal + Threads + Wait + Clock + Sync,
     ensures status { (result ≡ DONE) ⊎ (result ≡ REFUSED) ⊎ (result ≡ WRONG_WORDS) }
     ensures done { result ≡ DONE → err.new ≡ err.old }
+    ensures answered { result ≡ DONE
+        → IsDone (map S.text line.now) (O.contents out.old) (O.contents out.new) }
+    ensures refused { result ≡ REFUSED
+        → IsRefused (map S.text line.now) out.old out.new err.old err.new }
     ensures wrong_words { result ≡ WRONG_WORDS → out.new ≡ out.old }
 {
     let words = match read_words(rt.alloc(), line) {
         Ok(words) => words,
-        Err(error) => return refuse_words(&error, out, err),
+        Err(error) => return refuse_words(&error, line, out, err),
     };
     let mut text = Vec::new(rt.alloc());
     match answer(rt, words, terminal, &mut text) {
-        Ok(()) => status_of(DONE, write_out(out, text.as_slice())),
+        Ok(()) => print(out, text.as_slice()),
         Err(Failure::CannotRead(file)) => status_of(REFUSED, writeln!(err, "cannot read {file}")),
         Err(Failure::CannotReadSecond(store)) => {
             status_of(REFUSED, writeln!(err, "cannot read {store}{SECOND}"))
@@ -57,19 +66,51 @@ where
     }
 }
 
-/// Prints why the words are no command: help on the output, a mistake on the standard error.
-fn refuse_words<O: Write, E: Write>(error: &clap::Error, out: &mut O, err: &mut E) -> u8
+/// Prints why the words are no command: help on the output, where the line asks for it, and a mistake on the
+/// standard error.
+fn refuse_words<S: AsStr, O: Write, E: Write>(
+    error: &clap::Error,
+    line: &[S],
+    out: &mut O,
+    err: &mut E,
+) -> u8
     ensures status { (result ≡ DONE) ⊎ (result ≡ REFUSED) ⊎ (result ≡ WRONG_WORDS) }
     ensures done { result ≡ DONE → err.new ≡ err.old }
+    ensures asked { result ≡ DONE → AsksForHelp (map S.text line.now) }
+    ensures refused { result ≡ REFUSED
+        → IsRefused (map S.text line.now) out.old out.new err.old err.new }
     ensures wrong_words { result ≡ WRONG_WORDS → out.new ≡ out.old }
 {
     if error.kind() == ErrorKind::OutOfMemory {
         status_of(REFUSED, writeln!(err, "{}", Refused::NoMemory))
-    } else if error.use_stderr() {
+    } else if error.use_stderr() || !asks_for_help(line) {
         status_of(WRONG_WORDS, write!(err, "{error}"))
     } else {
         status_of(DONE, write!(out, "{error}"))
     }
+}
+
+/// Whether a word of the line may ask for help, or for the version.
+fn asks_for_help<S: AsStr>(line: &[S]) -> bool
+    ensures { IsTrue result → AsksForHelp (map S.text line.now) }
+{
+    for word in line {
+        if is_help_word(word.as_str()) {
+            return true;
+        }
+    }
+    false
+}
+
+/// Whether the word may ask for help, or for the version.
+fn is_help_word(word: &str) -> bool
+    ensures { result ≡ is_help_word word.now }
+{
+    word == "help"
+        || word == "--help"
+        || word == "--version"
+        || word.starts_with("-h")
+        || word.starts_with("-V")
 }
 
 /// The status, or that of a refusal where the text could not be written.
@@ -83,8 +124,18 @@ fn status_of(status: u8, written: io::Result<()>) -> u8
     }
 }
 
+/// Writes the text, and answers whether that was done.
+fn print<O: Write>(out: &mut O, text: &[u8]) -> u8
+    ensures status { (result ≡ DONE) ⊎ (result ≡ REFUSED) }
+    ensures done { result ≡ DONE → Appends (O.contents out.old) (O.contents out.new) text.now }
+{
+    status_of(DONE, write_out(out, text))
+}
+
 /// Writes all of the text.
-fn write_out<O: Write>(out: &mut O, text: &[u8]) -> io::Result<()> {
+fn write_out<O: Write>(out: &mut O, text: &[u8]) -> io::Result<()>
+    ensures { OnOk result (Appends (O.contents out.old) (O.contents out.new) text.now) }
+{
     out.write_all(text)?;
     out.flush()
 }
@@ -95,7 +146,9 @@ fn answer<'a, R: Files<File = File> + AllocGlobal + Threads + Wait + Clock + Syn
     words: Words<'a>,
     terminal: Option<Stderr>,
     out: &mut Vec<u8>,
-) -> Result<(), Failure<'a>> {
+) -> Result<(), Failure<'a>>
+    ensures { OnOk result (AppendsAnswer words.entry out.old out.new) }
+{
     match words {
         Words::Once {
             instance,
@@ -106,21 +159,24 @@ fn answer<'a, R: Files<File = File> + AllocGlobal + Threads + Wait + Clock + Syn
             let text = read_file(rt, file)?;
             let root = procedure.as_bytes();
             solve_by(rt, instance, text.as_slice(), root, workers, out)?;
+            Ok(())
         }
         Words::Check { file } => {
             let text = read_file(rt, file)?;
             check(rt.alloc(), text.as_slice(), out)?;
+            Ok(())
         }
-        Words::Explain { name } => explain(name, out)?,
-        Words::Create { store, instance } => create(rt, store, instance, out)?,
-        Words::Adopt { store } => adopt(rt, store, out)?,
-        Words::On { store, command } => obey(rt, store, command, terminal, out)?,
+        Words::Explain { name } => Ok(explain(name, out)?),
+        Words::Create { store, instance } => create(rt, store, instance, out),
+        Words::Adopt { store } => adopt(rt, store, out),
+        Words::On { store, command } => obey(rt, store, command, terminal, out),
     }
-    Ok(())
 }
 
 /// Appends what the name of a refusal or a fault means.
-fn explain(name: &str, out: &mut Vec<u8>) -> Result<(), Refused> {
+fn explain(name: &str, out: &mut Vec<u8>) -> Result<(), Refused>
+    ensures { OnOk result (out.new.items ≡ out.old.items ++ explained name.now) }
+{
     out.extend_from_slice(meaning_of(name).as_bytes())?;
     out.extend_from_slice(b"\n")?;
     Ok(())

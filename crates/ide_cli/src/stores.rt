@@ -1,4 +1,7 @@
 //! Commands on a store in two files: how they are opened, and what is read before any call.
+ghost use Rattle.std.specs.Prelude.{◌≡◌, ◌++◌, OnOk};
+ghost use Rattle.ide_cli.specs.Stores.{IsObeyed, ObeysOver, adopted_line, created_line};
+
 use crate::failure::{Failure, read_file};
 use crate::working::work;
 use ide_commands::{Store, adopt as adopt_on, call, create as create_on, open};
@@ -75,7 +78,9 @@ pub(crate) fn create<'a, R: Files<File = File> + AllocGlobal>(
     store: &'a str,
     instance: Instance,
     out: &mut Vec<u8>,
-) -> Result<(), Failure<'a>> {
+) -> Result<(), Failure<'a>>
+    ensures { OnOk result (out.new.items ≡ out.old.items ++ created_line) }
+{
     let (a, b) = make_both(rt, store)?;
     match instance {
         Instance::Uninit => create_of::<Uninit>(rt.alloc(), a, b)?,
@@ -100,7 +105,9 @@ pub(crate) fn adopt<'a, R: Files<File = File> + AllocGlobal>(
     rt: &R,
     store: &'a str,
     out: &mut Vec<u8>,
-) -> Result<(), Failure<'a>> {
+) -> Result<(), Failure<'a>>
+    ensures { OnOk result (out.new.items ≡ out.old.items ++ adopted_line) }
+{
     let (a, b) = open_first(rt, store)?;
     adopt_of(rt.alloc(), a, b)?;
     out.extend_from_slice(b"adopted\n")?;
@@ -140,7 +147,9 @@ pub(crate) fn obey<'a, R: Files<File = File> + AllocGlobal + Threads + Wait + Cl
     command: StoreCommand<'a>,
     terminal: Option<Stderr>,
     out: &mut Vec<u8>,
-) -> Result<(), Failure<'a>> {
+) -> Result<(), Failure<'a>>
+    ensures { OnOk result (IsObeyed command.entry out.old out.new) }
+{
     let (a, b) = open_both(rt, store)?;
     match text_of(rt, command) {
         Ok(text) => Ok(obey_on(rt, a, b, command, &text, terminal, out)?),
@@ -168,7 +177,9 @@ fn obey_on<R: AllocGlobal + Threads + Wait + Clock + Sync>(
     text: &[u8],
     terminal: Option<Stderr>,
     out: &mut Vec<u8>,
-) -> Result<(), Refused> {
+) -> Result<(), Refused>
+    ensures { OnOk result (IsObeyed command.entry out.old out.new) }
+{
     let opened = open(rt.alloc(), a, b)?;
     if let StoreCommand::Work {
         workers,
@@ -189,7 +200,9 @@ fn call_on(
     command: StoreCommand<'_>,
     text: &[u8],
     out: &mut Vec<u8>,
-) -> Result<(), Refused> {
+) -> Result<(), Refused>
+    ensures { OnOk result (ObeysOver store command.entry text.now out.old out.new) }
+{
     match store {
         Store::Uninit(engine) => call(alloc, engine, command, text, out),
         Store::Copy(engine) => call(alloc, engine, command, text, out),

@@ -2,11 +2,17 @@
 //!
 //! It is written for each analysis by itself: the kit gives no proof of threads that are sent what rests on a
 //! bound on a type parameter's own type, as that a problem's functions may be sent.
+ghost use Rattle.std.specs.Prelude.{Bool, OnOk};
+ghost use Rattle.ide_cli.specs.Stores.{EndsWork, IsObeyed};
+ghost use Rattle.ide_words.specs.declared.words.StoreCommand.TheVariants.{Work};
+
 use crate::telling::Telling;
 use ide_commands::{Store, end_work};
 use ide_file::FileDisk;
 use ide_problem::Problem;
 use ide_service::{Crew, Service, work_together};
+use ide_slot_store::SlotEngine;
+use ide_store::Kept;
 use ide_wire::Refused;
 use std::fs::File;
 use std::io::Stderr;
@@ -37,21 +43,20 @@ macro_rules! work_on {
         };
         let worked = work_together($rt, $rt.alloc(), &crew, $workers);
         gate.end();
-        end(service, worked, $out)
+        end(service.into_engine(), worked, $out)
     }};
 }
 
-/// Ends the work of a service, where it was not refused, and appends `quiet`.
+/// Ends the work that hands did on the engine, where it was not refused, and appends `quiet`.
 fn end<P: Problem>(
-    service: Service<P, FileDisk<File>>,
+    mut engine: SlotEngine<P, FileDisk<File>>,
     worked: Result<(), Refused>,
     out: &mut Vec<u8>,
-) -> Result<(), Refused> {
+) -> Result<(), Refused>
+    ensures { OnOk result (EndsWork ⟦<P as Kept>⟧.analysis engine out.old out.new) }
+{
     match worked {
-        Ok(()) => {
-            let mut engine = service.into_engine();
-            end_work(&mut engine, out)
-        }
+        Ok(()) => end_work(&mut engine, out),
         Err(refused) => Err(refused),
     }
 }
@@ -66,7 +71,11 @@ pub(crate) fn work<R: Threads + Wait + Clock + Sync + AllocGlobal>(
     checkpoint_every: u32,
     terminal: Option<Stderr>,
     out: &mut Vec<u8>,
-) -> Result<(), Refused> {
+) -> Result<(), Refused>
+    // It is the store that the hands left, and the same whether they told how far they had come.
+    ensures { OnOk result ((quiet : Bool)
+        → IsObeyed (Work workers quiet checkpoint_every) out.old out.new) }
+{
     match store {
         Store::Uninit(engine) => work_on!(rt, engine, workers, checkpoint_every, terminal, out),
         Store::Copy(engine) => work_on!(rt, engine, workers, checkpoint_every, terminal, out),
