@@ -4,10 +4,4 @@
 #![tactic(auto)]
 
 #[cfg(test)]
-mod desks;
-#[cfg(test)]
-mod orders;
-#[cfg(test)]
-mod row;
-#[cfg(test)]
-mod watch;
+mod tests;

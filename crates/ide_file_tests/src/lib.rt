@@ -4,8 +4,4 @@
 #![tactic(auto)]
 
 #[cfg(test)]
-mod files;
-#[cfg(test)]
-mod memory;
-#[cfg(test)]
-mod memory_file;
+mod tests;

@@ -1,24 +1,25 @@
 //! Disks over files of the system, which each test makes in its folder and removes.
-ghost use Rattle.std.specs.Prelude.{◌≡◌, length, OnOk};
+ghost use Rattle.std.specs.Prelude.{◌≡◌, IfOk};
 ghost use Rattle.ide_file.specs.FileDisk.{disk_size};
 
 use ide_disk::Disk;
 use ide_file::{FileDisk, FileFault};
 use std::fs;
-use std::fs::File;
+use std::fs::{File, Files};
 use std::io::ErrorKind;
 use std::path::Path;
 use std::process::Abort;
 use std::test::Fail;
 
-// Puts these bytes in the place of all, in three calls.
-fn fill(disk: &mut FileDisk<File>, bytes: &[u8]) -> Result<(), Fail>
-    ensures { OnOk result (disk_size disk.new ≡ length bytes.now) }
+// A disk over a new file with five bytes, in three calls.
+fn filled<R: Files<File = File>>(rt: &R, path: Path<'_>) -> Result<FileDisk<File>, Fail>
+    ensures { IfOk result (λ disk. disk_size disk ≡ 5) }
 {
+    let mut disk = FileDisk::create(rt, path)?;
     disk.cut(0)?;
-    disk.write(0, bytes)?;
+    disk.write(0, b"abcde")?;
     disk.sync()?;
-    Ok(())
+    Ok(disk)
 }
 
 // What the disk gives from its beginning on.
@@ -32,8 +33,7 @@ fn first_three<R: Abort>(rt: &R, disk: &mut FileDisk<File>) -> Result<[u8; 3], F
 #[test]
 fn what_is_written_is_read_back(rt: HostRuntime) -> Result<(), Fail> {
     let path = Path::new("ide_file_written");
-    let mut disk = FileDisk::create(&rt, path)?;
-    fill(&mut disk, b"abcde")?;
+    let mut disk = filled(&rt, path)?;
     disk.write(1, b"XY")?;
     disk.sync()?;
     assert_eq!(rt; disk.len()?, 5);
@@ -59,8 +59,7 @@ fn what_is_written_is_read_back(rt: HostRuntime) -> Result<(), Fail> {
 #[test]
 fn a_cut_file_is_shorter(rt: HostRuntime) -> Result<(), Fail> {
     let path = Path::new("ide_file_cut");
-    let mut disk = FileDisk::create(&rt, path)?;
-    fill(&mut disk, b"abcde")?;
+    let mut disk = filled(&rt, path)?;
     disk.cut(3)?;
     assert_eq!(rt; disk.size(), 3);
     assert_eq!(rt; disk.len()?, 3);
@@ -96,8 +95,7 @@ fn a_file_in_use_is_refused(rt: HostRuntime) -> Result<(), Fail> {
 #[test]
 fn another_length_is_a_fault(rt: HostRuntime) -> Result<(), Fail> {
     let path = Path::new("ide_file_grown");
-    let mut disk = FileDisk::create(&rt, path)?;
-    fill(&mut disk, b"abcde")?;
+    let mut disk = filled(&rt, path)?;
     // Nothing keeps others from the file but the lock, for which they may not ask.
     fs::write(&rt, path, "abcdefg")?;
     assert!(rt; disk.len().is_err());

@@ -1,5 +1,5 @@
 use Rattle.std.proofs.Common.{◌≡◌}
-use Rattle.ide_board_tests.proofs.watch.watch.Given as goal
+use Rattle.ide_board_tests.proofs.tests.watch.watch.Given as goal
 
 abbrev pub invariant-loop : goal.invariant-loop
 invariant-loop g l =

@@ -2,7 +2,7 @@
 ghost use Rattle.std.specs.Prelude.{IfOk};
 ghost use Rattle.ide_file.specs.FileDisk.{IsSoundFile};
 
-use crate::memory_file::MemoryFile;
+use super::memory_file::MemoryFile;
 use ide_disk::Disk;
 use ide_file::FileDisk;
 use std::alloc::Global;
