@@ -8,20 +8,4 @@
 #![tactic(auto)]
 
 #[cfg(test)]
-mod bodies;
-#[cfg(test)]
-mod claims;
-#[cfg(test)]
-mod cores;
-#[cfg(test)]
-mod damaged;
-#[cfg(test)]
-mod groups;
-#[cfg(test)]
-mod hands;
-#[cfg(test)]
-mod image;
-#[cfg(test)]
-mod records;
-#[cfg(test)]
-mod tables;
+mod tests;

@@ -4,7 +4,7 @@ use Rattle.ide_instances.specs.contracts.uninit_fn.UninitFnEdgeFn.TheImpl.{ghost
 use Rattle.ide_instances.specs.contracts.uninit_fn.UninitFnPartialEq.TheImpl.{ghosts as equality}
 use Rattle.ide_instances.specs.contracts.uninit_fn.UninitFnWire.TheImpl.{ghosts as wire}
 use Rattle.ide_batch.specs.Items.{AreWritten, functions_by}
-use Rattle.ide_core_tests.proofs.bodies.empty_main.Goals as goal
+use Rattle.ide_core_tests.proofs.tests.bodies.empty_main.Goals as goal
 
 pub returns : goal.returns
 unfolding IsStrictlySortedBy

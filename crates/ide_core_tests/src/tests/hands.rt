@@ -1,6 +1,6 @@
 //! Hands: what one does with its claims, and programs that are tabulated part by part.
-use crate::cores::{begin, given};
-use crate::tables::expect_two_calls;
+use super::cores::{begin, given};
+use super::tables::expect_two_calls;
 use ide_instances::CopyConst;
 use ide_problem::Problem;
 use ide_steps::{Claimed, Core, Parted};
@@ -31,16 +31,6 @@ fn work_of<P: Problem>(rt: &(impl Abort + AllocGlobal), task: Task<P>) -> Work<P
         Ok(work) => work,
         Err(_) => panic!(rt; "no memory"),
     }
-}
-
-/// Does the next part of the work, with the hand of that number.
-fn part<P: Problem>(
-    core: &mut Core<P>,
-    number: usize,
-    work: &mut Work<P>,
-) -> Result<Parted, Refused> {
-    let parted = core.part(number, work)?;
-    Ok(parted)
 }
 
 /// Does up to `most` of the next parts of the work, and answers how many.
@@ -104,7 +94,10 @@ impl<P: Problem> Hand<P> {
     /// Does the next part of its work.
     pub(crate) fn part(&mut self, core: &mut Core<P>) -> Result<Parted, Refused> {
         match &mut self.work {
-            Some(work) => part(core, self.number, work),
+            Some(work) => {
+                let parted = core.part(self.number, work)?;
+                Ok(parted)
+            }
             None => Err(Refused::Stale),
         }
     }

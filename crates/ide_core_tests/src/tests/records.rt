@@ -1,7 +1,7 @@
 //! Cores on the way by records, and records that do not apply: each is refused with its number, and sets no key.
-use crate::claims::claim_task;
-use crate::cores::{begin, given};
-use crate::hands::Hand;
+use super::claims::claim_task;
+use super::cores::{begin, given};
+use super::hands::Hand;
 use ide_batch::{apply, apply_all};
 use ide_journal::{RawRecord, Version};
 use ide_problem::Problem;
@@ -77,33 +77,26 @@ fn apply_records<P: Problem>(
     Ok(())
 }
 
-/// Applies the load of a text, `main` as a root, and a batch of that body.
+/// The load of a text, `main` as a root, and a batch of that body, spelled as in that version.
+#[derive(Clone, Copy)]
+pub(crate) struct Run<'a> {
+    pub text: &'a str,
+    pub body: &'a [u8],
+    pub version: Version,
+}
+
+/// Applies the records of a run.
 pub(crate) fn replay<P: Problem>(
     rt: &(impl Abort + AllocGlobal),
     core: &mut Core<P>,
-    text: &str,
-    body: &[u8],
-    version: Version,
+    run: Run,
 ) -> Result<(), Refused> {
     let records = [
-        raw_of(rt, 1, text.as_bytes()),
+        raw_of(rt, 1, run.text.as_bytes()),
         raw_of(rt, 2, b"main"),
-        raw_of(rt, 3, body),
+        raw_of(rt, 3, run.body),
     ];
-    apply_records(rt.alloc(), core, &records, version)
-}
-
-/// Asserts that these records apply, and leave so many keys.
-pub(crate) fn expect_applied<P: Problem>(
-    rt: &(impl Abort + AllocGlobal),
-    core: &mut Core<P>,
-    text: &str,
-    body: &[u8],
-    version: Version,
-    keys: usize,
-) {
-    assert!(rt; replay(rt, core, text, body, version) == Ok(()));
-    assert!(rt; core.key_count() == keys);
+    apply_records(rt.alloc(), core, &records, run.version)
 }
 
 /// Asserts that the record of number 7, of that kind and body, is refused with its number, and that

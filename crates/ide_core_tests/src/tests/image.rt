@@ -1,5 +1,5 @@
 //! Each public call of what an image has at each key, at a task that is a number.
-use crate::cores::given;
+use super::cores::given;
 use ide_image::{Change, KeyedImage};
 use ide_instances::ConstFn;
 use ide_lattice::EdgeFn;

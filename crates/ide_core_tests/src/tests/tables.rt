@@ -1,5 +1,5 @@
 //! The tables of the worked programs: how many tasks they take, and what is in them then.
-use crate::cores::{begin, given, load, root_main};
+use super::cores::{begin, given, load, root_main};
 use ide_image::Entry;
 use ide_instances::{ConstFn, CopyConst, Uninit};
 use ide_lattice::EdgeFn;
@@ -222,44 +222,65 @@ fn callees_lower_one_summary(rt: HostRuntime) {
     expect_functions(&rt, &mut core, &functions);
 }
 
-/// Whether one fact reaches the parameter of the procedure at a start over a call, by the identity.
-fn is_reached_from<P: Problem>(core: &Core<P>, call: Node, start: Node, fact: Fact) -> bool {
-    match core.sources(call, start, 2) {
-        [source] => source.from.fact == fact && source.from.function == P::F::id(),
+/// Whether that fact reaches the parameter of the procedure at a start over a call, by the identity, or none
+/// does where none is given.
+fn is_reached_from<P: Problem>(
+    core: &Core<P>,
+    call: Node,
+    start: Node,
+    fact: Option<Fact>,
+) -> bool {
+    match (core.sources(call, start, 2), fact) {
+        ([source], Some(fact)) => { source.from.fact == fact && source.from.function == P::F::id() }
+        (sources, None) => sources.is_empty(),
         _ => false,
     }
 }
 
-/// Asserts what reaches the parameter of the procedure that is called twice, and that nothing
-/// reaches it over a node that is no call, or at a start that is none.
-fn expect_sources<P: Problem>(rt: &(impl Abort + AllocGlobal), core: &mut Core<P>) {
-    assert!(rt; core.sources(6, 0, 2).is_empty());
-    load(rt, core, TWO_CALLS);
-    assert!(rt; is_reached_from(core, 6, 0, 2));
-    assert!(rt; is_reached_from(core, 8, 0, 3));
-    assert!(rt; core.sources(7, 0, 2).is_empty());
-    assert!(rt; core.sources(6, 1, 2).is_empty());
+/// Asserts what reaches parameters: over which call, at the start of which callee, and which fact, if any.
+fn expect_sources<P: Problem>(
+    rt: &impl Abort,
+    core: &Core<P>,
+    sources: &[(Node, Node, Option<Fact>)],
+) {
+    for (call, start, fact) in sources {
+        assert!(rt;
+            is_reached_from(core, *call, *start, *fact),
+            "over {call} at {start}"
+        );
+    }
 }
 
+/// Asserts that nothing reaches a parameter before a load, and what does with the program of a text.
+fn expect_sources_of<P: Problem>(
+    rt: &(impl Abort + AllocGlobal),
+    core: &mut Core<P>,
+    text: &str,
+    sources: &[(Node, Node, Option<Fact>)],
+) {
+    expect_sources(rt, core, &[(6, 0, None)]);
+    load(rt, core, text);
+    expect_sources(rt, core, sources);
+}
+
+// Nothing reaches a parameter over a node that is no call, or at a start that is none.
 #[test]
 fn sources_of_the_two_calls(rt: HostRuntime) {
+    let sources = [(6, 0, Some(2)), (8, 0, Some(3)), (7, 0, None), (6, 1, None)];
     let mut core: Core<CopyConst> = Core::new(rt.alloc());
-    expect_sources(&rt, &mut core);
+    expect_sources_of(&rt, &mut core, TWO_CALLS, &sources);
 }
 
-/// Asserts what reaches the parameters over a call of two procedures and over a call of the first of
-/// them: a callee is told by its start.
-fn expect_sources_by_callee<P: Problem>(rt: &(impl Abort + AllocGlobal), core: &mut Core<P>) {
-    load(rt, core, CALLEES);
-    assert!(rt; is_reached_from(core, 10, 0, 2));
-    assert!(rt; is_reached_from(core, 10, 4, 2));
-    assert!(rt; is_reached_from(core, 12, 0, 2));
-    assert!(rt; core.sources(12, 4, 2).is_empty());
-    assert!(rt; core.sources(10, 8, 2).is_empty());
-}
-
+// A callee is told by its start: a call of two procedures, and one of the first of them.
 #[test]
 fn sources_of_each_callee(rt: HostRuntime) {
+    let sources = [
+        (10, 0, Some(2)),
+        (10, 4, Some(2)),
+        (12, 0, Some(2)),
+        (12, 4, None),
+        (10, 8, None),
+    ];
     let mut core: Core<CopyConst> = Core::new(rt.alloc());
-    expect_sources_by_callee(&rt, &mut core);
+    expect_sources_of(&rt, &mut core, CALLEES, &sources);
 }

@@ -4,8 +4,8 @@ ghost use Rattle.ide_batch.specs.Bodies.{MayBeSpelled};
 ghost use Rattle.ide_batch.specs.Items.{functions_by};
 ghost use Rattle.ide_batch.specs.Records.{value_of_record};
 
-use crate::records::{begin_noted, do_first_parts, expect_applied};
-use crate::tables::drain;
+use super::records::{Run, begin_noted, do_first_parts, replay};
+use super::tables::drain;
 use ide_batch::{Record, Spelled, to_raw};
 use ide_instances::{ConstFn, CopyConst, Uninit, UninitFn};
 use ide_journal::Version;
@@ -25,12 +25,26 @@ const EMPTY_MAIN: [u8; 37] = [
     0, 1, 0, 0, 0, 0, 0, 1, 0, 1, 0, //
 ];
 
+/// The run of an empty main, whose tasks are all done.
+const EMPTY_RUN: Run = Run {
+    text: EMPTY,
+    body: &EMPTY_MAIN,
+    version: Version::One,
+};
+
 /// What two of the three parts of the first task change in a main with one number.
 pub(crate) const TWO_PARTS: [u8; 34] = [
     2, 0, 0, 0, //
     0, 1, 0, 0, 0, 0, 0, 0, 0, 1, 0, 0, 0, 0, 0, 0, 0, 0, 1, //
     0, 1, 0, 0, 0, 0, 0, 1, 0, 4, 1, //
 ];
+
+/// The run of a main with one number up to these two parts.
+const NUMBER_RUN: Run = Run {
+    text: NUMBER,
+    body: &TWO_PARTS,
+    version: Version::One,
+};
 
 /// The batch of an empty main.
 pub(crate) fn empty_main(alloc: Global) -> Result<Record<UninitFn>, AllocError>
@@ -92,10 +106,10 @@ pub(crate) fn expect_two_parts(rt: &(impl Abort + AllocGlobal), version: Version
     }
 }
 
-/// The batch that there was memory for.
-pub(crate) fn made<F: EdgeFn>(rt: &impl Abort, change: Result<Record<F>, AllocError>) -> Record<F> {
-    match change {
-        Ok(change) => change,
+/// What there was memory for.
+pub(crate) fn made<T>(rt: &impl Abort, found: Result<T, AllocError>) -> T {
+    match found {
+        Ok(value) => value,
         Err(_) => panic!(rt; "no memory"),
     }
 }
@@ -132,18 +146,28 @@ fn expect_changed<P: Problem>(
     }
 }
 
-/// Asserts that these records give the batch's entries back, and `main` as the root, and whether that key is
+/// Asserts that a run applies, leaves three keys, and gives the batch's entries back.
+pub(crate) fn expect_given_back<P: Problem>(
+    rt: &(impl Abort + AllocGlobal),
+    core: &mut Core<P>,
+    run: Run,
+    change: &Record<P::F>,
+) {
+    assert!(rt; replay(rt, core, run) == Ok(()));
+    assert!(rt; core.key_count() == 3);
+    expect_entries(rt, core, change);
+}
+
+/// Asserts that a run gives the batch's entries back, and `main` as the root, and whether that key is
 /// pending then.
 fn expect_replayed<P: Problem>(
     rt: &(impl Abort + AllocGlobal),
     core: &mut Core<P>,
-    text: &str,
-    body: &[u8],
+    run: Run,
     change: &Record<P::F>,
     pending: Option<Key>,
 ) {
-    expect_applied(rt, core, text, body, Version::One, 3);
-    expect_entries(rt, core, change);
+    expect_given_back(rt, core, run, change);
     expect_pending(rt, core, pending);
 }
 
@@ -156,16 +180,36 @@ fn expect_pending<P: Problem>(rt: &impl Abort, core: &Core<P>, pending: Option<K
     }
 }
 
-/// Asserts that the batch has what all tasks of a text change.
-fn expect_drained<P: Problem>(
+/// How far the tasks of a text are done.
+#[derive(Clone, Copy)]
+enum Progress {
+    /// So many parts of the first task.
+    Parts(usize),
+    /// All tasks.
+    Whole,
+}
+
+/// Does the tasks so far.
+fn go<P: Problem>(rt: &(impl Abort + AllocGlobal), core: &mut Core<P>, progress: Progress) {
+    match progress {
+        Progress::Parts(most) => do_first_parts(rt, core, most),
+        Progress::Whole => {
+            drain(rt, core);
+        }
+    }
+}
+
+/// Asserts that the batch has what the tasks of a text change so far.
+fn expect_changes<P: Problem>(
     rt: &(impl Abort + AllocGlobal),
     core: &mut Core<P>,
     text: &str,
+    progress: Progress,
     change: &Record<P::F>,
     count: usize,
 ) {
     begin_noted(rt, core, text);
-    drain(rt, core);
+    go(rt, core, progress);
     expect_changed(rt, core, change, count);
 }
 
@@ -173,7 +217,7 @@ fn expect_drained<P: Problem>(
 fn changes_of_an_empty_main(rt: HostRuntime) {
     let change = made(&rt, empty_main(rt.alloc()));
     let mut core: Core<Uninit> = Core::new(rt.alloc());
-    expect_drained(&rt, &mut core, EMPTY, &change, 3);
+    expect_changes(&rt, &mut core, EMPTY, Progress::Whole, &change, 3);
 }
 
 #[test]
@@ -185,27 +229,14 @@ fn body_of_an_empty_main(rt: HostRuntime) {
 fn replay_of_an_empty_main(rt: HostRuntime) {
     let change = made(&rt, empty_main(rt.alloc()));
     let mut core: Core<Uninit> = Core::new(rt.alloc());
-    expect_replayed(&rt, &mut core, EMPTY, &EMPTY_MAIN, &change, None);
-}
-
-/// Asserts that the batch has what so many parts of the first task of a text change.
-fn expect_begun<P: Problem>(
-    rt: &(impl Abort + AllocGlobal),
-    core: &mut Core<P>,
-    text: &str,
-    change: &Record<P::F>,
-    count: usize,
-) {
-    begin_noted(rt, core, text);
-    do_first_parts(rt, core, count);
-    expect_changed(rt, core, change, count);
+    expect_replayed(&rt, &mut core, EMPTY_RUN, &change, None);
 }
 
 #[test]
 fn changes_of_two_parts(rt: HostRuntime) {
     let change = made(&rt, two_parts(rt.alloc()));
     let mut core: Core<CopyConst> = Core::new(rt.alloc());
-    expect_begun(&rt, &mut core, NUMBER, &change, 2);
+    expect_changes(&rt, &mut core, NUMBER, Progress::Parts(2), &change, 2);
 }
 
 #[test]
@@ -217,12 +248,6 @@ fn body_after_two_parts(rt: HostRuntime) {
 fn replay_after_two_parts(rt: HostRuntime) {
     let change = made(&rt, two_parts(rt.alloc()));
     let mut core: Core<CopyConst> = Core::new(rt.alloc());
-    expect_replayed(
-        &rt,
-        &mut core,
-        NUMBER,
-        &TWO_PARTS,
-        &change,
-        Some(Key::Jump(1, 0, 1)),
-    );
+    let pending = Some(Key::Jump(1, 0, 1));
+    expect_replayed(&rt, &mut core, NUMBER_RUN, &change, pending);
 }

@@ -4,7 +4,7 @@ use Rattle.ide_instances.specs.contracts.const_fn.ConstFnEdgeFn.TheImpl.{ghosts 
 use Rattle.ide_instances.specs.contracts.const_fn.ConstFnPartialEq.TheImpl.{ghosts as equality}
 use Rattle.ide_instances.specs.contracts.const_fn.ConstFnWire.TheImpl.{ghosts as wire}
 use Rattle.ide_batch.specs.Items.{AreWritten, functions_by}
-use Rattle.ide_core_tests.proofs.bodies.two_parts.Goals as goal
+use Rattle.ide_core_tests.proofs.tests.bodies.two_parts.Goals as goal
 
 pub returns : goal.returns
 unfolding IsStrictlySortedBy
