@@ -5,18 +5,4 @@
 #![tactic(auto)]
 
 #[cfg(test)]
-mod faults;
-#[cfg(test)]
-mod graph;
-#[cfg(test)]
-mod graphs;
-#[cfg(test)]
-mod instances;
-#[cfg(test)]
-mod refusals;
-#[cfg(test)]
-mod sites;
-#[cfg(test)]
-mod text;
-#[cfg(test)]
-mod texts;
+mod tests;

@@ -10,11 +10,6 @@ fn expect_shown(rt: &(impl Abort + AllocGlobal), refused: Refused, text: &str) {
     }
 }
 
-/// Asserts that a fault of line 3 is printed so.
-fn expect_fault_shown(rt: &(impl Abort + AllocGlobal), fault: Fault, text: &str) {
-    expect_shown(rt, Refused::Text { line: 3, fault }, text);
-}
-
 #[test]
 fn refusals_are_printed_so(rt: HostRuntime) {
     expect_shown(&rt, Refused::NoMemory, "E1 no memory");
@@ -34,16 +29,25 @@ fn refusals_are_printed_so(rt: HostRuntime) {
     expect_shown(&rt, Refused::OutOfRange, "E16 out of range");
 }
 
+/// Asserts that a fault of line 3 is printed with that number.
+fn expect_fault_shown(rt: &(impl Abort + AllocGlobal), fault: Fault, number: u32) {
+    let text = match format!(in rt.alloc(); "E7 line 3 fault F{number}") {
+        Ok(text) => text,
+        Err(_) => panic!(rt; "no memory"),
+    };
+    expect_shown(rt, Refused::Text { line: 3, fault }, text.as_str());
+}
+
 #[test]
 fn faults_are_printed_so(rt: HostRuntime) {
-    expect_fault_shown(&rt, Fault::TextTooLong, "E7 line 3 fault F1");
-    expect_fault_shown(&rt, Fault::NoSuchLine, "E7 line 3 fault F2");
-    expect_fault_shown(&rt, Fault::OutOfPlace, "E7 line 3 fault F3");
-    expect_fault_shown(&rt, Fault::TooMany, "E7 line 3 fault F4");
-    expect_fault_shown(&rt, Fault::DeclaredTwice, "E7 line 3 fault F5");
-    expect_fault_shown(&rt, Fault::NoSuchVariable, "E7 line 3 fault F6");
-    expect_fault_shown(&rt, Fault::NoSuchLabel, "E7 line 3 fault F7");
-    expect_fault_shown(&rt, Fault::NoSuchProcedure, "E7 line 3 fault F8");
-    expect_fault_shown(&rt, Fault::WrongArguments, "E7 line 3 fault F9");
-    expect_fault_shown(&rt, Fault::WrongCallees, "E7 line 3 fault F10");
+    expect_fault_shown(&rt, Fault::TextTooLong, 1);
+    expect_fault_shown(&rt, Fault::NoSuchLine, 2);
+    expect_fault_shown(&rt, Fault::OutOfPlace, 3);
+    expect_fault_shown(&rt, Fault::TooMany, 4);
+    expect_fault_shown(&rt, Fault::DeclaredTwice, 5);
+    expect_fault_shown(&rt, Fault::NoSuchVariable, 6);
+    expect_fault_shown(&rt, Fault::NoSuchLabel, 7);
+    expect_fault_shown(&rt, Fault::NoSuchProcedure, 8);
+    expect_fault_shown(&rt, Fault::WrongArguments, 9);
+    expect_fault_shown(&rt, Fault::WrongCallees, 10);
 }

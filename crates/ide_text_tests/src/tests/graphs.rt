@@ -1,5 +1,5 @@
 //! Graphs of texts.
-use crate::texts::given;
+use super::texts::given;
 use ide_graph::Graph;
 use ide_text::{Program, parse};
 use std::process::Abort;

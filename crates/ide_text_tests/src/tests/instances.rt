@@ -1,5 +1,5 @@
 //! What meets, compositions and values come to, and the coded and printed forms.
-use crate::texts::made;
+use super::texts::made;
 use ide_instances::{ConstFn, ConstValue, CopyConst, ShiftConst, Uninit, UninitFn, UninitValue};
 use ide_lattice::{EdgeFn, Lattice, value_of_meet};
 use ide_problem::Problem;

@@ -1,7 +1,7 @@
 //! Counts, sites and names of the graphs of small programs.
-use crate::graphs::graph_of;
-use crate::sites::{
-    Call, expect_call, expect_calls, expect_exit, expect_fork, expect_shared_step, expect_step,
+use super::graphs::graph_of;
+use super::sites::{
+    Call, expect_call, expect_calls, expect_exit, expect_fork, expect_shared_step, expect_steps,
 };
 use ide_graph::{Effect, Graph};
 use ide_wire::{Fact, Node, Refused};
@@ -44,27 +44,9 @@ fn examples_have_their_counts(rt: HostRuntime) {
     expect_counts_of(&rt, SUM_OR_NUMBER, (2, 17, 6, 1));
 }
 
-/// That these are the sites of `BRANCH`.
-fn expect_both_ways(rt: &impl Abort, graph: &Graph) {
-    let five = Effect::Number {
-        target: 2,
-        number: 5,
-    };
-    expect_counts(rt, graph, (1, 8, 3, 1));
-    expect_step(rt, graph, 0, 1, Effect::Enter { first: 2, end: 3 });
-    expect_fork(rt, graph, 1, 2, 4);
-    expect_step(rt, graph, 2, 3, five);
-    expect_step(rt, graph, 3, 6, Effect::Nothing);
-    expect_step(rt, graph, 4, 5, Effect::Nothing);
-    expect_step(rt, graph, 5, 6, five);
-    expect_step(rt, graph, 6, 7, Effect::Nothing);
-    expect_exit(rt, graph, 7, 0, &[]);
-}
-
-#[test]
-fn branches_have_both_ways(rt: HostRuntime) {
-    let graph = graph_of(&rt, BRANCH);
-    expect_both_ways(&rt, &graph);
+/// The effect that declares the locals from the first to the one before the end.
+fn enter(first: Fact, end: Fact) -> Effect {
+    Effect::Enter { first, end }
 }
 
 /// The effect of an assignment of a number.
@@ -72,123 +54,123 @@ fn number(target: Fact, number: u64) -> Effect {
     Effect::Number { target, number }
 }
 
+/// The effect of an assignment of a variable.
+fn copy(target: Fact, source: Fact) -> Effect {
+    Effect::Copy { target, source }
+}
+
+/// The effect of an assignment of a variable and a number.
+fn sum(target: Fact, source: Fact, number: u64) -> Effect {
+    Effect::Sum {
+        target,
+        source,
+        number,
+    }
+}
+
+/// That these are the sites of `BRANCH`.
+fn expect_both_ways(rt: &impl Abort, graph: &Graph) {
+    let steps = [
+        (0, 1, enter(2, 3)),
+        (2, 3, number(2, 5)),
+        (3, 6, Effect::Nothing),
+        (4, 5, Effect::Nothing),
+        (5, 6, number(2, 5)),
+        (6, 7, Effect::Nothing),
+    ];
+    expect_counts(rt, graph, (1, 8, 3, 1));
+    expect_steps(rt, graph, &steps);
+    expect_fork(rt, graph, 1, 2, 4);
+    expect_exit(rt, graph, 7, 0, &[]);
+}
+
+#[test]
+fn branches_have_both_ways(rt: HostRuntime) {
+    expect_both_ways(&rt, &graph_of(&rt, BRANCH));
+}
+
 /// That these are the sites of `UNREACHABLE`.
 fn expect_unreachable_node(rt: &impl Abort, graph: &Graph) {
+    let steps = [
+        (0, 1, enter(2, 3)),
+        (1, 2, number(2, 1)),
+        (2, 4, Effect::Nothing),
+        (3, 4, number(2, 2)),
+        (4, 5, Effect::Nothing),
+    ];
     expect_counts(rt, graph, (1, 6, 3, 1));
-    expect_step(rt, graph, 0, 1, Effect::Enter { first: 2, end: 3 });
-    expect_step(rt, graph, 1, 2, number(2, 1));
-    expect_step(rt, graph, 2, 4, Effect::Nothing);
-    expect_step(rt, graph, 3, 4, number(2, 2));
-    expect_step(rt, graph, 4, 5, Effect::Nothing);
+    expect_steps(rt, graph, &steps);
     expect_exit(rt, graph, 5, 0, &[]);
 }
 
 #[test]
 fn a_node_may_be_unreachable(rt: HostRuntime) {
-    let graph = graph_of(&rt, UNREACHABLE);
-    expect_unreachable_node(&rt, &graph);
+    expect_unreachable_node(&rt, &graph_of(&rt, UNREACHABLE));
 }
 
 /// That these are the sites of `RECURSION`.
 fn expect_counted_global(rt: &impl Abort, graph: &Graph) {
-    let again = Call {
-        node: 3,
-        start: 0,
-        passed: None,
-        back: 4,
-        target: None,
-    };
-    let first = Call {
-        node: 9,
-        start: 0,
-        passed: None,
-        back: 10,
-        target: None,
-    };
-    let sum = Effect::Sum {
-        target: 1,
-        source: 1,
-        number: 1,
-    };
+    let (again, first) = (Call::of(3, 0, 4), Call::of(9, 0, 10));
+    let steps = [
+        (0, 1, enter(3, 3)),
+        (2, 3, sum(1, 1, 1)),
+        (4, 5, Effect::Nothing),
+        (5, 6, Effect::Nothing),
+        (7, 8, enter(3, 3)),
+        (8, 9, number(1, 0)),
+        (10, 11, Effect::Nothing),
+    ];
     expect_counts(rt, graph, (2, 12, 3, 2));
-    expect_step(rt, graph, 0, 1, Effect::Enter { first: 3, end: 3 });
+    expect_steps(rt, graph, &steps);
     expect_fork(rt, graph, 1, 2, 5);
-    expect_step(rt, graph, 2, 3, sum);
-    expect_call(rt, graph, again);
-    expect_step(rt, graph, 4, 5, Effect::Nothing);
-    expect_step(rt, graph, 5, 6, Effect::Nothing);
+    expect_called_twice(rt, graph, [again, first]);
     expect_exit(rt, graph, 6, 0, &[again, first]);
-    expect_step(rt, graph, 7, 8, Effect::Enter { first: 3, end: 3 });
-    expect_step(rt, graph, 8, 9, number(1, 0));
-    expect_call(rt, graph, first);
-    expect_step(rt, graph, 10, 11, Effect::Nothing);
     expect_exit(rt, graph, 11, 7, &[]);
+}
+
+/// That both calls stand at their nodes, and have no other callee.
+fn expect_called_twice(rt: &impl Abort, graph: &Graph, calls: [Call; 2]) {
+    for call in calls {
+        expect_call(rt, graph, call);
+    }
 }
 
 #[test]
 fn a_global_is_counted_in_recursion(rt: HostRuntime) {
-    let graph = graph_of(&rt, RECURSION);
-    expect_counted_global(&rt, &graph);
+    expect_counted_global(&rt, &graph_of(&rt, RECURSION));
 }
 
 /// That these are the sites of `TWO_CALLS`.
 fn expect_both_calls(rt: &impl Abort, graph: &Graph) {
-    let first = Call {
-        node: 6,
-        start: 0,
-        passed: Some((2, 2)),
-        back: 7,
-        target: Some(4),
-    };
-    let second = Call {
-        node: 8,
-        start: 0,
-        passed: Some((3, 2)),
-        back: 9,
-        target: Some(5),
-    };
-    let copy = Effect::Copy {
-        target: 1,
-        source: 2,
-    };
+    let first = Call::of(6, 0, 7).passing(2, 2).assigning(4);
+    let second = Call::of(8, 0, 9).passing(3, 2).assigning(5);
+    let steps = [
+        (0, 1, enter(3, 3)),
+        (1, 2, copy(1, 2)),
+        (3, 4, enter(2, 6)),
+        (4, 5, number(2, 5)),
+        (5, 6, number(3, 6)),
+        (7, 8, Effect::Nothing),
+        (9, 10, Effect::Nothing),
+    ];
     expect_counts(rt, graph, (2, 11, 6, 1));
-    expect_step(rt, graph, 0, 1, Effect::Enter { first: 3, end: 3 });
-    expect_step(rt, graph, 1, 2, copy);
+    expect_steps(rt, graph, &steps);
+    expect_called_twice(rt, graph, [first, second]);
     expect_exit(rt, graph, 2, 0, &[first, second]);
-    expect_step(rt, graph, 3, 4, Effect::Enter { first: 2, end: 6 });
-    expect_step(rt, graph, 4, 5, number(2, 5));
-    expect_step(rt, graph, 5, 6, number(3, 6));
-    expect_call(rt, graph, first);
-    expect_step(rt, graph, 7, 8, Effect::Nothing);
-    expect_call(rt, graph, second);
-    expect_step(rt, graph, 9, 10, Effect::Nothing);
     expect_exit(rt, graph, 10, 3, &[]);
 }
 
 #[test]
 fn calls_go_to_starts_and_come_back(rt: HostRuntime) {
-    let graph = graph_of(&rt, TWO_CALLS);
-    expect_both_calls(&rt, &graph);
+    expect_both_calls(&rt, &graph_of(&rt, TWO_CALLS));
 }
 
 /// That the call of both procedures and that of one of them are the callers at the exits and the calls
 /// at the call nodes, where `main` begins at node 8.
 fn expect_callees(rt: &impl Abort, graph: &Graph) {
-    let first = Call {
-        node: 10,
-        start: 0,
-        passed: Some((2, 2)),
-        back: 11,
-        target: Some(3),
-    };
-    let second = Call { start: 4, ..first };
-    let alone = Call {
-        node: 12,
-        start: 0,
-        passed: Some((2, 2)),
-        back: 13,
-        target: Some(4),
-    };
+    let first = Call::of(10, 0, 11).passing(2, 2).assigning(3);
+    let second = Call::of(10, 4, 11).passing(2, 2).assigning(3);
+    let alone = Call::of(12, 0, 13).passing(2, 2).assigning(4);
     expect_calls(rt, graph, 10, &[first, second]);
     expect_calls(rt, graph, 12, &[alone]);
     expect_exit(rt, graph, 3, 0, &[first, alone]);
@@ -198,19 +180,21 @@ fn expect_callees(rt: &impl Abort, graph: &Graph) {
 
 /// That these are the sites of `CALLEES`.
 fn expect_call_of_both(rt: &impl Abort, graph: &Graph) {
+    let steps = [
+        (1, 2, number(3, 5)),
+        (5, 6, number(3, 6)),
+        (9, 10, number(2, 1)),
+        (11, 12, Effect::Nothing),
+        (13, 14, Effect::Nothing),
+    ];
     expect_counts(rt, graph, (3, 15, 5, 1));
-    expect_step(rt, graph, 1, 2, number(3, 5));
-    expect_step(rt, graph, 5, 6, number(3, 6));
-    expect_step(rt, graph, 9, 10, number(2, 1));
-    expect_step(rt, graph, 11, 12, Effect::Nothing);
-    expect_step(rt, graph, 13, 14, Effect::Nothing);
+    expect_steps(rt, graph, &steps);
     expect_callees(rt, graph);
 }
 
 #[test]
 fn a_call_goes_to_each_callee(rt: HostRuntime) {
-    let graph = graph_of(&rt, CALLEES);
-    expect_call_of_both(&rt, &graph);
+    expect_call_of_both(&rt, &graph_of(&rt, CALLEES));
 }
 
 /// The program of `CALLEES` with its callees in the other order.
@@ -219,102 +203,69 @@ const OTHER_ORDER: &str =
 
 #[test]
 fn calls_ascend_by_start_whatever_the_order(rt: HostRuntime) {
-    let graph = graph_of(&rt, OTHER_ORDER);
-    expect_callees(&rt, &graph);
+    expect_callees(&rt, &graph_of(&rt, OTHER_ORDER));
 }
 
-/// That these are the sites of `STATEMENTS` whose statements assign.
-fn expect_assignments(rt: &impl Abort, graph: &Graph) {
-    let sum = Effect::Sum {
-        target: 3,
-        source: 1,
-        number: 3,
-    };
+/// That these are the sites of `STATEMENTS`.
+fn expect_statements(rt: &impl Abort, graph: &Graph) {
     let mix = Effect::Mix {
         target: 3,
         first: 1,
         second: 3,
-    };
-    let copy = Effect::Copy {
-        target: 3,
-        source: 1,
     };
     let difference = Effect::Difference {
         target: 1,
         source: 3,
         number: 1,
     };
-    expect_step(rt, graph, 3, 4, sum);
-    expect_step(rt, graph, 5, 6, mix);
-    expect_step(rt, graph, 6, 7, Effect::Unknown { target: 3 });
-    expect_step(rt, graph, 10, 11, copy);
-    expect_step(rt, graph, 11, 12, difference);
-}
-
-/// That these are the sites of the others.
-fn expect_ways(rt: &impl Abort, graph: &Graph) {
-    expect_step(rt, graph, 0, 1, Effect::Enter { first: 3, end: 4 });
-    expect_step(rt, graph, 1, 2, Effect::Nothing);
-    expect_fork(rt, graph, 2, 1, 3);
-    expect_step(rt, graph, 4, 1, Effect::Nothing);
-    expect_step(rt, graph, 7, 8, Effect::Nothing);
-    expect_step(rt, graph, 8, 9, Effect::Nothing);
-    expect_step(rt, graph, 9, 10, Effect::Nothing);
-    expect_step(rt, graph, 12, 13, Effect::Nothing);
-    expect_exit(rt, graph, 13, 0, &[]);
-}
-
-/// That these are the sites of `STATEMENTS`.
-fn expect_statements(rt: &impl Abort, graph: &Graph) {
+    let steps = [
+        (0, 1, enter(3, 4)),
+        (1, 2, Effect::Nothing),
+        (3, 4, sum(3, 1, 3)),
+        (4, 1, Effect::Nothing),
+        (5, 6, mix),
+        (6, 7, Effect::Unknown { target: 3 }),
+        (7, 8, Effect::Nothing),
+        (8, 9, Effect::Nothing),
+        (9, 10, Effect::Nothing),
+        (10, 11, copy(3, 1)),
+        (11, 12, difference),
+        (12, 13, Effect::Nothing),
+    ];
     expect_counts(rt, graph, (1, 14, 4, 2));
-    expect_assignments(rt, graph);
-    expect_ways(rt, graph);
+    expect_steps(rt, graph, &steps);
+    expect_fork(rt, graph, 2, 1, 3);
+    expect_exit(rt, graph, 13, 0, &[]);
 }
 
 #[test]
 fn statements_have_their_effects_and_targets(rt: HostRuntime) {
-    let graph = graph_of(&rt, STATEMENTS);
-    expect_statements(&rt, &graph);
+    expect_statements(&rt, &graph_of(&rt, STATEMENTS));
 }
 
 /// That these are the sites of `PASSES_GLOBAL`.
 fn expect_recursion(rt: &impl Abort, graph: &Graph) {
-    let again = Call {
-        node: 2,
-        start: 0,
-        passed: Some((3, 3)),
-        back: 3,
-        target: None,
-    };
-    let first = Call {
-        node: 8,
-        start: 0,
-        passed: Some((1, 3)),
-        back: 9,
-        target: None,
-    };
-    let copy = Effect::Copy {
-        target: 2,
-        source: 1,
-    };
+    let again = Call::of(2, 0, 3).passing(3, 3);
+    let first = Call::of(8, 0, 9).passing(1, 3);
+    let steps = [
+        (0, 1, enter(4, 4)),
+        (3, 4, Effect::Nothing),
+        (4, 5, Effect::Nothing),
+        (5, 6, copy(2, 1)),
+        (7, 8, enter(3, 3)),
+        (9, 10, Effect::Nothing),
+    ];
     expect_counts(rt, graph, (2, 11, 4, 2));
-    expect_step(rt, graph, 0, 1, Effect::Enter { first: 4, end: 4 });
+    expect_steps(rt, graph, &steps);
     expect_fork(rt, graph, 1, 2, 4);
-    expect_call(rt, graph, again);
-    expect_step(rt, graph, 3, 4, Effect::Nothing);
-    expect_step(rt, graph, 4, 5, Effect::Nothing);
-    expect_step(rt, graph, 5, 6, copy);
+    expect_called_twice(rt, graph, [again, first]);
     expect_exit(rt, graph, 6, 0, &[again, first]);
-    expect_step(rt, graph, 7, 8, Effect::Enter { first: 3, end: 3 });
-    expect_call(rt, graph, first);
-    expect_step(rt, graph, 9, 10, Effect::Nothing);
     expect_exit(rt, graph, 10, 7, &[]);
 }
 
 #[test]
 fn a_procedure_may_call_itself(rt: HostRuntime) {
-    let graph = graph_of(&rt, PASSES_GLOBAL);
-    expect_recursion(&rt, &graph);
+    expect_recursion(&rt, &graph_of(&rt, PASSES_GLOBAL));
 }
 
 /// That the graph answers so for these names.

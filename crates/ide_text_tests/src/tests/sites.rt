@@ -7,18 +7,42 @@ use std::process::Abort;
 /// several is one of these for each.
 #[derive(Clone, Copy)]
 pub(crate) struct Call {
-    pub node: Node,
+    node: Node,
     /// The start of the callee.
-    pub start: Node,
+    start: Node,
     /// The argument and its parameter, if there is one.
-    pub passed: Option<(Fact, Fact)>,
+    passed: Option<(Fact, Fact)>,
     /// The return site.
-    pub back: Node,
+    back: Node,
     /// The fact that the call assigns, if any.
-    pub target: Option<Fact>,
+    target: Option<Fact>,
 }
 
 impl Call {
+    /// A call at that node of the procedure that begins there, with no argument and no target, which
+    /// comes back to that node.
+    pub(crate) fn of(node: Node, start: Node, back: Node) -> Call {
+        Call {
+            node,
+            start,
+            passed: None,
+            back,
+            target: None,
+        }
+    }
+
+    /// The call with that argument for that parameter.
+    pub(crate) fn passing(self, argument: Fact, parameter: Fact) -> Call {
+        let passed = Some((argument, parameter));
+        Call { passed, ..self }
+    }
+
+    /// The call that assigns that fact.
+    pub(crate) fn assigning(self, target: Fact) -> Call {
+        let target = Some(target);
+        Call { target, ..self }
+    }
+
     /// Whether the edge is the call edge of the call.
     fn is_entered_by(self, edge: &EdgeData) -> bool {
         match &edge.kind {
@@ -139,11 +163,18 @@ fn site_at<'a>(rt: &impl Abort, graph: &'a Graph, node: Node) -> &'a Site {
 }
 
 /// That one edge leaves the node, a normal one to that end with that effect.
-pub(crate) fn expect_step(rt: &impl Abort, graph: &Graph, node: Node, end: Node, effect: Effect) {
+fn expect_step(rt: &impl Abort, graph: &Graph, node: Node, end: Node, effect: Effect) {
     assert!(rt;
         is_step(site_at(rt, graph, node), end, effect),
         "at node {node}"
     );
+}
+
+/// That one edge leaves each of these nodes, a normal one to that end with that effect.
+pub(crate) fn expect_steps(rt: &impl Abort, graph: &Graph, steps: &[(Node, Node, Effect)]) {
+    for (node, end, effect) in steps {
+        expect_step(rt, graph, *node, *end, *effect);
+    }
 }
 
 /// That two edges leave the node, normal ones to these ends that change nothing.
