@@ -4,10 +4,4 @@
 #![tactic(auto)]
 
 #[cfg(test)]
-mod disk;
-#[cfg(test)]
-mod harms;
-#[cfg(test)]
-mod journal;
-#[cfg(test)]
-mod stores;
+mod tests;

@@ -1,6 +1,6 @@
 //! The bytes of a store over a disk in memory.
-use crate::harms::{cut, damage, has_length};
-use crate::stores::{begin_record, create, store};
+use super::harms::{cut, damage, has_length};
+use super::stores::{begin, create, record, store};
 use ide_disk::{Disk, Leave, MemDisk};
 use ide_journal::{Journal, RawRecord, Version, tag};
 use ide_wire::Refused;
@@ -175,7 +175,8 @@ fn begun_disk(
 ) -> Result<MemDisk, Refused> {
     let disk = stopping_disk(rt.alloc(), calls, fails)?;
     let mut journal = create(rt.alloc(), disk, 1, Version::Two)?;
-    begin_record(rt, &mut journal, 1, b"proc main\nend\n")?;
+    let raw = record(rt.alloc(), 1, b"proc main\nend\n")?;
+    begin(rt, &mut journal, &raw)?;
     advance(rt, &mut journal, calls, fails);
     Ok(journal.into_disk())
 }

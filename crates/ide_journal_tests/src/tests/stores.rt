@@ -18,26 +18,23 @@ pub(crate) fn create(
     }
 }
 
+/// A record of that kind and body.
+pub(crate) fn record(alloc: Global, kind: u8, body: &[u8]) -> Result<RawRecord, Refused> {
+    let body = body.to_vec(alloc)?;
+    Ok(RawRecord { kind, body })
+}
+
 /// The record is put under way.
-fn begin(rt: &impl Abort, journal: &mut Journal<MemDisk>, raw: &RawRecord) -> Result<(), Refused> {
+pub(crate) fn begin(
+    rt: &impl Abort,
+    journal: &mut Journal<MemDisk>,
+    raw: &RawRecord,
+) -> Result<(), Refused> {
     assert!(rt; raw.kind >= 1 && raw.kind <= 3);
     assert!(rt; raw.body.len() <= 4194304);
     assert!(rt; journal.is_idle());
     assert!(rt; journal.count() < 4294967295);
     journal.begin(raw)?;
-    Ok(())
-}
-
-/// A record of that kind and body is put under way.
-pub(crate) fn begin_record(
-    rt: &(impl Abort + AllocGlobal),
-    journal: &mut Journal<MemDisk>,
-    kind: u8,
-    body: &[u8],
-) -> Result<(), Refused> {
-    let body = body.to_vec(rt.alloc())?;
-    let raw = RawRecord { kind, body };
-    begin(rt, journal, &raw)?;
     Ok(())
 }
 
@@ -54,7 +51,8 @@ pub(crate) fn store(
     kind: u8,
     body: &[u8],
 ) -> Result<(), Refused> {
-    begin_record(rt, journal, kind, body)?;
+    let raw = record(rt.alloc(), kind, body)?;
+    begin(rt, journal, &raw)?;
     advances(rt, journal, Phase::Written);
     advances(rt, journal, Phase::BodySynced);
     advances(rt, journal, Phase::GateWritten);

@@ -169,79 +169,47 @@ fn reads_what_was_done(rt: HostRuntime) -> Result<(), Fail> {
     reads(&rt, alloc, Deed::CutAndSync, &[1])
 }
 
+/// The same of a deed that a crash may undo.
+fn undone_rows(
+    rt: &impl Abort,
+    alloc: Global,
+    deed: Deed,
+    new: &[u8],
+    half: &[u8],
+    filled: &[u8],
+) -> Result<(), Fail> {
+    rows(rt, alloc, deed, &[1, 2, 3, 4], new, half, filled)
+}
+
 #[test]
 fn leaves_of_a_write_what_the_kind_says(rt: HostRuntime) -> Result<(), Fail> {
-    let alloc = rt.alloc();
-    let old = [1, 2, 3, 4];
-    rows(
-        &rt,
-        alloc,
-        Deed::Overwrite,
-        &old,
-        &[1, 7, 8, 4],
-        &[1, 7, 3, 4],
-        &[1, 9, 9, 4],
-    )?;
-    rows(
-        &rt,
-        alloc,
-        Deed::FailedWrite,
-        &old,
-        &[1, 7, 8, 4],
-        &[1, 7, 3, 4],
-        &[1, 9, 9, 4],
-    )?;
-    rows(
-        &rt,
-        alloc,
-        Deed::FailedSync,
-        &old,
-        &[1, 7, 8, 4],
-        &[1, 7, 3, 4],
-        &[1, 9, 9, 4],
-    )
+    let (new, half, filled) = ([1, 7, 8, 4], [1, 7, 3, 4], [1, 9, 9, 4]);
+    for deed in [Deed::Overwrite, Deed::FailedWrite, Deed::FailedSync] {
+        undone_rows(&rt, rt.alloc(), deed, &new, &half, &filled)?;
+    }
+    Ok(())
 }
 
 #[test]
 fn leaves_of_a_write_past_the_end_what_the_kind_says(rt: HostRuntime) -> Result<(), Fail> {
     let alloc = rt.alloc();
-    let old = [1, 2, 3, 4];
-    let half = [1, 2, 3, 4, 7, 0, 0];
-    rows(
-        &rt,
-        alloc,
-        Deed::Append,
-        &old,
-        &[1, 2, 3, 4, 7, 8, 9],
-        &half,
-        &[1, 2, 3, 4, 9, 9, 9],
-    )?;
-    rows(
-        &rt,
-        alloc,
-        Deed::WriteAcross,
-        &old,
-        &[1, 2, 7, 8, 9],
-        &[1, 2, 7, 4, 0],
-        &[1, 2, 9, 9, 9],
-    )
+    let (new, half, filled) = (
+        [1, 2, 3, 4, 7, 8, 9],
+        [1, 2, 3, 4, 7, 0, 0],
+        [1, 2, 3, 4, 9, 9, 9],
+    );
+    undone_rows(&rt, alloc, Deed::Append, &new, &half, &filled)?;
+    let (new, half, filled) = ([1, 2, 7, 8, 9], [1, 2, 7, 4, 0], [1, 2, 9, 9, 9]);
+    undone_rows(&rt, alloc, Deed::WriteAcross, &new, &half, &filled)
 }
 
 #[test]
 fn leaves_of_a_cut_what_the_kind_says(rt: HostRuntime) -> Result<(), Fail> {
     let alloc = rt.alloc();
-    let old = [1, 2, 3, 4];
-    rows(&rt, alloc, Deed::Cut, &old, &[1], &[1], &[1])?;
-    rows(&rt, alloc, Deed::FailedCut, &old, &[1], &[1], &[1])?;
-    rows(
-        &rt,
-        alloc,
-        Deed::CutAndWrite,
-        &old,
-        &[1, 7, 8],
-        &[1, 7, 0],
-        &[1, 9, 9],
-    )
+    undone_rows(&rt, alloc, Deed::Cut, &[1], &[1], &[1])?;
+    undone_rows(&rt, alloc, Deed::FailedCut, &[1], &[1], &[1])?;
+    let (new, half, filled) = ([1, 7, 8], [1, 7, 0], [1, 9, 9]);
+    undone_rows(&rt, alloc, Deed::CutAndWrite, &new, &half, &filled)
 }
 
 #[test]
