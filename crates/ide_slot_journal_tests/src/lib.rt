@@ -4,8 +4,4 @@
 #![tactic(auto)]
 
 #[cfg(test)]
-mod journal;
-#[cfg(test)]
-mod stops;
-#[cfg(test)]
-mod tag;
+mod tests;

@@ -1,5 +1,5 @@
 //! A stop of either disk at each of its calls, and each kind of crash.
-use crate::journal::{create, disk, plan, record};
+use super::journal::{create, disk, plan, record};
 use ide_disk::{Leave, MemDisk};
 use ide_slot_journal::SlotJournal;
 use std::alloc::AllocGlobal;

@@ -1,5 +1,5 @@
 //! The tag of a store on two disks, as it is told before an opening.
-use crate::journal::{create, disk};
+use super::journal::{create, disk};
 use ide_disk::MemDisk;
 use ide_slot_journal::current_tag;
 use ide_wire::Refused;

@@ -95,23 +95,22 @@ fn fill(rt: &impl Abort, journal: &mut SlotJournal<MemDisk>) -> Result<u64, Fail
     Ok(100)
 }
 
-/// That the disk has so many bytes, with these at a place.
-fn has(
-    rt: &impl Abort,
-    disk: &mut MemDisk,
-    len: u64,
-    at: u64,
-    expected: &[u8],
-) -> Result<(), Fail> {
-    let found = disk.len()?;
-    assert!(rt; found == len, "{found} bytes");
-    assert!(rt; expected.len() <= 64);
-    assert!(rt; at <= len && expected.len() as u64 <= len - at);
-    let mut buffer = [0; 64];
-    let out = &mut buffer[..expected.len()];
-    disk.read(at, out)?;
-    assert!(rt; &*out == expected, "at byte {at}");
-    Ok(())
+/// All bytes of the disk.
+fn bytes_of(alloc: Global, disk: &mut MemDisk) -> Result<Vec<u8>, Fail> {
+    let length = disk.len()? as usize;
+    let mut bytes = Vec::with_capacity(alloc, length)?;
+    bytes.resize(length, 0)?;
+    disk.read(0, &mut bytes)?;
+    Ok(bytes)
+}
+
+/// That there are so many bytes, with these at a place.
+fn has(rt: &impl Abort, bytes: &[u8], length: usize, at: usize, expected: &[u8]) {
+    assert!(rt; bytes.len() == length, "{} bytes", bytes.len());
+    match bytes.get(at..) {
+        Some(rest) => assert!(rt; rest.starts_with(expected), "at byte {at}"),
+        None => panic!(rt; "no byte {at}"),
+    }
 }
 
 #[test]
@@ -130,9 +129,10 @@ fn makes_a_checkpoint_and_goes_on_behind_it(rt: HostRuntime) -> Result<(), Fail>
     let told = [
         1, 0, 0, 0, 0, 0, 0, 0, 3, 0, 0, 0, 0, 0, 0, 0, 2, 0, 0, 0, 1, 0, 0, 0,
     ];
-    has(&rt, &mut b, 16385, 9, &told)?;
-    has(&rt, &mut b, 16385, 4096, &[1, 1, 0])?;
-    has(&rt, &mut b, 16385, 16384, &[0])?;
+    let bytes = bytes_of(alloc, &mut b)?;
+    has(&rt, &bytes, 16385, 9, &told);
+    has(&rt, &bytes, 16385, 4096, &[1, 1, 0]);
+    has(&rt, &bytes, 16385, 16384, &[0]);
     let (mut journal, records) = match SlotJournal::open(alloc, a, b, 1) {
         Ok(pair) => pair,
         Err((refused, _, _)) => return Err(Fail::from(refused)),
@@ -141,13 +141,9 @@ fn makes_a_checkpoint_and_goes_on_behind_it(rt: HostRuntime) -> Result<(), Fail>
     assert!(rt; journal.base() == 3);
     store(&rt, &mut journal, 1, &[112, 10])?;
     let (_, mut b) = journal.into_disks();
-    has(
-        &rt,
-        &mut b,
-        20481,
-        16384,
-        &[1, 1, 3, 0, 0, 0, 0, 0, 0, 0, 2, 0, 0, 0, 112, 10, 0],
-    )?;
+    let stored = [1, 1, 3, 0, 0, 0, 0, 0, 0, 0, 2, 0, 0, 0, 112, 10, 0];
+    has(&rt, &bytes_of(alloc, &mut b)?, 20481, 16384, &stored);
     b.crash(Leave::Old);
-    has(&rt, &mut b, 20481, 20480, &[0])
+    has(&rt, &bytes_of(alloc, &mut b)?, 20481, 20480, &[0]);
+    Ok(())
 }

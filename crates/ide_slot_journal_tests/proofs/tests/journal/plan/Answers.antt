@@ -1,7 +1,7 @@
 use Rattle.std.proofs.Common.{arith, ap, length, []}
 use Rattle.std.proofs.lemmas.List.Elements.{All-cons, All-nil}
 use Rattle.ide_slots.specs.Slot.{IsPartEntry}
-use Rattle.ide_slot_journal_tests.proofs.journal.plan.Goals as goal
+use Rattle.ide_slot_journal_tests.proofs.tests.journal.plan.Goals as goal
 
 pub plan-requires-clause-proper : goal.plan-requires-clause-proper
 plan-requires-clause-proper g c = record {
