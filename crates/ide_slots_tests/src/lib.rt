@@ -4,8 +4,4 @@
 #![tactic(auto)]
 
 #[cfg(test)]
-mod current;
-#[cfg(test)]
-mod heads;
-#[cfg(test)]
-mod reading;
+mod tests;
