@@ -5,12 +5,4 @@
 #![tactic(auto)]
 
 #[cfg(test)]
-mod example;
-#[cfg(test)]
-mod generated;
-#[cfg(test)]
-mod plain;
-#[cfg(test)]
-mod service;
-#[cfg(test)]
-mod workers;
+mod tests;

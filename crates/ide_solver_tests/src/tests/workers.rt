@@ -1,5 +1,5 @@
 //! Values by several workers: the dump is the same for any number of them.
-use crate::generated;
+use super::generated;
 use ide_instances::{CopyConst, ShiftConst, Uninit};
 use ide_problem::Problem;
 use ide_service::{solve, solve_shared};
@@ -32,26 +32,27 @@ const WORKED: [&str; 12] = [
 /// How many workers fill the values of each text.
 const WORKERS: [usize; 4] = [1, 2, 3, 64];
 
-/// Appends the dump of a text by one thread.
-fn dump<P: Problem>(alloc: Global, text: &[u8], out: &mut Vec<u8>) -> Result<(), Refused> {
-    solve::<P>(alloc, text, &[b"main".as_slice()], out)?;
-    Ok(())
+/// The dump of a text by one thread.
+fn dump<P: Problem>(alloc: Global, text: &[u8]) -> Result<Vec<u8>, Refused> {
+    let mut out = Vec::new(alloc);
+    solve::<P>(alloc, text, &[b"main".as_slice()], &mut out)?;
+    Ok(out)
 }
 
-/// Appends the dump of a text by so many workers.
+/// The dump of a text by so many workers.
 fn dump_shared<R: Threads + Sync, P: Problem>(
     rt: &R,
     alloc: Global,
     text: &[u8],
     workers: usize,
-    out: &mut Vec<u8>,
-) -> Result<(), Refused>
+) -> Result<Vec<u8>, Refused>
 where
     P::F: Sync,
     P::L: Send + Sync,
 {
-    solve_shared::<R, P>(rt, alloc, text, &[b"main".as_slice()], workers, out)?;
-    Ok(())
+    let mut out = Vec::new(alloc);
+    solve_shared::<R, P>(rt, alloc, text, &[b"main".as_slice()], workers, &mut out)?;
+    Ok(out)
 }
 
 /// Asserts that so many workers give the dump of one thread.
@@ -64,10 +65,8 @@ where
     P::F: Sync,
     P::L: Send + Sync,
 {
-    let mut alone = Vec::new(rt.alloc());
-    dump::<P>(rt.alloc(), text, &mut alone)?;
-    let mut shared = Vec::new(rt.alloc());
-    dump_shared::<R, P>(rt, rt.alloc(), text, workers, &mut shared)?;
+    let alone = dump::<P>(rt.alloc(), text)?;
+    let shared = dump_shared::<R, P>(rt, rt.alloc(), text, workers)?;
     assert!(rt; shared.as_slice() == alone.as_slice(), "by {workers}");
     Ok(())
 }
@@ -108,18 +107,15 @@ fn each_number_of_workers_fills_two_calls(rt: HostRuntime) -> Result<(), Fail> {
 }
 
 /// Asserts that so many workers are refused, before the text is read.
-fn expect_limit<R: Threads + Sync + Abort + AllocGlobal>(
-    rt: &R,
-    workers: usize,
-) -> Result<(), Fail> {
-    let mut out = Vec::new(rt.alloc());
-    let refused = dump_shared::<R, CopyConst>(rt, rt.alloc(), b"no text", workers, &mut out);
-    assert!(rt; refused == Err(Refused::Limit), "{workers} workers");
-    Ok(())
+fn expect_limit<R: Threads + Sync + Abort + AllocGlobal>(rt: &R, workers: usize) {
+    match dump_shared::<R, CopyConst>(rt, rt.alloc(), b"no text", workers) {
+        Ok(_) => panic!(rt; "{workers} workers"),
+        Err(refused) => assert!(rt; refused == Refused::Limit, "{workers} workers"),
+    }
 }
 
 #[test]
-fn workers_have_a_limit(rt: HostRuntime) -> Result<(), Fail> {
-    expect_limit(&rt, 0)?;
-    expect_limit(&rt, 65)
+fn workers_have_a_limit(rt: HostRuntime) {
+    expect_limit(&rt, 0);
+    expect_limit(&rt, 65);
 }

@@ -1,6 +1,6 @@
 //! The worked programs, and some made by chance: the solver's values are those of their paths,
 //! under each analysis.
-use crate::generated;
+use super::generated;
 use ide_instances::{CopyConst, Reach, ShiftConst, Uninit};
 use ide_plain::agrees;
 use ide_problem::Problem;
