@@ -3,8 +3,10 @@ use ide_slots::{Side, choose_slot};
 use ide_wire::Refused;
 use std::process::Abort;
 
-/// The first gate of a slot, where a record or nothing stands behind it.
+/// The first gate of an open slot.
 const OPEN: u8 = 1;
+
+/// The first gate of a slot that is not open.
 const CLOSED: u8 = 0;
 
 /// The first page of a slot of version 2, tag 7 and that generation, with two commands and one part,
@@ -23,8 +25,8 @@ fn slot(generation: u8, gate: u8) -> [u8; 4097] {
 /// That of slots of these generations and gates the one of that side and generation is current.
 fn takes(first: (u8, u8), second: (u8, u8), side: Side, generation: u32) -> bool {
     let (first, second) = (slot(first.0, first.1), slot(second.0, second.1));
-    choose_slot(&first, &second, 7)
-        .is_ok_and(|it| it.side == side && it.head.generation == generation)
+    choose_slot(&first, &second, 7).is_ok_and(|it| it.side == side
+        && it.head.generation == generation)
 }
 
 #[test]
