@@ -1,0 +1,6 @@
+use Rattle.std.proofs.Common.{[]}
+use Rattle.std.specs.Arc.{arc_value}
+use Rattle.ide_desks_tests.proofs.tests.run.a_failed_disk_stops_both_desks.Given as goal
+
+abbrev pub ghosts-fail : goal.ghosts-fail
+ghosts-fail g a = record { board = arc_value a.opened.board; told = ⊥; first = λ _. [] }
