@@ -1,15 +1,18 @@
 //! A text's run by copy constants in a store on two disks in memory, and what copying the bytes of one takes.
 ghost use Rattle.std.specs.Prelude.{◌≡◌, IfOk};
+ghost use Rattle.std.specs.Arc.{arc_value};
 ghost use Rattle.ide_disk.specs.Memory.{memory_size};
 ghost use Rattle.ide_bench.specs.Stores.{AreAmountsOf};
 
 use anyhow::Result;
+use ide_desks::{Accord, Opened};
 use ide_disk::{Disk, MemDisk};
 use ide_instances::CopyConst;
 use ide_service::{Crew, Open, Service, work_together};
 use ide_slot_store::SlotEngine;
 use ide_text::parse;
 use std::alloc::Global;
+use std::marker::Brand;
 use std::sync::Wait;
 use std::thread::Threads;
 use std::time::Clock;
@@ -18,6 +21,8 @@ use std::time::Clock;
 const ROOM: usize = 16_777_216;
 /// The most calls of it.
 const CALLS: usize = 1_024;
+/// No client orders commands while hands work.
+const NO_CLIENTS: u64 = 0;
 
 /// How many records a store has stored, how long its disks are, how many keys it has, and how many tasks that took.
 #[derive(Clone, Copy)]
@@ -100,7 +105,23 @@ pub(crate) fn work<R: Threads + Wait + Clock + Sync + AllocGlobal>(
 ) -> Result<Amounts> {
     let mut engine = create(rt.alloc())?;
     begin(rt.alloc(), &mut engine, text)?;
-    let service = Service::new(rt.alloc(), engine);
+    match Opened::new(rt.alloc(), engine, NO_CLIENTS) {
+        Ok((opened, _)) => work_on::<Brand, R>(rt, opened, workers, ahead),
+        Err((refused, _)) => Err(refused.into()),
+    }
+}
+
+/// The same on a store that was opened with a board.
+fn work_on<J: Accord + Send + Sync, R: Threads + Wait + Clock + Sync + AllocGlobal>(
+    rt: &R,
+    opened: Opened<CopyConst, MemDisk>,
+    workers: usize,
+    ahead: usize,
+) -> Result<Amounts>
+    requires board { arc_value opened.board ≡ J.board }
+    requires untold { J.told → ⊥ }
+{
+    let service = Service::<_, _, J>::new(rt.alloc(), opened);
     let crew = Crew {
         rt,
         service: &service,

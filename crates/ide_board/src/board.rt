@@ -196,6 +196,11 @@ impl<R: Drop> Board<R> {
         self.stop.load(Ordering::SeqCst)
     }
 
+    /// How many records are stored, for who looks on and has no seat. Nothing is claimed of it.
+    pub fn stored(&self) -> u64 {
+        self.table.shared.peek(1)
+    }
+
     // The board with the two seats that change its words.
     fn open<B: Base<R>>(
         alloc: Global,

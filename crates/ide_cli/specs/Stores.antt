@@ -1,6 +1,6 @@
 -- What a command on a store in two files prints.
 use Rattle.std.specs.Global.{Vec}
-use Rattle.std.specs.Prelude.{ℕ, List, codes}
+use Rattle.std.specs.Prelude.{ℕ, Bool, List, codes}
 use Rattle.std.specs.contracts.fs.File.{the_row as file_row}
 use Rattle.std.specs.declared.fs.File.{File}
 use Rattle.ide_commands.specs.Obeyed.{Obeys}
@@ -16,6 +16,7 @@ use Rattle.ide_instances.specs.UninitValue.{shown_value}
 use Rattle.ide_slot_store.specs.declared.engine.SlotEngine.{SlotEngine}
 use Rattle.ide_store.specs.Table.{Analysis}
 use Rattle.ide_words.specs.declared.words.StoreCommand.{StoreCommand}
+use Rattle.ide_words.specs.declared.words.StoreCommand.TheVariants.{Work}
 use Rattle.ide_cli.specs.Analyses.{copy_analysis, shift_analysis, uninit_analysis}
 
 -- the lines of a store that was made, and of one that was adopted
@@ -42,3 +43,7 @@ ObeysOver (Shift engine) command text old new = Obeys shift_analysis shown_const
 -- over some open store, and some text where one is to be loaded. Of `work` it is the store that the hands left
 abbrev pub IsObeyed : StoreCommand → (old new : Vec ℕ) → Type 0
 IsObeyed command old new = (store : OpenStore) × (text : List ℕ) × ObeysOver store command text old new
+
+-- the hands' work, so many of them and with a checkpoint each so many records, and whether they told how far they had come or not
+abbrev pub IsWorked : (workers every : ℕ) → (old new : Vec ℕ) → Type 0
+IsWorked workers every old new = (quiet : Bool) → IsObeyed (Work workers quiet every) old new

@@ -3,7 +3,7 @@ ghost use Rattle.std.specs.Prelude.{◌≡◌, ◌++◌, OnOk};
 ghost use Rattle.ide_cli.specs.Stores.{IsObeyed, ObeysOver, adopted_line, created_line};
 
 use crate::failure::{Failure, read_file};
-use crate::working::work;
+use crate::working::{Asked, work};
 use ide_commands::{Store, adopt as adopt_on, call, create as create_on, open};
 use ide_file::{FileDisk, FileFault};
 use ide_instances::{CopyConst, ShiftConst, Uninit};
@@ -187,8 +187,12 @@ fn obey_on<R: AllocGlobal + Threads + Wait + Clock + Sync>(
         checkpoint_every,
     } = command
     {
-        let told = if quiet { None } else { terminal };
-        return work(rt, opened, workers, checkpoint_every, told, out);
+        let asked = Asked {
+            workers,
+            checkpoint_every,
+            terminal: if quiet { None } else { terminal },
+        };
+        return work(rt, opened, asked, out);
     }
     call_on(rt.alloc(), opened, command, text, out)
 }

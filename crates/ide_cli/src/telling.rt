@@ -1,4 +1,5 @@
 //! How far a run has come, told on a terminal while hands work on it.
+use ide_desks::Accord;
 use ide_disk::Disk;
 use ide_problem::Problem;
 use ide_service::{Gate, Point, Service};
@@ -9,9 +10,9 @@ use std::time::{Clock, Instant};
 /// A gate that lets everybody go on. Each time a record was stored it tells on a terminal, if there is one, how
 /// far the run has come: one line, written over the one before.
 #[derive(Drop)]
-pub(crate) struct Telling<'a, R: Wait + Clock, P: Problem, D: Disk> {
+pub(crate) struct Telling<'a, R: Wait + Clock, P: Problem, D: Disk, J: Accord> {
     pub(crate) rt: &'a R,
-    pub(crate) service: &'a Service<P, D>,
+    pub(crate) service: &'a Service<P, D, J>,
     pub(crate) terminal: Option<Stderr>,
     /// When the work began: none where the clock could not be read.
     pub(crate) since: Option<Instant>,
@@ -19,7 +20,7 @@ pub(crate) struct Telling<'a, R: Wait + Clock, P: Problem, D: Disk> {
     pub(crate) ahead: usize,
 }
 
-impl<'a, R: Wait + Clock, P: Problem, D: Disk> Gate for Telling<'a, R, P, D> {
+impl<'a, R: Wait + Clock, P: Problem, D: Disk, J: Accord> Gate for Telling<'a, R, P, D, J> {
     ghost may_stop = { λ _ _. ⊥ };
 
     fn pass(&self, point: Point) -> bool {
@@ -38,7 +39,7 @@ impl<'a, R: Wait + Clock, P: Problem, D: Disk> Gate for Telling<'a, R, P, D> {
     }
 }
 
-impl<'a, R: Wait + Clock, P: Problem, D: Disk> Telling<'a, R, P, D> {
+impl<'a, R: Wait + Clock, P: Problem, D: Disk, J: Accord> Telling<'a, R, P, D, J> {
     /// Tells how far the run has come. What the terminal does not take is left out: the run goes on.
     fn tell(&self) {
         let Some(mut terminal) = self.terminal else {

@@ -2,13 +2,15 @@
 //!
 //! It is written for each analysis by itself: the kit gives no proof of threads that are sent what rests on a
 //! bound on a type parameter's own type, as that a problem's functions may be sent.
-ghost use Rattle.std.specs.Prelude.{Bool, OnOk};
-ghost use Rattle.ide_cli.specs.Stores.{EndsWork, IsObeyed};
-ghost use Rattle.ide_words.specs.declared.words.StoreCommand.TheVariants.{Work};
+ghost use Rattle.std.specs.Arc.{arc_value};
+ghost use Rattle.std.specs.Prelude.{◌≡◌, OnOk};
+ghost use Rattle.ide_cli.specs.Stores.{EndsWork, IsWorked};
 
 use crate::telling::Telling;
 use ide_commands::{Store, end_work};
+use ide_desks::{Accord, Opened};
 use ide_file::FileDisk;
+use ide_instances::{CopyConst, ShiftConst, Uninit};
 use ide_problem::Problem;
 use ide_service::{Crew, Service, work_together};
 use ide_slot_store::SlotEngine;
@@ -16,6 +18,7 @@ use ide_store::Kept;
 use ide_wire::Refused;
 use std::fs::File;
 use std::io::Stderr;
+use std::marker::Brand;
 use std::sync::Wait;
 use std::thread::Threads;
 use std::time::{Clock, Instant};
@@ -23,16 +26,31 @@ use std::time::{Clock, Instant};
 /// How many tasks a hand does in one hold of the store's lock: so many take about a tenth of a millisecond,
 /// beside which a lock that is handed on costs little. With four hands 64 took a tenth longer.
 const AHEAD: usize = 256;
+/// No client orders commands while hands work.
+const NO_CLIENTS: u64 = 0;
 
-/// Lets so many hands do all that is pending in the engine while one stores what they do, with a checkpoint each
-/// so many records, and appends `quiet`.
+/// A disk over a file.
+type Disk = FileDisk<File>;
+
+/// What `work` is asked for: by how many hands, after how many records past the last checkpoint the next one is
+/// made, and the terminal, if there is one, on which it tells how far the run has come.
+#[derive(Clone, Copy)]
+pub(crate) struct Asked {
+    pub(crate) workers: usize,
+    pub(crate) checkpoint_every: u32,
+    pub(crate) terminal: Option<Stderr>,
+}
+
+/// Lets hands do all that is pending in the engine that was opened with a board, while one stores what they do, and
+/// appends `quiet`.
 macro_rules! work_on {
-    ($rt:expr, $engine:expr, $workers:expr, $every:expr, $terminal:expr, $out:expr) => {{
-        let service = Service::with_checkpoints($rt.alloc(), $engine, $every);
+    ($rt:expr, $opened:expr, $asked:expr, $out:expr) => {{
+        let every = $asked.checkpoint_every;
+        let service = Service::<_, _, J>::with_checkpoints($rt.alloc(), $opened, every);
         let gate = Telling {
             rt: $rt,
             service: &service,
-            terminal: $terminal,
+            terminal: $asked.terminal,
             since: Instant::now($rt).ok(),
             ahead: AHEAD,
         };
@@ -41,7 +59,7 @@ macro_rules! work_on {
             service: &service,
             gate: &gate,
         };
-        let worked = work_together($rt, $rt.alloc(), &crew, $workers);
+        let worked = work_together($rt, $rt.alloc(), &crew, $asked.workers);
         gate.end();
         end(service.into_engine(), worked, $out)
     }};
@@ -49,7 +67,7 @@ macro_rules! work_on {
 
 /// Ends the work that hands did on the engine, where it was not refused, and appends `quiet`.
 fn end<P: Problem>(
-    mut engine: SlotEngine<P, FileDisk<File>>,
+    mut engine: SlotEngine<P, Disk>,
     worked: Result<(), Refused>,
     out: &mut Vec<u8>,
 ) -> Result<(), Refused>
@@ -61,24 +79,71 @@ fn end<P: Problem>(
     }
 }
 
-/// Lets so many hands do all that is pending in the store while one stores what they do, with a checkpoint each
-/// time where so many records are stored past the last one, and appends `quiet` once the last batch is stored. How
-/// far that has come is told on the terminal, if there is one.
+/// Lets hands do all that is pending in the store while one stores what they do, with a checkpoint each time where
+/// so many records are stored past the last one, and appends `quiet` once the last batch is stored.
 pub(crate) fn work<R: Threads + Wait + Clock + Sync + AllocGlobal>(
     rt: &R,
-    store: Store<FileDisk<File>>,
-    workers: usize,
-    checkpoint_every: u32,
-    terminal: Option<Stderr>,
+    store: Store<Disk>,
+    asked: Asked,
     out: &mut Vec<u8>,
 ) -> Result<(), Refused>
     // It is the store that the hands left, and the same whether they told how far they had come.
-    ensures { OnOk result ((quiet : Bool)
-        → IsObeyed (Work workers quiet checkpoint_every) out.old out.new) }
+    ensures { OnOk result (IsWorked asked.workers asked.checkpoint_every out.old out.new) }
 {
     match store {
-        Store::Uninit(engine) => work_on!(rt, engine, workers, checkpoint_every, terminal, out),
-        Store::Copy(engine) => work_on!(rt, engine, workers, checkpoint_every, terminal, out),
-        Store::Shift(engine) => work_on!(rt, engine, workers, checkpoint_every, terminal, out),
+        Store::Uninit(engine) => match Opened::new(rt.alloc(), engine, NO_CLIENTS) {
+            Ok((opened, _)) => work_uninit::<Brand, R>(rt, opened, asked, out),
+            Err((refused, _)) => Err(refused),
+        },
+        Store::Copy(engine) => match Opened::new(rt.alloc(), engine, NO_CLIENTS) {
+            Ok((opened, _)) => work_copy::<Brand, R>(rt, opened, asked, out),
+            Err((refused, _)) => Err(refused),
+        },
+        Store::Shift(engine) => match Opened::new(rt.alloc(), engine, NO_CLIENTS) {
+            Ok((opened, _)) => work_shift::<Brand, R>(rt, opened, asked, out),
+            Err((refused, _)) => Err(refused),
+        },
     }
+}
+
+/// The same on a store of variables that may be read before they are written.
+fn work_uninit<J: Accord + Send + Sync, R: Threads + Wait + Clock + Sync + AllocGlobal>(
+    rt: &R,
+    opened: Opened<Uninit, Disk>,
+    asked: Asked,
+    out: &mut Vec<u8>,
+) -> Result<(), Refused>
+    requires board { arc_value opened.board ≡ J.board }
+    requires untold { J.told → ⊥ }
+    ensures { OnOk result (IsWorked asked.workers asked.checkpoint_every out.old out.new) }
+{
+    work_on!(rt, opened, asked, out)
+}
+
+/// The same on a store of constants through copies.
+fn work_copy<J: Accord + Send + Sync, R: Threads + Wait + Clock + Sync + AllocGlobal>(
+    rt: &R,
+    opened: Opened<CopyConst, Disk>,
+    asked: Asked,
+    out: &mut Vec<u8>,
+) -> Result<(), Refused>
+    requires board { arc_value opened.board ≡ J.board }
+    requires untold { J.told → ⊥ }
+    ensures { OnOk result (IsWorked asked.workers asked.checkpoint_every out.old out.new) }
+{
+    work_on!(rt, opened, asked, out)
+}
+
+/// The same on a store of constants through sums.
+fn work_shift<J: Accord + Send + Sync, R: Threads + Wait + Clock + Sync + AllocGlobal>(
+    rt: &R,
+    opened: Opened<ShiftConst, Disk>,
+    asked: Asked,
+    out: &mut Vec<u8>,
+) -> Result<(), Refused>
+    requires board { arc_value opened.board ≡ J.board }
+    requires untold { J.told → ⊥ }
+    ensures { OnOk result (IsWorked asked.workers asked.checkpoint_every out.old out.new) }
+{
+    work_on!(rt, opened, asked, out)
 }

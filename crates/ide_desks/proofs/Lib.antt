@@ -4,3 +4,5 @@ pub mod Steps
 pub mod Meeting
 pub mod Apart
 pub mod Opening
+pub mod Planning
+pub mod Asking

@@ -1,6 +1,7 @@
 -- Halves that went on apart meet: what was sealed goes over to the half that writes, which is live with it then; and the two are
 -- at work on one world again, from which a run goes on.
-use Rattle.std.proofs.Common.{◌≡◌, ◌∙◌, ◌≤◌, ◌++◌, ℕ, Bool, false, List, [], ◌∷◌, Option, Some, None, length, drop, map, refl, ap, sym, subst, arith}
+use Rattle.std.proofs.Common.{◌≡◌, ◌∙◌, ◌≤◌, ◌++◌, ℕ, Bool, true, false, List, [], ◌∷◌, Option, Some, None, Result, Ok, Err, length, drop, map, refl, ap, sym, subst, arith}
+use Rattle.std.specs.Prelude.{◌||◌, OnErr, OnOk}
 use Rattle.std.specs.List.{All, AllByRecursion}
 use Rattle.std.proofs.lemmas.List.{append-nil, append_assoc, drop-append-le, drop_all, length-append, take-append-drop, take-append-le, take_all}
 use Rattle.std.proofs.lemmas.List.Elements.{recursion_from_All}
@@ -19,20 +20,27 @@ use Rattle.ide_slots.specs.Sides.{Sides}
 use Rattle.ide_slots.specs.Two.{SlotWriter}
 use Rattle.ide_slot_store.specs.Engine.{AreAtWork, SlotWorld}
 use Rattle.ide_slot_store.specs.Half.{Writes}
+use Rattle.ide_slot_store.specs.Runs.{AreOnRun}
 use Rattle.ide_slot_store.specs.Writing.{IsFirstLeft}
 use Rattle.ide_slot_store.specs.declared.writer.SlotWriterHalf.{SlotWriterHalf}
+use Rattle.ide_steps.specs.Core.{IsUnchanged}
+use Rattle.ide_store.proofs.Drained.{unchanged_equal}
 use Rattle.ide_store.proofs.Places.{fits_at}
 use Rattle.ide_store.proofs.Stepping.{works_after}
 use Rattle.ide_store.proofs.Waiting.{more_get, none_mapped}
 use Rattle.ide_store.specs.Handing.{HandsAll, HandsTo, gave, kept}
 use Rattle.ide_store.specs.Places.{OnTwoDisks}
-use Rattle.ide_store.specs.Table.{Analysis, IsReached, TableData, WorksOn, after_acts, at_meeting, gone_on}
+use Rattle.ide_store.specs.Table.{Analysis, IsReached, IsSameTable, TableData, WorksOn, after_acts, at_meeting, gone_on}
 use Rattle.ide_store.specs.TwoDisks.{IsLiveTwo, commands_of}
 use Rattle.ide_store.specs.TwoDisksLaws.{TwoDisksKeep, slots_of}
 use Rattle.ide_store.specs.World.{contents}
+use Rattle.ide_wire.specs.declared.refused.Refused.{Refused}
+use Rattle.ide_desks.specs.Apart.{HalvesMeet}
 use Rattle.ide_desks.specs.Desks.{CountsSealed, IsTableDesk, IsWriterDesk}
 use Rattle.ide_desks.specs.Keeping.{WorksOnRun, WritesLive, handed_of, records_in, two}
 use Rattle.ide_desks.proofs.Lists.{first_of, prefix_length, records_count, records_take, take_prefix}
+use Rattle.ide_desks.proofs.Steps.{same_half_live}
+use Rattle.ide_desks.proofs.Works.{stayed}
 
 -- what is so of all is so of the last ones
 last_all : {X : Type 0} (P : X → Type 0) (xs ys : List X) → AllByRecursion P (xs ++ ys) → AllByRecursion P ys
@@ -267,3 +275,45 @@ module _ {F L : Type 0} (a : Analysis F L) (tag : ℕ) (first : List Entry) (kee
       subst (IsWriterDesk a tag first new (record writer { taken = seat.sealed })) (sym works)
       (writer_desk a tag first keep table new_table old new seat writer counts desk begins count (going writes) (omega (arith, all)) journal commands few
       proper over)
+
+-- what a hand over of all leaves of the half that works, if memory does not want
+pub rest_kept : {F T : Type 0} (table mid : TableData F) (before after : List RawRecord) (result : Result T Refused) → OnOk result (HandsAll table mid before after)
+    → OnErr result (IsSameTable table mid) → IsUnchanged table.core mid.core × (mid.sealed ≡ table.sealed) × (mid.failed ≡ table.failed)
+rest_kept {F = F} table mid before after (Ok done) hands same = (
+  unchanged_equal table.core mid.core (ap (λ (t : TableData F). t.core) hands.rest),
+  ap (λ (t : TableData F). t.sealed) hands.rest,
+  ap (λ (t : TableData F). t.failed) hands.rest,
+)
+rest_kept table mid before after (Err refused) hands same = (same.core, same.rest.sealed, same.rest.failed)
+
+-- neither of them failed
+pub none_failed : (b c : Bool) → (b || c) ≡ false → (b ≡ false) × (c ≡ false)
+none_failed false c is = (refl, is)
+none_failed true c is = cc (is)
+
+-- ---- desks that are given up: their halves are on one run, where nothing waits with the one that works
+module _ {F L : Type 0} (a : Analysis F L) (tag : ℕ) (first : List Entry) (keep : TwoDisksKeep (slots_of a Two)) {D : Type 0} {G : Ghosts D}
+    (meet : HalvesMeet a G) (table mid : TableData F) (old new : SlotWriterHalf D G) (seat : TableView Entry) (writer : WriterView Entry)
+    (counts : CountsSealed table seat) (within : length writer.stored ≤ length writer.taken) (begins : IsPrefix writer.taken seat.sealed)
+    (count : length writer.taken ≡ seat.handed) (journal : new.journal ≡ old.journal) (commands : new.commands.items ≡ old.commands.items)
+    (few : table.sealed ≤ 4294967295) (proper : All IsEntry (entries_of new.waiting.items)) (working : table.failed ≡ false)
+    (none : mid.waiting ≡ []) where
+  on_run : (records : List Entry) → WorksOnRun a tag mid records → WritesLive a tag records (length writer.stored) new → AreOnRun a (two tag) mid new
+  on_run records works writes = (meet tag mid new records (length writer.stored) none works writes).0
+
+  pub met_on_run : {T : Type 0} (result : Result T Refused) → OnOk result (HandsAll table mid old.waiting.items new.waiting.items) → OnErr result (IsSameTable table mid)
+      → OnErr result (new.waiting.items ≡ old.waiting.items) → IsTableDesk a tag first table seat → IsWriterDesk a tag first old writer false
+      → AreOnRun a (two tag) mid new
+  met_on_run (Ok done) hands same queue desk writes =
+      let after = table_desk a tag first keep table mid old new seat writer counts desk begins count hands.rest in
+      let written = writer_desk a tag first keep table mid old new seat writer counts desk begins count writes within journal commands few proper hands in
+      let long = sealed_count a tag first keep table mid old new seat writer counts desk begins count in
+      on_run (records_in first seat.sealed)
+      (subst (WorksOnRun a tag mid) (take_all (length seat.sealed) (records_in first seat.sealed) (omega (arith, long)))
+      (after.run (ap (λ (t : TableData F). t.failed) hands.rest ∙ working))) written.keeps
+  met_on_run (Err refused) hands same queue desk writes =
+      on_run (handed_of first seat) (stayed a tag (handed_of first seat) table mid same (desk.run working))
+      (subst (λ (rs : List Entry). WritesLive a tag rs (length writer.stored) new)
+      (taken_is a tag first keep table mid old new seat writer counts desk begins count)
+      (same_half_live a tag keep (records_in first writer.taken) (length writer.stored) old new writes.keeps
+      (record { journal = journal; waiting = queue; commands = commands })))

@@ -15,7 +15,8 @@ use Rattle.ide_slot_journal.specs.Stands.{AreHonest, disks_of, records_stored, s
 use Rattle.ide_slots.specs.Records.{all_numbered}
 use Rattle.ide_slots.specs.Sides.{Sides, two_sides}
 use Rattle.ide_slots.specs.Two.{LeavesTwo, SlotWriter}
-use Rattle.ide_slot_store.specs.Half.{CrashesStep, HasCalled, HasRested, HasStored, HasWaited, MayLeave, StepsOver, StepsTo, at_once, behind_failure, calls, fails, makes, rests, stores, waits}
+use Rattle.ide_slot_store.specs.Half as slot_half
+use Rattle.ide_slot_store.specs.Half.{CrashesStep, HasCalled, HasStored, HasWaited, IsQuiet, IsSameHalf, MayLeave, StepsOver, StepsTo, at_once, behind_failure, calls, fails, makes, rests, stores, waits}
 use Rattle.ide_slot_store.specs.Writing.{BeginsFirst, DidFail, StandsBehind}
 use Rattle.ide_slot_store.specs.declared.writer.SlotWriterHalf.{SlotWriterHalf}
 use Rattle.ide_store.specs.Store.{IsSafe, StoreLaws}
@@ -28,6 +29,7 @@ use Rattle.ide_wire.specs.declared.refused.Refused.TheVariants.{Disk, NoMemory}
 use Rattle.ide_board.specs.Records.{ClientView, WriterView, with_stored}
 use Rattle.ide_desks.specs.Desks.{IsWriterDesk}
 use Rattle.ide_desks.proofs.Lists.{get_replicate, get_take, records_count, records_get}
+use Rattle.ide_desks.specs.Stepping.{IsStepRefusal, wants_memory}
 use Rattle.ide_desks.specs.Keeping.{HaveOwn, HoldsStored, KeepsOwn, KeepsStored, KeepsWriting, LeavesStored, WritesLive, records_in, unknown}
 
 module _ {F L : Type 0} (a : Analysis F L) (tag : ℕ) {D : Type 0} {G : Ghosts D} where
@@ -85,17 +87,18 @@ module _ {F L : Type 0} (a : Analysis F L) (tag : ℕ) {D : Type 0} {G : Ghosts 
       has_failed one =
           laws.failed taken stored one.mid disks (disks_of new.journal) (first_live work one.mid disks on.live one.first) one.event
 
-      has_rested : HasRested on.slot on.other taken stored old new → WritesLive a tag taken stored new
-      has_rested one = record {
+      -- so it is as the same half
+      pub same_half_live : IsSameHalf old new → WritesLive a tag taken stored new
+      same_half_live same = record {
         slot = on.slot;
         other = on.other;
         writes = record {
-          behind = subst (λ j. StandsBehind on.slot on.other taken stored j) (sym one.same.journal) on.writes.behind;
-          waiting = ap (map entry_of) one.same.waiting ∙ on.writes.waiting;
-          commands = ap all_numbered one.same.commands ∙ on.writes.commands;
+          behind = subst (λ j. StandsBehind on.slot on.other taken stored j) (sym same.journal) on.writes.behind;
+          waiting = ap (map entry_of) same.waiting ∙ on.writes.waiting;
+          commands = ap all_numbered same.commands ∙ on.writes.commands;
         };
         tag_is = on.tag_is;
-        live = subst (λ j. LiveAs stored (slot_writer on.other j) (disks_of j)) (sym one.same.journal) on.live;
+        live = subst (λ j. LiveAs stored (slot_writer on.other j) (disks_of j)) (sym same.journal) on.live;
       }
 
       has_waited : HasWaited on.slot on.other taken stored old new → WritesLive a tag taken stored new
@@ -111,11 +114,15 @@ module _ {F L : Type 0} (a : Analysis F L) (tag : ℕ) {D : Type 0} {G : Ghosts 
                 (subst (λ (d : Sides DiskState). LiveAs stored work d) (sym same) on.live);
           }
 
+      -- so it is where it writes the same, and no disk was called
+      pub stays_live : slot_half.KeepsWriting old new → IsQuiet old.journal new.journal → WritesLive a tag taken stored new
+      stays_live keeps quiet = has_waited (record { quiet = quiet; writes = keeps on.slot on.other taken stored on.writes })
+
       pub stepped : (result : Result Bool Refused) → StepsTo on.slot on.other taken stored old new result → StepsAs result
       stepped _ (makes (calls one)) = went_on (called one)
       stepped _ (makes (stores one)) = stored_one (stored_next one)
       stepped _ (makes (fails one)) = failed (has_failed one)
-      stepped _ (rests one) = rested one.all (has_rested one)
+      stepped _ (rests one) = rested one.all (same_half_live one.same)
       stepped _ (waits one) = waited (has_waited one)
 
       -- what a crash at any moment of the step leaves
@@ -244,6 +251,14 @@ module _ {F L : Type 0} (a : Analysis F L) (tag : ℕ) {D : Type 0} {G : Ghosts 
       by : (refused : Refused) → (refused ≡ Disk → ⊥) → StepsAs a tag keep taken count old new (Err refused) → IsWriterDesk a tag first new seat failed_before
       by _ other (failed safe) = absurd (other refl)
       by _ other (waited on) = still on
+
+  -- why it is refused, where no call failed
+  pub desk_refused : (refused : Refused) → (refused ≡ Disk → ⊥) → (AreHonest old.journal → StepsOver old new (Err refused)) → IsStepRefusal refused
+  desk_refused refused other steps = by refused other (steps_as (Err refused) steps)
+    where
+      by : (refused : Refused) → (refused ≡ Disk → ⊥) → StepsAs a tag keep taken count old new (Err refused) → IsStepRefusal refused
+      by _ other (failed safe) = absurd (other refl)
+      by _ other (waited on) = wants_memory
 
   pub desk_crashes : (AreHonest old.journal → CrashesStep old new) → LeavesStored a tag taken count old new
   desk_crashes crashes = crashed a tag keep taken count old new live (crashes desk.honest)

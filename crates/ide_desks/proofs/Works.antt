@@ -1,31 +1,37 @@
 -- What the table's desk keeps from call to call: acts of the half that works lead on from the world on which it works.
 use Rattle.std.proofs.Common.{◌≡◌, ◌∙◌, ◌+◌, ◌≤◌, ◌++◌, ◌<◌, ℕ, true, false, List, [], ◌∷◌, Option, None, Some, Result, Ok, Err, length, map, refl, ap, sym, subst, arith, inl, inr}
 use Rattle.std.proofs.Math.Logic.{∥∥₁_map}
-use Rattle.std.specs.Prelude.{OnErr, OnOk}
+use Rattle.std.specs.Prelude.{IfOk, OnErr, OnOk}
 use Rattle.std.proofs.lemmas.List.{append_assoc, length-append}
 use Rattle.ide_board.specs.Records.{Marked, TableView}
 use Rattle.ide_journal.specs.Format.{Entry}
 use Rattle.ide_steps.specs.Claiming.{FindsIdle, FindsQuiet, IfTask}
 use Rattle.ide_steps.specs.Drain.{HasDonePart}
+use Rattle.ide_steps.specs.Frozen.{graph_in, program_in}
+use Rattle.ide_steps.specs.Room.{IsGraphSaid, IsWholeCore}
 use Rattle.ide_steps.specs.State.{claim_of}
 use Rattle.ide_steps.specs.Steps.{FindsNone}
 use Rattle.ide_steps.specs.declared.claim.Claimed.{Claimed}
 use Rattle.ide_steps.specs.declared.claim.Claimed.TheVariants.{Idle, Quiet, Task}
+use Rattle.ide_steps.specs.declared.closed.Closed.{Closed}
 use Rattle.ide_steps.specs.declared.part.Parted.{Parted}
 use Rattle.ide_steps.specs.declared.part.Parted.TheVariants.{Lowered, NoPart, Same}
 use Rattle.ide_tasks.specs.Parts.{owed}
 use Rattle.ide_tasks.specs.Work.{WorkData}
+use Rattle.ide_text.specs.Value.{ProgramValue}
 use Rattle.ide_wire.specs.declared.refused.Refused.{Refused}
 use Rattle.ide_store.proofs.Drained.{unchanged_equal, works_unchanged}
 use Rattle.ide_store.proofs.Runs.{act_goes, works_go}
 use Rattle.ide_store.specs.Draining.{WorksBy}
+use Rattle.ide_store.specs.Freezing.{IsImageOver}
 use Rattle.ide_store.specs.Hands.{Claims, Ends, Parts, Releases}
 use Rattle.ide_store.specs.Places.{OnTwoDisks, Place}
-use Rattle.ide_store.specs.Runs.{IsOfTable}
+use Rattle.ide_store.specs.Runs.{IsImageOfRun, IsOfTable}
 use Rattle.ide_store.specs.Table.{Analysis, IsAct, IsSameTable, KeepsRest, StoreAct, TableData}
-use Rattle.ide_store.specs.TableCalls.{DoesPart, EndsClaim, FindsNothing, GivesClaimBack, SealsOne, TakesTask, behind_first}
+use Rattle.ide_store.specs.TableCalls.{BeginsRoot, DoesPart, EndsClaim, FindsNothing, GivesClaimBack, LoadsProgram, SealsOne, TakesTask, behind_first}
 use Rattle.ide_desks.specs.Desks.{CountsSealed, IsTableDesk, last_but_one, last_entry, with_last, with_last_two}
 use Rattle.ide_desks.specs.Keeping.{WorksOnRun, handed_of, two}
+use Rattle.ide_desks.specs.Orders.{SpellsLoad, SpellsRoot}
 use Rattle.ide_desks.proofs.Lists.{handed_more, last_but_pushed, last_of_two, last_pushed, waiting_more}
 
 module _ {F L : Type 0} (a : Analysis F L) (tag : ℕ) (handed : List Entry) (old new : TableData F) where
@@ -224,3 +230,49 @@ pub sealed_both : {F : Type 0} (old new : TableData F) (one : Option Entry) (ent
     → new.sealed ≡ old.sealed + length (behind_first one entry) → number + 1 ≡ new.sealed → old.sealed < number → number ≡ old.sealed + 1
 sealed_both old new None entry number sealed is more = absurd (omega (arith, sealed, is, more))
 sealed_both old new (Some one) entry number sealed is more = omega (arith, sealed, is, more)
+
+-- ---- what is told of records and of images, of the run on which the desk works
+module _ {F L : Type 0} (a : Analysis F L) (tag : ℕ) (first : List Entry) (seat : TableView Entry) where
+  pub load_spelled : (v : ProgramValue) (old new : TableData F) (number : ℕ) → IsTableDesk a tag first old seat → old.failed ≡ false
+      → LoadsProgram a v old new number → SpellsLoad a v (last_entry new.waiting)
+  load_spelled v old new number desk working loads =
+      let on = desk.run working in
+      let can = (loads.act (OnTwoDisks (two tag)) on.world (handed_of first seat) on.reached on.works).0 in
+      let last : last_entry new.waiting ≡ loads.entry = ap last_entry loads.seals.waits ∙ last_pushed old.waiting loads.entry in
+      subst (SpellsLoad a v) (sym last) (record { text = can.text; program = can.program; parsed = can.parsed; says = can.says; spelled = can.spelled })
+
+  pub root_spelled : (name : List ℕ) (old new : TableData F) (number : ℕ) → IsTableDesk a tag first old seat → old.failed ≡ false
+      → BeginsRoot a name old new number → SpellsRoot a name (last_entry new.waiting)
+  root_spelled name old new number desk working begins =
+      let on = desk.run working in
+      let can = (begins.act (OnTwoDisks (two tag)) on.world (handed_of first seat) on.reached on.works).0 in
+      let last : last_entry new.waiting ≡ begins.entry = ap last_entry begins.waits ∙ last_behind begins.first in
+      subst (SpellsRoot a name) (sym last) can.spelled
+    where
+      last_behind : (one : Option Entry) → last_entry (old.waiting ++ behind_first one begins.entry) ≡ begins.entry
+      last_behind None = last_pushed old.waiting begins.entry
+      last_behind (Some one) = last_of_two old.waiting one begins.entry
+
+  -- a frozen image is that of the run
+  pub frozen_run : {P : Type 0} (table : TableData F) (result : Result (Closed P L F) Refused) → ∥ IsTableDesk a tag first table seat ∥₁
+      → IfOk result (IsImageOver a table) → IfOk result (λ _. table.failed ≡ false) → IfOk result (λ closed. ∥ IsImageOfRun a closed ∥₁)
+  frozen_run table (Ok closed) desk over working = ∥∥₁_map desk (λ (one : IsTableDesk a tag first table seat).
+      let on = one.run working in
+      record {
+        place = OnTwoDisks (two tag);
+        world = on.world;
+        reached = on.reached;
+        image = over (OnTwoDisks (two tag)) on.world (handed_of first seat) on.reached on.works;
+      })
+  frozen_run table (Err refused) desk over working = tt
+
+  -- and its graph is that of its program
+  pub frozen_graph : {P : Type 0} (table : TableData F) (result : Result (Closed P L F) Refused) → ∥ IsTableDesk a tag first table seat ∥₁
+      → IfOk result (IsImageOver a table) → IfOk result (λ _. table.failed ≡ false) → IfOk result (λ closed. table.core.graph ≡ Some (graph_in closed))
+      → IsWholeCore table.core → IfOk result (λ closed. ∥ IsGraphSaid (Some (program_in closed)) (graph_in closed) ∥₁)
+  frozen_graph table (Ok closed) desk over working graph whole = ∥∥₁_map desk (λ (one : IsTableDesk a tag first table seat).
+      let on = one.run working in
+      let image = over (OnTwoDisks (two tag)) on.world (handed_of first seat) on.reached on.works in
+      subst (λ (p : Option ProgramValue). IsGraphSaid p (graph_in closed)) (sym on.works.image.program ∙ image.program)
+      (whole.said (graph_in closed) graph))
+  frozen_graph table (Err refused) desk over working graph whole = tt

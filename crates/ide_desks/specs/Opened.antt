@@ -30,6 +30,16 @@ pub record IsToldOf {P D L F : Type 0} {G : Ghosts D} (a : Analysis F L) (tag : 
   pub honest : AreHonest engine.writer.journal
   pub is : first ≡ run.at_work.handed
 
+-- so much may be told of an engine, where it is so: `told` of an accord may be this very statement
+pub record MayBeTold {P D L F : Type 0} {G : Ghosts D} (a : Analysis F L) (tag : ℕ) (engine : SlotEngine P D L F G) : Type 0 where
+  pub run : AreOnRun a (two tag) engine.table engine.writer
+  pub honest : AreHonest engine.writer.journal
+
+-- and these are its records then
+abbrev pub records_told : {P D L F : Type 0} {G : Ghosts D} {a : Analysis F L} {tag : ℕ} {engine : SlotEngine P D L F G} → MayBeTold a tag engine
+    → List Entry
+records_told told = told.run.at_work.handed
+
 -- an engine that is on a run of that version is on it still
 abbrev pub StaysOnRun : {P D L F : Type 0} {G : Ghosts D} → Analysis F L → ℕ → (old new : SlotEngine P D L F G) → Type 0
 StaysOnRun a tag old new = AreOnRun a (two tag) old.table old.writer → AreOnRun a (two tag) new.table new.writer

@@ -2,7 +2,9 @@
 use std::marker::Brand;
 
 /// What the two desks of a service agree on: the board of both seats; what has to be told for what they keep
-/// besides; and which records the board began with, where that is told. Each call of a program picks them.
+/// besides; and which records the board began with, where that is told. Each call of a program picks them: what is
+/// told may be that the engine is on a run (`MayBeTold` of `specs/Opened`, with its `records_told`), so that all is
+/// said of each engine that is on one; or nothing, which is `⊥`.
 pub trait Accord {
     ghost use Rattle.std.specs.Prelude.{List};
     ghost use Rattle.atomic_table.specs.Seated.{TableId};

@@ -8,9 +8,11 @@
 #![tactic(auto)]
 
 mod accord;
+mod checkpointing;
 mod handing;
 mod laws;
 mod opened;
+mod rejoined;
 mod table;
 mod writer;
 

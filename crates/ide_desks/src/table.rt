@@ -3,12 +3,18 @@ ghost use Rattle.std.specs.Prelude.{◌≡◌, ◌+◌, ◌<◌, ◌≤◌, ◌�
 ghost use Rattle.std.specs.Arc.{arc_value};
 ghost use Rattle.ide_board.specs.Records.{with_own};
 ghost use Rattle.ide_desks.specs.Desks.{CountsSealed, IsMarked, IsTableDesk, last_entry, with_last, with_last_two};
+ghost use Rattle.ide_desks.specs.Orders.{NotesOrder, SpellsLoad, SpellsRoot};
 ghost use Rattle.ide_steps.specs.ClaimRefusal.{IsClaimRefusal};
 ghost use Rattle.ide_steps.specs.Claiming.{FindsIdle, FindsQuiet, IfTask};
+ghost use Rattle.ide_steps.specs.CloseRefusal.{IsFreezeRefusal};
 ghost use Rattle.ide_steps.specs.Drain.{HasDonePart};
+ghost use Rattle.ide_steps.specs.Frozen.{graph_in, program_in};
+ghost use Rattle.ide_steps.specs.Room.{IsGraphSaid};
 ghost use Rattle.ide_steps.specs.Steps.{FindsNone};
 ghost use Rattle.ide_image.specs.Worklist.{claim_at};
 ghost use Rattle.ide_store.specs.Acting.{BeginsAnew};
+ghost use Rattle.ide_store.specs.Freezing.{IsImageOver};
+ghost use Rattle.ide_store.specs.Runs.{IsImageOfRun};
 ghost use Rattle.ide_store.specs.Table.{IsSameTable, KeepsRest};
 ghost use Rattle.ide_store.specs.TableCalls.{BeginsRoot, DoesPart, EndsClaim, FindsNothing, GivesClaimBack, IsFinishStop, IsLoadStop, IsPartStop, IsRefusal, IsRootStop, IsSealStop, IsStaleClaim, LoadsProgram, SealsBatch, TakesTask};
 ghost use Rattle.ide_text.specs.Program.{value_of};
@@ -16,7 +22,7 @@ ghost use Rattle.ide_text.specs.Program.{value_of};
 use crate::accord::Accord;
 use ide_board::{Board, ClientSeat, Shows, TableSeat};
 use ide_problem::Problem;
-use ide_steps::{Claimed, Parted};
+use ide_steps::{Claimed, Closed, Parted, cores_are_whole};
 use ide_store::{Kept, TableHalf, Ticket};
 use ide_tasks::Work;
 use ide_text::Program;
@@ -133,6 +139,18 @@ impl<P: Problem, J: Accord> TableDesk<P, J> {
         self.half.release(hand)
     }
 
+    /// The image as it stands, copied: see [`TableHalf::freeze`]. It is that of a run: so it answers with best
+    /// values, as that of any run does.
+    pub fn freeze(&self) -> Result<Closed<P>, Refused>
+        ensures image { IfOk result (IsImageOver ⟦<P as Kept>⟧.analysis self.now.half) }
+        ensures run { J.told → IfOk result (λ closed. ∥ IsImageOfRun ⟦<P as Kept>⟧.analysis closed ∥₁) }
+        ensures graph { J.told → IfOk result (λ closed. ∥ IsGraphSaid (Some (program_in closed)) (graph_in closed) ∥₁) }
+        ensures refused { IfErr result (IsRefusal self.now.half (IsFreezeRefusal self.now.half.core)) }
+    {
+        cores_are_whole(self.half.core());
+        self.half.freeze()
+    }
+
     /// Marks that a call of a disk failed: from then on each call is refused with `Failed`.
     pub fn stop(&mut self)
         ensures half { self.new.half ≡ record self.old.half { failed = true } }
@@ -172,8 +190,8 @@ impl<P: Problem, J: Accord> TableDesk<P, J> {
         requires { client.old.board ≡ J.board }
         ensures loads { IfOk result (λ ticket. LoadsProgram ⟦<P as Kept>⟧.analysis (value_of program) self.old.half self.new.half ticket.number) }
         ensures marked { OnOk result (self.new.seat ≡ with_last self.old.seat self.new.half (Some client.old.number)) }
-        ensures noted { IfOk result (λ ticket. client.new ≡ with_own client.old ((ticket.number, last_entry self.new.half.waiting) ∷ [])) }
-        ensures seen { IfOk result (λ ticket. client.old.seen ≤ ticket.number) }
+        ensures noted { IfOk result (λ ticket. NotesOrder client.old client.new ticket.number (last_entry self.new.half.waiting)) }
+        ensures command { J.told → IfOk result (λ _. ∥ SpellsLoad ⟦<P as Kept>⟧.analysis (value_of program) (last_entry self.new.half.waiting) ∥₁) }
         ensures refused { IfErr result (IsRefusal self.old.half (IsLoadStop self.old.half)) }
         ensures unchanged { OnErr result (IsSameTable self.old.half self.new.half × (self.new.seat ≡ self.old.seat)) }
         ensures not_noted { OnErr result (client.new ≡ client.old) }
@@ -197,8 +215,8 @@ impl<P: Problem, J: Accord> TableDesk<P, J> {
         requires { client.old.board ≡ J.board }
         ensures begins { IfOk result (λ ticket. BeginsRoot ⟦<P as Kept>⟧.analysis name.now self.old.half self.new.half ticket.number) }
         ensures marked { OnOk result (IsMarked self.old.seat self.new.seat self.new.half client.old.number) }
-        ensures noted { IfOk result (λ ticket. client.new ≡ with_own client.old ((ticket.number, last_entry self.new.half.waiting) ∷ [])) }
-        ensures seen { IfOk result (λ ticket. client.old.seen ≤ ticket.number) }
+        ensures noted { IfOk result (λ ticket. NotesOrder client.old client.new ticket.number (last_entry self.new.half.waiting)) }
+        ensures command { J.told → IfOk result (λ _. ∥ SpellsRoot ⟦<P as Kept>⟧.analysis name.now (last_entry self.new.half.waiting) ∥₁) }
         ensures refused { IfErr result (IsRefusal self.old.half (IsRootStop ⟦<P as Kept>⟧.analysis self.old.half name.now)) }
         ensures unchanged { OnErr result (IsSameTable self.old.half self.new.half × (self.new.seat ≡ self.old.seat)) }
         ensures not_noted { OnErr result (client.new ≡ client.old) }

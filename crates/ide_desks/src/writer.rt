@@ -1,10 +1,11 @@
 //! What lies under the writer's lock: the half of a store that writes, and the writer's seat of the board.
-ghost use Rattle.std.specs.Prelude.{◌≡◌, ◌↔◌, ◌⊎◌, ◌<◌, true, false, length, Err, Ok, IfOk, IsTrue, OnErr, OnOk};
+ghost use Rattle.std.specs.Prelude.{◌≡◌, ◌↔◌, ◌⊎◌, ◌<◌, ◌-◌, true, false, length, Err, Ok, IfErr, IfOk, IsTrue, OnErr, OnOk};
 ghost use Rattle.std.specs.Arc.{arc_value};
 ghost use Rattle.ide_board.specs.Records.{AreStoredBelow};
 ghost use Rattle.ide_desks.specs.Desks.{CountsTaken, IsWriterDesk, seat_after};
 ghost use Rattle.ide_desks.specs.Keeping.{KeepsOwn, LeavesStored, records_in};
-ghost use Rattle.ide_slot_journal.specs.Stands.{IsFilling, pair_of, sides_of};
+ghost use Rattle.ide_desks.specs.Stepping.{IsStepRefusal};
+ghost use Rattle.ide_slot_journal.specs.Stands.{IsCheckpointing, IsFilling, pair_of, records_stored, sides_of};
 
 use crate::accord::Accord;
 use crate::table::SealedRecord;
@@ -82,6 +83,22 @@ impl<P: Problem, D: Disk, J: Accord> WriterDesk<P, D, J> {
         self.failed
     }
 
+    /// Whether all that was taken over is stored, and no checkpoint is under way: there is no call to make.
+    pub fn is_stored(&self) -> bool
+        ensures { IsTrue result ↔ (self.now.seat.stored ≡ self.now.seat.taken) × (IsCheckpointing self.now.half.journal → ⊥) }
+    {
+        self.seat.stored() == self.taken && !self.half.is_checkpointing()
+    }
+
+    /// How many records were stored since the last checkpoint.
+    pub fn stored_past_checkpoint(&self) -> u64
+        ensures { result ≡ records_stored self.now.half.journal - self.now.half.journal.base }
+    {
+        self.half
+            .stored()
+            .saturating_sub(u64::from(self.half.base()))
+    }
+
     /// Makes the next disk call, for the oldest record that was taken over and is not stored, or of a
     /// checkpoint. Where it stores the record, that is published on the board.
     ///
@@ -101,6 +118,7 @@ impl<P: Problem, D: Disk, J: Accord> WriterDesk<P, D, J> {
         ensures fault { result ≡ Err Refused.Disk → FailsOne self.old.half.journal self.new.half.journal }
         ensures failed { self.old.failed ≡ true → (result ≡ Err Refused.Failed) × (self.new.half ≡ self.old.half) }
         ensures fails { (self.new.failed ≡ true) ↔ ((self.old.failed ≡ true) ⊎ (result ≡ Err Refused.Disk)) }
+        ensures refused { J.told → IfErr result (λ why. ∥ IsStepRefusal why ∥₁) }
     {
         two_disks_are_a_store::<P>();
         if self.failed {

@@ -6,3 +6,5 @@ pub mod Results
 pub mod Served
 pub mod Solved
 pub mod Started
+pub mod Published
+pub mod Clients

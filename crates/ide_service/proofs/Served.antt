@@ -1,7 +1,8 @@
 -- The values of an image that acts of a store led to are best. What was kept through all acts says that without its claims
 -- the image is the end of a run over the graph of its program, and that its roots, which names tell, have their
 -- identities; so have the roots that indices tell, since they are the same procedures.
-use Rattle.std.proofs.Common.{◌≡◌, ◌∙◌, ◌<◌, ℕ, List, Option, Some, Result, map, ap, sym, subst, inl, inr}
+use Rattle.std.proofs.Common.{◌≡◌, ◌∙◌, ◌<◌, ℕ, List, Option, Some, Result, Ok, Err, map, ap, sym, subst, inl, inr}
+use Rattle.std.proofs.Math.Logic.{∥∥₁_map₂}
 use Rattle.std.specs.Prelude.{IfOk, cond, nat_lt, slice_index, unwrap_or}
 use Rattle.std.specs.Option.{option_map}
 use Rattle.ide_batch.proofs.Imaged.{starts_as}
@@ -23,6 +24,7 @@ use Rattle.ide_store.proofs.Reached.{Knows, reached_whole}
 use Rattle.ide_store.specs.Answers.{GraphBy, frame_by, roots_by}
 use Rattle.ide_store.specs.Freezing.{IsImageOf, IsImageOver}
 use Rattle.ide_store.specs.Places.{Place, version_at}
+use Rattle.ide_store.specs.Runs.{IsImageOfRun}
 use Rattle.ide_store.specs.Table.{Analysis, StoreWorld, TableData, WorksOn, forms_of, store_at}
 use Rattle.ide_text.specs.Names.{is_named}
 use Rattle.ide_text.specs.Program.{procedures_of}
@@ -41,7 +43,7 @@ use Rattle.ide_values.specs.Values.{ValuesData}
 use Rattle.ide_wire.specs.declared.key.Key.{Key}
 use Rattle.ide_wire.specs.declared.refused.Refused.{Refused}
 use Rattle.ide_service.proofs.Results.{if-ok}
-use Rattle.ide_service.specs.Served.{AreAnswersOver, ValuesOfRunsAreBest}
+use Rattle.ide_service.specs.Served.{AreAnswersOfRun, AreAnswersOver, ValuesOfRunsAreBest}
 
 module _ {v : ProgramValue} (by : GraphBy v) (names : List (List ℕ)) (roots : List ℕ)
     (same : map (named_in (Some by.graph)) names ≡ map (λ root. Some root) roots) where
@@ -166,3 +168,32 @@ module _ {P F L : Type 0} (a : Analysis F L) (table : TableData F) (closed : Clo
       if-ok {S = AreAnswersOver a table} result programs graphs rooted bests (λ values program graph roots best place w handed reached works.
       let image = frozen place w handed reached works in
       law closed values (said_in place w handed works image) program graph roots best place w reached image)
+
+-- the values of a frozen image of a run, with the graph of its program, are best in the run's world
+pub answers_of_run : {P F L : Type 0} (a : Analysis F L) (closed : Closed P L F) → ValuesOfRunsAreBest P a → IsImageOfRun a closed
+    → IsGraphSaid (Some (program_in closed)) (graph_in closed) → (result : Result (ValuesData L) Refused)
+    → IfOk result (λ values. values.program ≡ program_in closed)
+    → IfOk result (λ values. values.graph ≡ graph_in closed)
+    → IfOk result (λ values. values.roots ≡ closed.roots.items)
+    → IfOk result (AreBestOf a.lattice a.functions a.targets closed.tables)
+    → IfOk result (AreAnswersOfRun a)
+answers_of_run a closed law run said result programs graphs rooted bests =
+    if-ok {S = AreAnswersOfRun a} result programs graphs rooted bests (λ values program graph roots best.
+    record {
+      place = run.place;
+      world = run.world;
+      reached = run.reached;
+      answers = law closed values said program graph roots best run.place run.world run.reached run.image;
+    })
+
+-- and so they are where that is told
+pub answers_told : {P F L : Type 0} (a : Analysis F L) (closed : Closed P L F) → ValuesOfRunsAreBest P a → ∥ IsImageOfRun a closed ∥₁
+    → ∥ IsGraphSaid (Some (program_in closed)) (graph_in closed) ∥₁ → (result : Result (ValuesData L) Refused)
+    → IfOk result (λ values. values.program ≡ program_in closed)
+    → IfOk result (λ values. values.graph ≡ graph_in closed)
+    → IfOk result (λ values. values.roots ≡ closed.roots.items)
+    → IfOk result (AreBestOf a.lattice a.functions a.targets closed.tables)
+    → IfOk result (λ values. ∥ AreAnswersOfRun a values ∥₁)
+answers_told a closed law run said (Ok values) program graph roots best = ∥∥₁_map₂ run said (λ (r : IsImageOfRun a closed) (s : IsGraphSaid (Some (program_in closed)) (graph_in closed)).
+    answers_of_run a closed law r s (Ok values) program graph roots best)
+answers_told a closed law run said (Err refused) program graph roots best = tt

@@ -1,7 +1,9 @@
 pub mod Begun
+pub mod Clients
 pub mod Parts
 pub mod Refusal
 pub mod Refusing
 pub mod Served
 pub mod Solve
 pub mod Started
+pub mod Storing

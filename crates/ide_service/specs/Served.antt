@@ -20,6 +20,7 @@ use Rattle.ide_values.specs.Refusal.{IsValuesRefusal}
 use Rattle.ide_values.specs.Values.{ValuesData, value_there}
 use Rattle.ide_wire.specs.declared.key.Key.{Key}
 use Rattle.ide_wire.specs.declared.refused.Refused.{Refused}
+use Rattle.ide_service.specs.Refusing.{IsRefusedIn}
 
 module _ {F L : Type 0} (a : Analysis F L) where
   -- the values are those of the world's image, where nothing is pending: over a graph of its program, for its roots, each
@@ -67,3 +68,8 @@ module _ {F : Type 0} (table : TableData F) where
   pub data IsAnswerRefusal (workers : ℕ) : Refused → Type 0 where
     not_frozen : {refused : Refused} → IsRefusal table (IsFreezeRefusal table.core) refused → IsAnswerRefusal workers refused
     no_values : {refused : Refused} → IsAnswerable → IsValuesRefusal workers refused → IsAnswerRefusal workers refused
+
+-- why a service does not answer them: over some image that was met under the lock, that is not frozen; or its values are refused
+pub data IsServedRefusal (F : Type 0) (workers : ℕ) : Refused → Type 0 where
+  none_frozen : {refused : Refused} → IsRefusedIn {F = F} (λ table. IsFreezeRefusal table.core) refused → IsServedRefusal F workers refused
+  none_filled : {refused : Refused} → IsValuesRefusal workers refused → IsServedRefusal F workers refused

@@ -173,9 +173,36 @@ pub fn hand_loop<R: Wait, P: Problem, H: Hands<P>, G: Gate>(
     unreachable!()
 }
 
+/// Does up to so many whole tasks as the hand, and claims the key behind them.
+#[tactic(auto, using(crate::specs::Refusing::no_claim))]
+pub(crate) fn claim_ahead<R: Wait, P: Problem, H: Hands<P>>(
+    rt: &R,
+    alloc: Global,
+    hands: &mut H,
+    hand: usize,
+    tasks: usize,
+) -> Result<Claimed<P>, Refused>
+    ensures quiet { result ≡ Ok Claimed.Quiet → H.rests hands.new }
+    ensures idle { result ≡ Ok Claimed.Idle → H.waits hands.new }
+    ensures refused { IfErr result (IsLoopRefusal H.refuses hand) }
+{
+    let open = Open { ahead: 0 };
+    for _ in 0..tasks {
+        match hands.claim(hand) {
+            Ok(Claimed::Task(task)) => match run_task(rt, alloc, hands, hand, task, &open) {
+                Ok(_) => {}
+                Err(refused) => return Err(refused),
+            },
+            Ok(none) => return Ok(none),
+            Err(refused) => return Err(refused),
+        }
+    }
+    hands.claim(hand)
+}
+
 /// Does the task that the hand claimed, and leaves it with no claim: false where the gate stopped it.
 #[tactic(auto, using(crate::specs::Refusing::no_task))]
-pub(crate) fn run_task<R: Wait, P: Problem, H: Hands<P>, G: Gate>(
+fn run_task<R: Wait, P: Problem, H: Hands<P>, G: Gate>(
     rt: &R,
     alloc: Global,
     hands: &mut H,

@@ -8,20 +8,23 @@
 #![tactic(auto)]
 
 mod answers;
+mod committing;
+mod desk;
 mod half;
 mod hands;
 mod progress;
 mod runs;
 mod service;
-mod shared;
 mod sharing;
 mod solver;
+mod storing;
 mod together;
 
-pub use answers::values_of_table;
+pub use answers::{values_of_service, values_of_table};
 pub use hands::{Ended, Gate, Hands, Open, Point, hand_loop};
 pub use progress::Progress;
 pub use runs::{every_run, every_run_on_two_disks, values_of_runs_are_best};
 pub use service::Service;
 pub use solver::{solve, solve_shared, values_of, values_shared};
+pub use storing::store_all;
 pub use together::{Crew, Team, work_together};

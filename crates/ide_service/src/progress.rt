@@ -1,10 +1,8 @@
 //! How far a run has come, for who looks on.
 ghost use Rattle.std.specs.Prelude.{◌≡◌, length};
-ghost use Rattle.ide_slot_journal.specs.Stands.{records_stored};
 
-use ide_disk::Disk;
 use ide_problem::Problem;
-use ide_slot_store::SlotEngine;
+use ide_store::TableHalf;
 
 /// How many keys have an entry, how many are pending, and how many records are stored.
 #[derive(Clone, Copy, PartialEq, Eq, Debug)]
@@ -18,17 +16,17 @@ pub struct Progress {
 }
 
 impl Progress {
-    /// How far the run of an engine has come. It counts nothing anew.
-    pub fn of<P: Problem, D: Disk>(engine: &SlotEngine<P, D>) -> Progress
-        ensures keys { result.keys ≡ length engine.now.table.core.table.entries }
-        ensures pending { result.pending ≡ length engine.now.table.core.pile.pending }
-        ensures records { result.records ≡ records_stored engine.now.writer.journal }
+    /// How far the run of a half that works has come, of which so many records are stored. It counts nothing anew.
+    pub fn of<P: Problem>(table: &TableHalf<P>, records: u64) -> Progress
+        ensures keys { result.keys ≡ length table.now.core.table.entries }
+        ensures pending { result.pending ≡ length table.now.core.pile.pending }
+        ensures records { result.records ≡ records }
     {
-        let core = engine.table.core();
+        let core = table.core();
         Progress {
             keys: core.key_count(),
             pending: core.pending_count(),
-            records: engine.acked(),
+            records,
         }
     }
 }

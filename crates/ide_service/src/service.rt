@@ -1,66 +1,79 @@
-//! A service: a store that several hands work on at once, with one that writes what they did.
-ghost use Rattle.std.specs.Prelude.{◌≡◌, ℕ, false, Ok, IfErr};
+//! A service: a store that several hands work on at once, with one that writes what they did, and clients who
+//! order commands and learn what is stored.
+ghost use Rattle.std.specs.Prelude.{◌≡◌, ◌≤◌, ℕ, [], Some, false, max, Ok, IfErr, IfOk, OnErr};
+ghost use Rattle.std.specs.Arc.{arc_value};
+ghost use Rattle.ide_desks.specs.Keeping.{two};
+ghost use Rattle.ide_desks.specs.Opened.{IsToldOf};
+ghost use Rattle.ide_desks.specs.Orders.{SpellsRoot};
+ghost use Rattle.ide_service.specs.Clients.{IsOrdered, IsTextRefusal, SpellsText};
 ghost use Rattle.ide_service.specs.Refusing.{HalfRefuses, IsLoopRefusal, IsRefusedIn, IsRefusedOver, to_seal};
 ghost use Rattle.ide_service.specs.declared.hands.Point.{Point};
+ghost use Rattle.ide_slot_store.specs.Runs.{AreOnRun};
 ghost use Rattle.ide_steps.specs.CloseRefusal.{IsFreezeRefusal};
+ghost use Rattle.ide_steps.specs.Frozen.{graph_in, program_in};
+ghost use Rattle.ide_steps.specs.Room.{IsGraphSaid};
+ghost use Rattle.ide_store.specs.Runs.{IsImageOfRun};
 ghost use Rattle.ide_store.specs.Table.{TableData};
-ghost use Rattle.ide_store.specs.TableCalls.{IsLoadStop, IsRootStop};
+ghost use Rattle.ide_store.specs.TableCalls.{IsRootStop};
 
 use crate::hands::{Ended, Gate, Point, hand_loop};
 use crate::progress::Progress;
-use crate::shared::{Shared, Stepped};
 use crate::sharing::SharingHand;
+use ide_board::{Board, ClientSeat};
+use ide_desks::{Accord, Opened, SealedRecord, TableDesk, WriterDesk};
 use ide_disk::Disk;
 use ide_problem::Problem;
 use ide_slot_store::SlotEngine;
 use ide_steps::Closed;
 use ide_store::{Kept, Ticket};
-use ide_text::Program;
+use ide_text::parse;
 use ide_wire::Refused;
 use std::alloc::Global;
-use std::sync::{Condvar, Mutex, MutexGuard, Wait};
-use std::time::{Clock, Duration};
-
-/// How many milliseconds a committer sleeps between two seals: as much work may be lost where the process
-/// is killed.
-const BETWEEN_SEALS: u64 = 100;
+use std::sync::{Arc, Mutex, MutexGuard, Wait};
+use std::time::Clock;
 
 /// How many records are stored past a checkpoint before a committer makes the next one, where nothing else was
 /// asked for.
 const CHECKPOINT_EVERY: u32 = 1_024;
 
-/// A store that hands share, under one lock. Each of its calls takes the lock for single calls of the
-/// engine, and lets it go.
+/// A store that hands and clients share, under two locks: the half that works lies under the table's, and the half
+/// that writes under the writer's, each beside its seat of one board. So hands and clients need not wait for a
+/// disk. Whoever takes both takes the writer's first.
+///
+/// The board, and on which run the store is, is told of the service's `J`: the caller of [`Service::new`] picks it.
 #[derive(Drop)]
-pub struct Service<P: Problem, D: Disk> {
+pub struct Service<P: Kept, D: Disk, J: Accord> {
     alloc: Global,
-    store: Mutex<Shared<P, D>>,
-    /// Whether the hands have ended, so that the committer may.
-    stop: Mutex<bool>,
-    /// Told where that changes.
-    stopped: Condvar,
+    board: Arc<Board<SealedRecord>>,
+    table: Mutex<TableDesk<P, J>>,
+    writer: Mutex<WriterDesk<P, D, J>>,
     /// How many records are stored past a checkpoint before the committer makes the next one.
     checkpoint_every: u32,
+    ghost named: { arc_value board ≡ J.board },
 }
 
-impl<P: Problem, D: Disk> Service<P, D> {
-    /// A service over the engine, whose committer makes a checkpoint where 1,024 records are stored past the
-    /// last one.
-    pub fn new(alloc: Global, engine: SlotEngine<P, D>) -> Self {
-        Service::with_checkpoints(alloc, engine, CHECKPOINT_EVERY)
+impl<P: Problem, D: Disk, J: Accord> Service<P, D, J> {
+    /// A service over an engine that was opened with a board, whose committer makes a checkpoint where 1,024 records
+    /// are stored past the last one. Where `told` is picked as what holds of the engine, the clauses that ask for it
+    /// tell of its run.
+    pub fn new(alloc: Global, opened: Opened<P, D>) -> Self
+        requires board { arc_value opened.board ≡ J.board }
+        requires told { (told : J.told) → IsToldOf ⟦<P as Kept>⟧.analysis P.TAG opened.engine (J.first told) }
+    {
+        Service::with_checkpoints(alloc, opened, CHECKPOINT_EVERY)
     }
 
     /// The same, with a checkpoint where so many records are stored past the last one.
-    pub fn with_checkpoints(
-        alloc: Global,
-        engine: SlotEngine<P, D>,
-        checkpoint_every: u32,
-    ) -> Self {
+    pub fn with_checkpoints(alloc: Global, opened: Opened<P, D>, checkpoint_every: u32) -> Self
+        requires board { arc_value opened.board ≡ J.board }
+        requires told { (told : J.told) → IsToldOf ⟦<P as Kept>⟧.analysis P.TAG opened.engine (J.first told) }
+    {
+        let (table, writer, board) = opened.named::<J>();
         Service {
             alloc,
-            store: Mutex::new(Shared { engine }),
-            stop: Mutex::new(false),
-            stopped: Condvar::new(),
+            board,
+            table: Mutex::new(table),
+            writer: Mutex::new(writer),
             checkpoint_every,
         }
     }
@@ -84,141 +97,103 @@ impl<P: Problem, D: Disk> Service<P, D> {
         hand_loop(rt, self.alloc, &mut hands, hand, gate)
     }
 
-    /// Seals what changed and stores what was sealed, again and again, until stop is raised and nothing is
-    /// left to seal or to store, or until the gate stops it. Where enough records are stored past the last
-    /// checkpoint, a round makes one; what memory is wanting for is left to a later round. Where it is refused
-    /// it raises stop.
+    /// Loads the program that the text spells, for the client, who notes the record and its number: see
+    /// [`ide_store::TableHalf::load`]. The text is read before the lock is taken. No hand has a claim then.
     ///
-    /// Refusals: `Failed`; `Limit`, as of a seal; `NoMemory`; `Disk`, after which each call is refused.
-    pub fn commit<R: Wait + Clock, G: Gate>(&self, rt: &R, gate: &G) -> Result<Ended, Refused>
-        ensures stopped { result ≡ Ok Ended.Stopped → (point : Point) × G.may_stop gate.now point }
+    /// Refusals, in this order: `Text`; `Failed`; `Limit`; `NoMemory`, which may come anywhere. Nothing is noted
+    /// then.
+    pub fn load<R: Wait>(
+        &self,
+        rt: &R,
+        client: &mut ClientSeat<SealedRecord>,
+        text: &[u8],
+    ) -> Result<Ticket, Refused>
+        requires { client.old.board ≡ J.board }
+        ensures ordered { IfOk result (λ ticket. IsOrdered J.told (SpellsText ⟦<P as Kept>⟧.analysis text.now) client.old client.new ticket.number) }
+        ensures not_noted { OnErr result (client.new ≡ client.old) }
+        ensures refused { IfErr result (IsTextRefusal P.F text.now) }
     {
-        let ended = self.commit_rounds(rt, gate);
-        if ended.is_err() {
-            self.raise_stop(rt);
+        match parse(self.alloc, text) {
+            Ok(program) => self.table(rt).load(client, program),
+            Err(refused) => Err(refused),
         }
-        ended
     }
 
-    /// Seals and stores until stop was raised before a round began.
-    fn commit_rounds<R: Wait + Clock, G: Gate>(&self, rt: &R, gate: &G) -> Result<Ended, Refused>
-        ensures stopped { result ≡ Ok Ended.Stopped → (point : Point) × G.may_stop gate.now point }
-    {
-        for _ in rt.forever() {
-            let last = self.wait_for_stop(rt);
-            let _ = self.seal(rt)?;
-            self.checkpoint_if_due(rt)?;
-            if !self.store_all(rt, gate)? {
-                return Ok(Ended::Stopped);
-            }
-            if last {
-                return Ok(Ended::Quiet);
-            }
-        }
-        unreachable!()
-    }
-
-    /// Begins a checkpoint, where enough records are stored past the last one: its calls come behind those of
-    /// the records that wait.
-    fn checkpoint_if_due<R: Wait>(&self, rt: &R) -> Result<(), Refused> {
-        let mut store = self.store.lock(rt);
-        store.checkpoint_after(self.alloc, self.checkpoint_every)
-    }
-
-    /// Makes disk calls until all that was sealed is stored, and a checkpoint that began is made: false where
-    /// the gate stopped it.
-    fn store_all<R: Wait, G: Gate>(&self, rt: &R, gate: &G) -> Result<bool, Refused>
-        ensures stopped { result ≡ Ok false → (point : Point) × G.may_stop gate.now point }
-    {
-        for _ in rt.forever() {
-            if self.is_stored(rt) {
-                return Ok(true);
-            }
-            if !gate.pass(Point::BeforeSync) {
-                return Ok(false);
-            }
-            self.store_next(rt)?;
-            if !gate.pass(Point::Stored) {
-                return Ok(false);
-            }
-        }
-        unreachable!()
-    }
-
-    /// Stores the oldest record that is sealed and not stored, if there is one, or makes the checkpoint that
-    /// began, by one hold of the lock for each disk call.
-    fn store_next<R: Wait>(&self, rt: &R) -> Result<(), Refused> {
-        for _ in rt.forever() {
-            match self.store.lock(rt).disk_step()? {
-                Stepped::Called => {}
-                Stepped::Stored | Stepped::AllStored => return Ok(()),
-            }
-        }
-        unreachable!()
-    }
-
-    /// Whether all that was sealed is stored, and no checkpoint is under way.
-    fn is_stored<R: Wait>(&self, rt: &R) -> bool {
-        self.store.lock(rt).is_stored()
-    }
-
-    /// Waits until stop is raised, or a while, and answers whether it was raised.
-    fn wait_for_stop<R: Wait + Clock>(&self, rt: &R) -> bool {
-        let while_long = Duration::from_millis(BETWEEN_SEALS);
-        let stop = self.stop.lock(rt);
-        let (stop, _) = self
-            .stopped
-            .wait_timeout_while(rt, stop, while_long, |stop| !*stop);
-        *stop
-    }
-
-    /// Tells the committer that the hands have ended: it stores what is left, and ends.
-    pub fn raise_stop<R: Wait>(&self, rt: &R) {
-        *self.stop.lock(rt) = true;
-        self.stopped.notify_all();
-    }
-
-    /// Loads a program: see [`ide_store::TableHalf::load`]. No hand has a claim then.
-    pub fn load<R: Wait>(&self, rt: &R, program: Program) -> Result<Ticket, Refused>
-        ensures refused { IfErr result (IsRefusedIn (λ (table : TableData P.F). IsLoadStop table)) }
-    {
-        self.store.lock(rt).load(program)
-    }
-
-    /// Makes the procedure of that name a root: see [`ide_store::TableHalf::root`].
-    pub fn root<R: Wait>(&self, rt: &R, name: &[u8]) -> Result<Ticket, Refused>
+    /// Makes the procedure of that name a root, for the client, who notes the record and its number: see
+    /// [`ide_store::TableHalf::root`].
+    pub fn root<R: Wait>(
+        &self,
+        rt: &R,
+        client: &mut ClientSeat<SealedRecord>,
+        name: &[u8],
+    ) -> Result<Ticket, Refused>
+        requires { client.old.board ≡ J.board }
+        ensures ordered { IfOk result (λ ticket. IsOrdered J.told (SpellsRoot ⟦<P as Kept>⟧.analysis name.now) client.old client.new ticket.number) }
+        ensures not_noted { OnErr result (client.new ≡ client.old) }
         ensures refused { IfErr result (IsRefusedIn (λ table. IsRootStop ⟦<P as Kept>⟧.analysis table name.now)) }
     {
-        self.store.lock(rt).root(name)
+        self.table(rt).root(client, name)
     }
 
     /// Seals what changed since the last record, if anything did: see [`ide_store::TableHalf::seal`].
     pub fn seal<R: Wait>(&self, rt: &R) -> Result<Option<Ticket>, Refused>
         ensures refused { IfErr result (IsRefusedOver (HalfRefuses ⟦<P as Kept>⟧.analysis) to_seal) }
     {
-        self.store.lock(rt).seal()
+        self.table(rt).seal()
     }
 
-    /// The image as it stands, copied: see [`ide_store::TableHalf::freeze`].
+    /// The image as it stands, copied: see [`ide_store::TableHalf::freeze`]. Whatever hands and clients did, it is
+    /// that of a run.
     pub fn freeze<R: Wait>(&self, rt: &R) -> Result<Closed<P>, Refused>
+        ensures run { J.told → IfOk result (λ closed. ∥ IsImageOfRun ⟦<P as Kept>⟧.analysis closed ∥₁) }
+        ensures graph { J.told → IfOk result (λ closed. ∥ IsGraphSaid (Some (program_in closed)) (graph_in closed) ∥₁) }
         ensures refused { IfErr result (IsRefusedIn (λ (table : TableData P.F). IsFreezeRefusal table.core)) }
     {
-        self.store.lock(rt).freeze()
+        self.table(rt).freeze()
     }
 
-    /// How many records are stored: those numbered below are acknowledged.
-    pub fn acked<R: Wait>(&self, rt: &R) -> u64 {
-        self.store.lock(rt).acked()
+    /// How many records are stored: those numbered below are acknowledged. It takes no lock, and is not below what
+    /// the client has seen or learnt.
+    pub fn acked(&self, client: &mut ClientSeat<SealedRecord>) -> u64
+        requires { client.old.board ≡ J.board }
+        ensures seen { client.old.seen ≤ result }
+        ensures client { client.new ≡ record client.old { seen = result } }
+    {
+        self.board.acked(client)
     }
 
-    /// How far the run has come, by one hold of the lock.
+    /// Lets a client see what another has seen. It takes no lock.
+    pub fn learn(&self, client: &mut ClientSeat<SealedRecord>, from: &mut ClientSeat<SealedRecord>)
+        requires boards { (client.old.board ≡ J.board) × (from.old.board ≡ J.board) }
+        ensures client { client.new ≡ record client.old { seen = max client.old.seen from.old.seen } }
+        ensures from { from.new ≡ from.old }
+    {
+        self.board.learn(client, from);
+    }
+
+    /// Tells the committer that the hands have ended: it stores what is left, and ends. It takes no lock.
+    pub fn raise_stop(&self) {
+        self.board.raise_stop();
+    }
+
+    /// Whether stop was raised. It takes no lock.
+    pub fn stopped(&self) -> bool {
+        self.board.stopped()
+    }
+
+    /// How far the run has come, by one hold of the table's lock.
     pub fn progress<R: Wait>(&self, rt: &R) -> Progress {
-        Progress::of(&self.store.lock(rt).engine)
+        Progress::of(self.table(rt).half(), self.board.stored())
     }
 
-    /// Takes the lock, for a hand's call.
-    pub(crate) fn shared<R: Wait>(&self, rt: &R) -> MutexGuard<'_, Shared<P, D>> {
-        self.store.lock(rt)
+    /// Takes the table's lock.
+    pub(crate) fn table<R: Wait>(&self, rt: &R) -> MutexGuard<'_, TableDesk<P, J>> {
+        self.table.lock(rt)
+    }
+
+    /// Takes the writer's lock. Nobody does who has the table's.
+    pub(crate) fn writer<R: Wait>(&self, rt: &R) -> MutexGuard<'_, WriterDesk<P, D, J>> {
+        self.writer.lock(rt)
     }
 
     /// Where the hands allocate.
@@ -226,16 +201,29 @@ impl<P: Problem, D: Disk> Service<P, D> {
         self.alloc
     }
 
-    /// The engine, once nobody works on it.
-    pub fn into_engine(self) -> SlotEngine<P, D> {
-        let Service {
-            alloc: _,
-            store,
-            stop: _,
-            stopped: _,
-            checkpoint_every: _,
-        } = self;
-        let Shared { engine } = store.into_inner();
-        engine
+    /// How many records are stored past a checkpoint before the committer makes the next one.
+    pub(crate) fn checkpoint_every(&self) -> u32 {
+        self.checkpoint_every
+    }
+
+    /// Both desks, once nobody works on them.
+    pub fn into_desks(self) -> (TableDesk<P, J>, WriterDesk<P, D, J>) {
+        let Service { table, writer, .. } = self;
+        (table.into_inner(), writer.into_inner())
+    }
+
+    /// The engine, once nobody works on it: see [`TableDesk::into_engine`]. Whatever hands, clients and the
+    /// committer did, it is on a run.
+    pub fn into_engine(self) -> SlotEngine<P, D>
+        ensures { J.told → result.table.failed ≡ false → result.table.waiting ≡ [] → ∥ AreOnRun ⟦<P as Kept>⟧.analysis (two P.TAG) result.table result.writer ∥₁ }
+    {
+        let (table, writer) = self.into_desks();
+        table.into_engine(writer)
+    }
+
+    /// The disks A and B, once nobody works on them.
+    pub fn into_disks(self) -> (D, D) {
+        let (_, writer) = self.into_desks();
+        writer.into_disks()
     }
 }

@@ -1,10 +1,11 @@
-//! A hand of a service: it takes the lock for each of its calls, and for as many tasks as its gate lets it
+//! A hand of a service: it takes the table's lock for each of its calls, and for as many tasks as its gate lets it
 //! do unasked.
 ghost use Rattle.std.specs.Prelude.{◌≡◌, Some, false, true};
 ghost use Rattle.ide_service.specs.Refusing.{SharedRefuses};
 
-use crate::hands::Hands;
+use crate::hands::{Hands, claim_ahead};
 use crate::service::Service;
+use ide_desks::Accord;
 use ide_disk::Disk;
 use ide_problem::Problem;
 use ide_steps::Claimed;
@@ -33,9 +34,9 @@ pub(crate) enum Seen {
 
 /// One hand, and the service that it works on.
 #[derive(Drop)]
-pub(crate) struct SharingHand<'a, R: Wait + Clock, P: Problem, D: Disk> {
+pub(crate) struct SharingHand<'a, R: Wait + Clock, P: Kept, D: Disk, J: Accord> {
     rt: &'a R,
-    service: &'a Service<P, D>,
+    service: &'a Service<P, D, J>,
     /// How many whole tasks it does in one hold of the lock before it claims the next.
     ahead: usize,
     /// How often it yielded since it had a task.
@@ -46,9 +47,9 @@ pub(crate) struct SharingHand<'a, R: Wait + Clock, P: Problem, D: Disk> {
     free: bool,
 }
 
-impl<'a, R: Wait + Clock, P: Problem, D: Disk> SharingHand<'a, R, P, D> {
+impl<'a, R: Wait + Clock, P: Problem, D: Disk, J: Accord> SharingHand<'a, R, P, D, J> {
     /// A hand that has no claim.
-    pub(crate) fn new(rt: &'a R, service: &'a Service<P, D>, ahead: usize) -> Self
+    pub(crate) fn new(rt: &'a R, service: &'a Service<P, D, J>, ahead: usize) -> Self
         ensures { result.free ≡ true }
     {
         SharingHand {
@@ -64,7 +65,7 @@ impl<'a, R: Wait + Clock, P: Problem, D: Disk> SharingHand<'a, R, P, D> {
 
 /// What a hand knows of the others ends with its hold of the lock: it rests, or waits, where its last claim
 /// found the store so, and it is refused as the store was that it met.
-impl<'a, R: Wait + Clock, P: Problem, D: Disk> Hands<P> for SharingHand<'a, R, P, D> {
+impl<'a, R: Wait + Clock, P: Problem, D: Disk, J: Accord> Hands<P> for SharingHand<'a, R, P, D, J> {
     ghost use Rattle.ide_service.specs.declared.sharing.Seen.{Seen};
 
     ghost rests = { λ hands. hands.seen ≡ Some Seen.Quiet };
@@ -81,8 +82,8 @@ impl<'a, R: Wait + Clock, P: Problem, D: Disk> Hands<P> for SharingHand<'a, R, P
 
     fn claim(&mut self, hand: usize) -> Result<Claimed<P>, Refused> {
         let alloc = self.service.alloc();
-        let mut shared = self.service.shared(self.rt);
-        match shared.claim_ahead(self.rt, alloc, hand, self.ahead) {
+        let mut table = self.service.table(self.rt);
+        match claim_ahead(self.rt, alloc, &mut *table, hand, self.ahead) {
             Ok(Claimed::Task(task)) => {
                 self.seen = Some(Seen::Task);
                 self.yields = 0;
@@ -102,11 +103,11 @@ impl<'a, R: Wait + Clock, P: Problem, D: Disk> Hands<P> for SharingHand<'a, R, P
     }
 
     fn parts(&mut self, hand: usize, work: &mut Work<P>, most: usize) -> Result<usize, Refused> {
-        Hands::parts(&mut *self.service.shared(self.rt), hand, work, most)
+        Hands::parts(&mut *self.service.table(self.rt), hand, work, most)
     }
 
     fn finish(&mut self, hand: usize, work: &Work<P>) -> Result<(), Refused> {
-        match Hands::finish(&mut *self.service.shared(self.rt), hand, work) {
+        match Hands::finish(&mut *self.service.table(self.rt), hand, work) {
             Ok(()) => {
                 self.free = true;
                 Ok(())
@@ -116,7 +117,7 @@ impl<'a, R: Wait + Clock, P: Problem, D: Disk> Hands<P> for SharingHand<'a, R, P
     }
 
     fn release(&mut self, hand: usize) {
-        Hands::release(&mut *self.service.shared(self.rt), hand);
+        Hands::release(&mut *self.service.table(self.rt), hand);
         self.free = true;
     }
 

@@ -4,9 +4,11 @@ ghost use Rattle.ide_values.specs.Refusal.{AreWorkers};
 
 use crate::hands::{Ended, Gate};
 use crate::service::Service;
+use ide_desks::Accord;
 use ide_disk::Disk;
 use ide_problem::Problem;
 use ide_steps::HANDS;
+use ide_store::Kept;
 use ide_wire::Refused;
 use std::alloc::Global;
 use std::sync::Wait;
@@ -28,13 +30,14 @@ pub trait Team {
 
 /// The hands of a service and its committer, whom one gate may stop.
 #[derive(Drop)]
-pub struct Crew<'a, R: Wait + Clock, P: Problem, D: Disk, G: Gate> {
+pub struct Crew<'a, R: Wait + Clock, P: Kept, D: Disk, J: Accord, G: Gate> {
     pub rt: &'a R,
-    pub service: &'a Service<P, D>,
+    pub service: &'a Service<P, D, J>,
     pub gate: &'a G,
 }
 
-impl<'a, R: Wait + Clock, P: Problem, D: Disk, G: Gate> Team for Crew<'a, R, P, D, G> {
+impl<'a, R: Wait + Clock, P: Problem, D: Disk, J: Accord, G: Gate> Team
+    for Crew<'a, R, P, D, J, G> {
     fn work(&self, hand: usize) -> Result<Ended, Refused> {
         self.service.work(self.rt, hand, self.gate)
     }
@@ -44,7 +47,7 @@ impl<'a, R: Wait + Clock, P: Problem, D: Disk, G: Gate> Team for Crew<'a, R, P, 
     }
 
     fn raise_stop(&self) {
-        self.service.raise_stop(self.rt);
+        self.service.raise_stop();
     }
 }
 

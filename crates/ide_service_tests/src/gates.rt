@@ -1,4 +1,4 @@
-//! Gates of tests: one that stops a loop after some points, and one that holds a hand until another came on.
+//! Gates of tests: one that stops a loop after some points, and two that hold one until another came on.
 use ide_service::{Gate, Point};
 use std::sync::atomic::{AtomicBool, AtomicU64, Ordering};
 use std::thread;
@@ -41,8 +41,19 @@ impl Gate for Counting {
     }
 }
 
-/// How often a held hand looks whether the other came on.
+/// How often one that is held looks whether the other came on.
 const TURNS: usize = 10_000;
+
+/// Looks, for as many turns as there are, whether the other came on, and notes it where it did.
+fn hold(came: &AtomicBool, seen: &AtomicBool) {
+    for _ in 0..TURNS {
+        if came.load(Ordering::SeqCst) {
+            seen.store(true, Ordering::SeqCst);
+            return;
+        }
+        thread::yield_now();
+    }
+}
 
 /// Holds the hand that claims first, until another did a part.
 #[derive(Drop)]
@@ -66,17 +77,6 @@ impl Holding {
     pub(crate) fn has_seen(&self) -> bool {
         self.seen.load(Ordering::SeqCst)
     }
-
-    /// Looks, for as many turns as there are, whether another hand did a part.
-    fn hold(&self) {
-        for _ in 0..TURNS {
-            if self.parted.load(Ordering::SeqCst) {
-                self.seen.store(true, Ordering::SeqCst);
-                return;
-            }
-            thread::yield_now();
-        }
-    }
 }
 
 impl Gate for Holding {
@@ -86,11 +86,70 @@ impl Gate for Holding {
         match point {
             Point::Claimed => {
                 if !self.claimed.swap(true, Ordering::SeqCst) {
-                    self.hold();
+                    hold(&self.parted, &self.seen);
                 }
             }
             Point::Parted => self.parted.store(true, Ordering::SeqCst),
             Point::BeforeSync | Point::Stored => {}
+        }
+        true
+    }
+
+    fn stride(&self) -> usize {
+        1
+    }
+
+    fn ahead(&self) -> usize {
+        0
+    }
+}
+
+/// Holds a hand at its first claim until the writer is at its first disk call, and the writer there until the hand
+/// did a part.
+#[derive(Drop)]
+pub(crate) struct Crossing {
+    claimed: AtomicBool,
+    syncing: AtomicBool,
+    parted: AtomicBool,
+    hand_saw: AtomicBool,
+    writer_saw: AtomicBool,
+}
+
+impl Crossing {
+    /// A gate that nobody came to.
+    pub(crate) fn new() -> Crossing {
+        Crossing {
+            claimed: AtomicBool::new(false),
+            syncing: AtomicBool::new(false),
+            parted: AtomicBool::new(false),
+            hand_saw: AtomicBool::new(false),
+            writer_saw: AtomicBool::new(false),
+        }
+    }
+
+    /// Whether each came on while the other was held.
+    pub(crate) fn have_crossed(&self) -> bool {
+        self.hand_saw.load(Ordering::SeqCst) && self.writer_saw.load(Ordering::SeqCst)
+    }
+}
+
+impl Gate for Crossing {
+    ghost may_stop = { λ _ _. ⊥ };
+
+    fn pass(&self, point: Point) -> bool {
+        match point {
+            Point::Claimed => {
+                if !self.claimed.swap(true, Ordering::SeqCst) {
+                    hold(&self.syncing, &self.hand_saw);
+                }
+            }
+            Point::BeforeSync => {
+                if !self.syncing.swap(true, Ordering::SeqCst) {
+                    hold(&self.parted, &self.writer_saw);
+                }
+            }
+            Point::Parted => self.parted.store(true, Ordering::SeqCst),
+            Point::Stored => {}
         }
         true
     }

@@ -1,66 +1,85 @@
-//! A hand's loop over a store that one hand has to itself, and what its gate stops.
+//! A hand's loop over a service that one hand has to itself, and what its gate stops.
+ghost use Rattle.std.specs.Prelude.{◌≡◌};
+ghost use Rattle.std.specs.Arc.{arc_value};
+
 use crate::gates::Counting;
-use crate::services::begun;
+use crate::services::{OpenedStore, Served, Store, begun, given, opened};
+use ide_desks::Accord;
 use ide_instances::CopyConst;
-use ide_service::{Ended, Hands, Open, Point, hand_loop};
+use ide_service::{Ended, Gate, Hands, Open, Point, Service, hand_loop};
 use ide_slot_store::SlotEngine;
 use ide_steps::Claimed;
 use ide_store::TableHalf;
 use ide_tasks::Work;
 use ide_wire::Refused;
 use ide_worked::TWO_CALLS;
+use std::marker::Brand;
 use std::process::Abort;
 use std::sync::Wait;
 use std::test::Fail;
+use std::time::Clock;
+
+/// Lets the hand work on a service over the store, and answers how that ended, and the store.
+fn work<J: Accord, R: Wait + Clock + AllocGlobal, G: Gate>(
+    rt: &R,
+    opened: OpenedStore,
+    hand: usize,
+    gate: &G,
+) -> (Result<Ended, Refused>, Store)
+    requires board { arc_value opened.board ≡ J.board }
+    requires untold { J.told → ⊥ }
+{
+    let service: Served<J> = Service::new(rt.alloc(), opened);
+    let ended = service.work(rt, hand, gate);
+    (ended, service.into_engine())
+}
+
+/// The same over a store of the two calls.
+fn work_on_calls<R: Wait + Clock + AllocGlobal + Abort, G: Gate>(
+    rt: &R,
+    hand: usize,
+    gate: &G,
+) -> (Result<Ended, Refused>, Store) {
+    let opened = given(rt, opened(rt.alloc(), TWO_CALLS));
+    work::<Brand, R, G>(rt, opened, hand, gate)
+}
 
 // A gate that stops nobody lets the loop do all tasks.
 #[test]
 fn a_loop_ends_where_nothing_is_pending(rt: HostRuntime) -> Result<(), Fail> {
-    let mut engine = begun(rt.alloc(), TWO_CALLS)?;
-    let open = Open { ahead: 0 };
-    assert!(rt; engine.table.core().claim_of(0).is_none());
-    let ended = hand_loop(&rt, rt.alloc(), &mut engine.table, 0, &open);
+    let (ended, engine) = work_on_calls(&rt, 0, &Open { ahead: 0 });
     assert!(rt; ended == Ok(Ended::Quiet));
-    assert!(rt; engine.table.core().is_quiet());
-    assert!(rt; engine.table.core().key_count() > 11);
+    assert!(rt; engine.table.core().is_quiet() && engine.table.core().key_count() > 11);
     Ok(())
 }
 
 /// Asserts that a loop whose gate lets so many such points pass is stopped there, with so many keys, and that
 /// its claim is given back.
-fn expect_stopped(
-    rt: &(impl Abort + Wait + AllocGlobal),
+fn expect_stopped<R: Abort + Wait + Clock + AllocGlobal>(
+    rt: &R,
     at: Point,
     points: u64,
     keys: usize,
-) -> Result<(), Fail> {
-    let mut engine = begun(rt.alloc(), TWO_CALLS)?;
-    let gate = Counting::new(at, points);
-    assert!(rt; engine.table.core().claim_of(5).is_none());
-    let ended = hand_loop(rt, rt.alloc(), &mut engine.table, 5, &gate);
+) {
+    let (ended, engine) = work_on_calls(rt, 5, &Counting::new(at, points));
     assert!(rt; ended == Ok(Ended::Stopped));
-    assert!(rt; engine.table.core().claim_of(5).is_none());
-    assert!(rt; !engine.table.core().is_quiet());
+    assert!(rt; engine.table.core().claim_of(5).is_none() && !engine.table.core().is_quiet());
     assert!(rt; engine.table.core().key_count() == keys);
-    Ok(())
 }
 
 // A root makes one key, and each part of the first task one more.
 #[test]
 fn a_gate_stops_a_loop_between_two_parts(rt: HostRuntime) -> Result<(), Fail> {
-    expect_stopped(&rt, Point::Claimed, 0, 1)?;
-    expect_stopped(&rt, Point::Parted, 0, 2)?;
-    expect_stopped(&rt, Point::Parted, 1, 3)?;
+    expect_stopped(&rt, Point::Claimed, 0, 1);
+    expect_stopped(&rt, Point::Parted, 0, 2);
+    expect_stopped(&rt, Point::Parted, 1, 3);
     Ok(())
 }
 
-// A hand that has a claim, or is none, does not begin.
+// There is no hand of that number.
 #[test]
 fn a_hand_number_has_a_limit(rt: HostRuntime) -> Result<(), Fail> {
-    let mut engine = begun(rt.alloc(), TWO_CALLS)?;
-    let open = Open { ahead: 0 };
-    assert!(rt; engine.table.core().claim_of(64).is_none());
-    let ended = hand_loop(&rt, rt.alloc(), &mut engine.table, 64, &open);
+    let (ended, _engine) = work_on_calls(&rt, 64, &Open { ahead: 0 });
     assert!(rt; ended == Err(Refused::Limit));
     Ok(())
 }
@@ -132,7 +151,7 @@ impl Hands<CopyConst> for Filling {
 // A batch may be full several times in one task: it is sealed each time, and the loop goes on.
 #[test]
 fn a_loop_seals_as_often_as_a_batch_is_full(rt: HostRuntime) -> Result<(), Fail> {
-    let SlotEngine { table, .. } = begun(rt.alloc(), TWO_CALLS)?;
+    let SlotEngine { table, .. } = given(&rt, begun(rt.alloc(), TWO_CALLS));
     let mut filling = Filling {
         table,
         parts: 3,

@@ -1,123 +1,216 @@
 //! Several hands and one that writes, on threads of their own.
-use crate::gates::{Counting, Holding};
-use crate::services::{begun, open, serve, value_at};
-use ide_disk::MemDisk;
+ghost use Rattle.std.specs.Prelude.{◌≡◌};
+ghost use Rattle.std.specs.Arc.{arc_value};
+ghost use Rattle.ide_desks.specs.Opened.{IsToldOf};
+
+use crate::gates::{Counting, Crossing, Holding};
+use crate::services::{OpenedStore, Served, given, open, opened, value_at};
+use ide_desks::Accord;
 use ide_instances::{ConstValue, CopyConst};
-use ide_service::{Crew, Ended, Open, Point, Service, hand_loop, work_together};
+use ide_service::{Crew, Ended, Gate, Open, Point, Service, work_together};
+use ide_store::Kept;
 use ide_wire::Refused;
 use ide_worked::{NUMBER, TWO_CALLS};
+use std::marker::Brand;
 use std::process::Abort;
 use std::sync::Wait;
 use std::test::Fail;
 use std::thread::Threads;
 use std::time::Clock;
 
-/// Asserts that so many hands end with the values of the two calls, and that all is stored and found again.
+/// Lets so many hands work together on a service, with one that writes.
+fn work_on<J: Accord + Send + Sync, R: Threads + Wait + Clock + Sync + AllocGlobal, G: Gate + Sync>(
+    rt: &R,
+    service: &Served<J>,
+    workers: usize,
+    gate: &G,
+) -> Result<(), Refused> {
+    let crew = Crew { rt, service, gate };
+    work_together(rt, rt.alloc(), &crew, workers)
+}
+
+/// Asserts that the image of a service has the values of the two calls.
+fn expect_values<J: Accord>(rt: &(impl Wait + Abort + AllocGlobal), service: &Served<J>) {
+    assert!(rt; value_at(rt, rt.alloc(), service, 10, 4) == Ok(ConstValue::Const(5)));
+    assert!(rt; value_at(rt, rt.alloc(), service, 10, 5) == Ok(ConstValue::Const(6)));
+}
+
+/// Asserts that the store that a service leaves has all stored, and that all is found again.
+fn expect_all_stored<J: Accord>(rt: &(impl Abort + AllocGlobal), service: Served<J>) {
+    let engine = service.into_engine();
+    assert!(rt; engine.acked() == engine.table.sealed());
+    let keys = engine.table.core().key_count();
+    let again = given(rt, open(rt.alloc(), engine.into_disks()));
+    assert!(rt; again.table.core().is_quiet() && again.table.core().key_count() == keys);
+}
+
+/// Asserts that so many hands end with the values of the two calls, and that all is stored and found again. What a
+/// store on a run has told of it is told of the service.
+fn expect_solved_by<
+    J: Accord + Send + Sync,
+    R: Threads + Wait + Clock + Sync + Abort + AllocGlobal,
+>(rt: &R, opened: OpenedStore, workers: usize, ahead: usize)
+    requires board { arc_value opened.board ≡ J.board }
+    requires told { (told : J.told) → IsToldOf ⟦<CopyConst as Kept>⟧.analysis 2 opened.engine (J.first told) }
+{
+    let service: Served<J> = Service::new(rt.alloc(), opened);
+    assert!(rt; work_on(rt, &service, workers, &Open { ahead }) == Ok(()));
+    expect_values(rt, &service);
+    expect_all_stored(rt, service);
+}
+
+/// The same on a store of the two calls.
 fn expect_solved<R: Threads + Wait + Clock + Sync + Abort + AllocGlobal>(
     rt: &R,
     workers: usize,
     ahead: usize,
-) -> Result<(), Fail> {
-    let service = serve(rt.alloc(), TWO_CALLS)?;
-    let crew = Crew {
-        rt,
-        service: &service,
-        gate: &Open { ahead },
-    };
-    let ended = work_together(rt, rt.alloc(), &crew, workers);
-    assert!(rt; ended == Ok(()));
-    assert!(rt; value_at(rt, rt.alloc(), &service, 10, 4) == Ok(ConstValue::Const(5)));
-    assert!(rt; value_at(rt, rt.alloc(), &service, 10, 5) == Ok(ConstValue::Const(6)));
-    let engine = service.into_engine();
-    assert!(rt; engine.acked() == engine.table.sealed());
-    let keys = engine.table.core().key_count();
-    let again = open(rt.alloc(), engine.into_disks())?;
-    assert!(rt; again.table.core().is_quiet());
-    assert!(rt; again.table.core().key_count() == keys);
-    Ok(())
+) {
+    let opened = given(rt, opened(rt.alloc(), TWO_CALLS));
+    expect_solved_by::<Brand, R>(rt, opened, workers, ahead);
 }
 
 // One hand, two and four solve the two calls, by single calls and with tasks ahead.
 #[test]
 fn workers_and_a_writer_solve_and_store(rt: HostRuntime) -> Result<(), Fail> {
-    expect_solved(&rt, 1, 0)?;
-    expect_solved(&rt, 2, 0)?;
-    expect_solved(&rt, 4, 3)?;
+    expect_solved(&rt, 1, 0);
+    expect_solved(&rt, 2, 0);
+    expect_solved(&rt, 4, 3);
     Ok(())
 }
 
-/// A service over a store of the two calls whose first task is done, so that several keys are pending.
-fn serve_begun_work(
-    rt: &(impl Abort + Wait + AllocGlobal),
-) -> Result<Service<CopyConst, MemDisk>, Fail> {
-    let mut engine = begun(rt.alloc(), TWO_CALLS)?;
-    assert!(rt; engine.table.core().claim_of(0).is_none());
+/// Asserts that one hand does a part while another is held behind its claim, where several keys are pending.
+fn expect_two_at_once<
+    J: Accord + Send + Sync,
+    R: Threads + Wait + Clock + Sync + Abort + AllocGlobal,
+>(rt: &R, opened: OpenedStore)
+    requires board { arc_value opened.board ≡ J.board }
+    requires untold { J.told → ⊥ }
+{
+    let service: Served<J> = Service::new(rt.alloc(), opened);
     let once = Counting::new(Point::Claimed, 1);
-    let ended = hand_loop(rt, rt.alloc(), &mut engine.table, 0, &once);
-    assert!(rt; ended == Ok(Ended::Stopped));
-    Ok(Service::new(rt.alloc(), engine))
+    assert!(rt; service.work(rt, 0, &once) == Ok(Ended::Stopped));
+    let gate = Holding::new();
+    assert!(rt; work_on(rt, &service, 2, &gate) == Ok(()));
+    assert!(rt; gate.has_seen());
 }
 
-// One hand does a part while another is held behind its claim: no lock is held between their calls.
+// No lock is held between two calls of a hand.
 #[test]
 fn two_hands_work_at_once(rt: HostRuntime) -> Result<(), Fail> {
-    let service = serve_begun_work(&rt)?;
-    let gate = Holding::new();
-    let crew = Crew {
-        rt: &rt,
-        service: &service,
-        gate: &gate,
-    };
-    let ended = work_together(&rt, rt.alloc(), &crew, 2);
-    assert!(rt; ended == Ok(()));
-    assert!(rt; gate.has_seen());
+    let opened = given(&rt, opened(rt.alloc(), TWO_CALLS));
+    expect_two_at_once::<Brand, HostRuntime>(&rt, opened);
     Ok(())
+}
+
+/// Asserts that a hand does a part while the writer is at its first disk call, which the hand waited for.
+fn expect_crossing<J: Accord + Send + Sync, R: Threads + Wait + Clock + Sync + Abort + AllocGlobal>(
+    rt: &R,
+    opened: OpenedStore,
+)
+    requires board { arc_value opened.board ≡ J.board }
+    requires untold { J.told → ⊥ }
+{
+    let service: Served<J> = Service::new(rt.alloc(), opened);
+    let gate = Crossing::new();
+    assert!(rt; work_on(rt, &service, 1, &gate) == Ok(()));
+    assert!(rt; gate.have_crossed());
+    expect_values(rt, &service);
+    expect_all_stored(rt, service);
+}
+
+// The writer holds its own lock while it waits for a disk, and no hand waits for that.
+#[test]
+fn a_hand_works_while_the_writer_waits_for_a_disk(rt: HostRuntime) -> Result<(), Fail> {
+    let opened = given(&rt, opened(rt.alloc(), TWO_CALLS));
+    expect_crossing::<Brand, HostRuntime>(&rt, opened);
+    Ok(())
+}
+
+/// Asserts that no hands, and more than 64, are refused.
+fn expect_limits<J: Accord + Send + Sync, R: Threads + Wait + Clock + Sync + Abort + AllocGlobal>(
+    rt: &R,
+    opened: OpenedStore,
+)
+    requires board { arc_value opened.board ≡ J.board }
+    requires untold { J.told → ⊥ }
+{
+    let service: Served<J> = Service::new(rt.alloc(), opened);
+    let open = Open { ahead: 0 };
+    assert!(rt; work_on(rt, &service, 0, &open) == Err(Refused::Limit));
+    assert!(rt; work_on(rt, &service, 65, &open) == Err(Refused::Limit));
 }
 
 // There are from 1 to 64 hands.
 #[test]
 fn workers_have_a_limit(rt: HostRuntime) -> Result<(), Fail> {
-    let service = serve(rt.alloc(), NUMBER)?;
-    let crew = Crew {
-        rt: &rt,
-        service: &service,
-        gate: &Open { ahead: 0 },
-    };
-    assert!(rt; work_together(&rt, rt.alloc(), &crew, 0) == Err(Refused::Limit));
-    assert!(rt; work_together(&rt, rt.alloc(), &crew, 65) == Err(Refused::Limit));
+    let opened = given(&rt, opened(rt.alloc(), NUMBER));
+    expect_limits::<Brand, HostRuntime>(&rt, opened);
     Ok(())
 }
 
-// A committer that its gate stops before a record has stored those before it.
-#[test]
-fn a_gate_stops_a_committer_between_two_records(rt: HostRuntime) -> Result<(), Fail> {
-    let service = serve(rt.alloc(), NUMBER)?;
-    let none = service.commit(&rt, &Counting::new(Point::BeforeSync, 0));
-    assert!(rt; none == Ok(Ended::Stopped));
-    assert!(rt; service.acked(&rt) == 0);
-    let one = service.commit(&rt, &Counting::new(Point::Stored, 0));
-    assert!(rt; one == Ok(Ended::Stopped));
-    assert!(rt; service.acked(&rt) == 1);
-    Ok(())
-}
-
-/// Asserts that a committer which was told that the hands have ended comes to its end.
-fn expect_committed<R: Wait + Clock + Abort>(rt: &R, service: &Service<CopyConst, MemDisk>) {
-    assert!(rt; service.commit(rt, &Open { ahead: 0 }) == Ok(Ended::Quiet));
-    assert!(rt; service.acked(rt) == 2);
+/// Asserts that a committer which was told that the hands have ended comes to its end three times, with a
+/// checkpoint of the two records in the second round.
+fn expect_checkpoint<J: Accord, R: Wait + Clock + Abort + AllocGlobal>(rt: &R, opened: OpenedStore)
+    requires board { arc_value opened.board ≡ J.board }
+    requires untold { J.told → ⊥ }
+{
+    let service: Served<J> = Service::with_checkpoints(rt.alloc(), opened, 2);
+    service.raise_stop();
+    for _ in 0..3 {
+        assert!(rt; service.commit(rt, &Open { ahead: 0 }) == Ok(Ended::Quiet));
+    }
+    let engine = service.into_engine();
+    assert!(rt; engine.generation() == 1 && engine.writer.base() == 2 && engine.acked() == 2);
 }
 
 // A committer makes a checkpoint where enough records are stored past the last one.
 #[test]
 fn a_committer_makes_checkpoints(rt: HostRuntime) -> Result<(), Fail> {
-    let engine = begun(rt.alloc(), NUMBER)?;
-    let service = Service::with_checkpoints(rt.alloc(), engine, 2);
-    service.raise_stop(&rt);
-    expect_committed(&rt, &service);
-    expect_committed(&rt, &service);
-    expect_committed(&rt, &service);
-    let engine = service.into_engine();
-    assert!(rt; engine.generation() == 1);
-    assert!(rt; engine.writer.base() == 2);
+    let opened = given(&rt, opened(rt.alloc(), NUMBER));
+    expect_checkpoint::<Brand, HostRuntime>(&rt, opened);
+    Ok(())
+}
+
+/// Asserts that a hand that is stopped behind its claim, of which nothing was done, leaves nothing to seal, and that
+/// another does all.
+fn expect_no_part<J: Accord, R: Wait + Clock + Abort + AllocGlobal>(rt: &R, opened: OpenedStore)
+    requires board { arc_value opened.board ≡ J.board }
+    requires untold { J.told → ⊥ }
+{
+    let service: Served<J> = Service::new(rt.alloc(), opened);
+    let claimed = Counting::new(Point::Claimed, 0);
+    assert!(rt; service.work(rt, 0, &claimed) == Ok(Ended::Stopped));
+    assert!(rt; given(rt, service.seal(rt)).is_none());
+    assert!(rt; service.work(rt, 1, &Open { ahead: 0 }) == Ok(Ended::Quiet));
+}
+
+#[test]
+fn a_hand_that_is_stopped_gives_its_claim_back(rt: HostRuntime) -> Result<(), Fail> {
+    let opened = given(&rt, opened(rt.alloc(), NUMBER));
+    expect_no_part::<Brand, HostRuntime>(&rt, opened);
+    Ok(())
+}
+
+/// Asserts that what a hand did before it was stopped behind its first part is record 2, and found again: two keys,
+/// both pending.
+fn expect_one_part<J: Accord, R: Wait + Clock + Abort + AllocGlobal>(rt: &R, opened: OpenedStore)
+    requires board { arc_value opened.board ≡ J.board }
+    requires untold { J.told → ⊥ }
+{
+    let service: Served<J> = Service::new(rt.alloc(), opened);
+    let parted = Counting::new(Point::Parted, 0);
+    assert!(rt; service.work(rt, 0, &parted) == Ok(Ended::Stopped));
+    let sealed = given(rt, service.seal(rt));
+    assert!(rt; sealed.is_some_and(|ticket| ticket.number == 2));
+    service.raise_stop();
+    assert!(rt; service.commit(rt, &Open { ahead: 0 }) == Ok(Ended::Quiet));
+    let again = given(rt, open(rt.alloc(), service.into_disks()));
+    assert!(rt; again.table.core().key_count() == 2 && again.table.core().pending_count() == 2);
+}
+
+#[test]
+fn what_a_stopped_hand_did_is_kept(rt: HostRuntime) -> Result<(), Fail> {
+    let opened = given(&rt, opened(rt.alloc(), NUMBER));
+    expect_one_part::<Brand, HostRuntime>(&rt, opened);
     Ok(())
 }

@@ -150,6 +150,26 @@ fn expect_run<J: Accord, R: Abort + AllocGlobal>(
     expect_stored(rt, writer, board, client, 1, 3);
 }
 
+/// Asserts that a checkpoint begins where all is stored, that one does not beside it, and that its calls store no
+/// record.
+fn expect_checkpoint<J: Accord, R: Abort + AllocGlobal>(
+    rt: &R,
+    table: &mut Table<J>,
+    writer: &mut Writer<J>,
+) {
+    assert!(rt; writer.is_stored() && writer.stored_past_checkpoint() == 3);
+    assert!(rt; given(rt, table.checkpoint(rt.alloc(), writer)) && !writer.is_stored());
+    assert!(rt;
+        !given(rt, table.checkpoint(rt.alloc(), writer)),
+        "one is under way"
+    );
+    assert!(rt; given(rt, store(writer)) == 0 && writer.is_stored());
+    assert!(rt;
+        !given(rt, table.checkpoint(rt.alloc(), writer)),
+        "nothing is new"
+    );
+}
+
 /// A run by both desks. Answers how many keys there are at its end, and the disks.
 fn run<J: Accord, R: Abort + AllocGlobal>(
     rt: &R,
@@ -163,6 +183,7 @@ fn run<J: Accord, R: Abort + AllocGlobal>(
     let (mut table, mut writer, board) = opened.named::<J>();
     given(rt, order(rt, &mut table, &mut client));
     expect_run(rt, &mut table, &mut writer, &board, &mut client);
+    expect_checkpoint(rt, &mut table, &mut writer);
     writer.confirm(&mut client);
     (table.half().core().key_count(), writer.into_disks())
 }
@@ -228,7 +249,10 @@ fn both_desks_go_on_apart(rt: HostRuntime) -> Result<(), Fail> {
     let (opened, client) = open(&rt, 1000)?;
     let (keys, (a, b)) = run::<Brand, _>(&rt, opened, client);
     match SlotEngine::<ShiftConst, MemDisk>::open(rt.alloc(), a, b) {
-        Ok(engine) => assert!(rt; engine.acked() == 3 && engine.table.core().key_count() == keys),
+        Ok(engine) => {
+            assert!(rt; engine.acked() == 3 && engine.table.core().key_count() == keys);
+            assert!(rt; engine.generation() == 1);
+        }
         Err((refused, _, _)) => panic!(rt; "{refused}"),
     }
     Ok(())

@@ -1,6 +1,7 @@
 use Rattle.std.proofs.Common.{◌∙◌, Some, ap}
+use Rattle.std.proofs.Math.Logic.{∥∥₁_map}
 use Rattle.ide_store.specs.Hands.{Loads}
-use Rattle.ide_desks.proofs.Works.{one_counted, one_kept, stayed, still_counted, still_kept}
+use Rattle.ide_desks.proofs.Works.{load_spelled, one_counted, one_kept, stayed, still_counted, still_kept}
 use Rattle.ide_desks.proofs.table.TableDesk.load.Goals as goal
 
 pub invariant_of-self : goal.invariant_of-self
@@ -26,3 +27,8 @@ invariant_of-self-in-Err-1 g c =
       counts = still_counted old.half c.load.new.self old.seat same.rest old.counts;
       kept = still_kept _ _ old.half c.load.new.self old.seat same.rest (λ handed. stayed _ _ handed old.half c.load.new.self same) old.kept;
     }
+
+pub returns-in-Ok-clause-command : goal.returns-in-Ok-clause-command
+returns-in-Ok-clause-command g c told =
+    let old = c.args.self.now in
+    ∥∥₁_map (old.kept told) (λ desk. load_spelled _ _ _ old.seat _ old.half c.load.new.self _ desk c.in-Ok.ensures.working c.in-Ok.ensures.loads)

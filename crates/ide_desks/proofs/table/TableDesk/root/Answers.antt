@@ -1,6 +1,7 @@
 use Rattle.std.proofs.Common.{◌∙◌, ◌<◌, ◌≤◌, Some, ap, arith}
+use Rattle.std.proofs.Math.Logic.{∥∥₁_map}
 use Rattle.ide_store.specs.Hands.{Roots}
-use Rattle.ide_desks.proofs.Works.{root_counted, root_kept, sealed_alone, sealed_first, stayed, still_counted, still_kept}
+use Rattle.ide_desks.proofs.Works.{root_counted, root_kept, root_spelled, sealed_alone, sealed_first, stayed, still_counted, still_kept}
 use Rattle.ide_desks.proofs.table.TableDesk.root.Goals as goal
 
 -- ---- what changed was sealed first
@@ -59,3 +60,14 @@ invariant_of-self-in-Err-1 g c =
       counts = still_counted old.half c.root.new.self old.seat same.rest old.counts;
       kept = still_kept _ _ old.half c.root.new.self old.seat same.rest (λ handed. stayed _ _ handed old.half c.root.new.self same) old.kept;
     }
+
+-- ---- the record is that of the root
+pub returns-then-ticket-before-clause-command : goal.returns-then-ticket-before-clause-command
+returns-then-ticket-before-clause-command g c told =
+    let old = c.args.self.now in
+    ∥∥₁_map (old.kept told) (λ desk. root_spelled _ _ _ old.seat _ old.half c.root.new.self _ desk c.in-Ok.ensures.working c.in-Ok.ensures.begins)
+
+pub returns-else-ticket-before-clause-command : goal.returns-else-ticket-before-clause-command
+returns-else-ticket-before-clause-command g c told =
+    let old = c.args.self.now in
+    ∥∥₁_map (old.kept told) (λ desk. root_spelled _ _ _ old.seat _ old.half c.root.new.self _ desk c.in-Ok.ensures.working c.in-Ok.ensures.begins)

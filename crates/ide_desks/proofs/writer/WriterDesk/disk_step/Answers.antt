@@ -8,7 +8,8 @@ use Rattle.ide_slot_store.specs.Half.{StepsOver}
 use Rattle.ide_store.specs.Table.{Analysis}
 use Rattle.ide_wire.specs.declared.refused.Refused.{Refused}
 use Rattle.ide_desks.specs.Desks.{CountsTaken, IsWriterDesk}
-use Rattle.ide_desks.proofs.Steps.{desk_calls, desk_crashes, desk_fails, desk_rests, desk_stores, desk_waits}
+use Rattle.ide_desks.specs.Stepping.{IsStepRefusal, failed_before, fails}
+use Rattle.ide_desks.proofs.Steps.{desk_calls, desk_crashes, desk_fails, desk_refused, desk_rests, desk_stores, desk_waits}
 use Rattle.ide_desks.proofs.writer.WriterDesk.disk_step.Given.{Over}
 use Rattle.ide_desks.proofs.writer.WriterDesk.disk_step.Goals as goal
 
@@ -156,3 +157,19 @@ returns-else-is_fault-clause-crashes g c told going left here there =
     ∥∥₁_elim (old.kept told) ∥∥₁_prop (λ desk.
     desk_crashes (kept g) g.P.Problem.TAG (c.two_disks_are_a_store.ensures.keep Two) (g.J.Accord.first told) old.half c.disk_step.new.self old.seat old.failed
     c.if-self.false desk c.disk_step.ensures.honest c.disk_step.ensures.any_moment left here there)
+
+-- ---- and for one of these reasons
+pub returns-then-self-clause-refused : goal.returns-then-self-clause-refused
+returns-then-self-clause-refused g c told = ∣ failed_before ∣₁
+
+pub returns-then-is_fault-clause-refused : goal.returns-then-is_fault-clause-refused
+returns-then-is_fault-clause-refused g c told =
+    ∣ subst (λ (e : Refused). IsStepRefusal e) (sym (c.if-is_fault.ensures.0 refl)) fails ∣₁
+
+pub returns-else-is_fault-clause-refused : goal.returns-else-is_fault-clause-refused
+returns-else-is_fault-clause-refused g c told =
+    let old = c.args.self.now in
+    ∥∥₁_map (old.kept told) (λ desk.
+    desk_refused (kept g) g.P.Problem.TAG (c.two_disks_are_a_store.ensures.keep Two) (g.J.Accord.first told) old.half c.disk_step.new.self old.seat old.failed
+    c.if-self.false desk c.disk_step.ensures.honest c.in-Err.refused (λ is. let no = c.if-is_fault.ensures.1 is in cc (no))
+    (subst (λ (r : Result Bool Refused). AreHonest old.half.journal → StepsOver old.half c.disk_step.new.self r) c.in-Err.is c.disk_step.ensures.steps))

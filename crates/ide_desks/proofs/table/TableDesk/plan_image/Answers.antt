@@ -1,0 +1,72 @@
+use Rattle.std.proofs.Common.{All, List, Ok, ap, inr, refl, subst, sym, ◌∙◌}
+use Rattle.std.proofs.Math.Logic.{∥∥₁_map, ∥∥₁_map₂}
+use Rattle.ide_journal.specs.Lists.{entries_of}
+use Rattle.ide_journal.specs.declared.record.RawRecord.{RawRecord}
+use Rattle.ide_journal.specs.declared.version.Version.TheVariants.{Two}
+use Rattle.ide_slots.specs.Slot.{IsPartEntry}
+use Rattle.ide_slot_store.specs.Parts.{AreImageParts}
+use Rattle.ide_slot_store.proofs.ImageParts.{parts_proper}
+use Rattle.ide_store.specs.Table.{Analysis}
+use Rattle.ide_desks.specs.Asking.{no_parts, not_planned}
+use Rattle.ide_desks.specs.Desks.{CountsSealed, IsTableDesk}
+use Rattle.ide_desks.proofs.Planning.{desk_after, desk_spelled}
+use Rattle.ide_desks.proofs.table.TableDesk.plan_image.Given.{Over}
+use Rattle.ide_desks.proofs.table.TableDesk.plan_image.Goals as goal
+
+-- the analysis of the store
+abbrev kept : (g : Over) → Analysis g.row.P-F.Denot g.row.P-L.Denot
+kept g = record {
+  lattice = g.P.L.Lattice.algebra;
+  functions = g.P.F.EdgeFn.edge;
+  targets = g.P.Problem.targets;
+  same = g.P.F.PartialEq.eq;
+  proper = g.P.F.Wire.proper;
+  form = g.P.F.Wire.form;
+}
+
+pub plan_all-requires-clause-parts : goal.plan_all-requires-clause-parts
+plan_all-requires-clause-parts g c =
+    let are = c.in-Ok.ensures.parts in
+    subst (λ (rs : List RawRecord). All IsPartEntry (entries_of rs)) (sym c.as_slice.ensures.value)
+    (parts_proper (kept g) are.items (entries_of c.in-Ok.parts.items) are.in_parts)
+
+-- ---- the writer is live with the checkpoint, or as it was
+pub invariant_of-writer : goal.invariant_of-writer
+invariant_of-writer g c =
+    let table = c.args.self.now in
+    let writer = c.args.writer.now in
+    let image =
+    subst (λ (rs : List RawRecord). AreImageParts (kept g) table.half (entries_of rs)) (sym c.as_slice.ensures.value) c.in-Ok.ensures.parts in
+    record {
+      named = writer.named;
+      counts = writer.counts;
+      kept = λ told. ∥∥₁_map₂ (table.kept told) (writer.kept told) (λ desk writes.
+          desk_after (kept g) g.P.Problem.TAG (g.J.Accord.first told) table.half writer.half c.plan_all.new.self table.seat writer.seat c.halves_meet.ensures
+          c.runs_are_live.ensures c.slot_checkpoints_begin.ensures.begins (c.two_disks_are_a_store.ensures.keep Two) table.counts c.requires.handed
+          c.requires.taken desk (sym c.is_stopped.ensures ∙ c.if-is_stopped.false) writer.failed (sym c.has_failed.ensures ∙ c.if-has_failed.false) writes
+          c.requires.still (entries_of c.as_slice.result.now) image c.plan_all.ensures.disks c.plan_all.result c.plan_all.ensures.planned
+          c.plan_all.ensures.unplanned c.plan_all.ensures.quiet);
+    }
+
+-- ---- and the other half spells in the second version
+pub invariant_of-self : goal.invariant_of-self
+invariant_of-self g c =
+    let table = c.args.self.now in
+    record {
+      named = table.named;
+      counts = subst (λ t. CountsSealed t table.seat) (sym c.spell_in.ensures) (record { count = table.counts.count; handed = table.counts.handed });
+      kept = λ told. ∥∥₁_map (table.kept told) (λ desk.
+          subst (λ t. IsTableDesk (kept g) g.P.Problem.TAG (g.J.Accord.first told) t table.seat) (sym c.spell_in.ensures)
+          (desk_spelled (kept g) g.P.Problem.TAG (g.J.Accord.first told) table.half c.args.writer.now.half c.args.writer.now.half table.seat c.args.writer.now.seat desk));
+    }
+
+pub returns-in-Ok-false-clause-none : goal.returns-in-Ok-false-clause-none
+returns-in-Ok-false-clause-none g c is =
+    c.plan_all.ensures.none (c.in-Ok-false.is ∙ ap (λ b. Ok b) c.in-Ok-false.field-0-test)
+
+-- ---- why it is refused
+pub returns-in-Err-clause-refused : goal.returns-in-Err-clause-refused
+returns-in-Err-clause-refused g c = inr (no_parts c.in-Err.ensures.refused)
+
+pub returns-clause-refused : goal.returns-clause-refused
+returns-clause-refused g c = inr (not_planned c.args.writer.now.half refl c.in-Err-plan_all.ensures.refused)

@@ -1,0 +1,30 @@
+-- What clients order: the record of a command becomes the client's own, under its number.
+use Rattle.std.specs.Prelude.{◌≡◌, ◌≤◌, ℕ, List, [], ◌∷◌}
+use Rattle.ide_batch.specs.Bodies.{IsEntryOf}
+use Rattle.ide_batch.specs.Records as records
+use Rattle.ide_board.specs.Records.{ClientView, with_own}
+use Rattle.ide_journal.specs.Format.{Entry}
+use Rattle.ide_journal.specs.declared.version.Version.TheVariants.{Two}
+use Rattle.ide_store.specs.Table.{Analysis, forms_of}
+use Rattle.ide_text.specs.Parsed.{IsParsed}
+use Rattle.ide_text.specs.Program.{value_of}
+use Rattle.ide_text.specs.Value.{ProgramValue}
+use Rattle.ide_text.specs.declared.program.Program.{Program}
+
+module _ {F L : Type 0} (a : Analysis F L) where
+  -- the record is a load of a text of the program, in the second version
+  pub record SpellsLoad (v : ProgramValue) (entry : Entry) : Type 0 where
+    pub text : List ℕ
+    pub program : Program
+    pub parsed : IsParsed text program
+    pub says : value_of program ≡ v
+    pub spelled : IsEntryOf (forms_of a) Two (records.Load text) entry
+
+  -- the record is a root of that name
+  abbrev pub SpellsRoot : (name : List ℕ) → Entry → Type 0
+  SpellsRoot name entry = IsEntryOf (forms_of a) Two (records.Root name) entry
+
+-- the record is one more of the client's own, under that number, which is not below what it has seen
+pub record NotesOrder (old new : ClientView Entry) (number : ℕ) (entry : Entry) : Type 0 where
+  pub noted : new ≡ with_own old ((number, entry) ∷ [])
+  pub later : old.seen ≤ number

@@ -1,0 +1,58 @@
+//! Both desks, given up: what lay under two locks is an engine again.
+ghost use Rattle.std.specs.Prelude.{◌≡◌, ◌||◌, [], false};
+ghost use Rattle.ide_desks.specs.Keeping.{two};
+ghost use Rattle.ide_slot_store.specs.Runs.{AreOnRun};
+ghost use Rattle.ide_steps.specs.Core.{IsUnchanged};
+
+use crate::accord::Accord;
+use crate::laws::halves_meet;
+use crate::table::TableDesk;
+use crate::writer::WriterDesk;
+use ide_disk::Disk;
+use ide_problem::Problem;
+use ide_slot_store::SlotEngine;
+use ide_store::{Kept, TableHalf, two_disks_are_a_store};
+
+impl<P: Problem, J: Accord> TableDesk<P, J> {
+    /// The engine of which the desks have the halves. What waits with the half that works is handed over to the
+    /// half that writes, unless memory is wanting for that. Where a call of a disk failed, each call of the engine
+    /// is refused.
+    pub fn into_engine<D: Disk>(self, writer: WriterDesk<P, D, J>) -> SlotEngine<P, D>
+        ensures run { J.told → result.table.failed ≡ false → result.table.waiting ≡ [] → ∥ AreOnRun ⟦<P as Kept>⟧.analysis (two P.TAG) result.table result.writer ∥₁ }
+        ensures core { IsUnchanged self.half.core result.table.core }
+        ensures sealed { result.table.sealed ≡ self.half.sealed }
+        ensures failed { result.table.failed ≡ false → (self.half.failed ≡ false) × (writer.failed ≡ false) }
+        ensures journal { result.writer.journal ≡ writer.half.journal }
+    {
+        halves_meet::<P, D>();
+        two_disks_are_a_store::<P>();
+        let TableDesk {
+            mut half,
+            mut seat,
+            board,
+            ..
+        } = self;
+        let WriterDesk {
+            half: mut writing,
+            seat: mut writing_seat,
+            failed,
+            ..
+        } = writer;
+        board.hand_over(&mut seat, &mut writing_seat);
+        let _ = writing.take_all_from(&mut half);
+        SlotEngine {
+            table: stopped_where(failed, half),
+            writer: writing,
+        }
+    }
+}
+
+/// The half, which is told of a failure where there was one.
+fn stopped_where<P: Problem>(failed: bool, mut half: TableHalf<P>) -> TableHalf<P>
+    ensures { result ≡ record half { failed = failed || half.failed } }
+{
+    if failed {
+        half.stop();
+    }
+    half
+}
