@@ -1,5 +1,5 @@
 -- What asking the desks for a checkpoint comes to, from what its calls say.
-use Rattle.std.proofs.Common.{◌≡◌, ◌<◌, ◌≤◌, ◌⊎◌, ap, inl, inr, refl, sym, ◌∙◌, subst, true, false, Bool, List, Option, None, Some, Result, Ok, Err, arith}
+use Rattle.std.proofs.Common.{◌≡◌, ◌∙◌, Bool, true, false, Option, None, Some, Result, Ok, Err, ap, refl, subst, sym}
 use Rattle.std.specs.Prelude.{IfErr, IfOk, IfSome, OnErr}
 use Rattle.ide_board.specs.Records.{TableView, WriterView}
 use Rattle.ide_disk.specs.declared.disk.Disk.{Ghosts}
@@ -10,8 +10,7 @@ use Rattle.ide_store.specs.Table.{Analysis, TableData}
 use Rattle.ide_store.specs.TableCalls.{IsRefusal, IsSealStop, after_failure, by_itself}
 use Rattle.ide_store.specs.declared.outbox.Ticket.{Ticket}
 use Rattle.ide_wire.specs.declared.refused.Refused.{Refused}
-use Rattle.ide_wire.specs.declared.refused.Refused.TheVariants as refused
-use Rattle.ide_desks.specs.Asking.{IsAskStop, IsPlanStop, SealsForNone, no_parts, no_plan, none_sealed, not_planned, not_sealed, one_sealed, table_failed, writer_failed}
+use Rattle.ide_desks.specs.Asking.{IsAskStop, IsPlanStop, SealsForNone, no_parts, no_plan, none_sealed, not_planned, not_sealed, one_sealed, table_told, writer_told}
 use Rattle.ide_desks.specs.Desks.{HandsOver, last_entry, with_last}
 
 -- a seal is for no client, or seals nothing
@@ -35,18 +34,16 @@ module _ {F L : Type 0} (a : Analysis F L) {D : Type 0} {G : Ghosts D} (before a
   seal_stop why working (after_failure is) = (let no : true ≡ false = sym is ∙ working in cc (no))
   seal_stop why working (by_itself going stop) = not_sealed stop
 
-  plan_as : (mid : TableData F) (half : SlotWriterHalf D G) (why : Refused) → after ≡ mid → half.journal ≡ old.journal → IsPlanStop a mid half why
-      → IsPlanStop a after old why
-  plan_as mid half why same journal (no_parts stop) = no_parts (subst (λ (t : TableData F). IsPartsStop a t why) (sym same) stop)
-  plan_as mid half why same journal (not_planned writer is stop) = not_planned writer (is ∙ journal) stop
+  plan_as : (mid : TableData F) (half : SlotWriterHalf D G) (fault : Bool) (why : Refused) → after ≡ mid → half.journal ≡ old.journal → fault ≡ failed
+      → IsPlanStop a mid half fault why → IsPlanStop a after old failed why
+  plan_as mid half fault why same journal told (table_told is) = table_told (ap (λ (t : TableData F). t.failed) same ∙ is)
+  plan_as mid half fault why same journal told (writer_told is) = writer_told (sym told ∙ is)
+  plan_as mid half fault why same journal told (no_parts stop) = no_parts (subst (λ (t : TableData F). IsPartsStop a t why) (sym same) stop)
+  plan_as mid half fault why same journal told (not_planned writer is stop) = not_planned writer (is ∙ journal) stop
 
   -- a plan is, behind what was sealed
   pub plan_stop : {T : Type 0} (mid : TableData F) (half : SlotWriterHalf D G) (fault : Bool) (result : Result T Refused)
-      → IfErr result (λ why. ((why ≡ refused.Failed) × ((mid.failed ≡ true) ⊎ (fault ≡ true))) ⊎ IsPlanStop a mid half why)
-      → OnErr result (after ≡ mid) → half.journal ≡ old.journal → fault ≡ failed → IfErr result (IsAskStop a before after old failed)
-  plan_stop mid half fault (Ok planned) stop same journal faulted = tt
-  plan_stop mid half fault (Err why) (inl (is, inl marked)) same journal faulted =
-      subst (IsAskStop a before after old failed) (sym is) (table_failed (inr (ap (λ (t : TableData F). t.failed) same ∙ marked)))
-  plan_stop mid half fault (Err why) (inl (is, inr marked)) same journal faulted =
-      subst (IsAskStop a before after old failed) (sym is) (writer_failed (sym faulted ∙ marked))
-  plan_stop mid half fault (Err why) (inr stop) same journal faulted = no_plan (plan_as mid half why same journal stop)
+      → IfErr result (IsPlanStop a mid half fault) → OnErr result (after ≡ mid) → half.journal ≡ old.journal → fault ≡ failed
+      → IfErr result (IsAskStop a before after old failed)
+  plan_stop mid half fault (Ok planned) stop same journal told = tt
+  plan_stop mid half fault (Err why) stop same journal told = no_plan (plan_as mid half fault why same journal told stop)

@@ -1,5 +1,5 @@
 -- What the desks do that are lent for a checkpoint.
-use Rattle.std.specs.Prelude.{◌≡◌, ◌⊎◌, ◌++◌, Bool, true, List, [], ◌∷◌, None, length}
+use Rattle.std.specs.Prelude.{◌≡◌, ◌++◌, Bool, true, List, [], ◌∷◌, None, length}
 use Rattle.ide_board.specs.Records.{Marked, TableView, WriterView}
 use Rattle.ide_disk.specs.declared.disk.Disk.{Ghosts}
 use Rattle.ide_journal.specs.Format.{Entry}
@@ -36,17 +36,20 @@ module _ {F : Type 0} {D : Type 0} {G : Ghosts D} where
     no_command : (mid : SlotWriterHalf D G) → mid.journal ≡ old.journal → HasNoCommand mid → FindsNoCheckpoint old writer table
 
 module _ {F L : Type 0} (a : Analysis F L) {D : Type 0} {G : Ghosts D} where
-  -- why none is planned: the image is not given in parts; or the writer, with all that is sealed, does not plan it
-  pub data IsPlanStop (table : TableData F) (old : SlotWriterHalf D G) : Refused → Type 0 where
-    no_parts : {refused : Refused} → IsPartsStop a table refused → IsPlanStop table old refused
+  -- why none is planned: a call of a disk failed, of which one of the desks is told; or the image is not given in parts; or the
+  -- writer, with all that is sealed, does not plan it
+  pub data IsPlanStop (table : TableData F) (old : SlotWriterHalf D G) (failed : Bool) : Refused → Type 0 where
+    table_told : table.failed ≡ true → IsPlanStop table old failed Failed
+    writer_told : failed ≡ true → IsPlanStop table old failed Failed
+    no_parts : {refused : Refused} → IsPartsStop a table refused → IsPlanStop table old failed refused
     not_planned : {refused : Refused} (mid : SlotWriterHalf D G) → mid.journal ≡ old.journal → IsPlanAllRefusal mid refused
-        → IsPlanStop table old refused
+        → IsPlanStop table old failed refused
 
-  -- why it is refused: a call of a disk failed; or the current slot is of the last generation; or what changed is not sealed; or
-  -- none is planned
+  -- why none begins: a call of a disk failed; or the current slot is of the last generation; or what changed is not sealed; or, as
+  -- that leaves the half that works, none is planned
   pub data IsAskStop (before after : TableData F) (old : SlotWriterHalf D G) (failed : Bool) : Refused → Type 0 where
-    table_failed : (before.failed ≡ true) ⊎ (after.failed ≡ true) → IsAskStop before after old failed Failed
+    table_failed : before.failed ≡ true → IsAskStop before after old failed Failed
     writer_failed : failed ≡ true → IsAskStop before after old failed Failed
     last_generation : old.journal.generation ≡ 4294967295 → IsAskStop before after old failed Limit
     not_sealed : {refused : Refused} → IsSealStop a before refused → IsAskStop before after old failed refused
-    no_plan : {refused : Refused} → IsPlanStop after old refused → IsAskStop before after old failed refused
+    no_plan : {refused : Refused} → IsPlanStop after old failed refused → IsAskStop before after old failed refused

@@ -22,6 +22,10 @@ last_but_one (entry ∷ []) = (0, [])
 last_but_one (entry ∷ last ∷ []) = entry
 last_but_one (entry ∷ next ∷ last ∷ rest) = last_but_one (next ∷ last ∷ rest)
 
+-- the record that was sealed last, of those that wait
+abbrev pub last_sealed : {F : Type 0} → TableData F → Entry
+last_sealed table = last_entry table.waiting
+
 -- the seat after one more record was sealed, the last that waits, with that mark
 abbrev pub with_last : {F : Type 0} → TableView Entry → TableData F → Option ℕ → TableView Entry
 with_last seat table by = with_sealed seat (last_entry table.waiting, by)

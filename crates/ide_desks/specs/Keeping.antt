@@ -1,7 +1,7 @@
 -- What each half of a store on two disks keeps while the other goes on by itself, in slots of the second version.
 use Rattle.std.specs.Prelude.{◌≡◌, ◌<◌, ◌++◌, ℕ, Bool, true, false, List, [], Some, None, drop, length, map, slice_get, take}
 use Rattle.std.specs.List.{AllByRecursion}
-use Rattle.ide_board.specs.Records.{ClientView, Marked, TableView}
+use Rattle.ide_board.specs.Records.{ClientView, Marked, TableView, WriterView}
 use Rattle.ide_disk.specs.declared.disk.Disk.{Ghosts}
 use Rattle.ide_journal.specs.Format.{Entry, Head, head_of}
 use Rattle.ide_journal.specs.declared.version.Version.TheVariants.{Two}
@@ -77,6 +77,10 @@ module _ {F L : Type 0} (a : Analysis F L) (tag : ℕ) where
   abbrev pub LeavesStored : {D : Type 0} {G : Ghosts D} → List Entry → ℕ → (old new : SlotWriterHalf D G) → Type 0
   LeavesStored {G = G} taken stored old new =
       LeavesOnlyTwo G (sides_of old.journal) (sides_of new.journal) (λ left. ∥ HoldsStored taken stored left ∥₁)
+
+  -- of a desk: the stored ones of the records that it took over, where these are those that its board began with
+  abbrev pub LeavesTaken : {D : Type 0} {G : Ghosts D} → (first : List Entry) → WriterView Entry → (old new : SlotWriterHalf D G) → Type 0
+  LeavesTaken first seat old new = LeavesStored (records_in first seat.taken) (length seat.stored) old new
 
   -- whatever a crash leaves of the disks holds each of the client's own records below the number that it has seen, at its number
   abbrev pub KeepsOwn : {D : Type 0} {G : Ghosts D} → ClientView Entry → SlotWriterHalf D G → Type 0

@@ -1,5 +1,5 @@
 -- The desks of a new board over an engine.
-use Rattle.std.specs.Prelude.{◌≡◌, ◌≤◌, ℕ, List, [], replicate}
+use Rattle.std.specs.Prelude.{◌≡◌, ◌≤◌, ℕ, false, List, [], replicate}
 use Rattle.atomic_table.specs.Seated.{TableId}
 use Rattle.ide_board.specs.Records.{TableView, WriterView}
 use Rattle.ide_disk.specs.declared.disk.Disk.{Ghosts}
@@ -43,3 +43,8 @@ records_told told = told.run.at_work.handed
 -- an engine that is on a run of that version is on it still
 abbrev pub StaysOnRun : {P D L F : Type 0} {G : Ghosts D} → Analysis F L → ℕ → (old new : SlotEngine P D L F G) → Type 0
 StaysOnRun a tag old new = AreOnRun a (two tag) old.table old.writer → AreOnRun a (two tag) new.table new.writer
+
+-- an engine whose halves come back from their desks is on a run of that version, where no call of a disk failed and nothing waits with
+-- the half that works
+abbrev pub IsRejoined : {P D L F : Type 0} {G : Ghosts D} → Analysis F L → ℕ → SlotEngine P D L F G → Type 0
+IsRejoined a tag engine = engine.table.failed ≡ false → engine.table.waiting ≡ [] → ∥ AreOnRun a (two tag) engine.table engine.writer ∥₁

@@ -1,5 +1,5 @@
 //! A checkpoint of all that is sealed, for which both desks are lent.
-ghost use Rattle.std.specs.Prelude.{◌≡◌, ◌↔◌, ◌<◌, ◌⊎◌, [], false, true, length, Err, Ok, Some, IfErr, IsTrue, OnErr, OnOk};
+ghost use Rattle.std.specs.Prelude.{◌≡◌, ◌↔◌, ◌<◌, [], false, true, length, Err, Ok, Some, IfErr, IsTrue, OnErr, OnOk};
 ghost use Rattle.ide_desks.specs.Asking.{BeginsCheckpoint, FindsNoCheckpoint, IsAskStop, IsPlanStop, SealsForNone};
 ghost use Rattle.ide_journal.specs.declared.version.Version.TheVariants.{Two};
 ghost use Rattle.ide_slot_journal.specs.Stands.{IsCheckpointing, sides_of};
@@ -79,7 +79,7 @@ impl<P: Problem, J: Accord> TableDesk<P, J> {
         ensures seats { (self.new.seat ≡ self.old.seat) × (writer.new.seat ≡ writer.old.seat) }
         ensures disks { sides_of writer.new.half.journal ≡ sides_of writer.old.half.journal }
         ensures failed { writer.new.failed ≡ writer.old.failed }
-        ensures refused { IfErr result (λ why. ((why ≡ Refused.Failed) × ((self.old.half.failed ≡ true) ⊎ (writer.old.failed ≡ true))) ⊎ IsPlanStop ⟦<P as Kept>⟧.analysis self.old.half writer.old.half why) }
+        ensures refused { IfErr result (IsPlanStop ⟦<P as Kept>⟧.analysis self.old.half writer.old.half writer.old.failed) }
     {
         runs_are_live::<P, D>();
         slot_checkpoints_begin::<P, D>();

@@ -1,7 +1,6 @@
 //! Both desks, given up: what lay under two locks is an engine again.
-ghost use Rattle.std.specs.Prelude.{◌≡◌, ◌||◌, [], false};
-ghost use Rattle.ide_desks.specs.Keeping.{two};
-ghost use Rattle.ide_slot_store.specs.Runs.{AreOnRun};
+ghost use Rattle.std.specs.Prelude.{◌≡◌, ◌||◌, false};
+ghost use Rattle.ide_desks.specs.Opened.{IsRejoined};
 ghost use Rattle.ide_steps.specs.Core.{IsUnchanged};
 
 use crate::accord::Accord;
@@ -18,7 +17,7 @@ impl<P: Problem, J: Accord> TableDesk<P, J> {
     /// half that writes, unless memory is wanting for that. Where a call of a disk failed, each call of the engine
     /// is refused.
     pub fn into_engine<D: Disk>(self, writer: WriterDesk<P, D, J>) -> SlotEngine<P, D>
-        ensures run { J.told → result.table.failed ≡ false → result.table.waiting ≡ [] → ∥ AreOnRun ⟦<P as Kept>⟧.analysis (two P.TAG) result.table result.writer ∥₁ }
+        ensures run { J.told → IsRejoined ⟦<P as Kept>⟧.analysis P.TAG result }
         ensures core { IsUnchanged self.half.core result.table.core }
         ensures sealed { result.table.sealed ≡ self.half.sealed }
         ensures failed { result.table.failed ≡ false → (self.half.failed ≡ false) × (writer.failed ≡ false) }

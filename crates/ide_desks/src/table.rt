@@ -2,7 +2,7 @@
 ghost use Rattle.std.specs.Prelude.{◌≡◌, ◌+◌, ◌<◌, ◌≤◌, ◌∷◌, [], None, Some, length, false, true, Ok, IfErr, IfOk, IfSome, OnErr, OnOk};
 ghost use Rattle.std.specs.Arc.{arc_value};
 ghost use Rattle.ide_board.specs.Records.{with_own};
-ghost use Rattle.ide_desks.specs.Desks.{CountsSealed, IsMarked, IsTableDesk, last_entry, with_last, with_last_two};
+ghost use Rattle.ide_desks.specs.Desks.{CountsSealed, IsMarked, IsTableDesk, last_entry, last_sealed, with_last, with_last_two};
 ghost use Rattle.ide_desks.specs.Orders.{NotesOrder, SpellsLoad, SpellsRoot};
 ghost use Rattle.ide_steps.specs.ClaimRefusal.{IsClaimRefusal};
 ghost use Rattle.ide_steps.specs.Claiming.{FindsIdle, FindsQuiet, IfTask};
@@ -190,8 +190,8 @@ impl<P: Problem, J: Accord> TableDesk<P, J> {
         requires { client.old.board ≡ J.board }
         ensures loads { IfOk result (λ ticket. LoadsProgram ⟦<P as Kept>⟧.analysis (value_of program) self.old.half self.new.half ticket.number) }
         ensures marked { OnOk result (self.new.seat ≡ with_last self.old.seat self.new.half (Some client.old.number)) }
-        ensures noted { IfOk result (λ ticket. NotesOrder client.old client.new ticket.number (last_entry self.new.half.waiting)) }
-        ensures command { J.told → IfOk result (λ _. ∥ SpellsLoad ⟦<P as Kept>⟧.analysis (value_of program) (last_entry self.new.half.waiting) ∥₁) }
+        ensures noted { IfOk result (λ ticket. NotesOrder client.old client.new ticket.number (last_sealed self.new.half)) }
+        ensures command { J.told → IfOk result (λ _. ∥ SpellsLoad ⟦<P as Kept>⟧.analysis (value_of program) (last_sealed self.new.half) ∥₁) }
         ensures refused { IfErr result (IsRefusal self.old.half (IsLoadStop self.old.half)) }
         ensures unchanged { OnErr result (IsSameTable self.old.half self.new.half × (self.new.seat ≡ self.old.seat)) }
         ensures not_noted { OnErr result (client.new ≡ client.old) }
@@ -215,8 +215,8 @@ impl<P: Problem, J: Accord> TableDesk<P, J> {
         requires { client.old.board ≡ J.board }
         ensures begins { IfOk result (λ ticket. BeginsRoot ⟦<P as Kept>⟧.analysis name.now self.old.half self.new.half ticket.number) }
         ensures marked { OnOk result (IsMarked self.old.seat self.new.seat self.new.half client.old.number) }
-        ensures noted { IfOk result (λ ticket. NotesOrder client.old client.new ticket.number (last_entry self.new.half.waiting)) }
-        ensures command { J.told → IfOk result (λ _. ∥ SpellsRoot ⟦<P as Kept>⟧.analysis name.now (last_entry self.new.half.waiting) ∥₁) }
+        ensures noted { IfOk result (λ ticket. NotesOrder client.old client.new ticket.number (last_sealed self.new.half)) }
+        ensures command { J.told → IfOk result (λ _. ∥ SpellsRoot ⟦<P as Kept>⟧.analysis name.now (last_sealed self.new.half) ∥₁) }
         ensures refused { IfErr result (IsRefusal self.old.half (IsRootStop ⟦<P as Kept>⟧.analysis self.old.half name.now)) }
         ensures unchanged { OnErr result (IsSameTable self.old.half self.new.half × (self.new.seat ≡ self.old.seat)) }
         ensures not_noted { OnErr result (client.new ≡ client.old) }

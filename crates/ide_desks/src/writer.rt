@@ -3,7 +3,7 @@ ghost use Rattle.std.specs.Prelude.{◌≡◌, ◌↔◌, ◌⊎◌, ◌<◌, �
 ghost use Rattle.std.specs.Arc.{arc_value};
 ghost use Rattle.ide_board.specs.Records.{AreStoredBelow};
 ghost use Rattle.ide_desks.specs.Desks.{CountsTaken, IsWriterDesk, seat_after};
-ghost use Rattle.ide_desks.specs.Keeping.{KeepsOwn, LeavesStored, records_in};
+ghost use Rattle.ide_desks.specs.Keeping.{KeepsOwn, LeavesTaken};
 ghost use Rattle.ide_desks.specs.Stepping.{IsStepRefusal};
 ghost use Rattle.ide_slot_journal.specs.Stands.{IsCheckpointing, IsFilling, pair_of, records_stored, sides_of};
 
@@ -111,7 +111,8 @@ impl<P: Problem, D: Disk, J: Accord> WriterDesk<P, D, J> {
         ensures rests { result ≡ Ok Stepped.Rested → IsFilling self.new.half.journal → ⊥ }
 
         // Whatever a crash at any moment of the call leaves holds the stored records, and perhaps some behind them.
-        ensures crashes { (told : J.told) → self.old.failed ≡ false → LeavesStored ⟦<P as Kept>⟧.analysis P.TAG (records_in (J.first told) self.old.seat.taken) (length self.old.seat.stored) self.old.half self.new.half }
+        ensures crashes { (told : J.told) → self.old.failed ≡ false
+            → LeavesTaken ⟦<P as Kept>⟧.analysis P.TAG (J.first told) self.old.seat self.old.half self.new.half }
 
         // `Disk` is answered where a call of a disk failed, and at Ok none did. From then on nothing is done.
         ensures failures { OnOk result (FailsNone self.old.half.journal self.new.half.journal) }

@@ -1,14 +1,12 @@
 //! A service: a store that several hands work on at once, with one that writes what they did, and clients who
 //! order commands and learn what is stored.
-ghost use Rattle.std.specs.Prelude.{◌≡◌, ◌≤◌, ℕ, [], Some, false, max, Ok, IfErr, IfOk, OnErr};
+ghost use Rattle.std.specs.Prelude.{◌≡◌, ◌≤◌, ℕ, Some, max, Ok, IfErr, IfOk, OnErr};
 ghost use Rattle.std.specs.Arc.{arc_value};
-ghost use Rattle.ide_desks.specs.Keeping.{two};
-ghost use Rattle.ide_desks.specs.Opened.{IsToldOf};
+ghost use Rattle.ide_desks.specs.Opened.{IsRejoined, IsToldOf};
 ghost use Rattle.ide_desks.specs.Orders.{SpellsRoot};
 ghost use Rattle.ide_service.specs.Clients.{IsOrdered, IsTextRefusal, SpellsText};
 ghost use Rattle.ide_service.specs.Refusing.{HalfRefuses, IsLoopRefusal, IsRefusedIn, IsRefusedOver, to_seal};
 ghost use Rattle.ide_service.specs.declared.hands.Point.{Point};
-ghost use Rattle.ide_slot_store.specs.Runs.{AreOnRun};
 ghost use Rattle.ide_steps.specs.CloseRefusal.{IsFreezeRefusal};
 ghost use Rattle.ide_steps.specs.Frozen.{graph_in, program_in};
 ghost use Rattle.ide_steps.specs.Room.{IsGraphSaid};
@@ -215,7 +213,7 @@ impl<P: Problem, D: Disk, J: Accord> Service<P, D, J> {
     /// The engine, once nobody works on it: see [`TableDesk::into_engine`]. Whatever hands, clients and the
     /// committer did, it is on a run.
     pub fn into_engine(self) -> SlotEngine<P, D>
-        ensures { J.told → result.table.failed ≡ false → result.table.waiting ≡ [] → ∥ AreOnRun ⟦<P as Kept>⟧.analysis (two P.TAG) result.table result.writer ∥₁ }
+        ensures { J.told → IsRejoined ⟦<P as Kept>⟧.analysis P.TAG result }
     {
         let (table, writer) = self.into_desks();
         table.into_engine(writer)

@@ -1,4 +1,4 @@
-use Rattle.std.proofs.Common.{◌∙◌, ap, inl, subst, sym}
+use Rattle.std.proofs.Common.{◌∙◌, ap, subst, sym}
 use Rattle.ide_store.specs.Table.{Analysis}
 use Rattle.ide_desks.specs.Asking.{SealsForNone, last_generation, no_command, table_failed, writer_failed}
 use Rattle.ide_desks.proofs.Asking.{hands_sealed, plan_stop, seal_stop, sealed_for_none}
@@ -20,7 +20,7 @@ kept g = record {
 -- ---- before anything is done
 pub returns-then-is_stopped-clause-refused : goal.returns-then-is_stopped-clause-refused
 returns-then-is_stopped-clause-refused g c = elim c.then-is_stopped.branch [
-  | then-is_stopped-via-then-is_stopped w ↦ table_failed (inl (sym c.is_stopped.ensures ∙ w.if-is_stopped.true))
+  | then-is_stopped-via-then-is_stopped w ↦ table_failed (sym c.is_stopped.ensures ∙ w.if-is_stopped.true)
   | then-is_stopped-via-else-is_stopped+then-writer w ↦ writer_failed w.if-writer.true
 ]
 
@@ -49,7 +49,7 @@ returns-clause-sealed g c =
     let seat = c.args.self.now.seat in
     let sealed = sealed_for_none _ _ c.seal.result seat c.seal.new.self.seat c.seal.new.self.half c.seal.ensures.marked c.seal.ensures.nothing c.seal.ensures.unchanged in
     let handed = hands_sealed c.hand_over.result c.seal.new.self.seat c.hand_over.new.self.seat c.args.writer.now.seat c.hand_over.new.writer.seat
-        c.hand_over.ensures.hands c.hand_over.ensures.none in
+    c.hand_over.ensures.hands c.hand_over.ensures.none in
     subst (SealsForNone seat.sealed) (sym (ap (λ t. t.sealed) c.plan_image.ensures.seats.0 ∙ handed)) sealed
 
 pub returns-clause-refused : goal.returns-clause-refused

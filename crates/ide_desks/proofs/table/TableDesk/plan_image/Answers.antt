@@ -1,4 +1,4 @@
-use Rattle.std.proofs.Common.{All, List, Ok, ap, inr, refl, subst, sym, ◌∙◌}
+use Rattle.std.proofs.Common.{All, List, Ok, ap, refl, subst, sym, ◌∙◌}
 use Rattle.std.proofs.Math.Logic.{∥∥₁_map, ∥∥₁_map₂}
 use Rattle.ide_journal.specs.Lists.{entries_of}
 use Rattle.ide_journal.specs.declared.record.RawRecord.{RawRecord}
@@ -7,11 +7,12 @@ use Rattle.ide_slots.specs.Slot.{IsPartEntry}
 use Rattle.ide_slot_store.specs.Parts.{AreImageParts}
 use Rattle.ide_slot_store.proofs.ImageParts.{parts_proper}
 use Rattle.ide_store.specs.Table.{Analysis}
-use Rattle.ide_desks.specs.Asking.{no_parts, not_planned}
+use Rattle.ide_desks.specs.Asking.{no_parts, not_planned, table_told, writer_told}
 use Rattle.ide_desks.specs.Desks.{CountsSealed, IsTableDesk}
 use Rattle.ide_desks.proofs.Planning.{desk_after, desk_spelled}
 use Rattle.ide_desks.proofs.table.TableDesk.plan_image.Given.{Over}
 use Rattle.ide_desks.proofs.table.TableDesk.plan_image.Goals as goal
+use Rattle.ide_desks.proofs.table.TableDesk.plan_image.Goals.{then-has_failed-via-else-has_failed+then-is_stopped, then-has_failed-via-then-has_failed}
 
 -- the analysis of the store
 abbrev kept : (g : Over) → Analysis g.row.P-F.Denot g.row.P-L.Denot
@@ -65,8 +66,14 @@ returns-in-Ok-false-clause-none g c is =
     c.plan_all.ensures.none (c.in-Ok-false.is ∙ ap (λ b. Ok b) c.in-Ok-false.field-0-test)
 
 -- ---- why it is refused
+pub returns-then-has_failed-clause-refused : goal.returns-then-has_failed-clause-refused
+returns-then-has_failed-clause-refused g c = elim c.then-has_failed.branch [
+  | then-has_failed-via-then-has_failed w ↦ writer_told (sym c.has_failed.ensures ∙ w.if-has_failed.true)
+  | then-has_failed-via-else-has_failed+then-is_stopped w ↦ table_told (sym w.is_stopped.ensures ∙ w.if-is_stopped.true)
+]
+
 pub returns-in-Err-clause-refused : goal.returns-in-Err-clause-refused
-returns-in-Err-clause-refused g c = inr (no_parts c.in-Err.ensures.refused)
+returns-in-Err-clause-refused g c = no_parts c.in-Err.ensures.refused
 
 pub returns-clause-refused : goal.returns-clause-refused
-returns-clause-refused g c = inr (not_planned c.args.writer.now.half refl c.in-Err-plan_all.ensures.refused)
+returns-clause-refused g c = not_planned c.args.writer.now.half refl c.in-Err-plan_all.ensures.refused
