@@ -3,6 +3,7 @@ use ide_desks::Accord;
 use ide_disk::Disk;
 use ide_problem::Problem;
 use ide_service::{Gate, Point, Service};
+use ide_store::Kept;
 use std::io::{Stderr, Write};
 use std::sync::Wait;
 use std::time::{Clock, Instant};
@@ -10,7 +11,7 @@ use std::time::{Clock, Instant};
 /// A gate that lets everybody go on. Each time a record was stored it tells on a terminal, if there is one, how
 /// far the run has come: one line, written over the one before.
 #[derive(Drop)]
-pub(crate) struct Telling<'a, R: Wait + Clock, P: Problem, D: Disk, J: Accord> {
+pub(crate) struct Telling<'a, R: Wait + Clock, P: Kept, D: Disk, J: Accord> {
     pub(crate) rt: &'a R,
     pub(crate) service: &'a Service<P, D, J>,
     pub(crate) terminal: Option<Stderr>,

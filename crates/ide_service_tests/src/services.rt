@@ -1,5 +1,5 @@
 //! Services over stores on disks in memory.
-ghost use Rattle.std.specs.Prelude.{◌≡◌, IfOk};
+ghost use Rattle.std.specs.Prelude.{◌≡◌, IfOk, Ok};
 ghost use Rattle.std.specs.Arc.{arc_value};
 
 use ide_board::ClientSeat;
@@ -28,7 +28,9 @@ pub(crate) type Served<J> = Service<CopyConst, MemDisk, J>;
 pub(crate) type Client = ClientSeat<SealedRecord>;
 
 /// What a call gave that is not to be refused.
-pub(crate) fn given<T>(rt: &impl Abort, found: Result<T, Refused>) -> T {
+pub(crate) fn given<T>(rt: &impl Abort, found: Result<T, Refused>) -> T
+    ensures { found ≡ Ok result }
+{
     match found {
         Ok(value) => value,
         Err(refused) => panic!(rt; "{refused}"),
