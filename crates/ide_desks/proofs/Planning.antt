@@ -1,6 +1,6 @@
 -- A checkpoint of all that is sealed, where nothing waits with the half that works: the writer stays live with the records that it
 -- took, since a run on which both halves are goes on with the beginning of the checkpoint.
-use Rattle.std.proofs.Common.{◌≡◌, ◌∙◌, ◌≤◌, ◌++◌, ℕ, Bool, true, false, List, [], ◌∷◌, Some, Result, Ok, Err, length, take, refl, ap, sym, subst, arith}
+use Rattle.std.proofs.Common.{◌≡◌, ◌∙◌, ◌++◌, ℕ, Bool, true, false, List, [], ◌∷◌, Some, Result, Ok, Err, length, refl, ap, sym, subst, arith}
 use Rattle.std.proofs.lemmas.List.{append-nil, drop_all, take_all}
 use Rattle.ide_board.specs.Records.{TableView, WriterView}
 use Rattle.ide_disk.specs.declared.disk.Disk.{Ghosts}

@@ -1,9 +1,9 @@
-use Rattle.std.proofs.Common.{◌≡◌, ◌∙◌, ◌||◌, Bool, ap, false, subst, sym}
+use Rattle.std.proofs.Common.{◌∙◌, ◌||◌, Bool, ap, subst, sym}
 use Rattle.std.proofs.Math.Logic.{∥∥₁_map₂}
 use Rattle.ide_journal.specs.declared.version.Version.TheVariants.{Two}
 use Rattle.ide_slot_store.specs.Runs.{AreOnRun}
 use Rattle.ide_steps.specs.Core.{IsUnchanged}
-use Rattle.ide_store.specs.Table.{Analysis, TableData}
+use Rattle.ide_store.specs.Table.{Analysis}
 use Rattle.ide_desks.specs.Desks.{IsWriterDesk}
 use Rattle.ide_desks.specs.Keeping.{two}
 use Rattle.ide_desks.proofs.Meeting.{met_on_run, none_failed, rest_kept}
