@@ -1,7 +1,7 @@
 -- What a client orders, through a lock.
-use Rattle.std.proofs.Common.{◌≡◌, Result, Ok, Err}
+use Rattle.std.proofs.Common.{Result, Ok, Err}
 use Rattle.std.proofs.Math.Logic.{∥∥₁_map}
-use Rattle.std.specs.Prelude.{IfErr, IfOk}
+use Rattle.std.specs.Prelude.{IfOk}
 use Rattle.ide_board.specs.Records.{ClientView}
 use Rattle.ide_desks.specs.Orders.{NotesOrder}
 use Rattle.ide_desks.specs.Stepping as steps

@@ -1,5 +1,5 @@
 -- What is published only grows, from call to call.
-use Rattle.std.proofs.Common.{◌≡◌, ◌∙◌, ◌+◌, ◌≤◌, length, take, ap, arith, refl, subst, sym}
+use Rattle.std.proofs.Common.{◌≡◌, ◌∙◌, ◌+◌, ◌≤◌, length, arith, refl, subst, sym}
 use Rattle.std.proofs.lemmas.List.{length-take}
 use Rattle.ide_board.specs.Records.{WriterView}
 use Rattle.ide_desks.specs.Desks.{seat_after}

@@ -1,9 +1,9 @@
 -- What a client of a service orders, and why it is refused.
-use Rattle.std.specs.Prelude.{◌≡◌, ℕ, List}
+use Rattle.std.specs.Prelude.{ℕ, List}
 use Rattle.ide_board.specs.Records.{ClientView}
 use Rattle.ide_desks.specs.Orders.{NotesOrder, SpellsLoad}
 use Rattle.ide_journal.specs.Format.{Entry}
-use Rattle.ide_store.specs.Table.{Analysis, TableData}
+use Rattle.ide_store.specs.Table.{Analysis}
 use Rattle.ide_store.specs.TableCalls.{IsLoadStop}
 use Rattle.ide_text.specs.Parsed.{IsParsed, IsRefusalOf}
 use Rattle.ide_text.specs.Program.{value_of}
