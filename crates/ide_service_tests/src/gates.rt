@@ -41,8 +41,9 @@ impl Gate for Counting {
     }
 }
 
-/// How often one that is held looks whether the other came on.
-const TURNS: usize = 10_000;
+/// How often one that is held looks whether the other came on: for as long as a thread may take to start where other
+/// processes have the processors.
+const TURNS: usize = 2_000_000;
 
 /// Looks, for as many turns as there are, whether the other came on, and notes it where it did.
 fn hold(came: &AtomicBool, seen: &AtomicBool) {
