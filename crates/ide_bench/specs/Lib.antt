@@ -1,3 +1,5 @@
+pub mod Dear
+pub mod DearLaws
 pub mod Phases
 pub mod Records
 pub mod Stores

@@ -12,8 +12,10 @@
 //! - `resume FILE` does so, opens the store from its disks and prints the same of it;
 //! - `checkpoint FILE` does what `keep` does, makes a checkpoint and prints the same;
 //! - `bytes FILE` does what `keep` does and copies the bytes of the first disk once;
-//! - `work FILE WORKERS AHEAD` does what `keep` does, with so many hands, each of which does so many tasks in one
-//!   hold of the store's lock, and one that writes;
+//! - `work FILE WORKERS KEYS AHEAD` does what `keep` does, with so many workers, each of which has so many keys at once and
+//!   does so many tasks in one hold of the store's lock, and one that writes;
+//! - `dear FILE WORKERS KEYS AHEAD` does so by an analysis whose functions are dear: half a microsecond a part, ten parts
+//!   a task;
 //! - `append LENGTH COUNT` stores so many records with bodies of that length in a journal on a disk
 //!   in memory, and prints how many there are and how long the file is;
 //! - `reopen LENGTH COUNT` does so and reads them back;
@@ -26,6 +28,7 @@
 
 mod batches;
 mod counts;
+mod dear;
 mod fills;
 mod phases;
 mod records;
@@ -44,12 +47,13 @@ use std::sync::Wait;
 use std::thread::Threads;
 use std::time::Clock;
 use std::{env, fs};
-use stores::{Amounts, checkpoint, copy_disk, keep, resume, work};
+use stores::{Amounts, Pace, checkpoint, copy_disk, keep, resume, work, work_dear};
 
 fn main(rt: HostRuntime) -> Result<()> {
     let words: Vec<String> = env::args(&rt)?.collect(rt.alloc())?;
     match word(words.as_slice(), 1)? {
-        "work" => print_amounts(&rt, run_workers(&rt, words.as_slice())?),
+        "work" => print_amounts(&rt, run_workers(&rt, words.as_slice(), false)?),
+        "dear" => print_amounts(&rt, run_workers(&rt, words.as_slice(), true)?),
         "fill" => print_steps(&rt, run_fill(&rt, words.as_slice())?),
         _ => run(&rt, words.as_slice()),
     }
@@ -65,15 +69,28 @@ fn run_fill<R: Threads + Clock + Sync + Files + AllocGlobal>(
     time_fill(rt, text.as_slice(), workers)
 }
 
-/// Lets as many hands work on a text as the words ask for.
+/// Lets workers work on a text as the words ask for, by a dear analysis or by copy constants.
 fn run_workers<R: Threads + Wait + Clock + Sync + Files + AllocGlobal>(
     rt: &R,
     words: &[String],
+    dear: bool,
 ) -> Result<Amounts> {
     let text: Vec<u8> = fs::read(rt, word(words, 2)?).context("the text cannot be read")?;
-    let workers = number(word(words, 3)?)?;
-    let ahead = number(word(words, 4)?)?;
-    work(rt, text.as_slice(), workers, ahead)
+    let pace = pace_of(words)?;
+    if dear {
+        work_dear(rt, text.as_slice(), pace)
+    } else {
+        work(rt, text.as_slice(), pace)
+    }
+}
+
+/// The pace that three words say.
+fn pace_of(words: &[String]) -> Result<Pace> {
+    Ok(Pace {
+        workers: number(word(words, 3)?)?,
+        keys: number(word(words, 4)?)?,
+        ahead: number(word(words, 5)?)?,
+    })
 }
 
 /// Does what the words ask for, and prints what it came to.
@@ -102,7 +119,7 @@ fn run_phase(rt: &HostRuntime, phase: &str, text: &[u8]) -> Result<()> {
         "checkpoint" => print_amounts(rt, checkpoint(rt.alloc(), text)?),
         "bytes" => print_bytes(rt, copy_disk(rt.alloc(), text)?),
         _ => bail!(
-            "parse, graph, tabulate, solve, print, fill, keep, resume, checkpoint, bytes, work, append, reopen, copy, spell, read or recopy is wanted"
+            "parse, graph, tabulate, solve, print, fill, keep, resume, checkpoint, bytes, work, dear, append, reopen, copy, spell, read or recopy is wanted"
         ),
     }
 }

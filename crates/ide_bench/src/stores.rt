@@ -1,13 +1,16 @@
-//! A text's run by copy constants in a store on two disks in memory, and what copying the bytes of one takes.
+//! A text's run in a store on two disks in memory, by copy constants or by a dear analysis, and what copying the bytes of
+//! one takes.
 ghost use Rattle.std.specs.Prelude.{◌≡◌, IfOk};
 ghost use Rattle.std.specs.Arc.{arc_value};
 ghost use Rattle.ide_disk.specs.Memory.{memory_size};
 ghost use Rattle.ide_bench.specs.Stores.{AreAmountsOf};
 
+use crate::dear::Spread;
 use anyhow::Result;
 use ide_desks::{Accord, Opened};
 use ide_disk::{Disk, MemDisk};
 use ide_instances::CopyConst;
+use ide_problem::Problem;
 use ide_service::{Crew, Open, Service, work_together};
 use ide_slot_store::SlotEngine;
 use ide_text::parse;
@@ -34,7 +37,7 @@ pub(crate) struct Amounts {
 }
 
 /// A store with no record.
-fn create(alloc: Global) -> Result<SlotEngine<CopyConst, MemDisk>> {
+fn create<P: Problem>(alloc: Global) -> Result<SlotEngine<P, MemDisk>> {
     let a = MemDisk::new(alloc, ROOM, ROOM + CALLS)?;
     let b = MemDisk::new(alloc, ROOM, ROOM + CALLS)?;
     match SlotEngine::create(alloc, a, b) {
@@ -52,7 +55,11 @@ fn open(alloc: Global, a: MemDisk, b: MemDisk) -> Result<SlotEngine<CopyConst, M
 }
 
 /// Loads a text's program, with `main` as the root.
-fn begin(alloc: Global, engine: &mut SlotEngine<CopyConst, MemDisk>, text: &[u8]) -> Result<()> {
+fn begin<P: Problem>(
+    alloc: Global,
+    engine: &mut SlotEngine<P, MemDisk>,
+    text: &[u8],
+) -> Result<()> {
     engine.table.load(parse(alloc, text)?)?;
     engine.table.root(b"main")?;
     Ok(())
@@ -72,7 +79,7 @@ fn store_run(
 }
 
 /// What the store came to, by so many tasks.
-fn measure_store(engine: SlotEngine<CopyConst, MemDisk>, tasks: u64) -> Result<Amounts>
+fn measure_store<P: Problem>(engine: SlotEngine<P, MemDisk>, tasks: u64) -> Result<Amounts>
     ensures { IfOk result (AreAmountsOf engine tasks) }
 {
     let records = engine.acked();
@@ -95,18 +102,42 @@ pub(crate) fn keep(alloc: Global, text: &[u8]) -> Result<Amounts> {
     measure_store(engine, tasks)
 }
 
-/// Keeps a text's run in a store, with so many hands, each of which does so many tasks in one hold of the lock,
-/// and one that writes; how many tasks that took nobody counts.
+/// How many workers there are, how many keys each of them has at once, and how many tasks it does in one hold of the lock.
+#[derive(Clone, Copy)]
+pub(crate) struct Pace {
+    pub(crate) workers: usize,
+    pub(crate) keys: usize,
+    pub(crate) ahead: usize,
+}
+
+/// Lets workers and one that writes end the run of a store that was opened with a board; how many tasks that took nobody
+/// counts.
+macro_rules! end_run {
+    ($rt:expr, $opened:expr, $pace:expr) => {{
+        let service = Service::<_, _, J>::new($rt.alloc(), $opened);
+        let crew = Crew {
+            rt: $rt,
+            service: &service,
+            gate: &Open {
+                ahead: $pace.ahead,
+            },
+            keys: $pace.keys,
+        };
+        work_together($rt, $rt.alloc(), &crew, $pace.workers)?;
+        measure_store(service.into_engine(), 0)
+    }};
+}
+
+/// Keeps a text's run in a store, by workers and one that writes.
 pub(crate) fn work<R: Threads + Wait + Clock + Sync + AllocGlobal>(
     rt: &R,
     text: &[u8],
-    workers: usize,
-    ahead: usize,
+    pace: Pace,
 ) -> Result<Amounts> {
     let mut engine = create(rt.alloc())?;
     begin(rt.alloc(), &mut engine, text)?;
     match Opened::new(rt.alloc(), engine, NO_CLIENTS) {
-        Ok((opened, _)) => work_on::<Brand, R>(rt, opened, workers, ahead),
+        Ok((opened, _)) => work_on::<Brand, R>(rt, opened, pace),
         Err((refused, _)) => Err(refused.into()),
     }
 }
@@ -115,20 +146,38 @@ pub(crate) fn work<R: Threads + Wait + Clock + Sync + AllocGlobal>(
 fn work_on<J: Accord + Send + Sync, R: Threads + Wait + Clock + Sync + AllocGlobal>(
     rt: &R,
     opened: Opened<CopyConst, MemDisk>,
-    workers: usize,
-    ahead: usize,
+    pace: Pace,
 ) -> Result<Amounts>
     requires board { arc_value opened.board ≡ J.board }
     requires untold { J.told → ⊥ }
 {
-    let service = Service::<_, _, J>::new(rt.alloc(), opened);
-    let crew = Crew {
-        rt,
-        service: &service,
-        gate: &Open { ahead },
-    };
-    work_together(rt, rt.alloc(), &crew, workers)?;
-    measure_store(service.into_engine(), 0)
+    end_run!(rt, opened, pace)
+}
+
+/// Keeps a text's run by a dear analysis in a store, by workers and one that writes.
+pub(crate) fn work_dear<R: Threads + Wait + Clock + Sync + AllocGlobal>(
+    rt: &R,
+    text: &[u8],
+    pace: Pace,
+) -> Result<Amounts> {
+    let mut engine = create(rt.alloc())?;
+    begin(rt.alloc(), &mut engine, text)?;
+    match Opened::new(rt.alloc(), engine, NO_CLIENTS) {
+        Ok((opened, _)) => work_dear_on::<Brand, R>(rt, opened, pace),
+        Err((refused, _)) => Err(refused.into()),
+    }
+}
+
+/// The same on a store that was opened with a board.
+fn work_dear_on<J: Accord + Send + Sync, R: Threads + Wait + Clock + Sync + AllocGlobal>(
+    rt: &R,
+    opened: Opened<Spread, MemDisk>,
+    pace: Pace,
+) -> Result<Amounts>
+    requires board { arc_value opened.board ≡ J.board }
+    requires untold { J.told → ⊥ }
+{
+    end_run!(rt, opened, pace)
 }
 
 /// Keeps a text's run in a store, and opens that store from its disks.

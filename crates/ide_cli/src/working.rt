@@ -23,9 +23,9 @@ use std::sync::Wait;
 use std::thread::Threads;
 use std::time::{Clock, Instant};
 
-/// How many tasks a hand does in one hold of the store's lock: so many take about a tenth of a millisecond,
-/// beside which a lock that is handed on costs little. With four hands 64 took a tenth longer.
-const AHEAD: usize = 256;
+/// How many tasks a hand does in one hold of the store's lock: so many take some 40 microseconds, for which clients and the
+/// one that writes wait at most.
+const AHEAD: usize = 64;
 /// No client orders commands while hands work.
 const NO_CLIENTS: u64 = 0;
 
@@ -58,6 +58,7 @@ macro_rules! work_on {
             rt: $rt,
             service: &service,
             gate: &gate,
+            keys: 1,
         };
         let worked = work_together($rt, $rt.alloc(), &crew, $asked.workers);
         gate.end();

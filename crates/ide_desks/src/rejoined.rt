@@ -14,13 +14,13 @@ use ide_store::{Kept, TableHalf, two_disks_are_a_store};
 
 impl<P: Problem, J: Accord> TableDesk<P, J> {
     /// The engine of which the desks have the halves. What waits with the half that works is handed over to the
-    /// half that writes, unless memory is wanting for that. Where a call of a disk failed, each call of the engine
-    /// is refused.
+    /// half that writes, unless memory is wanting for that. Where a call of a disk failed, and only there, each call of the
+    /// engine is refused with `Failed`.
     pub fn into_engine<D: Disk>(self, writer: WriterDesk<P, D, J>) -> SlotEngine<P, D>
         ensures run { J.told → IsRejoined ⟦<P as Kept>⟧.analysis P.TAG result }
         ensures core { IsUnchanged self.half.core result.table.core }
         ensures sealed { result.table.sealed ≡ self.half.sealed }
-        ensures failed { result.table.failed ≡ false → (self.half.failed ≡ false) × (writer.failed ≡ false) }
+        ensures failed { result.table.failed ≡ (writer.failed || self.half.failed) }
         ensures journal { result.writer.journal ≡ writer.half.journal }
     {
         halves_meet::<P, D>();

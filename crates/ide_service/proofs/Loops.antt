@@ -3,6 +3,8 @@ use Rattle.std.proofs.Common.{ℕ, Result, Ok, Err}
 use Rattle.std.specs.Prelude.{IfErr}
 use Rattle.ide_store.specs.Table.{Analysis, TableData}
 use Rattle.ide_wire.specs.declared.refused.Refused.{Refused}
+use Rattle.ide_service.specs.Spans.{IsSpanRefusal, as_one, no_hands, no_memory as no_room}
+use Rattle.ide_service.specs.declared.apart.Span.{Span}
 use Rattle.ide_service.specs.Refusing.{HalfRefuses, IsLoopRefusal, IsTaskRefusal, SharedRefuses, no_claim, no_end, no_memory, no_part, no_seal, no_task}
 
 -- a reason for each refusal that has another
@@ -37,3 +39,10 @@ module _ {F L : Type 0} (a : Analysis F L) (H : Type 0) (hand : ℕ) where
     pub loop_own : (why : Refused) → IsLoopRefusal (λ hands call why. HalfRefuses a (half hands) call why) hand why → IsLoopRefusal (HalfRefuses a) hand why
     loop_own why (no_claim (hands, over)) = no_claim (half hands, over)
     loop_own why (no_task current task) = no_task current (task_own why task)
+
+-- and so are hands that work as one over a half which they have to themselves
+pub span_own : {F L H : Type 0} (a : Analysis F L) (half : H → TableData F) (span : Span) (why : Refused)
+    → IsSpanRefusal (λ hands call why. HalfRefuses a (half hands) call why) span why → IsSpanRefusal (HalfRefuses a) span why
+span_own a half span why (no_hands none) = no_hands none
+span_own a half span why no_room = no_room
+span_own {H = H} a half span why (as_one hand one loop) = as_one hand one (loop_own a H hand half why loop)

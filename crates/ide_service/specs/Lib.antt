@@ -5,5 +5,6 @@ pub mod Refusal
 pub mod Refusing
 pub mod Served
 pub mod Solve
+pub mod Spans
 pub mod Started
 pub mod Storing

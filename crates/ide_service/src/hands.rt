@@ -230,6 +230,45 @@ fn run_task<R: Wait, P: Problem, H: Hands<P>, G: Gate>(
     }
 }
 
+/// Gives all parts of the work as the hand, and ends its claim, or gives it back where it is stale.
+#[tactic(auto, using(crate::specs::Refusing::no_task))]
+pub(crate) fn end_work<R: Wait, P: Problem, H: Hands<P>>(
+    rt: &R,
+    hands: &mut H,
+    hand: usize,
+    work: &mut Work<P>,
+) -> Result<(), Refused>
+    ensures released { H.is_free hands.new hand }
+    ensures refused { IfErr result (IsLoopRefusal H.refuses hand) }
+{
+    match give_work(rt, hands, hand, work) {
+        Ok(()) => Ok(()),
+        Err(refused) => {
+            hands.release(hand);
+            if is_stale(refused) {
+                return Ok(());
+            }
+            Err(refused)
+        }
+    }
+}
+
+/// Gives all parts of the work as the hand, and ends its claim.
+fn give_work<R: Wait, P: Problem, H: Hands<P>>(
+    rt: &R,
+    hands: &mut H,
+    hand: usize,
+    work: &mut Work<P>,
+) -> Result<(), Refused>
+    ensures ended { OnOk result (H.is_free hands.new hand) }
+    ensures refused { IfErr result (IsTaskRefusal H.refuses hand) }
+{
+    match parts_with_room(rt, hands, hand, work, usize::MAX) {
+        Ok(_) => finish_with_room(rt, hands, hand, work),
+        Err(refused) => Err(refused),
+    }
+}
+
 /// Whether a batch is full: it is to be sealed first.
 fn is_full(refused: Refused) -> bool
     ensures { IsTrue result ↔ (refused ≡ Refused.Limit) }

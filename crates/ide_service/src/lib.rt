@@ -8,10 +8,12 @@
 #![tactic(auto)]
 
 mod answers;
+mod apart;
 mod committing;
 mod desk;
 mod half;
 mod hands;
+mod patience;
 mod progress;
 mod runs;
 mod service;
@@ -21,6 +23,7 @@ mod storing;
 mod together;
 
 pub use answers::{values_of_service, values_of_table};
+pub use apart::Span;
 pub use hands::{Ended, Gate, Hands, Open, Point, hand_loop};
 pub use progress::Progress;
 pub use runs::{every_run, every_run_on_two_disks, values_of_runs_are_best};

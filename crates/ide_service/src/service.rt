@@ -15,6 +15,7 @@ ghost use Rattle.ide_store.specs.Table.{TableData};
 ghost use Rattle.ide_store.specs.TableCalls.{IsRootStop};
 
 use crate::hands::{Ended, Gate, Point, hand_loop};
+use crate::patience::Leave;
 use crate::progress::Progress;
 use crate::sharing::SharingHand;
 use ide_board::{Board, ClientSeat};
@@ -187,6 +188,27 @@ impl<P: Problem, D: Disk, J: Accord> Service<P, D, J> {
     /// Takes the table's lock.
     pub(crate) fn table<R: Wait>(&self, rt: &R) -> MutexGuard<'_, TableDesk<P, J>> {
         self.table.lock(rt)
+    }
+
+    /// Takes the table's lock for a hand that does so many whole tasks under it. Where it does some and another has the
+    /// lock, it sleeps for a while and tries again: who has it does as fast what there is to do as several would in turn,
+    /// and the table stays in the cache of one processor.
+    pub(crate) fn table_for<R: Wait + Clock>(
+        &self,
+        rt: &R,
+        tasks: usize,
+    ) -> MutexGuard<'_, TableDesk<P, J>> {
+        if tasks == 0 {
+            return self.table.lock(rt);
+        }
+        let mut leave = Leave::new();
+        for _ in rt.forever() {
+            if let Some(table) = self.table.try_lock() {
+                return table;
+            }
+            leave.take(rt);
+        }
+        unreachable!()
     }
 
     /// Takes the writer's lock. Nobody does who has the table's.

@@ -4,6 +4,7 @@ ghost use Rattle.std.specs.Prelude.{◌≡◌, Some, false, true};
 ghost use Rattle.ide_service.specs.Refusing.{SharedRefuses};
 
 use crate::hands::{Hands, claim_ahead};
+use crate::patience::Patience;
 use crate::service::Service;
 use ide_desks::Accord;
 use ide_disk::Disk;
@@ -13,13 +14,7 @@ use ide_store::Kept;
 use ide_tasks::Work;
 use ide_wire::Refused;
 use std::sync::Wait;
-use std::thread;
-use std::time::{Clock, Duration};
-
-/// How often a hand that finds each key claimed yields to others before it sleeps.
-const YIELDS: u32 = 16;
-/// How many microseconds it sleeps then.
-const PAUSE: u64 = 100;
+use std::time::Clock;
 
 /// What a hand saw of the keys that were pending when it claimed.
 #[derive(Clone, Copy, PartialEq, Eq, Debug)]
@@ -39,8 +34,8 @@ pub(crate) struct SharingHand<'a, R: Wait + Clock, P: Kept, D: Disk, J: Accord> 
     service: &'a Service<P, D, J>,
     /// How many whole tasks it does in one hold of the lock before it claims the next.
     ahead: usize,
-    /// How often it yielded since it had a task.
-    yields: u32,
+    /// How it waits since it had a task.
+    patience: Patience,
     /// What it saw when it last claimed.
     seen: Option<Seen>,
     /// It has no claim.
@@ -56,7 +51,7 @@ impl<'a, R: Wait + Clock, P: Problem, D: Disk, J: Accord> SharingHand<'a, R, P, 
             rt,
             service,
             ahead,
-            yields: 0,
+            patience: Patience::new(),
             seen: None,
             free: true,
         }
@@ -82,11 +77,11 @@ impl<'a, R: Wait + Clock, P: Problem, D: Disk, J: Accord> Hands<P> for SharingHa
 
     fn claim(&mut self, hand: usize) -> Result<Claimed<P>, Refused> {
         let alloc = self.service.alloc();
-        let mut table = self.service.table(self.rt);
+        let mut table = self.service.table_for(self.rt, self.ahead);
         match claim_ahead(self.rt, alloc, &mut *table, hand, self.ahead) {
             Ok(Claimed::Task(task)) => {
                 self.seen = Some(Seen::Task);
-                self.yields = 0;
+                self.patience = Patience::new();
                 self.free = false;
                 Ok(Claimed::Task(task))
             }
@@ -128,13 +123,7 @@ impl<'a, R: Wait + Clock, P: Problem, D: Disk, J: Accord> Hands<P> for SharingHa
         }
     }
 
-    /// It yields a few times, and then sleeps for a moment each time, so that no wake-up can be missed.
     fn pause(&mut self) {
-        if self.yields < YIELDS {
-            self.yields += 1;
-            thread::yield_now();
-        } else {
-            thread::sleep(self.rt, Duration::from_micros(PAUSE));
-        }
+        self.patience.wait(self.rt);
     }
 }

@@ -2,6 +2,7 @@
 ghost use Rattle.std.specs.Prelude.{OnOk};
 ghost use Rattle.ide_values.specs.Refusal.{AreWorkers};
 
+use crate::apart::Span;
 use crate::hands::{Ended, Gate};
 use crate::service::Service;
 use ide_desks::Accord;
@@ -18,7 +19,7 @@ use std::time::Clock;
 
 /// Who works together: hands, and one that writes what they do until it is told that they have ended.
 pub trait Team {
-    /// Lets the hand of that number work until nothing is left.
+    /// Lets the worker of that number work until nothing is left.
     fn work(&self, hand: usize) -> Result<Ended, Refused>;
 
     /// Writes what the hands do, until stop was raised and nothing is left to write.
@@ -34,12 +35,22 @@ pub struct Crew<'a, R: Wait + Clock, P: Kept, D: Disk, J: Accord, G: Gate> {
     pub rt: &'a R,
     pub service: &'a Service<P, D, J>,
     pub gate: &'a G,
+    /// How many keys each worker claims at once, by as many hands, and computes with no lock held: 1 where functions are
+    /// cheap, and some 16 where they are dear.
+    pub keys: usize,
 }
 
 impl<'a, R: Wait + Clock, P: Problem, D: Disk, J: Accord, G: Gate> Team
     for Crew<'a, R, P, D, J, G> {
     fn work(&self, hand: usize) -> Result<Ended, Refused> {
-        self.service.work(self.rt, hand, self.gate)
+        if self.keys == 1 {
+            return self.service.work(self.rt, hand, self.gate);
+        }
+        let span = Span {
+            first: hand.saturating_mul(self.keys),
+            count: self.keys,
+        };
+        self.service.work_apart(self.rt, span, self.gate)
     }
 
     fn commit(&self) -> Result<Ended, Refused> {

@@ -41,9 +41,11 @@ impl Gate for Counting {
     }
 }
 
-/// How often one that is held looks whether the other came on: for as long as a thread may take to start where other
+/// For how many turns one that is held looks whether the other came on.
+const TURNS: usize = 10_000;
+/// How often it yields to others in a turn: all turns together last as long as a thread may take to start where other
 /// processes have the processors.
-const TURNS: usize = 2_000_000;
+const YIELDS: usize = 200;
 
 /// Looks, for as many turns as there are, whether the other came on, and notes it where it did.
 fn hold(came: &AtomicBool, seen: &AtomicBool) {
@@ -52,6 +54,13 @@ fn hold(came: &AtomicBool, seen: &AtomicBool) {
             seen.store(true, Ordering::SeqCst);
             return;
         }
+        let_others_work();
+    }
+}
+
+/// Yields to others for a turn.
+fn let_others_work() {
+    for _ in 0..YIELDS {
         thread::yield_now();
     }
 }

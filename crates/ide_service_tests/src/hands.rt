@@ -6,7 +6,7 @@ use crate::gates::Counting;
 use crate::services::{OpenedStore, Served, Store, begun, given, opened};
 use ide_desks::Accord;
 use ide_instances::CopyConst;
-use ide_service::{Ended, Gate, Hands, Open, Point, Service, hand_loop};
+use ide_service::{Ended, Gate, Hands, Open, Point, Service, Span, hand_loop};
 use ide_slot_store::SlotEngine;
 use ide_steps::Claimed;
 use ide_store::TableHalf;
@@ -81,6 +81,49 @@ fn a_gate_stops_a_loop_between_two_parts(rt: HostRuntime) -> Result<(), Fail> {
 fn a_hand_number_has_a_limit(rt: HostRuntime) -> Result<(), Fail> {
     let (ended, _engine) = work_on_calls(&rt, 64, &Open { ahead: 0 });
     assert!(rt; ended == Err(Refused::Limit));
+    Ok(())
+}
+
+/// Lets three hands, from number 2 on, work as one on a service over the store, and answers how that ended, and the store.
+fn work_apart<J: Accord, R: Wait + Clock + AllocGlobal, G: Gate>(
+    rt: &R,
+    opened: OpenedStore,
+    gate: &G,
+) -> (Result<Ended, Refused>, Store)
+    requires board { arc_value opened.board ≡ J.board }
+    requires untold { J.told → ⊥ }
+{
+    let service: Served<J> = Service::new(rt.alloc(), opened);
+    let span = Span { first: 2, count: 3 };
+    let ended = service.work_apart(rt, span, gate);
+    (ended, service.into_engine())
+}
+
+/// Asserts that three hands that work as one are stopped at such a point, where the gate lets so many of them pass, with
+/// so many keys, and that each claim is given back.
+fn expect_apart_stopped<R: Abort + Wait + Clock + AllocGlobal>(
+    rt: &R,
+    at: Point,
+    points: u64,
+    keys: usize,
+) {
+    let opened = given(rt, opened(rt.alloc(), TWO_CALLS));
+    let gate = Counting::new(at, points);
+    let (ended, engine) = work_apart::<Brand, R, Counting>(rt, opened, &gate);
+    assert!(rt; ended == Ok(Ended::Stopped));
+    for hand in 2..5 {
+        assert!(rt; engine.table.core().claim_of(hand).is_none());
+    }
+    assert!(rt; !engine.table.core().is_quiet() && engine.table.core().key_count() == keys);
+}
+
+// In the first hold the root's key is claimed, whose task has six parts; in the second they are given, and three of the
+// keys that they made are claimed.
+#[test]
+fn a_gate_stops_hands_that_work_as_one(rt: HostRuntime) -> Result<(), Fail> {
+    expect_apart_stopped(&rt, Point::Claimed, 0, 1);
+    expect_apart_stopped(&rt, Point::Parted, 0, 7);
+    expect_apart_stopped(&rt, Point::Claimed, 1, 7);
     Ok(())
 }
 

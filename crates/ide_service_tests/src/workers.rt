@@ -18,14 +18,20 @@ use std::test::Fail;
 use std::thread::Threads;
 use std::time::Clock;
 
-/// Lets so many hands work together on a service, with one that writes.
+/// Lets so many workers work together on a service, each with so many keys at once, and one that writes.
 fn work_on<J: Accord + Send + Sync, R: Threads + Wait + Clock + Sync + AllocGlobal, G: Gate + Sync>(
     rt: &R,
     service: &Served<J>,
     workers: usize,
+    keys: usize,
     gate: &G,
 ) -> Result<(), Refused> {
-    let crew = Crew { rt, service, gate };
+    let crew = Crew {
+        rt,
+        service,
+        gate,
+        keys,
+    };
     work_together(rt, rt.alloc(), &crew, workers)
 }
 
@@ -49,12 +55,12 @@ fn expect_all_stored<J: Accord>(rt: &(impl Abort + AllocGlobal), service: Served
 fn expect_solved_by<
     J: Accord + Send + Sync,
     R: Threads + Wait + Clock + Sync + Abort + AllocGlobal,
->(rt: &R, opened: OpenedStore, workers: usize, ahead: usize)
+>(rt: &R, opened: OpenedStore, workers: usize, keys: usize, ahead: usize)
     requires board { arc_value opened.board ≡ J.board }
     requires told { (told : J.told) → IsToldOf ⟦<CopyConst as Kept>⟧.analysis 2 opened.engine (J.first told) }
 {
     let service: Served<J> = Service::new(rt.alloc(), opened);
-    assert!(rt; work_on(rt, &service, workers, &Open { ahead }) == Ok(()));
+    assert!(rt; work_on(rt, &service, workers, keys, &Open { ahead }) == Ok(()));
     expect_values(rt, &service);
     expect_all_stored(rt, service);
 }
@@ -63,18 +69,20 @@ fn expect_solved_by<
 fn expect_solved<R: Threads + Wait + Clock + Sync + Abort + AllocGlobal>(
     rt: &R,
     workers: usize,
+    keys: usize,
     ahead: usize,
 ) {
     let opened = given(rt, opened(rt.alloc(), TWO_CALLS));
-    expect_solved_by::<Brand, R>(rt, opened, workers, ahead);
+    expect_solved_by::<Brand, R>(rt, opened, workers, keys, ahead);
 }
 
-// One hand, two and four solve the two calls, by single calls and with tasks ahead.
+// One hand, two and four solve the two calls, by single calls and with tasks ahead; and two workers of three hands each.
 #[test]
 fn workers_and_a_writer_solve_and_store(rt: HostRuntime) -> Result<(), Fail> {
-    expect_solved(&rt, 1, 0);
-    expect_solved(&rt, 2, 0);
-    expect_solved(&rt, 4, 3);
+    expect_solved(&rt, 1, 1, 0);
+    expect_solved(&rt, 2, 1, 0);
+    expect_solved(&rt, 4, 1, 3);
+    expect_solved(&rt, 2, 3, 0);
     Ok(())
 }
 
@@ -90,7 +98,7 @@ fn expect_two_at_once<
     let once = Counting::new(Point::Claimed, 1);
     assert!(rt; service.work(rt, 0, &once) == Ok(Ended::Stopped));
     let gate = Holding::new();
-    assert!(rt; work_on(rt, &service, 2, &gate) == Ok(()));
+    assert!(rt; work_on(rt, &service, 2, 1, &gate) == Ok(()));
     assert!(rt; gate.has_seen());
 }
 
@@ -112,7 +120,7 @@ fn expect_crossing<J: Accord + Send + Sync, R: Threads + Wait + Clock + Sync + A
 {
     let service: Served<J> = Service::new(rt.alloc(), opened);
     let gate = Crossing::new();
-    assert!(rt; work_on(rt, &service, 1, &gate) == Ok(()));
+    assert!(rt; work_on(rt, &service, 1, 1, &gate) == Ok(()));
     assert!(rt; gate.have_crossed());
     expect_values(rt, &service);
     expect_all_stored(rt, service);
@@ -126,7 +134,7 @@ fn a_hand_works_while_the_writer_waits_for_a_disk(rt: HostRuntime) -> Result<(),
     Ok(())
 }
 
-/// Asserts that no hands, and more than 64, are refused.
+/// Asserts that no workers, and more than 64, are refused, and so are keys.
 fn expect_limits<J: Accord + Send + Sync, R: Threads + Wait + Clock + Sync + Abort + AllocGlobal>(
     rt: &R,
     opened: OpenedStore,
@@ -136,11 +144,13 @@ fn expect_limits<J: Accord + Send + Sync, R: Threads + Wait + Clock + Sync + Abo
 {
     let service: Served<J> = Service::new(rt.alloc(), opened);
     let open = Open { ahead: 0 };
-    assert!(rt; work_on(rt, &service, 0, &open) == Err(Refused::Limit));
-    assert!(rt; work_on(rt, &service, 65, &open) == Err(Refused::Limit));
+    assert!(rt; work_on(rt, &service, 0, 1, &open) == Err(Refused::Limit));
+    assert!(rt; work_on(rt, &service, 65, 1, &open) == Err(Refused::Limit));
+    assert!(rt; work_on(rt, &service, 1, 0, &open) == Err(Refused::Limit));
+    assert!(rt; work_on(rt, &service, 1, 65, &open) == Err(Refused::Limit));
 }
 
-// There are from 1 to 64 hands.
+// There are from 1 to 64 workers, and as many hands.
 #[test]
 fn workers_have_a_limit(rt: HostRuntime) -> Result<(), Fail> {
     let opened = given(&rt, opened(rt.alloc(), NUMBER));

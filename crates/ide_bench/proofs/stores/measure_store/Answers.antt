@@ -4,7 +4,7 @@ use Rattle.ide_slot_store.proofs.Sizes.{bytes_are}
 use Rattle.ide_bench.proofs.stores.measure_store.Goals as goal
 
 pub returns : goal.returns
-returns c =
+returns g c =
     record {
       records = c.acked-records.ensures;
       bytes = bytes_are _ _ _ _ _ c.saturating_add.ensures

@@ -32,10 +32,9 @@ returns-clause-sealed g c =
     ap (λ t. t.sealed) c.stopped_where.ensures ∙ rest.1
 
 pub returns-clause-failed : goal.returns-clause-failed
-returns-clause-failed g c going =
+returns-clause-failed g c =
     let rest = rest_kept c.args.self.half c.take_all_from.new.table _ _ c.take_all_from.result c.take_all_from.ensures.hands c.take_all_from.ensures.unchanged in
-    let both = none_failed c.args.writer.failed c.take_all_from.new.table.failed (sym (ap (λ t. t.failed) c.stopped_where.ensures) ∙ going) in
-    (sym rest.2 ∙ both.1, both.0)
+    ap (λ t. t.failed) c.stopped_where.ensures ∙ ap (λ (b : Bool). c.args.writer.failed || b) rest.2
 
 pub returns-clause-run : goal.returns-clause-run
 returns-clause-run g c told going none =
