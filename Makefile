@@ -38,6 +38,7 @@ bench: idesolve
 	bench/stores
 	bench/workers
 	bench/files
+	bench/shares
 	bench/fills
 	bench/journal
 	bench/batches
