@@ -1,13 +1,18 @@
 //! Where both desks are lent: what was sealed goes over from the one to the other.
-ghost use Rattle.std.specs.Prelude.{◌≡◌, ◌↔◌, true, false, length, IsTrue};
+ghost use Rattle.std.specs.Prelude.{◌≡◌, ◌↔◌, ◌≤◌, true, false, length, IsTrue};
+ghost use Rattle.std.specs.List.{All};
 ghost use Rattle.ide_desks.specs.Desks.{HandsOver};
+ghost use Rattle.ide_journal.specs.Format.{IsEntry};
+ghost use Rattle.ide_journal.specs.Lists.{entries_of};
+ghost use Rattle.ide_store.specs.Handing.{HandsTo};
 
 use crate::accord::Accord;
 use crate::table::TableDesk;
 use crate::writer::WriterDesk;
 use ide_disk::Disk;
 use ide_problem::Problem;
-use ide_store::{Kept, two_disks_are_a_store};
+use ide_slot_store::SlotWriterHalf;
+use ide_store::{Kept, TableHalf, two_disks_are_a_store};
 
 impl<P: Problem, J: Accord> TableDesk<P, J> {
     /// Hands all that is sealed over to the writer's desk, and answers whether it did: it does where no call
@@ -24,9 +29,20 @@ impl<P: Problem, J: Accord> TableDesk<P, J> {
         if writer.failed || writer.seat.stored() < writer.taken {
             return false;
         }
-        writer.half.take_from(&mut self.half);
+        take_over(&mut self.half, &mut writer.half);
         self.board.hand_over(&mut self.seat, &mut writer.seat);
         writer.taken = self.half.sealed();
         true
     }
+}
+
+/// The half that writes takes over what waits with the half that works, where nothing waits with itself.
+fn take_over<P: Problem, D: Disk>(working: &mut TableHalf<P>, writing: &mut SlotWriterHalf<D>)
+    ensures hands { HandsTo working.old working.new writing.old.waiting.items writing.new.waiting.items }
+    ensures journal { writing.new.journal ≡ writing.old.journal }
+    ensures commands { writing.new.commands.items ≡ writing.old.commands.items }
+    ensures proper { All IsEntry (entries_of writing.new.waiting.items) }
+    ensures few { working.old.sealed ≤ 4294967295 }
+{
+    writing.take_from(working);
 }

@@ -31,14 +31,14 @@ invariant_of-self g c =
     let all : length writer.seat.stored ≡ length writer.seat.taken = omega (arith, within, taken, stored, some) in
     record {
       named = (old.named.0, ap (λ s. s.board) over.table ∙ old.named.1);
-      counts = subst (CountsSealed c.take_from.new.table) (sym over.table) (record {
-        count = handed_sealed old.half c.take_from.new.table _ _ c.take_from.ensures.hands ∙ old.counts.count;
+      counts = subst (CountsSealed c.take_over.new.working) (sym over.table) (record {
+        count = handed_sealed old.half c.take_over.new.working _ _ c.take_over.ensures.hands ∙ old.counts.count;
         handed = omega arith;
       });
       kept = λ told. ∥∥₁_map₂ (old.kept told) (writer.kept told) (λ desk writes.
-          subst (IsTableDesk _ _ _ c.take_from.new.table) (sym over.table)
-          (table_takes _ _ _ (c.two_disks_are_a_store.ensures.keep Two) old.half c.take_from.new.table writer.half c.take_from.new.self old.seat writer.seat writer.failed
-          c.if-writer.false old.counts over.begins over.all all c.take_from.ensures.hands desk writes));
+          subst (IsTableDesk _ _ _ c.take_over.new.working) (sym over.table)
+          (table_takes _ _ _ (c.two_disks_are_a_store.ensures.keep Two) old.half c.take_over.new.working writer.half c.take_over.new.writing old.seat writer.seat writer.failed
+          c.if-writer.false old.counts over.begins over.all all c.take_over.ensures.hands desk writes));
     }
 
 pub invariant_of-writer : goal.invariant_of-writer
@@ -55,13 +55,13 @@ invariant_of-writer g c =
     record {
       named = (writer.named.0, ap (λ s. s.board) over.writer ∙ writer.named.1);
       counts = subst (λ w. CountsTaken w c.sealed-writer.result) (sym over.writer) (record {
-        count = c.sealed-writer.ensures ∙ handed_sealed old.half c.take_from.new.table _ _ c.take_from.ensures.hands ∙ old.counts.count;
+        count = c.sealed-writer.ensures ∙ handed_sealed old.half c.take_over.new.working _ _ c.take_over.ensures.hands ∙ old.counts.count;
         within = omega (arith, within, more);
         beginning = first_of_more writer.seat.stored writer.seat.taken old.seat.sealed over.begins writer.counts.beginning within;
       });
       kept = λ told. ∥∥₁_map₂ (old.kept told) (writer.kept told) (λ desk writes.
-          subst (λ w. IsWriterDesk (kept g) g.P.Problem.TAG (g.J.Accord.first told) c.take_from.new.self w writer.failed) (sym over.writer)
-          (writer_takes _ _ _ (c.two_disks_are_a_store.ensures.keep Two) old.half c.take_from.new.table writer.half c.take_from.new.self old.seat writer.seat writer.failed
-          c.if-writer.false old.counts over.begins over.all all c.take_from.ensures.hands desk writes c.take_from.ensures.journal c.take_from.ensures.commands
-          c.take_from.ensures.few c.take_from.ensures.proper));
+          subst (λ w. IsWriterDesk (kept g) g.P.Problem.TAG (g.J.Accord.first told) c.take_over.new.writing w writer.failed) (sym over.writer)
+          (writer_takes _ _ _ (c.two_disks_are_a_store.ensures.keep Two) old.half c.take_over.new.working writer.half c.take_over.new.writing old.seat writer.seat writer.failed
+          c.if-writer.false old.counts over.begins over.all all c.take_over.ensures.hands desk writes c.take_over.ensures.journal c.take_over.ensures.commands
+          c.take_over.ensures.few c.take_over.ensures.proper));
     }
