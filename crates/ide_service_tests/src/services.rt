@@ -74,7 +74,7 @@ pub(crate) fn begun(alloc: Global, text: &str) -> Result<Store, Refused> {
 }
 
 /// The store, opened with a board that has no client.
-fn with_board(alloc: Global, engine: Store) -> Result<OpenedStore, Refused> {
+pub(crate) fn with_board(alloc: Global, engine: Store) -> Result<OpenedStore, Refused> {
     match Opened::new(alloc, engine, 0) {
         Ok((opened, _)) => Ok(opened),
         Err((refused, _)) => Err(refused),

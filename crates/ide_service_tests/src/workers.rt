@@ -4,7 +4,7 @@ ghost use Rattle.std.specs.Arc.{arc_value};
 ghost use Rattle.ide_desks.specs.Opened.{IsToldOf};
 
 use crate::gates::{Counting, Crossing, Holding};
-use crate::services::{OpenedStore, Served, given, open, opened, value_at};
+use crate::services::{OpenedStore, Served, Store, given, open, opened, value_at, with_board};
 use ide_desks::Accord;
 use ide_instances::{ConstValue, CopyConst};
 use ide_service::{Crew, Ended, Gate, Open, Point, Service, work_together};
@@ -86,7 +86,23 @@ fn workers_and_a_writer_solve_and_store(rt: HostRuntime) -> Result<(), Fail> {
     Ok(())
 }
 
-/// Asserts that one hand does a part while another is held behind its claim, where several keys are pending.
+/// The store that is opened again where a hand did two of the three parts of the root's task, and they were stored: three keys
+/// are pending.
+fn reopened<J: Accord, R: Wait + Clock + Abort + AllocGlobal>(rt: &R, opened: OpenedStore) -> Store
+    requires board { arc_value opened.board ≡ J.board }
+    requires untold { J.told → ⊥ }
+{
+    let service: Served<J> = Service::new(rt.alloc(), opened);
+    let parted = Counting::new(Point::Parted, 1);
+    assert!(rt; service.work(rt, 0, &parted) == Ok(Ended::Stopped));
+    service.raise_stop();
+    assert!(rt; service.commit(rt, &Open { ahead: 0 }) == Ok(Ended::Quiet));
+    let again = given(rt, open(rt.alloc(), service.into_disks()));
+    assert!(rt; again.table.core().pending_count() == 3);
+    again
+}
+
+/// Asserts that one hand does a part while another is held behind its first claim.
 fn expect_two_at_once<
     J: Accord + Send + Sync,
     R: Threads + Wait + Clock + Sync + Abort + AllocGlobal,
@@ -95,8 +111,6 @@ fn expect_two_at_once<
     requires untold { J.told → ⊥ }
 {
     let service: Served<J> = Service::new(rt.alloc(), opened);
-    let once = Counting::new(Point::Claimed, 1);
-    assert!(rt; service.work(rt, 0, &once) == Ok(Ended::Stopped));
     let gate = Holding::new();
     assert!(rt; work_on(rt, &service, 2, 1, &gate) == Ok(()));
     assert!(rt; gate.has_seen());
@@ -105,8 +119,10 @@ fn expect_two_at_once<
 // No lock is held between two calls of a hand.
 #[test]
 fn two_hands_work_at_once(rt: HostRuntime) -> Result<(), Fail> {
-    let opened = given(&rt, opened(rt.alloc(), TWO_CALLS));
-    expect_two_at_once::<Brand, HostRuntime>(&rt, opened);
+    let first = given(&rt, opened(rt.alloc(), NUMBER));
+    let again = reopened::<Brand, HostRuntime>(&rt, first);
+    let second = given(&rt, with_board(rt.alloc(), again));
+    expect_two_at_once::<Brand, HostRuntime>(&rt, second);
     Ok(())
 }
 
