@@ -4,3 +4,6 @@ use Rattle.ide_service_tests.proofs.workers.two_hands_work_at_once.Given as goal
 
 abbrev pub ghosts-expect_two_at_once : goal.ghosts-expect_two_at_once
 ghosts-expect_two_at_once g a = record { board = arc_value a.opened.board; told = ⊥; first = λ _. [] }
+
+abbrev pub ghosts-reopened : goal.ghosts-reopened
+ghosts-reopened g a = record { board = arc_value a.opened.board; told = ⊥; first = λ _. [] }

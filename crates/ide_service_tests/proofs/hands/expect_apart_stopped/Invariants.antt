@@ -1,0 +1,6 @@
+use Rattle.std.proofs.Common.{[]}
+use Rattle.std.specs.Arc.{arc_value}
+use Rattle.ide_service_tests.proofs.hands.expect_apart_stopped.Given as goal
+
+abbrev pub ghosts-work_apart : goal.ghosts-work_apart
+ghosts-work_apart g a = record { board = arc_value a.opened.board; told = ⊥; first = λ _. [] }
