@@ -23,8 +23,8 @@ use std::sync::Wait;
 use std::thread::Threads;
 use std::time::{Clock, Instant};
 
-/// How many tasks a hand does in one hold of the store's lock: so many take some 40 microseconds, for which clients and the
-/// one that writes wait at most.
+/// How many tasks a hand does in one hold of the store's lock: so many take some 40 microseconds, and the one that writes
+/// waits for a few holds.
 const AHEAD: usize = 64;
 /// No client orders commands while hands work.
 const NO_CLIENTS: u64 = 0;
