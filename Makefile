@@ -9,9 +9,9 @@ SOURCES := crates.txt $(shell find crates -path '*/out' -prune -o -type f \( -na
 
 build: idesolve
 
-# Proves the program with all that it stands on, and builds it: about half an hour on four cores.
+# Proves the program with all that it stands on, and builds it: about an hour on four cores.
 idesolve: $(SOURCES)
-	@echo "proving the program and all that it stands on: about half an hour on four cores"
+	@echo "proving the program and all that it stands on: about an hour on four cores"
 	@echo "(make try ARGS='..' runs it unproved, in about a minute)"
 	cd crates/ide_cli && rt run -- --help > /dev/null
 	cp crates/ide_cli/out/ide_cli idesolve
