@@ -1,6 +1,6 @@
 -- What the calls of a store say of it, put together: what a seal came to, and the values of an image.
 use Rattle.std.proofs.Common.{◌≡◌, ◌∙◌, ℕ, Bool, List, [], refl, ap, sym, subst}
-use Rattle.std.specs.Prelude.{◌-◌, Option, Some, None, Result, Ok, Err, IfSome, OnOk, is_some, option_map}
+use Rattle.std.specs.Prelude.{Option, Some, None, Result, Ok, Err, IfSome, OnOk, is_some, option_map}
 use Rattle.std.specs.Option.{option_copied}
 use Rattle.std.specs.Borrow.{Bor}
 use Rattle.ide_graph.specs.Supergraph.{Supergraph}

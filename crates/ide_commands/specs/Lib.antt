@@ -1,3 +1,4 @@
+pub mod Analyses
 pub mod Asked
 pub mod Counts
 pub mod Lines

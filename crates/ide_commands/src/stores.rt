@@ -49,7 +49,7 @@ pub fn create<P: Problem, D: Disk + Drop>(
 /// Refusals, in this order: `Disk` and `NotAStore`, where no tag can be read; `WrongInstance`, where the tag
 /// is of no analysis of the program; those of [`SlotEngine::open`].
 pub fn open<D: Disk + Drop>(alloc: Global, mut a: D, mut b: D) -> Result<Store<D>, Refused>
-    ensures { D.honest a → D.honest b → IfOk result (IsOpened ⟦<Uninit as Kept>⟧.analysis ⟦<CopyConst as Kept>⟧.analysis ⟦<ShiftConst as Kept>⟧.analysis (states_of D.Disk a b)) }
+    ensures { D.honest a → D.honest b → IfOk result (IsOpened (states_of D.Disk a b)) }
 {
     let tag = current_tag(&mut a, &mut b)?;
     if tag == Uninit::TAG {
@@ -83,7 +83,7 @@ fn opened<P: Problem, D: Disk + Drop>(
 /// Refusals, in this order: `Disk` and `NotAStore`, where A has no tag; `WrongInstance`, where the tag is of no
 /// analysis of the program; those of [`SlotEngine::adopt`].
 pub fn adopt<D: Disk + Drop>(alloc: Global, mut a: D, b: D) -> Result<Store<D>, Refused>
-    ensures { D.honest a → D.honest b → IfOk result (IsAdopted ⟦<Uninit as Kept>⟧.analysis ⟦<CopyConst as Kept>⟧.analysis ⟦<ShiftConst as Kept>⟧.analysis (D.state a)) }
+    ensures { D.honest a → D.honest b → IfOk result (IsAdopted (D.state a)) }
 {
     let tag = tag(&mut a)?;
     if tag == Uninit::TAG {

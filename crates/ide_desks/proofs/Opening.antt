@@ -6,6 +6,7 @@ use Rattle.atomic_table.specs.Seated.{TableId}
 use Rattle.ide_board.specs.Records.{TableView, WriterView}
 use Rattle.ide_disk.specs.declared.disk.Disk.{Ghosts}
 use Rattle.ide_journal.specs.Format.{Entry, IsEntry}
+use Rattle.ide_journal.specs.declared.version.Version.TheVariants.{Two}
 use Rattle.ide_journal.specs.Lists.{entries_of}
 use Rattle.ide_slot_journal.specs.Stands.{records_stored}
 use Rattle.ide_slot_store.specs.declared.engine.SlotEngine.{SlotEngine}
@@ -14,7 +15,8 @@ use Rattle.ide_store.specs.Handing.{HandsAll}
 use Rattle.ide_store.specs.Table.{Analysis}
 use Rattle.ide_desks.specs.Apart.{RunsAreLive}
 use Rattle.ide_desks.specs.Desks.{CountsTaken, IsTableDesk, IsWriterDesk}
-use Rattle.ide_desks.specs.Keeping.{WorksOnRun, WritesLive, two, unknown}
+use Rattle.ide_store.specs.Versioned.{VersionedEntry, in_version}
+use Rattle.ide_desks.specs.Keeping.{WorksOnRun, WritesLive, unknown}
 use Rattle.ide_desks.specs.Opened.{AreNewSeats, IsToldOf, StaysOnRun}
 use Rattle.ide_desks.proofs.Lists.{records_first, take_replicate}
 use Rattle.ide_desks.proofs.Steps.{live_count}
@@ -49,17 +51,17 @@ module _ {P D L F : Type 0} {G : Ghosts D} (board : TableId) (engine : SlotEngin
             ∙ ap (take stored) (sym (seats.taken ∙ seats.sealed)) ∙ ap (λ (n : ℕ). take n writer.taken) (sym stored_count);
       }
 
-  module _ (a : Analysis F L) (tag : ℕ) (first : List Entry) (told : IsToldOf a tag engine first) (live : RunsAreLive a G) where
+  module _ (a : Analysis F L) (tag : ℕ) (first : List VersionedEntry) (told : IsToldOf a tag engine first) (live : RunsAreLive a G) where
     first_count : length first ≡ sealed
     first_count =
         let works = told.run.at_work.works in
-        let whole = works.waits ∙ ap (λ (more : List Entry). told.run.at_work.handed ++ more) seats.none ∙ append-nil told.run.at_work.handed in
+        let whole = works.waits ∙ ap (λ (more : List Entry). told.run.at_work.handed ++ in_version engine.table.version more) seats.none ∙ append-nil told.run.at_work.handed in
         ap length (told.is ∙ sym whole) ∙ length-map told.run.world.world.sealed (λ s. s.content) ∙ works.sealed
 
     halves : WorksOnRun a tag engine.table first × WritesLive a tag first told.run.world.world.stored engine.writer
     halves =
-        subst (λ (rs : List Entry). WorksOnRun a tag engine.table rs × WritesLive a tag rs told.run.world.world.stored engine.writer) (sym told.is)
-        (live tag engine.table engine.writer told.run seats.none)
+        subst (λ (rs : List VersionedEntry). WorksOnRun a tag engine.table rs × WritesLive a tag rs told.run.world.world.stored engine.writer) (sym told.is)
+        (live tag engine.table engine.writer told.run told.second seats.none)
 
     pub new_table_desk : IsTableDesk a tag first engine.table table
     new_table_desk =
@@ -69,7 +71,7 @@ module _ {P D L F : Type 0} {G : Ghosts D} (board : TableId) (engine : SlotEngin
         let all = records_first first table.sealed (omega (arith, same, count)) in
         record {
           begun = omega (arith, same, handed);
-          waits = seats.none ∙ sym (ap (drop table.handed) all ∙ drop_all table.handed first (omega (arith, same, handed)));
+          waits = ap (in_version Two) seats.none ∙ sym (ap (drop table.handed) all ∙ drop_all table.handed first (omega (arith, same, handed)));
           run = λ working. subst (WorksOnRun a tag engine.table) (sym (ap (take table.handed) all ∙ take_all table.handed first (omega (arith, same, handed)))) halves.0;
         }
 
@@ -84,7 +86,7 @@ module _ {P D L F : Type 0} {G : Ghosts D} (board : TableId) (engine : SlotEngin
               ap (take (length first)) (seats.taken ∙ seats.sealed) ∙ take_replicate sealed (length first) unknown (omega (arith, same));
           honest = told.honest;
           keeps =
-              subst (λ (rs : List Entry). WritesLive a tag rs (length writer.stored) engine.writer) (sym all)
+              subst (λ (rs : List VersionedEntry). WritesLive a tag rs (length writer.stored) engine.writer) (sym all)
               (subst (λ (n : ℕ). WritesLive a tag first n engine.writer)
               (sym (live_count a tag first told.run.world.world.stored engine.writer halves.1) ∙ sym stored_count) halves.1);
         }
@@ -96,5 +98,5 @@ pub handed_on_run : {P D L F : Type 0} {G : Ghosts D} (a : Analysis F L) (tag : 
 handed_on_run a tag old new journal commands few proper hands on = record {
   world = on.world;
   reached = on.reached;
-  at_work = all_handed_at_work a (two tag) on.world old.table new.table old.writer new.writer on.at_work journal commands few proper hands;
+  at_work = all_handed_at_work a tag on.world old.table new.table old.writer new.writer on.at_work journal commands few proper hands;
 }

@@ -5,19 +5,22 @@ use Rattle.std.proofs.lemmas.List.{append-nil, drop_all, take_all}
 use Rattle.ide_board.specs.Records.{TableView, WriterView}
 use Rattle.ide_disk.specs.declared.disk.Disk.{Ghosts}
 use Rattle.ide_journal.specs.Format.{Entry}
+use Rattle.ide_journal.specs.declared.version.Version.{Version}
 use Rattle.ide_journal.specs.declared.version.Version.TheVariants.{Two}
 use Rattle.ide_slot_journal.specs.Stands.{AreHonest, sides_of}
 use Rattle.ide_slot_journal.specs.declared.journal.SlotJournal.{SlotJournal}
 use Rattle.ide_slots.specs.Sides.{Sides, two_sides}
 use Rattle.ide_slots.specs.declared.side.Side.{Side}
 use Rattle.ide_slots.specs.declared.side.Side.TheVariants.{First, Second}
-use Rattle.ide_slot_store.specs.Checkpoint.{CheckpointsBegin, PlansImage}
+use Rattle.ide_slot_store.specs.Checkpoint.{CheckpointsBegin, PlansImage, spelling_anew}
 use Rattle.ide_slot_store.specs.Engine.{SlotEvent, after_events, happening}
 use Rattle.ide_slot_store.specs.Half.{IsQuiet, KeepsWriting, PlansAllOver}
 use Rattle.ide_slot_store.specs.Parts.{AreImageParts}
 use Rattle.ide_slot_store.specs.Runs.{AreOnRun}
 use Rattle.ide_slot_store.specs.declared.writer.SlotWriterHalf.{SlotWriterHalf}
 use Rattle.ide_store.proofs.Acts.{reached_more}
+use Rattle.ide_store.proofs.Waiting.{none_mapped}
+use Rattle.ide_store.specs.Versioned.{VersionedEntry, in_version}
 use Rattle.ide_store.specs.Places.{OnTwoDisks}
 use Rattle.ide_store.specs.Table.{Analysis, TableData}
 use Rattle.ide_store.specs.TwoDisksLaws.{TwoDisksKeep, slots_of}
@@ -25,7 +28,7 @@ use Rattle.ide_store.specs.World.{Begins, contents}
 use Rattle.ide_wire.specs.declared.refused.Refused.{Refused}
 use Rattle.ide_desks.specs.Apart.{HalvesMeet, RunsAreLive}
 use Rattle.ide_desks.specs.Desks.{CountsSealed, IsTableDesk, IsWriterDesk}
-use Rattle.ide_desks.specs.Keeping.{WorksOnRun, WritesLive, handed_of, records_in, two}
+use Rattle.ide_desks.specs.Keeping.{WorksOnRun, WritesLive, handed_of, records_in}
 use Rattle.ide_desks.specs.Keeping as keeping
 use Rattle.ide_desks.proofs.Lists.{records_count}
 use Rattle.ide_desks.proofs.Steps.{stays_live}
@@ -46,7 +49,7 @@ same_honest {D = D} {G = G} old new same are =
     honest_each G new.side new.current new.other
     (subst (λ (s : Sides D). G.honest s.a × G.honest s.b) (sym same) (honest_both G old.side old.current old.other are))
 
-module _ {F L : Type 0} (a : Analysis F L) (tag : ℕ) (first : List Entry) {D : Type 0} {G : Ghosts D} (table : TableData F)
+module _ {F L : Type 0} (a : Analysis F L) (tag : ℕ) (first : List VersionedEntry) {D : Type 0} {G : Ghosts D} (table : TableData F)
     (old new : SlotWriterHalf D G) (seat : TableView Entry) (writer : WriterView Entry) where
   -- ---- all that is sealed is handed over
   module _ (counts : CountsSealed table seat) (handed : seat.handed ≡ length seat.sealed) (taken : writer.taken ≡ seat.sealed)
@@ -55,7 +58,10 @@ module _ {F L : Type 0} (a : Analysis F L) (tag : ℕ) (first : List Entry) {D :
     all_count = (let some = desk.begun in records_count first seat.sealed (omega (arith, some, handed)))
 
     none_waits : table.waiting ≡ []
-    none_waits = (let count = all_count in desk.waits ∙ drop_all seat.handed (records_in first seat.sealed) (omega (arith, count, handed)))
+    none_waits =
+        let count = all_count in
+        none_mapped (λ (entry : Entry). (Two, entry)) table.waiting
+        (desk.waits ∙ drop_all seat.handed (records_in first seat.sealed) (omega (arith, count, handed)))
 
     all_handed : handed_of first seat ≡ records_in first writer.taken
     all_handed =
@@ -64,7 +70,7 @@ module _ {F L : Type 0} (a : Analysis F L) (tag : ℕ) (first : List Entry) {D :
 
     -- ---- the writer plans a checkpoint, and is live with it
     module _ (meet : HalvesMeet a G) (live : RunsAreLive a G) (law : CheckpointsBegin a G) (working : table.failed ≡ false) where
-      abbrev records : List Entry
+      abbrev records : List VersionedEntry
       records = records_in first writer.taken
 
       planned_live : (stored : ℕ) → WritesLive a tag records stored old → PlansImage a table old new → WritesLive a tag records stored new
@@ -73,18 +79,18 @@ module _ {F L : Type 0} (a : Analysis F L) (tag : ℕ) (first : List Entry) {D :
           let met = meet tag table old records stored none_waits works writes in
           let on = met.0 in
           let begun = law tag on.world table old new on.at_work plan in
-          let events : List (SlotEvent a (two tag)) = Begins begun.0 ∷ [] in
-          let after : AreOnRun a (two tag) table new = record {
-            world = after_events a (two tag) on.world events;
-            reached = reached_more a (OnTwoDisks (two tag)) on.world (happening a (two tag) events) on.reached begun.1.0;
+          let events : List (SlotEvent a tag) = Begins begun.0 ∷ [] in
+          let after : AreOnRun a tag (spelling_anew table) new = record {
+            world = after_events a tag on.world events;
+            reached = reached_more a (OnTwoDisks tag) on.world (happening a tag events) on.reached begun.1.0;
             at_work = begun.1.1;
           } in
           let before_is : contents on.world.world.sealed ≡ on.at_work.handed =
-          on.at_work.works.waits ∙ ap (λ (more : List Entry). on.at_work.handed ++ more) none_waits ∙ append-nil on.at_work.handed in
+          on.at_work.works.waits ∙ ap (λ (more : List Entry). on.at_work.handed ++ in_version table.version more) none_waits ∙ append-nil on.at_work.handed in
           let after_is : contents on.world.world.sealed ≡ after.at_work.handed =
-          after.at_work.works.waits ∙ ap (λ (more : List Entry). after.at_work.handed ++ more) none_waits ∙ append-nil after.at_work.handed in
-          subst (λ (rs : List Entry). WritesLive a tag rs stored new) (sym after_is ∙ before_is ∙ met.1)
-          (subst (λ (n : ℕ). WritesLive a tag after.at_work.handed n new) met.2 (live tag table new after none_waits).1)
+          after.at_work.works.waits ∙ ap (λ (more : List Entry). after.at_work.handed ++ in_version Two more) none_waits ∙ append-nil after.at_work.handed in
+          subst (λ (rs : List VersionedEntry). WritesLive a tag rs stored new) (sym after_is ∙ before_is ∙ met.1)
+          (subst (λ (n : ℕ). WritesLive a tag after.at_work.handed n new) met.2 (live tag (spelling_anew table) new after refl none_waits).1)
 
       pub desk_planned : (failed : Bool) → failed ≡ false → IsWriterDesk a tag first old writer failed → table.core.changes ≡ Some [] → (parts : List Entry)
           → AreImageParts a table parts → PlansAllOver parts old new → sides_of new.journal ≡ sides_of old.journal
@@ -102,7 +108,7 @@ module _ {F L : Type 0} (a : Analysis F L) (tag : ℕ) (first : List Entry) {D :
           }
 
   -- ---- it plans none
-  pub desk_unplanned : TwoDisksKeep (slots_of a Two) → (failed : Bool) → failed ≡ false → sides_of new.journal ≡ sides_of old.journal → KeepsWriting old new
+  pub desk_unplanned : TwoDisksKeep (slots_of a) → (failed : Bool) → failed ≡ false → sides_of new.journal ≡ sides_of old.journal → KeepsWriting old new
       → IsQuiet old.journal new.journal → IsWriterDesk a tag first old writer failed → IsWriterDesk a tag first new writer failed
   desk_unplanned keep failed going sides keeps quiet writes = record {
     begun = writes.begun;
@@ -114,7 +120,7 @@ module _ {F L : Type 0} (a : Analysis F L) (tag : ℕ) (first : List Entry) {D :
   }
 
   -- ---- and whatever it answers
-  pub desk_after : (meet : HalvesMeet a G) (live : RunsAreLive a G) (law : CheckpointsBegin a G) → TwoDisksKeep (slots_of a Two) → CountsSealed table seat
+  pub desk_after : (meet : HalvesMeet a G) (live : RunsAreLive a G) (law : CheckpointsBegin a G) → TwoDisksKeep (slots_of a) → CountsSealed table seat
       → seat.handed ≡ length seat.sealed → writer.taken ≡ seat.sealed → IsTableDesk a tag first table seat → table.failed ≡ false → (failed : Bool)
       → failed ≡ false → IsWriterDesk a tag first old writer failed → table.core.changes ≡ Some [] → (parts : List Entry) → AreImageParts a table parts
       → sides_of new.journal ≡ sides_of old.journal → (result : Result Bool Refused) → (result ≡ Ok true → PlansAllOver parts old new)
@@ -135,17 +141,18 @@ module _ {F L : Type 0} (a : Analysis F L) (tag : ℕ) (first : List Entry) {D :
     run = λ working.
         let on = desk.run working in
         record {
+          second = refl;
           world = on.world;
           reached = on.reached;
           works = record {
             running = on.works.running;
             working = on.works.working;
-            version = refl;
+            version = sym on.second ∙ on.works.version;
             image = on.works.image;
             claims = on.works.claims;
             base = on.works.base;
             sealed = on.works.sealed;
-            waits = on.works.waits;
+            waits = on.works.waits ∙ ap (λ (v : Version). handed_of first seat ++ in_version v table.waiting) on.second;
           };
         };
   }

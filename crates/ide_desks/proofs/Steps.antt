@@ -21,7 +21,9 @@ use Rattle.ide_slot_store.specs.Writing.{BeginsFirst, DidFail, StandsBehind}
 use Rattle.ide_slot_store.specs.declared.writer.SlotWriterHalf.{SlotWriterHalf}
 use Rattle.ide_store.specs.Store.{IsSafe, StoreLaws}
 use Rattle.ide_store.specs.Table.{Analysis}
-use Rattle.ide_store.specs.TwoDisks.{IsLiveTwo, two_disks}
+use Rattle.ide_store.specs.TwoDisks.{IsLiveTwo, sealing_version, two_disks}
+use Rattle.ide_store.specs.Versioned.{VersionedEntry}
+use Rattle.ide_slot_store.proofs.Stepping.{did_seal_alike}
 use Rattle.ide_store.specs.TwoDisksLaws.{TwoDisksKeep, slots_of}
 use Rattle.ide_store.specs.World.{AreAlike}
 use Rattle.ide_wire.specs.declared.refused.Refused.{Refused}
@@ -30,19 +32,19 @@ use Rattle.ide_board.specs.Records.{ClientView, WriterView, with_stored}
 use Rattle.ide_desks.specs.Desks.{IsWriterDesk}
 use Rattle.ide_desks.proofs.Lists.{get_replicate, get_take, records_count, records_get}
 use Rattle.ide_desks.specs.Stepping.{IsStepRefusal, wants_memory}
-use Rattle.ide_desks.specs.Keeping.{HaveOwn, HoldsStored, KeepsOwn, KeepsStored, KeepsWriting, LeavesStored, WritesLive, records_in, unknown}
+use Rattle.ide_desks.specs.Keeping.{HaveOwn, HoldsStored, KeepsOwn, KeepsStored, KeepsWriting, LeavesStored, WritesLive, known, records_in, unknown}
 
 module _ {F L : Type 0} (a : Analysis F L) (tag : ℕ) {D : Type 0} {G : Ghosts D} where
   -- it has stored as many as its journal counts
-  pub live_count : (taken : List Entry) (stored : ℕ) (half : SlotWriterHalf D G) → WritesLive a tag taken stored half → records_stored half.journal ≡ stored
+  pub live_count : (taken : List VersionedEntry) (stored : ℕ) (half : SlotWriterHalf D G) → WritesLive a tag taken stored half → records_stored half.journal ≡ stored
   live_count taken stored half on = on.writes.behind.stands.count ∙ on.writes.behind.count
 
-  module _ (keep : TwoDisksKeep (slots_of a Two)) (taken : List Entry) (stored : ℕ) (old new : SlotWriterHalf D G) where
-    abbrev laws : StoreLaws (AreAlike (slots_of a Two)) (two_disks (slots_of a Two) tag)
+  module _ (keep : TwoDisksKeep (slots_of a)) (taken : List VersionedEntry) (stored : ℕ) (old new : SlotWriterHalf D G) where
+    abbrev laws : StoreLaws (AreAlike (slots_of a)) (two_disks (slots_of a) tag)
     laws = keep tag
 
     abbrev LiveAs : ℕ → SlotWriter → Sides DiskState → Type 0
-    LiveAs n work disks = IsLiveTwo (slots_of a Two) tag taken n work disks
+    LiveAs n work disks = IsLiveTwo (slots_of a) tag taken n work disks
 
     -- a checkpoint that waits may begin its calls first
     first_live : (work mid : SlotWriter) (disks : Sides DiskState) → LiveAs stored work disks → BeginsFirst taken stored work disks mid → LiveAs stored mid disks
@@ -69,6 +71,7 @@ module _ {F L : Type 0} (a : Analysis F L) (tag : ℕ) {D : Type 0} {G : Ghosts 
         slot = one.now;
         other = on.other;
         writes = one.writes;
+        second = did_seal_alike on.other taken stored old.journal new.journal one.event ∙ on.second;
         tag_is = one.tag ∙ on.tag_is;
         live = laws.called taken stored one.event.mid (slot_writer on.other new.journal) disks (disks_of new.journal)
             (first_live work one.event.mid disks on.live one.event.first) one.event.event;
@@ -79,6 +82,7 @@ module _ {F L : Type 0} (a : Analysis F L) (tag : ℕ) {D : Type 0} {G : Ghosts 
         slot = _;
         other = on.other;
         writes = one.writes;
+        second = ap sealing_version one.event.stores.work_is ∙ on.second;
         tag_is = on.tag_is;
         live = laws.stores taken stored work (slot_writer on.other new.journal) disks (disks_of new.journal) on.live one.event;
       }
@@ -97,6 +101,7 @@ module _ {F L : Type 0} (a : Analysis F L) (tag : ℕ) {D : Type 0} {G : Ghosts 
           waiting = ap (map entry_of) same.waiting ∙ on.writes.waiting;
           commands = ap all_numbered same.commands ∙ on.writes.commands;
         };
+        second = ap (λ j. sealing_version (slot_writer on.other j)) same.journal ∙ on.second;
         tag_is = on.tag_is;
         live = subst (λ j. LiveAs stored (slot_writer on.other j) (disks_of j)) (sym same.journal) on.live;
       }
@@ -109,6 +114,7 @@ module _ {F L : Type 0} (a : Analysis F L) (tag : ℕ) {D : Type 0} {G : Ghosts 
             slot = on.slot;
             other = on.other;
             writes = one.writes;
+            second = ap sealing_version (one.quiet.work on.other) ∙ on.second;
             tag_is = on.tag_is;
             live = subst (λ (w : SlotWriter). LiveAs stored w (disks_of new.journal)) (sym (one.quiet.work on.other))
                 (subst (λ (d : Sides DiskState). LiveAs stored work d) (sym same) on.live);
@@ -129,7 +135,7 @@ module _ {F L : Type 0} (a : Analysis F L) (tag : ℕ) {D : Type 0} {G : Ghosts 
       pub crashed : CrashesStep old new → LeavesStored a tag taken stored old new
       crashed crashes left here there = ∣ by (crashes on.slot on.other taken stored on.writes left here there) ∣₁
         where
-          safe_holds : (state : Sides DiskState) → IsSafe (two_disks (slots_of a Two) tag) taken stored state → LeavesTwo state left
+          safe_holds : (state : Sides DiskState) → IsSafe (two_disks (slots_of a) tag) taken stored state → LeavesTwo state left
               → HoldsStored a tag taken stored left
           safe_holds state safe leaves =
               let one = safe.each left leaves in record { found = one.0; holds = one.1; is = one.2 }
@@ -140,7 +146,7 @@ module _ {F L : Type 0} (a : Analysis F L) (tag : ℕ) {D : Type 0} {G : Ghosts 
               safe_holds state (laws.failed taken stored mid disks state (first_live work mid disks on.live first) one) leaves
 
 -- ---- what a client knows as stored is held
-module _ (first : List Entry) (stored taken : List (Marked Entry)) (found : List Entry) (count : ℕ)
+module _ (first : List VersionedEntry) (stored taken : List (Marked Entry)) (found : List VersionedEntry) (count : ℕ)
     (beginning : stored ≡ take (length stored) taken) (some : length first ≤ length taken)
     (unknown_first : take (length first) taken ≡ replicate (length first) unknown) (is : found ≡ take count (records_in first taken))
     (least : length stored ≤ count) where
@@ -160,13 +166,13 @@ module _ (first : List Entry) (stored taken : List (Marked Entry)) (found : List
     | inr behind ↦ behind
   ]
 
-  record_found : (n client : ℕ) (x : Entry) → slice_get stored n ≡ Some (x, Some client) → slice_get found n ≡ Some x
+  record_found : (n client : ℕ) (x : Entry) → slice_get stored n ≡ Some (x, Some client) → slice_get found n ≡ Some (Two, x)
   record_found n client x there =
       let here = in_taken n (x, Some client) there in
       let inside = here.0 in
       let behind = behind_first n client x here.1 in
-      ap (λ (xs : List Entry). slice_get xs n) is ∙ get_take (records_in first taken) count n (omega (arith, inside, least))
-      ∙ records_get first taken n some behind ∙ ap (option_map (λ (m : Marked Entry). m.0)) here.1
+      ap (λ (xs : List VersionedEntry). slice_get xs n) is ∙ get_take (records_in first taken) count n (omega (arith, inside, least))
+      ∙ records_get first taken n some behind ∙ ap (option_map known) here.1
 
   pub own_found : (bound client : ℕ) (own : List (ℕ × Entry)) → AreStoredBelow bound stored client own → HaveOwn bound own found
   own_found bound client [] are = tt
@@ -174,10 +180,10 @@ module _ (first : List Entry) (stored taken : List (Marked Entry)) (found : List
       ((λ below. record_found pair.0 client pair.1 (are.0 below)), own_found bound client own are.1)
 
 -- ---- the desk behind a step
-module _ {F L : Type 0} (a : Analysis F L) (tag : ℕ) {D : Type 0} {G : Ghosts D} (keep : TwoDisksKeep (slots_of a Two)) (first : List Entry)
+module _ {F L : Type 0} (a : Analysis F L) (tag : ℕ) {D : Type 0} {G : Ghosts D} (keep : TwoDisksKeep (slots_of a)) (first : List VersionedEntry)
     (old new : SlotWriterHalf D G) (seat : WriterView Entry) (failed_before : Bool) (works : failed_before ≡ false)
     (desk : IsWriterDesk a tag first old seat failed_before) (honest : AreHonest old.journal → AreHonest new.journal) where
-  abbrev taken : List Entry
+  abbrev taken : List VersionedEntry
   taken = records_in first seat.taken
 
   abbrev count : ℕ
@@ -264,7 +270,7 @@ module _ {F L : Type 0} (a : Analysis F L) (tag : ℕ) {D : Type 0} {G : Ghosts 
   desk_crashes crashes = crashed a tag keep taken count old new live (crashes desk.honest)
 
 -- whatever a crash leaves holds what a client knows as stored
-pub keeps_own : {F L : Type 0} (a : Analysis F L) (tag : ℕ) {D : Type 0} {G : Ghosts D} (keep : TwoDisksKeep (slots_of a Two)) (first : List Entry)
+pub keeps_own : {F L : Type 0} (a : Analysis F L) (tag : ℕ) {D : Type 0} {G : Ghosts D} (keep : TwoDisksKeep (slots_of a)) (first : List VersionedEntry)
     (half : SlotWriterHalf D G) (seat : WriterView Entry) (fault : Bool) (client : ClientView Entry) → seat.stored ≡ take (length seat.stored) seat.taken
     → IsWriterDesk a tag first half seat fault → AreStoredBelow client.seen seat.stored client.number client.own → KeepsOwn a tag client half
 keeps_own a tag keep first half seat fault client beginning desk own left leaves =
@@ -278,6 +284,6 @@ keeps_own a tag keep first half seat fault client beginning desk own left leaves
     ) ∣₁
   where
     safe_as : (b : Bool) → KeepsWriting a tag b (records_in first seat.taken) (length seat.stored) half
-        → IsSafe (two_disks (slots_of a Two) tag) (records_in first seat.taken) (length seat.stored) (disks_of half.journal)
+        → IsSafe (two_disks (slots_of a) tag) (records_in first seat.taken) (length seat.stored) (disks_of half.journal)
     safe_as false on = (keep tag).live_safe (records_in first seat.taken) (length seat.stored) (slot_writer on.other half.journal) (disks_of half.journal) on.live
     safe_as true safe = safe

@@ -2,9 +2,10 @@
 use Rattle.std.proofs.Common.{◌≡◌, ◌∙◌, ◌+◌, ◌≤◌, ◌++◌, ◌<◌, ℕ, true, false, List, [], ◌∷◌, Option, None, Some, Result, Ok, Err, length, map, refl, ap, sym, subst, arith, inl, inr}
 use Rattle.std.proofs.Math.Logic.{∥∥₁_map}
 use Rattle.std.specs.Prelude.{IfOk, OnErr, OnOk}
-use Rattle.std.proofs.lemmas.List.{append_assoc, length-append}
+use Rattle.std.proofs.lemmas.List.{append_assoc, length-append, map-append}
 use Rattle.ide_board.specs.Records.{Marked, TableView}
 use Rattle.ide_journal.specs.Format.{Entry}
+use Rattle.ide_journal.specs.declared.version.Version.TheVariants.{Two}
 use Rattle.ide_steps.specs.Claiming.{FindsIdle, FindsQuiet, IfTask}
 use Rattle.ide_steps.specs.Drain.{HasDonePart}
 use Rattle.ide_steps.specs.Frozen.{graph_in, program_in}
@@ -21,7 +22,7 @@ use Rattle.ide_tasks.specs.Work.{WorkData}
 use Rattle.ide_text.specs.Value.{ProgramValue}
 use Rattle.ide_wire.specs.declared.refused.Refused.{Refused}
 use Rattle.ide_store.proofs.Drained.{unchanged_equal, works_unchanged}
-use Rattle.ide_store.proofs.Runs.{act_goes, works_go}
+use Rattle.ide_store.proofs.Runs.{WorksFrom, act_goes, works_go}
 use Rattle.ide_store.specs.Draining.{WorksBy}
 use Rattle.ide_store.specs.Freezing.{IsImageOver}
 use Rattle.ide_store.specs.Hands.{Claims, Ends, Parts, Releases}
@@ -30,21 +31,27 @@ use Rattle.ide_store.specs.Runs.{IsImageOfRun, IsOfTable}
 use Rattle.ide_store.specs.Table.{Analysis, IsAct, IsSameTable, KeepsRest, StoreAct, TableData}
 use Rattle.ide_store.specs.TableCalls.{BeginsRoot, DoesPart, EndsClaim, FindsNothing, GivesClaimBack, LoadsProgram, SealsOne, TakesTask, behind_first}
 use Rattle.ide_desks.specs.Desks.{CountsSealed, IsTableDesk, last_but_one, last_entry, with_last, with_last_two}
-use Rattle.ide_desks.specs.Keeping.{WorksOnRun, handed_of, two}
+use Rattle.ide_store.specs.TwoDisks.{sealing_version}
+use Rattle.ide_store.specs.Versioned.{VersionedEntry, in_version}
+use Rattle.ide_desks.specs.Keeping.{WorksOnRun, handed_of, known}
 use Rattle.ide_desks.specs.Orders.{SpellsLoad, SpellsRoot}
 use Rattle.ide_desks.proofs.Lists.{handed_more, last_but_pushed, last_of_two, last_pushed, waiting_more}
 
-module _ {F L : Type 0} (a : Analysis F L) (tag : ℕ) (handed : List Entry) (old new : TableData F) where
+module _ {F L : Type 0} (a : Analysis F L) (tag : ℕ) (handed : List VersionedEntry) (old new : TableData F) where
+  -- acts of the half that works leave the writer, and so the version in which records are sealed
+  still_second : (on : WorksOnRun a tag old handed) → WorksFrom a (OnTwoDisks tag) on.world new handed → new.version ≡ Two
+  still_second on goes = goes.works.version ∙ ap sealing_version goes.below.work ∙ sym on.works.version ∙ on.second
+
   pub acted : (act : (place : Place) → StoreAct a place) → ((place : Place) → IsOfTable a place (act place)) → IsAct a old new act
       → WorksOnRun a tag old handed → WorksOnRun a tag new handed
   acted act of is on =
-      let goes = act_goes a old new act of is (OnTwoDisks (two tag)) on.world handed on.reached on.works in
-      record { world = goes.world; reached = goes.reached; works = goes.works }
+      let goes = act_goes a old new act of is (OnTwoDisks tag) on.world handed on.reached on.works in
+      record { second = still_second on goes; world = goes.world; reached = goes.reached; works = goes.works }
 
   worked_by : (claims releases : ℕ) → WorksBy a old new claims releases → WorksOnRun a tag old handed → WorksOnRun a tag new handed
   worked_by claims releases by on =
-      let goes = works_go a old new claims releases by (OnTwoDisks (two tag)) on.world handed on.reached on.works in
-      record { world = goes.world; reached = goes.reached; works = goes.works }
+      let goes = works_go a old new claims releases by (OnTwoDisks tag) on.world handed on.reached on.works in
+      record { second = still_second on goes; world = goes.world; reached = goes.reached; works = goes.works }
 
   pub stayed : IsSameTable old new → WorksOnRun a tag old handed → WorksOnRun a tag new handed
   stayed same = worked_by 0 0 (works_unchanged a old new same.rest same.core)
@@ -53,11 +60,9 @@ module _ {F L : Type 0} (a : Analysis F L) (tag : ℕ) (handed : List Entry) (ol
   same_core is rest = worked_by 0 0 (works_unchanged a old new rest (unchanged_equal old.core new.core is))
 
   pub found_nothing : FindsNothing a old new → WorksOnRun a tag old handed → WorksOnRun a tag new handed
-  found_nothing finds on = record {
-    world = on.world;
-    reached = on.reached;
-    works = (finds.caught_up (OnTwoDisks (two tag)) on.world handed on.reached on.works).1;
-  }
+  found_nothing finds on =
+      let works = (finds.caught_up (OnTwoDisks tag) on.world handed on.reached on.works).1 in
+      record { second = works.version ∙ sym on.works.version ∙ on.second; world = on.world; reached = on.reached; works = works }
 
   -- ---- what a call answers tells how it goes on
   pub claimed : {Q : Type 0} (result : Result (Claimed Q L F) Refused) (hand : ℕ) → IfTask result (TakesTask a hand old new)
@@ -89,13 +94,18 @@ module _ {F L : Type 0} (a : Analysis F L) (tag : ℕ) (handed : List Entry) (ol
   released (Ok x) hand gives unchanged = acted (λ place. Releases hand) (λ place. tt) gives
   released (Err refused) hand gives unchanged = stayed unchanged
 
+-- marked records, as the board knows them
+known_marks : (marks : List (Marked Entry)) → in_version Two (map (λ m. m.0) marks) ≡ map known marks
+known_marks [] = refl
+known_marks (m ∷ marks) = ap (λ (xs : List VersionedEntry). known m ∷ xs) (known_marks marks)
+
 -- ---- what the desk keeps, where the seat stays
-module _ {F L : Type 0} (a : Analysis F L) (tag : ℕ) (first : List Entry) (old new : TableData F) (seat after : TableView Entry) where
+module _ {F L : Type 0} (a : Analysis F L) (tag : ℕ) (first : List VersionedEntry) (old new : TableData F) (seat after : TableView Entry) where
   pub kept_on : IsTableDesk a tag first old seat → KeepsRest old new → after ≡ seat
-      → ((handed : List Entry) → WorksOnRun a tag old handed → WorksOnRun a tag new handed) → IsTableDesk a tag first new after
+      → ((handed : List VersionedEntry) → WorksOnRun a tag old handed → WorksOnRun a tag new handed) → IsTableDesk a tag first new after
   kept_on kept rest same goes = subst (IsTableDesk a tag first new) (sym same) (record {
     begun = kept.begun;
-    waits = rest.waiting ∙ kept.waits;
+    waits = ap (in_version Two) rest.waiting ∙ kept.waits;
     run = λ working. goes (handed_of first seat) (kept.run (sym rest.failed ∙ working));
   })
 
@@ -103,20 +113,23 @@ module _ {F L : Type 0} (a : Analysis F L) (tag : ℕ) (first : List Entry) (old
   pub kept_stopped : IsTableDesk a tag first old seat → new ≡ record old { failed = true } → after ≡ seat → IsTableDesk a tag first new after
   kept_stopped kept is same = subst (IsTableDesk a tag first new) (sym same) (record {
     begun = kept.begun;
-    waits = ap (λ (t : TableData F). t.waiting) is ∙ kept.waits;
+    waits = ap (λ (t : TableData F). in_version Two t.waiting) is ∙ kept.waits;
     run = λ working. (let no : true ≡ false = sym (ap (λ (t : TableData F). t.failed) is) ∙ working in cc (no));
   })
 
   -- more records were sealed, and stand in the seat behind the others, with their marks
   kept_more : (marks : List (Marked Entry)) → CountsSealed old seat → IsTableDesk a tag first old seat → old.failed ≡ false
       → new.waiting ≡ old.waiting ++ map (λ m. m.0) marks → after ≡ record seat { sealed = seat.sealed ++ marks }
-      → ((handed : List Entry) → WorksOnRun a tag old handed → WorksOnRun a tag new handed) → IsTableDesk a tag first new after
+      → ((handed : List VersionedEntry) → WorksOnRun a tag old handed → WorksOnRun a tag new handed) → IsTableDesk a tag first new after
   kept_more marks counts kept working waits same goes =
       let few = counts.handed in
       let some = kept.begun in
       subst (IsTableDesk a tag first new) (sym same) (record {
         begun = kept.begun;
-        waits = waits ∙ ap (λ (xs : List Entry). xs ++ map (λ m. m.0) marks) kept.waits
+        waits = ap (in_version Two) waits
+            ∙ map-append (λ (entry : Entry). (Two, entry)) old.waiting (map (λ m. m.0) marks)
+            ∙ ap (λ (xs : List VersionedEntry). in_version Two old.waiting ++ xs) (known_marks marks)
+            ∙ ap (λ (xs : List VersionedEntry). xs ++ map known marks) kept.waits
             ∙ sym (waiting_more first seat.sealed marks seat.handed (omega (arith, some, few)) few);
         run = λ now.
             subst (WorksOnRun a tag new) (sym (handed_more first seat.sealed marks seat.handed (omega (arith, some, few)) few))
@@ -126,7 +139,7 @@ module _ {F L : Type 0} (a : Analysis F L) (tag : ℕ) (first : List Entry) (old
   -- one
   pub kept_sealed : (entry : Entry) (number : ℕ) (by : Option ℕ) → CountsSealed old seat → IsTableDesk a tag first old seat → old.failed ≡ false
       → SealsOne old new entry number → after ≡ with_last seat new by
-      → ((handed : List Entry) → WorksOnRun a tag old handed → WorksOnRun a tag new handed) → IsTableDesk a tag first new after
+      → ((handed : List VersionedEntry) → WorksOnRun a tag old handed → WorksOnRun a tag new handed) → IsTableDesk a tag first new after
   kept_sealed entry number by counts kept working seals same goes =
       let last : last_entry new.waiting ≡ entry = ap last_entry seals.waits ∙ last_pushed old.waiting entry in
       kept_more ((last_entry new.waiting, by) ∷ []) counts kept working
@@ -136,7 +149,7 @@ module _ {F L : Type 0} (a : Analysis F L) (tag : ℕ) (first : List Entry) (old
   pub kept_rooted : (one : Option Entry) (entry : Entry) (by : Option ℕ) → CountsSealed old seat → IsTableDesk a tag first old seat
       → old.failed ≡ false → new.waiting ≡ old.waiting ++ behind_first one entry
       → (one ≡ None → after ≡ with_last seat new by) → ((one ≡ None → ⊥) → after ≡ with_last_two seat new by)
-      → ((handed : List Entry) → WorksOnRun a tag old handed → WorksOnRun a tag new handed) → IsTableDesk a tag first new after
+      → ((handed : List VersionedEntry) → WorksOnRun a tag old handed → WorksOnRun a tag new handed) → IsTableDesk a tag first new after
   kept_rooted None entry by counts kept working waits alone both goes =
       let last : last_entry new.waiting ≡ entry = ap last_entry waits ∙ last_pushed old.waiting entry in
       kept_more ((last_entry new.waiting, by) ∷ []) counts kept working
@@ -155,9 +168,9 @@ module _ {F L : Type 0} (a : Analysis F L) (tag : ℕ) (first : List Entry) (old
 pub still_counted : {F : Type 0} (old new : TableData F) (seat : TableView Entry) → KeepsRest old new → CountsSealed old seat → CountsSealed new seat
 still_counted old new seat rest counts = record { count = rest.sealed ∙ counts.count; handed = counts.handed }
 
-module _ {F L : Type 0} (a : Analysis F L) (tag : ℕ) {Told : Type 0} {first : Told → List Entry} (old new : TableData F) (seat : TableView Entry)
+module _ {F L : Type 0} (a : Analysis F L) (tag : ℕ) {Told : Type 0} {first : Told → List VersionedEntry} (old new : TableData F) (seat : TableView Entry)
     (rest : KeepsRest old new) where
-  pub still_kept : ((handed : List Entry) → WorksOnRun a tag old handed → WorksOnRun a tag new handed)
+  pub still_kept : ((handed : List VersionedEntry) → WorksOnRun a tag old handed → WorksOnRun a tag new handed)
       → ((told : Told) → ∥ IsTableDesk a tag (first told) old seat ∥₁) → (told : Told) → ∥ IsTableDesk a tag (first told) new seat ∥₁
   still_kept goes kept told = ∥∥₁_map (kept told) (λ (one : IsTableDesk a tag (first told) old seat). kept_on a tag (first told) old new seat seat one rest refl goes)
 
@@ -193,7 +206,7 @@ module _ {F : Type 0} (old new : TableData F) (seat after : TableView Entry) (co
         handed = omega (arith, few, longer, again);
       })
 
-module _ {F L : Type 0} (a : Analysis F L) (tag : ℕ) {Told : Type 0} {first : Told → List Entry} (old new : TableData F) (seat after : TableView Entry)
+module _ {F L : Type 0} (a : Analysis F L) (tag : ℕ) {Told : Type 0} {first : Told → List VersionedEntry} (old new : TableData F) (seat after : TableView Entry)
     (counts : CountsSealed old seat) (working : old.failed ≡ false) where
   pub one_kept : (entry : Entry) (number : ℕ) (by : Option ℕ) → SealsOne old new entry number → after ≡ with_last seat new by
       → (act : (place : Place) → StoreAct a place) → ((place : Place) → IsOfTable a place (act place)) → IsAct a old new act
@@ -232,22 +245,28 @@ sealed_both old new None entry number sealed is more = absurd (omega (arith, sea
 sealed_both old new (Some one) entry number sealed is more = omega (arith, sealed, is, more)
 
 -- ---- what is told of records and of images, of the run on which the desk works
-module _ {F L : Type 0} (a : Analysis F L) (tag : ℕ) (first : List Entry) (seat : TableView Entry) where
+module _ {F L : Type 0} (a : Analysis F L) (tag : ℕ) (first : List VersionedEntry) (seat : TableView Entry) where
   pub load_spelled : (v : ProgramValue) (old new : TableData F) (number : ℕ) → IsTableDesk a tag first old seat → old.failed ≡ false
       → LoadsProgram a v old new number → SpellsLoad a v (last_entry new.waiting)
   load_spelled v old new number desk working loads =
       let on = desk.run working in
-      let can = (loads.act (OnTwoDisks (two tag)) on.world (handed_of first seat) on.reached on.works).0 in
+      let can = (loads.act (OnTwoDisks tag) on.world (handed_of first seat) on.reached on.works).0 in
       let last : last_entry new.waiting ≡ loads.entry = ap last_entry loads.seals.waits ∙ last_pushed old.waiting loads.entry in
-      subst (SpellsLoad a v) (sym last) (record { text = can.text; program = can.program; parsed = can.parsed; says = can.says; spelled = can.spelled })
+      subst (SpellsLoad a v) (sym last) (record {
+        text = can.text;
+        program = can.program;
+        parsed = can.parsed;
+        says = can.says;
+        spelled = record { kind = can.spelled.kind; body = can.spelled.body };
+      })
 
   pub root_spelled : (name : List ℕ) (old new : TableData F) (number : ℕ) → IsTableDesk a tag first old seat → old.failed ≡ false
       → BeginsRoot a name old new number → SpellsRoot a name (last_entry new.waiting)
   root_spelled name old new number desk working begins =
       let on = desk.run working in
-      let can = (begins.act (OnTwoDisks (two tag)) on.world (handed_of first seat) on.reached on.works).0 in
+      let can = (begins.act (OnTwoDisks tag) on.world (handed_of first seat) on.reached on.works).0 in
       let last : last_entry new.waiting ≡ begins.entry = ap last_entry begins.waits ∙ last_behind begins.first in
-      subst (SpellsRoot a name) (sym last) can.spelled
+      subst (SpellsRoot a name) (sym last) (record { kind = can.spelled.kind; body = can.spelled.body })
     where
       last_behind : (one : Option Entry) → last_entry (old.waiting ++ behind_first one begins.entry) ≡ begins.entry
       last_behind None = last_pushed old.waiting begins.entry
@@ -259,10 +278,10 @@ module _ {F L : Type 0} (a : Analysis F L) (tag : ℕ) (first : List Entry) (sea
   frozen_run table (Ok closed) desk over working = ∥∥₁_map desk (λ (one : IsTableDesk a tag first table seat).
       let on = one.run working in
       record {
-        place = OnTwoDisks (two tag);
+        place = OnTwoDisks tag;
         world = on.world;
         reached = on.reached;
-        image = over (OnTwoDisks (two tag)) on.world (handed_of first seat) on.reached on.works;
+        image = over (OnTwoDisks tag) on.world (handed_of first seat) on.reached on.works;
       })
   frozen_run table (Err refused) desk over working = tt
 
@@ -272,7 +291,7 @@ module _ {F L : Type 0} (a : Analysis F L) (tag : ℕ) (first : List Entry) (sea
       → IsWholeCore table.core → IfOk result (λ closed. ∥ IsGraphSaid (Some (program_in closed)) (graph_in closed) ∥₁)
   frozen_graph table (Ok closed) desk over working graph whole = ∥∥₁_map desk (λ (one : IsTableDesk a tag first table seat).
       let on = one.run working in
-      let image = over (OnTwoDisks (two tag)) on.world (handed_of first seat) on.reached on.works in
+      let image = over (OnTwoDisks tag) on.world (handed_of first seat) on.reached on.works in
       subst (λ (p : Option ProgramValue). IsGraphSaid p (graph_in closed)) (sym on.works.image.program ∙ image.program)
       (whole.said (graph_in closed) graph))
   frozen_graph table (Err refused) desk over working graph whole = tt

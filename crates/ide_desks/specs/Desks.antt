@@ -6,9 +6,11 @@ use Rattle.ide_desks.specs.declared.writer.Stepped.TheVariants.{Called, Rested, 
 use Rattle.ide_desks.specs.Keeping.{KeepsWriting, WorksOnRun, handed_of, records_in, unknown, waiting_of}
 use Rattle.ide_disk.specs.declared.disk.Disk.{Ghosts}
 use Rattle.ide_journal.specs.Format.{Entry}
+use Rattle.ide_journal.specs.declared.version.Version.TheVariants.{Two}
 use Rattle.ide_slot_journal.specs.Stands.{AreHonest}
 use Rattle.ide_slot_store.specs.declared.writer.SlotWriterHalf.{SlotWriterHalf}
 use Rattle.ide_store.specs.Table.{Analysis, TableData}
+use Rattle.ide_store.specs.Versioned.{VersionedEntry, in_version}
 
 -- the last of some records, and the last but one; of none, an empty one
 abbrev pub last_entry : List Entry → Entry
@@ -55,11 +57,11 @@ pub record CountsTaken (seat : WriterView Entry) (taken : ℕ) : Type 0 where
   pub beginning : seat.stored ≡ take (length seat.stored) seat.taken
 
 -- what the two desks of a service keep besides, where these are the records that their board began with
-module _ {F L : Type 0} (a : Analysis F L) (tag : ℕ) (first : List Entry) where
+module _ {F L : Type 0} (a : Analysis F L) (tag : ℕ) (first : List VersionedEntry) where
   -- of the records that were not handed over the half has each; and until it is told of a failure it works on a run
   pub record IsTableDesk (table : TableData F) (seat : TableView Entry) : Type 0 where
     pub begun : length first ≤ seat.handed
-    pub waits : table.waiting ≡ waiting_of first seat
+    pub waits : in_version Two table.waiting ≡ waiting_of first seat
     pub run : table.failed ≡ false → WorksOnRun a tag table (handed_of first seat)
 
   -- the disks keep the stored ones of the records that were taken over

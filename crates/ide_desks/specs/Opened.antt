@@ -4,11 +4,13 @@ use Rattle.atomic_table.specs.Seated.{TableId}
 use Rattle.ide_board.specs.Records.{TableView, WriterView}
 use Rattle.ide_disk.specs.declared.disk.Disk.{Ghosts}
 use Rattle.ide_journal.specs.Format.{Entry}
+use Rattle.ide_journal.specs.declared.version.Version.TheVariants.{Two}
 use Rattle.ide_slot_journal.specs.Stands.{AreHonest, records_stored}
 use Rattle.ide_slot_store.specs.Runs.{AreOnRun}
 use Rattle.ide_slot_store.specs.declared.engine.SlotEngine.{SlotEngine}
 use Rattle.ide_store.specs.Table.{Analysis}
-use Rattle.ide_desks.specs.Keeping.{two, unknown}
+use Rattle.ide_store.specs.Versioned.{VersionedEntry}
+use Rattle.ide_desks.specs.Keeping.{unknown}
 
 -- the board knows of as many records as the engine sealed, and of none what it is; all were handed over, and as many of them are
 -- stored as are on the disks
@@ -23,28 +25,31 @@ pub record AreNewSeats {P D L F : Type 0} {G : Ghosts D} (board : TableId) (engi
   pub taken : writer.taken ≡ table.sealed
   pub stored : writer.stored ≡ replicate (records_stored engine.writer.journal) unknown
 
--- the engine is on a run of the second version, on honest disks, and these are the records that its writer was handed
-pub record IsToldOf {P D L F : Type 0} {G : Ghosts D} (a : Analysis F L) (tag : ℕ) (engine : SlotEngine P D L F G) (first : List Entry)
-    : Type 0 where
-  pub run : AreOnRun a (two tag) engine.table engine.writer
+-- the engine is on a run, on honest disks, on which records are sealed in the second version, and these are the records that its
+-- writer was handed
+pub record IsToldOf {P D L F : Type 0} {G : Ghosts D} (a : Analysis F L) (tag : ℕ) (engine : SlotEngine P D L F G)
+    (first : List VersionedEntry) : Type 0 where
+  pub run : AreOnRun a tag engine.table engine.writer
+  pub second : engine.table.version ≡ Two
   pub honest : AreHonest engine.writer.journal
   pub is : first ≡ run.at_work.handed
 
 -- so much may be told of an engine, where it is so: `told` of an accord may be this very statement
 pub record MayBeTold {P D L F : Type 0} {G : Ghosts D} (a : Analysis F L) (tag : ℕ) (engine : SlotEngine P D L F G) : Type 0 where
-  pub run : AreOnRun a (two tag) engine.table engine.writer
+  pub run : AreOnRun a tag engine.table engine.writer
+  pub second : engine.table.version ≡ Two
   pub honest : AreHonest engine.writer.journal
 
 -- and these are its records then
 abbrev pub records_told : {P D L F : Type 0} {G : Ghosts D} {a : Analysis F L} {tag : ℕ} {engine : SlotEngine P D L F G} → MayBeTold a tag engine
-    → List Entry
+    → List VersionedEntry
 records_told told = told.run.at_work.handed
 
--- an engine that is on a run of that version is on it still
+-- an engine that is on a run is on it still
 abbrev pub StaysOnRun : {P D L F : Type 0} {G : Ghosts D} → Analysis F L → ℕ → (old new : SlotEngine P D L F G) → Type 0
-StaysOnRun a tag old new = AreOnRun a (two tag) old.table old.writer → AreOnRun a (two tag) new.table new.writer
+StaysOnRun a tag old new = AreOnRun a tag old.table old.writer → AreOnRun a tag new.table new.writer
 
--- an engine whose halves come back from their desks is on a run of that version, where no call of a disk failed and nothing waits with
--- the half that works
+-- an engine whose halves come back from their desks is on a run, where no call of a disk failed and nothing waits with the half that
+-- works
 abbrev pub IsRejoined : {P D L F : Type 0} {G : Ghosts D} → Analysis F L → ℕ → SlotEngine P D L F G → Type 0
-IsRejoined a tag engine = engine.table.failed ≡ false → engine.table.waiting ≡ [] → ∥ AreOnRun a (two tag) engine.table engine.writer ∥₁
+IsRejoined a tag engine = engine.table.failed ≡ false → engine.table.waiting ≡ [] → ∥ AreOnRun a tag engine.table engine.writer ∥₁

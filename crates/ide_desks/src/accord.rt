@@ -8,13 +8,13 @@ use std::marker::Brand;
 pub trait Accord {
     ghost use Rattle.std.specs.Prelude.{List};
     ghost use Rattle.atomic_table.specs.Seated.{TableId};
-    ghost use Rattle.ide_journal.specs.Format.{Entry};
+    ghost use Rattle.ide_store.specs.Versioned.{VersionedEntry};
 
     ghost board: { TableId };
 
     ghost told: { Type 0 };
 
-    ghost first: { told → List Entry };
+    ghost first: { told → List VersionedEntry };
 }
 
 impl Accord for Brand {

@@ -11,7 +11,7 @@ use Rattle.ide_batch.specs.Fold.{procedures}
 use Rattle.ide_graph.proofs.PlaceLemmas.{position_within}
 use Rattle.ide_graph.specs.Numbers.{procedure_of, start_of}
 use Rattle.ide_graph.specs.Supergraph.{Supergraph}
-use Rattle.ide_journal.specs.Format.{Entry}
+use Rattle.ide_store.specs.Versioned.{VersionedEntry}
 use Rattle.ide_lattice.specs.Algebra.{LatticeAlgebra, EdgeAlgebra}
 use Rattle.ide_problem.specs.Flow.{Targets}
 use Rattle.ide_steps.specs.Frozen.{graph_in, program_in}
@@ -23,7 +23,7 @@ use Rattle.ide_store.proofs.Places.{exact_at, laws_at}
 use Rattle.ide_store.proofs.Reached.{Knows, reached_whole}
 use Rattle.ide_store.specs.Answers.{GraphBy, frame_by, roots_by}
 use Rattle.ide_store.specs.Freezing.{IsImageOf, IsImageOver}
-use Rattle.ide_store.specs.Places.{Place, version_at}
+use Rattle.ide_store.specs.Places.{Place}
 use Rattle.ide_store.specs.Runs.{IsImageOfRun}
 use Rattle.ide_store.specs.Table.{Analysis, StoreWorld, TableData, WorksOn, forms_of, store_at}
 use Rattle.ide_text.specs.Names.{is_named}
@@ -136,7 +136,7 @@ module _ (P : Type 0) {F L : Type 0} (a : Analysis F L) (knows : Knows a) (graph
           let exact = exact_at a knows.prefix_free place in
           let laws = laws_at a place in
           let whole = reached_whole a knows place w reached in
-          good_now a.lattice a.functions a.targets a.same (forms_of a) (version_at place) (store_at a place) knows.is_same exact laws knows.known w whole.held
+          good_now a.lattice a.functions a.targets a.same (forms_of a) (store_at a place) knows.is_same exact laws knows.known w whole.held
           values.program (image.program ∙ ap (λ u. Some u) (sym program)) by
 
       at_rest : TablesRest a.lattice a.functions a.targets values.graph all values.roots closed.tables
@@ -152,7 +152,7 @@ module _ (P : Type 0) {F L : Type 0} (a : Analysis F L) (knows : Knows a) (graph
 module _ {P F L : Type 0} (a : Analysis F L) (table : TableData F) (closed : Closed P L F) (whole : IsWholeCore table.core)
     (at : table.core.graph ≡ Some (graph_in closed)) where
   -- the graph of a frozen half is that of its program
-  pub said_in : (place : Place) (w : StoreWorld a place) (handed : List Entry) → WorksOn a place w table handed → IsImageOf a place w closed
+  pub said_in : (place : Place) (w : StoreWorld a place) (handed : List VersionedEntry) → WorksOn a place w table handed → IsImageOf a place w closed
       → IsGraphSaid (Some (program_in closed)) (graph_in closed)
   said_in place w handed works image =
       subst (λ (o : Option ProgramValue). IsGraphSaid o (graph_in closed)) (sym works.image.program ∙ image.program) (whole.said (graph_in closed) at)

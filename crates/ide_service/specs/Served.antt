@@ -2,7 +2,6 @@
 -- half does not answer them.
 use Rattle.std.specs.Prelude.{◌≡◌, ℕ, ◌<◌, false, true, List, [], Some, map}
 use Rattle.ide_batch.specs.Applied.{named_in}
-use Rattle.ide_journal.specs.Format.{Entry}
 use Rattle.ide_steps.specs.CloseRefusal.{IsFreezeRefusal}
 use Rattle.ide_steps.specs.Core.{is_loaded}
 use Rattle.ide_steps.specs.Frozen.{graph_in, program_in}
@@ -12,6 +11,7 @@ use Rattle.ide_store.specs.Freezing.{IsImageOf}
 use Rattle.ide_store.specs.Places.{Place}
 use Rattle.ide_store.specs.Table.{Analysis, IsReached, StoreWorld, TableData, WorksOn}
 use Rattle.ide_store.specs.TableCalls.{IsRefusal}
+use Rattle.ide_store.specs.Versioned.{VersionedEntry}
 use Rattle.ide_theory.specs.Best.{IsBest}
 use Rattle.ide_theory.specs.Graphs.{frame_at, roots_at}
 use Rattle.ide_theory.specs.Sites.{HaveEdgesOf}
@@ -44,7 +44,7 @@ module _ {F L : Type 0} (a : Analysis F L) where
 
   -- of each world that acts led to, and on which the half works
   abbrev pub AreAnswersOver : TableData F → ValuesData L → Type 0
-  AreAnswersOver table values = (place : Place) (w : StoreWorld a place) (handed : List Entry) → IsReached a place w → WorksOn a place w table handed
+  AreAnswersOver table values = (place : Place) (w : StoreWorld a place) (handed : List VersionedEntry) → IsReached a place w → WorksOn a place w table handed
       → AreAnswersOf place w values
 
 module _ (P : Type 0) {F L : Type 0} (a : Analysis F L) where

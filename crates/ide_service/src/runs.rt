@@ -36,7 +36,7 @@ pub fn every_run<P: Problem>()
 
 /// Over every list of worker steps, seals, disk calls, checkpoints, commands, crashes and openings that can
 /// happen one after the other from a new store on two disks, whose slots are of either version, or from
-/// one of that version which such a run on one disk left, in whatever state, and beside which a closed slot
+/// one of either version which such a run on one disk left, in whatever state, and beside which a closed slot
 /// was put, with any number of hands, checkpoints begun and their calls made at any time between, and a
 /// crash between any two calls, within a disk call, within a checkpoint or within an opening, with any bytes
 /// that the disks may then leave: all that [`every_run`] says of one disk, in the same words (1 to 5).

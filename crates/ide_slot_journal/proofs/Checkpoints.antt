@@ -128,6 +128,7 @@ filled_step {D} {G} slot next other old new turn moves keeps good stands =
     let work : slot_writer other new ≡ record (filling_writer other old) { checkpoint = UnderWay other (fill_next other fill) } =
     λ i. record {
       side = moves.side i;
+      version = moves.version i;
       generation = moves.generation i;
       gate = moves.gate i;
       stage = stage_of (moves.stage i);
@@ -186,9 +187,17 @@ turned_step {D} {G} slot next other old new turn turns keeps good stands =
     let gate : new.gate ≡ 4096 + length (filled_by other) = omega (arith, turns.gate, place) in
     let idle : stage_of new.stage ≡ journal.Idle = ap stage_of turns.stage ∙ made.idle in
     let generation : new.generation ≡ other.generation = turns.generation ∙ with.generation in
+    let version : new.version ≡ other.head.version = turns.version ∙ sym (ap (λ (h : Head). h.version) follows.head) in
     let checkpoint : checkpoint_of other new.filler ≡ NotBegun = ap (λ (s : FillStage). checkpoint_at s other (filling_of new.filler)) turns.rests in
     let work : slot_writer other new ≡ turned_to (filling_writer other old) other =
-    λ i. record { side = turns.side i; generation = generation i; gate = gate i; stage = idle i; checkpoint = checkpoint i } in
+    λ i. record {
+      side = turns.side i;
+      version = version i;
+      generation = generation i;
+      gate = gate i;
+      stage = idle i;
+      checkpoint = checkpoint i;
+    } in
     let here : disks_of new ≡ two_sides (across old.side) (G.state new.current) (G.state old.current) =
     λ i. two_sides (turns.side i) (G.state new.current) (G.state (turns.other i)) in
     let call : call_of filler ≡ Syncs = call_is_fill slot next other old stands turn ∙ ap (λ (f : Filling). fill_call other f) fill in
@@ -209,7 +218,7 @@ turned_step {D} {G} slot next other old new turn turns keeps good stands =
     let other_is : G.state new.other ≡ settled (two.front ++ 0 ∷ []) = ap G.state turns.other ∙ current in
     checkpoint_ended ends (record {
       two = checkpoints_keep_standing.ended slot other next (filling_writer other old) (slot_writer other new) (disks_of old) (disks_of new) two ends;
-      version = turns.version ∙ sym (ap (λ (h : Head). h.version) follows.head);
+      version = version;
       tag = keeps.tag ∙ stands.tag ∙ sym (ap (λ (h : Head). h.tag) follows.head);
       base = turns.base ∙ with.base;
       count = keeps.count ∙ stands.count ∙ count;

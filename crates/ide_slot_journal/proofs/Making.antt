@@ -23,10 +23,10 @@ use Rattle.ide_slot_journal.specs.declared.stage.RecordStage.TheVariants.{Idle}
 
 -- both disks hold a first page and a closed gate
 pub stands_first : (head : Head) (first second : DiskState) → 0 < head.tag → first ≡ first_disk head → second ≡ first_disk head
-    → StandsTwo (first_slot head []) None (first_writer 4096) (two_sides First first second)
+    → StandsTwo (first_slot head []) None (first_writer head.version 4096) (two_sides First first second)
 stands_first head first second some first_is second_is =
-    subst (λ (d : DiskState). StandsTwo (first_slot head []) None (first_writer 4096) (two_sides First d second)) (sym first_is)
-    (subst (λ (d : DiskState). StandsTwo (first_slot head []) None (first_writer 4096) (two_sides First (first_disk head) d)) (sym second_is)
+    subst (λ (d : DiskState). StandsTwo (first_slot head []) None (first_writer head.version 4096) (two_sides First d second)) (sym first_is)
+    (subst (λ (d : DiskState). StandsTwo (first_slot head []) None (first_writer head.version 4096) (two_sides First (first_disk head) d)) (sym second_is)
     (stores_begin.created head some))
 
 pub closed_first : (head : Head) (disk : DiskState) → disk ≡ first_disk head → IsClosedSlot disk.now
@@ -39,8 +39,9 @@ pub stands_made : {D : Type 0} {G : Ghosts D} (head : Head) (other : Slot) (jour
     → journal.version ≡ head.version → journal.tag ≡ head.tag
     → journal.filler.stage ≡ Rests → journal.filler.closed ≡ true → StandsOn (first_slot head []) None other journal
 stands_made {D} {G} head other journal some first second side generation base gate count next stage version tag rests closed =
-    let work : first_writer 4096 ≡ slot_writer other journal = λ i. record {
+    let work : first_writer head.version 4096 ≡ slot_writer other journal = λ i. record {
       side = sym side i;
+      version = sym version i;
       generation = sym generation i;
       gate = sym gate i;
       stage = stage_of (sym stage i);
@@ -50,7 +51,7 @@ stands_made {D} {G} head other journal some first second side generation base ga
     ap (λ (s : Side). two_sides s (G.state journal.current) (G.state journal.other)) (sym side) in
     record {
       two = subst (λ (w : SlotWriter). StandsTwo (first_slot head []) None w (disks_of journal)) work
-          (subst (λ (d : Sides DiskState). StandsTwo (first_slot head []) None (first_writer 4096) d) disks
+          (subst (λ (d : Sides DiskState). StandsTwo (first_slot head []) None (first_writer head.version 4096) d) disks
           (stands_first head (G.state journal.current) (G.state journal.other) some first second));
       version = version;
       tag = tag;

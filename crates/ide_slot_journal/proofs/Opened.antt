@@ -99,6 +99,7 @@ opens_on {D} {G} side tag current other current' other' closed journal found cho
       closed = before;
       work_is = λ i. record {
         side = journal.side;
+        version = r.version i;
         generation = r.generation i;
         gate = r.gate i;
         stage = stage_of (f.stage i);

@@ -108,6 +108,7 @@ plan_stands {D} {G} base commands parts told old new none low up_to proper told_
       };
       work_is = λ i. record {
         side = sides.side i;
+        version = sides.version i;
         generation = sides.generation i;
         gate = keeps.gate i;
         stage = stage_of (keeps.stage i);

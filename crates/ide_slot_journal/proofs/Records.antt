@@ -105,6 +105,7 @@ called {D} {G} slot entry other old new phase stands is_due more reaches keeps g
     let work : slot_writer other new ≡ record (slot_writer other old) { stage = stage_after phase } =
     λ i. record {
       side = keeps.side i;
+      version = keeps.version i;
       generation = keeps.generation i;
       gate = gate i;
       stage = stage i;
@@ -150,6 +151,7 @@ stored {D} {G} slot entry other old new stands is_due reaches keeps good end =
     } =
     λ i. record {
       side = keeps.side i;
+      version = keeps.version i;
       generation = keeps.generation i;
       gate = gate i;
       stage = stage_of (reaches.stage i);

@@ -32,6 +32,7 @@ checkpoint_of other filler = checkpoint_at filler.stage other (filling_of filler
 abbrev pub slot_writer : {D : Type 0} {G : Ghosts D} → Slot → SlotJournal D G → SlotWriter
 slot_writer other journal = record {
   side = journal.side;
+  version = journal.version;
   generation = journal.generation;
   gate = journal.gate;
   stage = stage_of journal.stage;

@@ -3,7 +3,7 @@ use Rattle.std.proofs.Common.{◌≡◌, ◌<◌, ◌++◌, ℕ, List, [], ◌�
 use Rattle.std.specs.Prelude.{IfErr, IfOk}
 use Rattle.ide_disk.specs.Disk.{DiskState}
 use Rattle.ide_disk.specs.declared.disk.Disk.{Ghosts}
-use Rattle.ide_journal.specs.Format.{Head, head_of, header}
+use Rattle.ide_journal.specs.Format.{head_of, header}
 use Rattle.ide_journal.specs.declared.version.Version.{Version}
 use Rattle.ide_journal.specs.declared.version.Version.TheVariants.{Two}
 use Rattle.ide_slot_journal.specs.Opened.{states_of}
@@ -16,21 +16,21 @@ use Rattle.ide_store.proofs.Acts.{reached_more}
 use Rattle.ide_store.specs.Hands.{Happens}
 use Rattle.ide_store.specs.Places.{OnOneDisk, OnTwoDisks}
 use Rattle.ide_store.specs.Runs.{IsLeftByRun}
-use Rattle.ide_store.specs.Table.{Analysis, at_adopted, IsReached, StoreAct, TableData, after_act, beside}
+use Rattle.ide_store.specs.Table.{Analysis, at_adopted, IsReached, OneWorld, StoreAct, TableData, after_act, beside}
 use Rattle.ide_store.specs.World.{Opens}
-use Rattle.ide_slot_store.specs.Adopting.{AreAdopted, IsAdoptingStop, OneWorld, not_opened}
+use Rattle.ide_slot_store.specs.Adopting.{AreAdopted, IsAdoptingStop, not_opened}
 use Rattle.ide_slot_store.specs.Engine.{AreOpened, OpensEngine, RefusesEngine}
 use Rattle.ide_slot_store.specs.Runs.{AreOnRun}
 use Rattle.ide_slot_store.specs.declared.engine.SlotEngine.{SlotEngine}
 use Rattle.ide_slot_store.specs.declared.writer.SlotWriterHalf.{SlotWriterHalf}
 
-module _ {F L : Type 0} (a : Analysis F L) (head : Head) (some : 0 < head.tag) where
+module _ {F L : Type 0} (a : Analysis F L) (version : Version) (tag : ℕ) (some : 0 < tag) where
   -- a run on one disk goes on beside a closed slot
-  pub goes_on : (w : OneWorld a head) (work : SlotWriter) (other : List ℕ) → IsClosedSlot other → IsReached a (OnOneDisk head) w
-      → IsReached a (OnTwoDisks head) (beside a head w work other)
+  pub goes_on : (w : OneWorld a version tag) (work : SlotWriter) (other : List ℕ) → IsClosedSlot other
+      → IsReached a (OnOneDisk (head_of version tag)) w → IsReached a (OnTwoDisks tag) (beside a version tag w work other)
   goes_on w work other closed reached = record {
-    start = beside a head w work other;
-    begins = at_adopted (record { some_tag = some; world = w; run = reached; work = work; other = other; closed = closed; is = refl });
+    start = beside a version tag w work other;
+    begins = at_adopted (record { some_tag = some; version = version; world = w; run = reached; work = work; other = other; closed = closed; is = refl });
     acts = [];
     can = tt;
     is = refl;
@@ -40,14 +40,13 @@ module _ {F L : Type 0} (a : Analysis F L) (tag : ℕ) (some : 0 < tag) {D : Typ
     (is : G.state closed ≡ first_disk (head_of Two tag)) where
   -- so does one that is opened beside it
   taken_over : (version : Version) (table : TableData F) (writer : SlotWriterHalf D G)
-      → AreOpened a (head_of version tag) (states_of G first closed) table writer → AreAdopted a (head_of version tag) (G.state first) table writer
+      → AreOpened a tag (states_of G first closed) table writer → AreAdopted a version tag (G.state first) table writer
   taken_over version table writer opened w reached stands =
-      let head = head_of version tag in
       let bare = head_of Two tag in
       let other = header bare ++ 0 ∷ [] in
       let slot : IsClosedSlot other = closed_first bare (first_disk bare) refl in
-      let stood = first_writer 4096 in
-      let did = opened (beside a head w stood other) (goes_on a head some w stood other slot reached) (λ i. record { a = stands i; b = sym is i }) in
+      let stood = first_writer version 4096 in
+      let did = opened (beside a version tag w stood other) (goes_on a version tag some w stood other slot reached) (λ i. record { a = stands i; b = sym is i }) in
       record {
         some_tag = some;
         stood = stood;
@@ -61,7 +60,7 @@ module _ {F L : Type 0} (a : Analysis F L) (tag : ℕ) (some : 0 < tag) {D : Typ
       }
 
   pub adopted : {P E : Type 0} (result : Result (SlotEngine P D L F G) E) → OpensEngine a tag first closed result → G.honest first → G.honest closed
-      → IfOk result (λ engine. AreAdopted a (head_of engine.writer.journal.version tag) (G.state first) engine.table engine.writer)
+      → IfOk result (λ engine. AreAdopted a engine.writer.journal.version tag (G.state first) engine.table engine.writer)
   adopted (Ok engine) opens first_honest closed_honest =
       taken_over engine.writer.journal.version engine.table engine.writer (opens first_honest closed_honest)
   adopted (Err e) opens first_honest closed_honest = tt
@@ -73,14 +72,14 @@ module _ {F L : Type 0} (a : Analysis F L) (tag : ℕ) (some : 0 < tag) {D : Typ
 
 module _ {F L : Type 0} (a : Analysis F L) {D : Type 0} {G : Ghosts D} where
   -- an engine over it is on a run
-  pub adopting_stays : (head : Head) (before : DiskState) (table : TableData F) (writer : SlotWriterHalf D G)
-      → IsLeftByRun a (OnOneDisk head) before → AreAdopted a head before table writer → AreOnRun a head table writer
-  adopting_stays head before table writer left adopts =
+  pub adopting_stays : (version : Version) (tag : ℕ) (before : DiskState) (table : TableData F) (writer : SlotWriterHalf D G)
+      → IsLeftByRun a (OnOneDisk (head_of version tag)) before → AreAdopted a version tag before table writer → AreOnRun a tag table writer
+  adopting_stays version tag before table writer left adopts =
       let is = adopts left.world left.reached left.stands in
-      let start = beside a head left.world is.stood is.other in
-      let act : StoreAct a (OnTwoDisks head) = Happens (Opens is.found is.image is.work (disks_of writer.journal)) in
+      let start = beside a version tag left.world is.stood is.other in
+      let act : StoreAct a (OnTwoDisks tag) = Happens (Opens is.found is.image is.work (disks_of writer.journal)) in
       record {
-        world = after_act a (OnTwoDisks head) start act;
-        reached = reached_more a (OnTwoDisks head) start (act ∷ []) (goes_on a head is.some_tag left.world is.stood is.other is.closed left.reached) (is.can, tt);
+        world = after_act a (OnTwoDisks tag) start act;
+        reached = reached_more a (OnTwoDisks tag) start (act ∷ []) (goes_on a version tag is.some_tag left.world is.stood is.other is.closed left.reached) (is.can, tt);
         at_work = is.at_work;
       }

@@ -12,6 +12,7 @@ use Rattle.ide_slots.specs.declared.side.Side.{Side}
 use Rattle.ide_slots.specs.declared.side.Side.TheVariants.{First, Second}
 use Rattle.ide_slots.proofs.Writers.{off_two, on_two}
 use Rattle.ide_store.specs.TwoDisks.{AtCheckpoint, AtRecord, IsNextBehind}
+use Rattle.ide_store.specs.Versioned.{VersionedEntry}
 use Rattle.ide_slot_store.specs.Half.{MayLeave, behind_failure}
 use Rattle.ide_slot_store.specs.Writing.{BeginsFirst}
 
@@ -35,9 +36,9 @@ leaves_by : (side : Side) (one other : DiskState) (left : Sides (List ℕ)) → 
 leaves_by First one other left leaves leaves' = (leaves, leaves')
 leaves_by Second one other left leaves leaves' = (leaves', leaves)
 
-module _ (records : List Entry) (stored : ℕ) (work : SlotWriter) (disks : Sides DiskState) (left : Sides (List ℕ)) where
+module _ (records : List VersionedEntry) (stored : ℕ) (work : SlotWriter) (disks : Sides DiskState) (left : Sides (List ℕ)) where
   -- within a call for the next record
-  pub in_record : (slot : Slot) (entry : Entry) → IsNextBehind records stored slot entry → CrashesInRecord slot entry work disks left
+  pub in_record : (slot : Slot) (entry : Entry) → IsNextBehind records stored work.version slot entry → CrashesInRecord slot entry work disks left
       → MayLeave records stored work disks left
   in_record slot entry next crash =
       let call = due_call slot entry work crash.phase in

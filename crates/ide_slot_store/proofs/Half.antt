@@ -1,17 +1,19 @@
 -- What the writing half of a store on two disks does is what the store allows.
-use Rattle.std.proofs.Common.{◌≡◌, ◌≢◌, ◌∙◌, ◌≤◌, ◌<◌, ◌+◌, ℕ, zero, suc, All, Bool, true, List, [], ◌∷◌, ◌++◌, Option, Some, None, Result, Ok, Err, length, map, drop, take, refl, ap, sym, subst, arith, inl, inr}
+use Rattle.std.proofs.Common.{◌≡◌, ◌≢◌, ◌∙◌, ◌≤◌, ◌<◌, ◌+◌, ℕ, All, Bool, true, List, [], ◌∷◌, ◌++◌, Option, Some, None, Result, Ok, Err, length, map, drop, take, refl, ap, sym, subst, arith, inl, inr}
 use Rattle.std.specs.List.{AllByRecursion, filter}
+use Rattle.std.specs.Option.{option_map}
 use Rattle.std.specs.Prelude.{OnOk, slice_get}
 use Rattle.std.proofs.lemmas.Bool.{cases_lt}
-use Rattle.std.proofs.lemmas.List.Elements.{All-append, All-from_recursion, All-nil, recursion_from_All}
-use Rattle.std.proofs.lemmas.List.{drop-append-le, drop_all, length-append, take-append-le, take_all}
-use Rattle.std.proofs.lemmas.Option.{same_Some}
+use Rattle.std.proofs.lemmas.List.Elements.{All-append, All-from_recursion, All-nil, All-tail, recursion_from_All}
+use Rattle.std.proofs.lemmas.List.{drop-append-le, drop-drop, drop-map, drop_all, length-append, length-drop, map-append, take-append-le, take_all}
+use Rattle.std.proofs.lemmas.Option.{same_Some, slice_get-map}
 use Rattle.ide_disk.specs.Disk.{CrashLeaves, DiskState}
 use Rattle.ide_disk.specs.declared.disk.Disk.{Ghosts}
 use Rattle.ide_journal.specs.Format.{Entry, IsEntry, head_of}
 use Rattle.ide_journal.specs.Lists.{entries_of, entry_of}
 use Rattle.ide_journal.specs.declared.record.RawRecord.{RawRecord}
 use Rattle.ide_journal.specs.declared.stage.Phase.{Phase}
+use Rattle.ide_journal.specs.declared.version.Version.{Version}
 use Rattle.ide_journal.specs.declared.version.Version.TheVariants.{Two}
 use Rattle.ide_slot_journal.specs.Checkpoints.{LeavesInCheckpoint, MakesCheckpointStep, filling_writer}
 use Rattle.ide_slot_journal.specs.Making.{StandsEmpty}
@@ -19,8 +21,9 @@ use Rattle.ide_slot_journal.specs.Moments.{before_call, within_call}
 use Rattle.ide_slot_journal.specs.Opened.{OpensOn, states_of}
 use Rattle.ide_slot_journal.specs.Plans.{Plans}
 use Rattle.ide_slot_journal.specs.Records.{LeavesInRecord, MakesRecordStep, PutsNext, PutsNone}
-use Rattle.ide_slot_journal.specs.Stages.{IsFillingAt, IsTurnAt}
-use Rattle.ide_slot_journal.specs.Stands.{AreHonest, HasNoNext, IsFilling, StandsOn, disks_of, sides_of, slot_writer}
+use Rattle.ide_slot_journal.specs.Stages.{IsFillingAt, IsTurnAt, checkpoint_at}
+use Rattle.ide_slot_journal.specs.Stands.{AreHonest, HasNoNext, IsFilling, IsTurn, StandsOn, checkpoint_of, disks_of, filling_of, sides_of, slot_writer}
+use Rattle.ide_slot_journal.specs.declared.filler.Filler.{Filler}
 use Rattle.ide_slot_journal.specs.declared.journal.SlotJournal.{SlotJournal}
 use Rattle.ide_slot_journal.specs.declared.stage.FillStage.{FillStage}
 use Rattle.ide_slot_journal.specs.declared.stage.FillStage.TheVariants as fills
@@ -34,15 +37,17 @@ use Rattle.ide_slots.specs.declared.record.NumberedRecord.{NumberedRecord}
 use Rattle.ide_slots.specs.declared.side.Side.{Side}
 use Rattle.ide_slots.specs.declared.side.Side.TheVariants.{First, Second}
 use Rattle.ide_wire.specs.declared.refused.Refused.{Refused}
-use Rattle.ide_store.proofs.Waiting.{front_next, none_waits, sealed_waits}
-use Rattle.ide_store.proofs.OneDisk.{kept_get, next_taken}
-use Rattle.ide_store.specs.TwoDisks.{CallsTwo, FailsTwo, commands_from, commands_of, is_command}
+use Rattle.ide_store.proofs.Waiting.{front_next, more_get, none_mapped, none_waits}
+use Rattle.ide_store.proofs.OneDisk.{next_taken}
+use Rattle.ide_store.proofs.TwoDisks.{all_one, next_record, spelled_with}
+use Rattle.ide_store.specs.TwoDisks.{AreSpelledFor, CallsTwo, FailsTwo, IsNextBehind, commands_from, commands_of, is_command, next_entry, sealing_version}
+use Rattle.ide_store.specs.Versioned.{IsIn, IsPlainEntry, VersionedEntry, plain}
 use Rattle.ide_slot_store.specs.Half.{CallsOver, CallsTo, CrashesStep, HasStoredAll, IsBeginRefusal, IsNewHalf, IsQuiet, KeepsWriting, MayLeave, OpensStore, PlansWriting, StepsOver, Writes, at_once, calls, fails, limit, makes, memory, stores, waits}
-use Rattle.ide_slot_store.specs.Writing.{BeginsFirst, IsFirstLeft}
+use Rattle.ide_slot_store.specs.Writing.{BeginsFirst, IsFirstLeft, StandsBehind}
 use Rattle.ide_slot_store.specs.declared.writer.SlotWriterHalf.{SlotWriterHalf}
 use Rattle.ide_slot_store.proofs.Crashes.{in_checkpoint, in_record}
 use Rattle.ide_slot_store.proofs.Kept.{commands_more}
-use Rattle.ide_slot_store.proofs.Writing.{CheckpointThen, RecordThen, begins_first, behind_next, busy_next, checkpoint_then, idle_none, put_behind, record_then, still_behind, then_called, then_failed, then_filled, then_stored, then_turned, then_unfilled}
+use Rattle.ide_slot_store.proofs.Writing.{CheckpointThen, RecordThen, begins_first, behind_next, busy_next, checkpoint_then, idle_none, next_of_slot, planned_behind, put_behind, record_then, still_behind, then_called, then_failed, then_filled, then_stored, then_turned, then_unfilled}
 
 -- ---- whose turn it is
 pub filling_some : (stage : FillStage) (base count : ℕ) → IsFillingAt stage base count → stage ≢ fills.Rests
@@ -70,37 +75,54 @@ abbrev pub answered : {T : Type 0} → Result T Refused → Result Bool Refused
 answered (Ok value) = Ok true
 answered (Err refused) = Err refused
 
+-- what waits is what the journal will have of the records that are still to be stored
+abbrev Waits : List VersionedEntry → ℕ → List RawRecord → Type 0
+Waits records stored items = map entry_of items ≡ map plain (drop stored records)
+
+-- so it is of what the journal has of all of them
+waits_plain : (records : List VersionedEntry) (stored : ℕ) (items : List RawRecord) → Waits records stored items
+    → map entry_of items ≡ drop stored (map plain records)
+waits_plain records stored items wait = wait ∙ sym (drop-map plain stored records)
+
 -- what waits behind the first
-rest_waits : (records : List Entry) (stored : ℕ) (entry : Entry) (items : List RawRecord) → stored ≤ length records
-    → slice_get records stored ≡ Some entry → map entry_of items ≡ drop stored records
-    → map entry_of (drop 1 items) ≡ drop (stored + 1) records
-rest_waits records stored entry [] some is wait =
-    let less = (next_taken records stored entry is).0 in
-    let all = none_waits stored records some wait in
-    absurd (omega (arith, less, all))
-rest_waits records stored entry (raw ∷ items) some is wait = (front_next stored records (entry_of raw) (map entry_of items) wait).1
+rest_waits : (records : List VersionedEntry) (stored : ℕ) (items : List RawRecord) → Waits records stored items → Waits records (stored + 1) (drop 1 items)
+rest_waits records stored [] wait =
+    let none : drop stored records ≡ [] = none_mapped plain (drop stored records) (sym wait) in
+    ap (map plain) (sym (sym (drop-drop 1 stored records) ∙ ap (drop 1) none))
+rest_waits records stored (raw ∷ items) wait =
+    (front_next stored (map plain records) (entry_of raw) (map entry_of items) (waits_plain records stored (raw ∷ items) wait)).1
+    ∙ drop-map plain (stored + 1) records
 
 -- and the first
-oldest_waits : (records : List Entry) (stored : ℕ) (entry : Entry) (items : List RawRecord) → slice_get records stored ≡ Some entry
-    → map entry_of items ≡ drop stored records → map entry_of (take 1 items) ≡ entry ∷ []
-oldest_waits records stored entry [] is wait =
-    let less = (next_taken records stored entry is).0 in
-    let all = none_waits stored records (omega (arith, less)) wait in
-    absurd (omega (arith, less, all))
-oldest_waits records stored entry (raw ∷ items) is wait =
-    let first = (front_next stored records (entry_of raw) (map entry_of items) wait).0 in
-    ap (λ (e : Entry). e ∷ []) (same_Some (entry_of raw) entry (sym first ∙ is))
+oldest_waits : (records : List VersionedEntry) (stored : ℕ) (version : Version) (entry : Entry) (items : List RawRecord)
+    → slice_get records stored ≡ Some (version, entry) → Waits records stored items → map entry_of (take 1 items) ≡ entry ∷ []
+oldest_waits records stored version entry [] is wait =
+    let less = (next_taken records stored (version, entry) is).0 in
+    let none : drop stored records ≡ [] = none_mapped plain (drop stored records) (sym wait) in
+    let short = ap length none in
+    absurd (omega (arith, less, short, length-drop stored records))
+oldest_waits records stored version entry (raw ∷ items) is wait =
+    let first = (front_next stored (map plain records) (entry_of raw) (map entry_of items) (waits_plain records stored (raw ∷ items) wait)).0 in
+    let same : slice_get (map plain records) stored ≡ Some entry = slice_get-map plain records stored ∙ ap (option_map plain) is in
+    ap (λ (e : Entry). e ∷ []) (same_Some (entry_of raw) entry (sym first ∙ same))
 
 first_item : {X : Type 0} (xs : List X) (x : X) → slice_get xs 0 ≡ Some x → (rest : List X) × (xs ≡ x ∷ rest)
 first_item [] x is = cc
 first_item (y ∷ ys) x is = (ys, let same : y ≡ x = cc in ap (λ z. z ∷ ys) same)
 
 -- the oldest that waits is the first to be stored
-first_waits : (records : List Entry) (stored : ℕ) (items : List RawRecord) (raw : RawRecord) → map entry_of items ≡ drop stored records
-    → slice_get items 0 ≡ Some raw → slice_get records stored ≡ Some (entry_of raw)
+first_waits : (records : List VersionedEntry) (stored : ℕ) (items : List RawRecord) (raw : RawRecord) → Waits records stored items
+    → slice_get items 0 ≡ Some raw → next_entry records stored ≡ Some (entry_of raw)
 first_waits records stored items raw wait found =
     let behind = first_item items raw found in
-    (front_next stored records (entry_of raw) (map entry_of behind.0) (sym (ap (map entry_of) behind.1) ∙ wait)).0
+    sym (slice_get-map plain records stored)
+    ∙ (front_next stored (map plain records) (entry_of raw) (map entry_of behind.0)
+    (sym (ap (map entry_of) behind.1) ∙ waits_plain records stored items wait)).0
+
+-- what is so of all of them is so of the last
+pub all_behind : {X : Type 0} (P : X → Type 0) (xs ys : List X) → All P (xs ++ ys) → All P ys
+all_behind P [] ys all = all
+all_behind P (x ∷ xs) ys all = all_behind P xs ys (All-tail P x (xs ++ ys) all)
 
 -- a crash at this moment leaves what the disks say
 two_now : {D : Type 0} (G : Ghosts D) (side : Side) (current other : D) (left : Sides (List ℕ))
@@ -120,7 +142,7 @@ module _ {D : Type 0} {G : Ghosts D} where
   pub quiet_sides : (old new : SlotJournal D G) → IsQuiet old new → sides_of new ≡ sides_of old
   quiet_sides old new quiet = λ i. two_sides (quiet.side i) (quiet.current i) (quiet.other i)
 
-  module _ (slot other : Slot) (records : List Entry) (stored : ℕ) (old mid new : SlotWriterHalf D G) (quiet : IsQuiet old.journal mid.journal) where
+  module _ (slot other : Slot) (records : List VersionedEntry) (stored : ℕ) (old mid new : SlotWriterHalf D G) (quiet : IsQuiet old.journal mid.journal) where
     first_too : (work : SlotWriter) → BeginsFirst records stored (slot_writer other mid.journal) (disks_of mid.journal) work
         → BeginsFirst records stored (slot_writer other old.journal) (disks_of old.journal) work
     first_too work first =
@@ -145,7 +167,7 @@ module _ {D : Type 0} {G : Ghosts D} where
       event = record {
         slot = store.event.slot;
         entry = store.event.entry;
-        next = store.event.next;
+        next = subst (λ (w : SlotWriter). IsNextBehind records stored w.version store.event.slot store.event.entry) (quiet.work other) store.event.next;
         stores =
             subst (λ (w : SlotWriter). StoresRecord store.event.slot store.event.entry w (disks_of old.journal) (slot_writer other new.journal) (disks_of new.journal))
             (quiet.work other)
@@ -216,15 +238,14 @@ module _ {D : Type 0} {G : Ghosts D} where
           event = event;
           writes = record {
             behind = behind;
-            waiting = ap (map entry_of) rest
-                ∙ rest_waits records stored event.entry old.waiting.items writes.behind.some event.next.next_is writes.waiting;
+            waiting = ap (map entry_of) rest ∙ rest_waits records stored old.waiting.items writes.waiting;
             commands = kept
                 ∙ ap (λ (rs : List NumberedEntry). rs ++ commands_from old.journal.count (entries_of (take 1 old.waiting.items))) writes.commands
                 ∙ ap (λ (n : ℕ). commands_of (take stored records) ++ commands_from n (entries_of (take 1 old.waiting.items)))
                 (writes.behind.stands.count ∙ writes.behind.count)
                 ∙ ap (λ (es : List Entry). commands_of (take stored records) ++ commands_from stored es)
-                (oldest_waits records stored event.entry old.waiting.items event.next.next_is writes.waiting)
-                ∙ sym (commands_more records stored event.entry event.next.next_is);
+                (oldest_waits records stored old.journal.version event.entry old.waiting.items event.next.next_is writes.waiting)
+                ∙ sym (commands_more records stored old.journal.version event.entry event.next.next_is);
           };
         })
         go _ (then_failed event) = fails event
@@ -251,7 +272,7 @@ module _ {D : Type 0} {G : Ghosts D} where
       go result (checkpoint_then slot other records stored old.journal new.journal result writes.behind
       (filling_some old.journal.filler.stage old.journal.filler.base old.journal.count turn) step)
     where
-      waits : map entry_of new.waiting.items ≡ drop stored records
+      waits : map entry_of new.waiting.items ≡ map plain (drop stored records)
       waits = ap (map entry_of) same ∙ writes.waiting
 
       keeps : all_numbered new.commands.items ≡ commands_of (take stored records)
@@ -312,11 +333,11 @@ module _ {D : Type 0} {G : Ghosts D} where
 
   -- ---- records that are put under way
   -- the journal has fewer records than there may be, where one waits
-  pub within_limit : (old : SlotWriterHalf D G) (slot other : Slot) (records : List Entry) (stored : ℕ) → Writes slot other records stored old
+  pub within_limit : (old : SlotWriterHalf D G) (slot other : Slot) (records : List VersionedEntry) (stored : ℕ) → Writes slot other records stored old
       → (raw : RawRecord) → slice_get old.waiting.items 0 ≡ Some raw → old.journal.count < 4294967295
   within_limit old slot other records stored writes raw found =
-      let next = first_waits records stored old.waiting.items raw writes.waiting found in
-      let less = (next_taken records stored (entry_of raw) next).0 in
+      let next = next_record (slice_get records stored) (entry_of raw) (first_waits records stored old.waiting.items raw writes.waiting found) in
+      let less = (next_taken records stored (next.0, entry_of raw) next.1).0 in
       let count = writes.behind.stands.count ∙ writes.behind.count in
       let few = writes.behind.few in
       omega (arith, count, less, few)
@@ -324,26 +345,31 @@ module _ {D : Type 0} {G : Ghosts D} where
   -- all are stored, where none waits
   pub all_stored : (half : SlotWriterHalf D G) → half.waiting.items ≡ [] → HasStoredAll half
   all_stored half none slot other records stored writes =
-      none_waits stored records writes.behind.some (ap (map entry_of) (sym none) ∙ writes.waiting)
+      none_waits stored records writes.behind.some (sym (none_mapped plain (drop stored records) (sym writes.waiting ∙ ap (map entry_of) none)))
 
   pub put_writes : (old new : SlotWriterHalf D G) (raw : RawRecord) → new.waiting.items ≡ old.waiting.items
-      → new.commands.items ≡ old.commands.items → HasNoNext old.journal → slice_get old.waiting.items 0 ≡ Some raw
-      → PutsNext (entry_of raw) old.journal new.journal → KeepsWriting old new
-  put_writes old new raw same kept idle found puts slot other records stored writes = record {
-    behind = put_behind slot other records stored old.journal new.journal (entry_of raw) writes.behind idle
-        (first_waits records stored old.waiting.items raw writes.waiting found) puts;
-    waiting = ap (map entry_of) same ∙ writes.waiting;
-    commands = ap all_numbered kept ∙ writes.commands;
-  }
+      → new.commands.items ≡ old.commands.items → HasNoNext old.journal → IsTurn old.journal → slice_get old.waiting.items 0 ≡ Some raw
+      → PutsNext (entry_of raw) old.journal new.journal → new.journal.filler ≡ old.journal.filler → KeepsWriting old new
+  put_writes old new raw same kept idle turn found puts filler slot other records stored writes =
+      let next = next_record (slice_get records stored) (entry_of raw) (first_waits records stored old.waiting.items raw writes.waiting found) in
+      let version = next_of_slot slot other records stored old.journal writes.behind turn (next.0, entry_of raw) next.1 in
+      record {
+        behind = put_behind slot other records stored old.journal new.journal (entry_of raw) writes.behind idle
+            (next.1 ∙ ap (λ (v : Version). Some (v, entry_of raw)) version) puts filler;
+        waiting = ap (map entry_of) same ∙ writes.waiting;
+        commands = ap all_numbered kept ∙ writes.commands;
+      }
 
   pub none_writes : (old new : SlotWriterHalf D G) → new.waiting.items ≡ old.waiting.items
-      → new.commands.items ≡ old.commands.items → HasNoNext old.journal → PutsNone old.journal new.journal → KeepsWriting old new
-  none_writes old new same kept idle puts slot other records stored writes =
+      → new.commands.items ≡ old.commands.items → HasNoNext old.journal → PutsNone old.journal new.journal
+      → new.journal.filler ≡ old.journal.filler → KeepsWriting old new
+  none_writes old new same kept idle puts filler slot other records stored writes =
       let none = idle_none slot other writes.behind.next old.journal writes.behind.stands idle in
       record {
         behind = still_behind slot other records stored old.journal new.journal writes.behind
             (subst (λ (o : Option Entry). StandsOn slot o other new.journal) (sym none)
-            (puts slot other (subst (λ (o : Option Entry). StandsOn slot o other old.journal) none writes.behind.stands)));
+            (puts slot other (subst (λ (o : Option Entry). StandsOn slot o other old.journal) none writes.behind.stands)))
+            (subst (λ (f : Filler). AreSpelledFor old.journal.version (checkpoint_of other f) records stored) (sym filler) writes.behind.spelled);
         waiting = ap (map entry_of) same ∙ writes.waiting;
         commands = ap all_numbered kept ∙ writes.commands;
       }
@@ -351,16 +377,8 @@ module _ {D : Type 0} {G : Ghosts D} where
   -- ---- a checkpoint that is planned
   pub plan_writes : (old new : SlotWriterHalf D G) (planned : Slot) → new.waiting.items ≡ old.waiting.items
       → new.commands.items ≡ old.commands.items → Plans planned old.journal new.journal → PlansWriting planned old new
-  plan_writes old new planned same kept plans slot other records stored writes = record {
-    behind = record {
-      next = writes.behind.next;
-      stands = (plans slot writes.behind.next other writes.behind.stands).stands;
-      is_next = writes.behind.is_next;
-      count = writes.behind.count;
-      some = writes.behind.some;
-      few = writes.behind.few;
-      proper = writes.behind.proper;
-    };
+  plan_writes old new planned same kept plans slot other records stored writes spelled = record {
+    behind = planned_behind old.journal new.journal planned slot other records stored writes.behind plans spelled;
     waiting = ap (map entry_of) same ∙ writes.waiting;
     commands = ap all_numbered kept ∙ writes.commands;
   }
@@ -370,40 +388,55 @@ module _ {D : Type 0} {G : Ghosts D} where
   if_planned old new planned (Ok value) same kept plans = plan_writes old new planned same kept plans
   if_planned old new planned (Err refused) same kept plans = tt
 
-  -- ---- a record more
-  pub seal_writes : (old new : SlotWriterHalf D G) (raw : RawRecord) (slot other : Slot) (records : List Entry) (stored : ℕ)
+  -- ---- more records
+  -- they are sealed behind the others, in the version in which records are
+  pub more_behind : (slot other : Slot) (records more : List VersionedEntry) (stored : ℕ) (old new : SlotJournal D G) → new ≡ old
+      → length records + length more ≤ 4294967295 → All IsPlainEntry more → All (IsIn (sealing_version (slot_writer other old))) more
+      → StandsBehind slot other records stored old → StandsBehind slot other (records ++ more) stored new
+  more_behind slot other records more stored old new same room proper spelled behind =
+      let some = behind.some in
+      let longer = length-append records more in
+      subst (λ (j : SlotJournal D G). StandsBehind slot other (records ++ more) stored j) (sym same) (record {
+        next = behind.next;
+        stands = behind.stands;
+        is_next = first_still behind.next behind.is_next;
+        count = behind.count;
+        some = omega (arith, longer, some);
+        few = omega (arith, longer, room);
+        proper = subst (λ (rs : List VersionedEntry). All IsPlainEntry rs) (sym (drop-append-le stored records more some))
+            (All-append IsPlainEntry (drop stored records) more behind.proper proper);
+        spelled = spelled_with records more stored old.version (checkpoint_of other old.filler) some behind.spelled spelled;
+      })
+    where
+      first_still : (next : Option Entry) → IsFirstLeft old.version records stored next → IsFirstLeft old.version (records ++ more) stored next
+      first_still None is = tt
+      first_still (Some entry) is = more_get records more (old.version, entry) stored is
+
+  pub seal_writes : (old new : SlotWriterHalf D G) (raw : RawRecord) (slot other : Slot) (records : List VersionedEntry) (stored : ℕ)
       → new.journal ≡ old.journal → new.commands.items ≡ old.commands.items → new.waiting.items ≡ old.waiting.items ++ raw ∷ []
       → IsEntry (entry_of raw) → length records < 4294967295 → Writes slot other records stored old
-      → Writes slot other (records ++ entry_of raw ∷ []) stored new
+      → Writes slot other (records ++ (sealing_version (slot_writer other old.journal), entry_of raw) ∷ []) stored new
   seal_writes old new raw slot other records stored same kept items proper room writes =
-      let entry = entry_of raw in
+      let r : VersionedEntry = (sealing_version (slot_writer other old.journal), entry_of raw) in
       let some = writes.behind.some in
-      let longer = length-append records (entry ∷ []) in
       record {
-        behind = record {
-          next = writes.behind.next;
-          stands = subst (λ (j : SlotJournal D G). StandsOn slot writes.behind.next other j) (sym same) writes.behind.stands;
-          is_next = first_still writes.behind.next writes.behind.is_next;
-          count = writes.behind.count;
-          some = omega (arith, longer, some);
-          few = omega (arith, longer, room);
-          proper = subst (λ (rs : List Entry). All IsEntry rs) (sym (drop-append-le stored records (entry ∷ []) some))
-              (All-append IsEntry (drop stored records) (entry ∷ []) writes.behind.proper (one_entry entry proper));
-        };
-        waiting = ap (map entry_of) items ∙ sealed_waits records stored old.waiting.items raw some writes.waiting;
+        behind = more_behind slot other records (r ∷ []) stored old.journal new.journal same (omega (arith, room)) (all_one IsPlainEntry r proper)
+            (all_one (IsIn r.0) r refl) writes.behind;
+        waiting = ap (map entry_of) items ∙ map-append entry_of old.waiting.items (raw ∷ [])
+            ∙ ap (λ (es : List Entry). es ++ entry_of raw ∷ []) writes.waiting
+            ∙ sym (map-append plain (drop stored records) (r ∷ []))
+            ∙ ap (map plain) (sym (drop-append-le stored records (r ∷ []) some));
         commands = ap all_numbered kept ∙ writes.commands
-            ∙ ap commands_of (sym (take-append-le stored records (entry ∷ []) some));
+            ∙ ap commands_of (sym (take-append-le stored records (r ∷ []) some));
       }
-    where
-      first_still : (next : Option Entry) → IsFirstLeft records stored next → IsFirstLeft (records ++ entry_of raw ∷ []) stored next
-      first_still None is = tt
-      first_still (Some entry) is = kept_get records (entry_of raw) entry stored is
-
-      one_entry : (r : Entry) → IsEntry r → All IsEntry (r ∷ [])
-      one_entry r is zero d inside = is
-      one_entry r is (suc k) d inside = absurd (omega (arith, inside))
 
   -- ---- a store with no record, and one that was opened
+  -- where no checkpoint is begun, all are of the version of the slot
+  nothing_spelled : (journal : SlotJournal D G) (other : Slot) (records : List VersionedEntry) (stored : ℕ) → journal.filler.stage ≡ fills.Rests
+      → All (IsIn journal.version) (drop stored records) → AreSpelledFor journal.version (checkpoint_of other journal.filler) records stored
+  nothing_spelled journal other records stored rests all =
+      subst (λ (s : FillStage). AreSpelledFor journal.version (checkpoint_at s other (filling_of journal.filler)) records stored) (sym rests) all
+
   pub made : (tag : ℕ) (half : SlotWriterHalf D G) → StandsEmpty (head_of Two tag) half.journal → half.journal.filler.stage ≡ fills.Rests
       → half.waiting.items ≡ [] → half.commands.items ≡ [] → IsNewHalf tag half
   made tag half empty rests none bare = record {
@@ -415,7 +448,8 @@ module _ {D : Type 0} {G : Ghosts D} where
         count = refl;
         some = omega arith;
         few = omega arith;
-        proper = All-nil IsEntry;
+        proper = All-nil IsPlainEntry;
+        spelled = nothing_spelled half.journal other [] 0 rests (All-nil (IsIn half.journal.version));
       };
       waiting = ap (map entry_of) none;
       commands = ap all_numbered bare;
@@ -439,9 +473,11 @@ module _ {D : Type 0} {G : Ghosts D} where
             count = sym count;
             some = omega arith;
             few = omega (arith, count, most);
-            proper = subst (λ (rs : List Entry). All IsEntry rs) (sym nothing) (All-nil IsEntry);
+            proper = subst (λ (rs : List VersionedEntry). All IsPlainEntry rs) (sym nothing) (All-nil IsPlainEntry);
+            spelled = nothing_spelled half.journal other records (length records) rests
+                (subst (λ (rs : List VersionedEntry). All (IsIn half.journal.version) rs) (sym nothing) (All-nil (IsIn half.journal.version)));
           };
-          waiting = ap (map entry_of) none ∙ sym nothing;
+          waiting = ap (map entry_of) none ∙ sym (ap (map plain) nothing);
           commands = kept ∙ sym same ∙ ap commands_of (sym (take_all (length records) records (omega arith)));
         };
     commands = kept;

@@ -11,7 +11,6 @@ use Rattle.std.proofs.lemmas.List.Recursion.{same_from_clauses}
 use Rattle.std.proofs.lemmas.List.Elements.{All-cons, All-nil, Contains-append_left, Contains-append_right}
 use Rattle.std.proofs.lemmas.Map.Keys.{Less-from_sorted, sorted_from_all_adjacent, sorted_tail}
 use Rattle.ide_batch.specs.Applied.{HasImage}
-use Rattle.ide_batch.specs.Bodies.{IsEntryOf}
 use Rattle.ide_batch.specs.Fold.{ProgramImage, RecordLeads, image_entry, named, or_else, procedures, said_by, with_items}
 use Rattle.ide_batch.specs.Forms.{all_proper}
 use Rattle.ide_batch.specs.Items.{AreWritten, Functions, Item, is_proper_item}
@@ -19,7 +18,6 @@ use Rattle.ide_batch.specs.Records.{Batch, Load, RecordValue, Root}
 use Rattle.ide_journal.specs.Format.{Entry}
 use Rattle.ide_journal.specs.Lists.{entries_of, entry_of}
 use Rattle.ide_journal.specs.declared.record.RawRecord.{RawRecord}
-use Rattle.ide_journal.specs.declared.version.Version.{Version}
 use Rattle.ide_journal.specs.declared.version.Version.TheVariants.{Two}
 use Rattle.ide_lattice.specs.Algebra.{EdgeAlgebra}
 use Rattle.ide_slots.specs.Slot.{IsPartEntry, numbered_from}
@@ -40,11 +38,12 @@ use Rattle.ide_wire.specs.declared.key.Key.{Key}
 use Rattle.ide_wire.specs.declared.key.Key.TheVariants.{Jump}
 use Rattle.ide_wire.specs.declared.refused.Refused.{Refused}
 use Rattle.ide_wire.specs.declared.refused.Refused.TheVariants.{Limit}
-use Rattle.ide_store.specs.Machine.{ProgramStep, slot_machine}
+use Rattle.ide_store.specs.Machine.{IsSpelled, ProgramStep, slot_machine}
 use Rattle.ide_slot_store.specs.Parts.{AreImageParts, AreInParts, CommandsStayBelow, ImagePartsMakeCheckpoints, IsBelow, IsImagePart, IsPartsStop, IsSpellStop, PartsLeadUp, key_not_spelled, memory_is_wanting, one_not_spelled, wants_memory}
 use Rattle.ide_store.specs.Table.{Analysis, TableData, forms_of}
 use Rattle.ide_store.specs.TwoDisks.{is_command, unnumbered}
 use Rattle.ide_store.specs.TwoDisksLaws.{slots_of}
+use Rattle.ide_store.specs.Versioned.{VersionedEntry, in_version, plain}
 use Rattle.ide_store.specs.World.{LeadTo, Rules}
 
 -- ---- what items make of an entry
@@ -184,79 +183,82 @@ module _ {F : Type 0} where
     }
 
     -- ---- the commands among records
-    module _ (forms : Functions F) (version : Version) where
-      abbrev rules : Rules (ProgramImage F) (ProgramStep F) Entry
-      rules = slot_machine functions equal forms version
+    module _ (forms : Functions F) where
+      abbrev rules : Rules (ProgramImage F) (ProgramStep F) VersionedEntry
+      rules = slot_machine functions equal forms
 
-      -- a record is a command, which leads from the lower image to one below the next; or it is none, and the lower image is below
-      -- the next
+      -- a record is a command, which leads in the second version from the lower image to one below the next; or it is none, and
+      -- the lower image is below the next
       abbrev Follows : Entry → (low next : ProgramImage F) → Type 0
       Follows entry low next =
-          (((number : ℕ) → is_command (number, entry) ≡ true) × (after : ProgramImage F) × rules.Leads entry low after × IsBelow after next)
+          (((number : ℕ) → is_command (number, entry) ≡ true) × (after : ProgramImage F) × rules.Leads (Two, entry) low after × IsBelow after next)
           ⊎ (((number : ℕ) → is_command (number, entry) ≡ false) × IsBelow low next)
 
       -- whether a record is a command, its kind tells
       by_kind : (kind : ℕ) (entry : Entry) → entry.0 ≡ kind → (number : ℕ) → is_command (number, entry) ≡ (nat_le 1 kind && nat_le kind 2)
       by_kind kind entry is number = ap (λ (n : ℕ). nat_le 1 n && nat_le n 2) is
 
-      record_follows : (value : RecordValue F) (entry : Entry) (low high next : ProgramImage F) → IsBelow low high → IsEntryOf forms version value entry
-          → RecordLeads functions equal value high next → Follows entry low next
-      record_follows (Load text) entry low high next below spelled leads =
-          inl (by_kind 1 entry spelled.kind, next, inl (record { value = Load text; spelled = spelled; leads = leads }), below_itself next)
-      record_follows (Root name) entry low high next below spelled leads =
+      record_follows : (value : RecordValue F) (r : VersionedEntry) (low high next : ProgramImage F) → IsBelow low high → IsSpelled forms value r
+          → RecordLeads functions equal value high next → Follows r.1 low next
+      record_follows (Load text) r low high next below spelled leads =
+          let again : IsSpelled forms (Load text) (Two, r.1) = record { kind = spelled.kind; body = spelled.body } in
+          inl (by_kind 1 r.1 spelled.kind, next, inl (record { value = Load text; spelled = again; leads = leads }), below_itself next)
+      record_follows (Root name) r low high next below spelled leads =
+          let again : IsSpelled forms (Root name) (Two, r.1) = record { kind = spelled.kind; body = spelled.body } in
           inl (
-            by_kind 2 entry spelled.kind,
+            by_kind 2 r.1 spelled.kind,
             rooted low name,
-            inl (record { value = Root name; spelled = spelled; leads = refl }),
+            inl (record { value = Root name; spelled = again; leads = refl }),
             subst (IsBelow (rooted low name)) (sym leads) (below_rooted low high name below),
           )
-      record_follows (Batch items) entry low high next below spelled leads =
-          inr (by_kind 3 entry spelled.kind, subst (IsBelow low) (sym leads) (below_set low high items below))
+      record_follows (Batch items) r low high next below spelled leads =
+          inr (by_kind 3 r.1 spelled.kind, subst (IsBelow low) (sym leads) (below_set low high items below))
 
-      follows : (entry : Entry) (low high next : ProgramImage F) → IsBelow low high → rules.Leads entry high next → Follows entry low next
-      follows entry low high next below leads = elim leads [
-        | inl does ↦ record_follows does.value entry low high next below does.spelled does.leads
-        | inr part ↦ inr (by_kind 4 entry part.kind, subst (IsBelow low) (sym part.leads) (below_set low high part.items below))
+      follows : (r : VersionedEntry) (low high next : ProgramImage F) → IsBelow low high → rules.Leads r high next → Follows r.1 low next
+      follows r low high next below leads = elim leads [
+        | inl does ↦ record_follows does.value r low high next below does.spelled does.leads
+        | inr part ↦ inr (by_kind 4 r.1 part.kind, subst (IsBelow low) (sym part.leads) (below_set low high part.items below))
       ]
 
-      -- the commands among records that are numbered from there on, without their numbers
-      abbrev command_entries : ℕ → List Entry → List Entry
-      command_entries number records = map unnumbered (filter is_command (numbered_from number records))
+      -- the commands among records that are numbered from there on, without their numbers, in the second version
+      abbrev command_entries : ℕ → List VersionedEntry → List VersionedEntry
+      command_entries number records = in_version Two (map unnumbered (filter is_command (numbered_from number (map plain records))))
 
       -- that record, if it is one, and those among the records behind it
-      abbrev command_entries_with : Bool → ℕ → Entry → List Entry → List Entry
+      abbrev command_entries_with : Bool → ℕ → Entry → List VersionedEntry → List VersionedEntry
       command_entries_with is number entry records =
-          map unnumbered (cond is ((number, entry) ∷ filter is_command (numbered_from (number + 1) records)) (filter is_command (numbered_from (number + 1) records)))
+          let rest = filter is_command (numbered_from (number + 1) (map plain records)) in
+          in_version Two (map unnumbered (cond is ((number, entry) ∷ rest) rest))
 
       -- commands lead to an image below
-      abbrev LeadBelow : List Entry → (low now : ProgramImage F) → Type 0
+      abbrev LeadBelow : List VersionedEntry → (low now : ProgramImage F) → Type 0
       LeadBelow commands low now = (before : ProgramImage F) × LeadTo rules commands low before × IsBelow before now
 
-      commands_below : (number : ℕ) (records : List Entry) (low high now : ProgramImage F) → IsBelow low high → LeadTo rules records high now
+      commands_below : (number : ℕ) (records : List VersionedEntry) (low high now : ProgramImage F) → IsBelow low high → LeadTo rules records high now
           → LeadBelow (command_entries number records) low now
       commands_below number [] low high now below same = (low, refl, subst (IsBelow low) same below)
-      commands_below number (entry ∷ records) low high now below (next, leads, rest) =
-          by (follows entry low high next below leads) (λ after on. commands_below (number + 1) records after next now on rest)
+      commands_below number (r ∷ records) low high now below (next, leads, rest) =
+          by (follows r low high next below leads) (λ after on. commands_below (number + 1) records after next now on rest)
         where
-          by : Follows entry low next → ((after : ProgramImage F) → IsBelow after next → LeadBelow (command_entries (number + 1) records) after now)
-              → LeadBelow (command_entries number (entry ∷ records)) low now
+          by : Follows r.1 low next → ((after : ProgramImage F) → IsBelow after next → LeadBelow (command_entries (number + 1) records) after now)
+              → LeadBelow (command_entries number (r ∷ records)) low now
           by (inl (command, after, does, on)) others =
               let more = others after on in
-              (more.0, subst (λ (b : Bool). LeadTo rules (command_entries_with b number entry records) low more.0) (sym (command number)) (after, does, more.1), more.2)
+              (more.0, subst (λ (b : Bool). LeadTo rules (command_entries_with b number r.1 records) low more.0) (sym (command number)) (after, does, more.1), more.2)
           by (inr (other, on)) others =
               let more = others low on in
-              (more.0, subst (λ (b : Bool). LeadTo rules (command_entries_with b number entry records) low more.0) (sym (other number)) more.1, more.2)
+              (more.0, subst (λ (b : Bool). LeadTo rules (command_entries_with b number r.1 records) low more.0) (sym (other number)) more.1, more.2)
 
 -- ---- the parts
 module _ {F L : Type 0} (a : Analysis F L) where
   pub commands_stay_below : CommandsStayBelow a
   commands_stay_below records now folded =
-      commands_below a.functions a.same (forms_of a) Two 0 records (slots_of a Two).empty (slots_of a Two).empty now (below_itself (slots_of a Two).empty) folded
+      commands_below a.functions a.same (forms_of a) 0 records (slots_of a).empty (slots_of a).empty now (below_itself (slots_of a).empty) folded
 
   -- parts lead to the image that their items make
   parts_lead : (items : List (Item F)) (parts : List Entry) (image now : ProgramImage F) → AreInParts (forms_of a) items parts
       → image.program ≡ now.program → image.roots ≡ now.roots → ((key : Key) → unwrap_or (named items key) (image_entry image key) ≡ image_entry now key)
-      → LeadTo (slots_of a Two) parts image now
+      → LeadTo (slots_of a) (in_version Two parts) image now
   parts_lead items [] image now none program roots made =
       let same : (key : Key) → image_entry image key ≡ image_entry now key =
       λ key. subst (λ (xs : List (Item F)). unwrap_or (named xs key) (image_entry image key) ≡ image_entry now key) none (made key) in

@@ -5,12 +5,13 @@ use Rattle.std.specs.Prelude.{IfErr, IfOk, OnErr, OnOk, slice_get}
 use Rattle.std.specs.List.{filter}
 use Rattle.std.proofs.lemmas.List.Elements.{All-drop, filter-append}
 use Rattle.std.proofs.lemmas.Bool.{le-leb}
-use Rattle.std.proofs.lemmas.List.{append-nil, append_assoc, length-append, length-map, length-take-le}
+use Rattle.std.proofs.lemmas.List.{append-nil, append_assoc, length-append, length-map, length-take-le, map-append}
 use Rattle.ide_disk.specs.Disk.{DiskState}
 use Rattle.ide_disk.specs.declared.disk.Disk.{Ghosts}
 use Rattle.ide_journal.specs.Format.{Entry, head_of}
 use Rattle.ide_journal.specs.Lists.{entry_of}
 use Rattle.ide_journal.specs.declared.record.RawRecord.{RawRecord}
+use Rattle.ide_journal.specs.declared.version.Version.{Version}
 use Rattle.ide_journal.specs.declared.version.Version.TheVariants.{Two}
 use Rattle.ide_slot_journal.specs.Checkpoints.{FillsOrTurns, IsCheckpointRefusal, checkpoint_after_failure, checkpoint_device}
 use Rattle.ide_slot_journal.specs.Opened.{IsOpeningRefusal, OpensOn, opening_slot}
@@ -32,17 +33,21 @@ use Rattle.ide_slots.specs.declared.side.Side.TheVariants.{First, Second}
 use Rattle.ide_slots.proofs.Heads.{length-slot_header}
 use Rattle.ide_store.proofs.OneDisk.{next_taken}
 use Rattle.ide_store.proofs.TwoDisksPlans.{commands_both}
+use Rattle.ide_store.specs.Versioned.{VersionedEntry, plain}
 use Rattle.ide_store.specs.TwoDisks.{commands_from, commands_of, is_command}
 use Rattle.ide_slot_store.specs.Commands.{HasRoomForNext}
 
 -- ---- commands among records one after the other: one record more
-pub commands_more : (records : List Entry) (stored : ℕ) (entry : Entry) → slice_get records stored ≡ Some entry
+pub commands_more : (records : List VersionedEntry) (stored : ℕ) (version : Version) (entry : Entry) → slice_get records stored ≡ Some (version, entry)
     → commands_of (take (stored + 1) records) ≡ commands_of (take stored records) ++ commands_from stored (entry ∷ [])
-commands_more records stored entry is =
-    let taken = next_taken records stored entry is in
+commands_more records stored version entry is =
+    let taken = next_taken records stored (version, entry) is in
     let less = taken.0 in
-    let count : 0 + length (take stored records) ≡ stored = let short = length-take-le stored records (omega (arith, less)) in omega (arith, short) in
-    ap commands_of taken.1 ∙ commands_both 0 (take stored records) (entry ∷ [])
+    let first = map plain (take stored records) in
+    let count : 0 + length first ≡ stored =
+    let short = length-take-le stored records (omega (arith, less)) in omega (arith, short, length-map (take stored records) plain) in
+    ap commands_of taken.1 ∙ ap (commands_from 0) (map-append plain (take stored records) ((version, entry) ∷ []))
+    ∙ commands_both 0 first (entry ∷ [])
     ∙ ap (λ (n : ℕ). commands_of (take stored records) ++ commands_from n (entry ∷ [])) count
 
 -- ---- commands among those of a slot

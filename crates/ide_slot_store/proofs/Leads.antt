@@ -10,19 +10,20 @@ use Rattle.ide_journal.specs.Format.{Entry}
 use Rattle.ide_journal.specs.declared.version.Version.{Version}
 use Rattle.ide_lattice.specs.Algebra.{EdgeAlgebra}
 use Rattle.ide_store.specs.Machine.{Does, SetsPart, slot_machine}
+use Rattle.ide_store.specs.Versioned.{in_version}
 use Rattle.ide_store.specs.World.{LeadTo}
 use Rattle.ide_slot_store.specs.Batches.{batch_of}
 
 module _ {F L : Type 0} (functions : EdgeAlgebra F L) (same : F → F → Bool) (forms : Functions F) (version : Version) where
   abbrev Leads : Entry → ProgramImage F → ProgramImage F → Type 0
-  Leads = (slot_machine functions same forms version).Leads
+  Leads entry = (slot_machine functions same forms).Leads (version, entry)
 
   -- a record of kind 3 is a batch
-  batch_sets : (body : List ℕ) (before now : ProgramImage F) → Does functions same forms version (3, body) before now
-      → SetsPart functions same forms version (4, body) before now
+  batch_sets : (body : List ℕ) (before now : ProgramImage F) → Does functions same forms (version, (3, body)) before now
+      → SetsPart functions same forms (version, (4, body)) before now
   batch_sets body before now does = by does.value refl
     where
-      by : (value : RecordValue F) → does.value ≡ value → SetsPart functions same forms version (4, body) before now
+      by : (value : RecordValue F) → does.value ≡ value → SetsPart functions same forms (version, (4, body)) before now
       by (Load text) is = absurd (omega (arith, does.spelled.kind ∙ ap kind_of is))
       by (Root name) is = absurd (omega (arith, does.spelled.kind ∙ ap kind_of is))
       by (Batch items) is =
@@ -68,14 +69,14 @@ module _ {F L : Type 0} (functions : EdgeAlgebra F L) (same : F → F → Bool) 
       by false is leads = leads
 
   -- so do lists of records
-  pub lead_from : (entries : List Entry) (before now : ProgramImage F) → LeadTo (slot_machine functions same forms version) (map batch_of entries) before now
-      → LeadTo (slot_machine functions same forms version) entries before now
+  pub lead_from : (entries : List Entry) (before now : ProgramImage F) → LeadTo (slot_machine functions same forms) (in_version version (map batch_of entries)) before now
+      → LeadTo (slot_machine functions same forms) (in_version version entries) before now
   lead_from [] before now is = is
   lead_from (entry ∷ entries) before now (between, first, rest) =
       (between, one_from entry before between first, lead_from entries between now rest)
 
-  pub lead_to : (entries : List Entry) (before now : ProgramImage F) → LeadTo (slot_machine functions same forms version) entries before now
-      → LeadTo (slot_machine functions same forms version) (map batch_of entries) before now
+  pub lead_to : (entries : List Entry) (before now : ProgramImage F) → LeadTo (slot_machine functions same forms) (in_version version entries) before now
+      → LeadTo (slot_machine functions same forms) (in_version version (map batch_of entries)) before now
   lead_to [] before now is = is
   lead_to (entry ∷ entries) before now (between, first, rest) =
       (between, one_to entry before between first, lead_to entries between now rest)

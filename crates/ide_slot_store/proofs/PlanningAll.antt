@@ -1,7 +1,7 @@
 -- Commands and parts that are fit make up a checkpoint, of which it is planned that it has them.
-use Rattle.std.proofs.Common.{◌≡◌, ◌∙◌, ◌+◌, ◌<◌, ◌≤◌, ◌++◌, ℕ, zero, suc, false, All, List, [], ◌∷◌, length, drop, take, refl, ap, sym, subst, arith}
+use Rattle.std.proofs.Common.{◌≡◌, ◌∙◌, ◌+◌, ◌<◌, ◌≤◌, ◌++◌, ℕ, zero, suc, false, All, List, [], ◌∷◌, length, drop, map, take, refl, ap, sym, subst, arith}
 use Rattle.std.specs.Prelude.{nat_eq}
-use Rattle.std.proofs.lemmas.List.{length-drop, length-map, length-take-le, take-append-drop}
+use Rattle.std.proofs.lemmas.List.{length-drop, length-map, length-take-le, map-append, take-append-drop}
 use Rattle.ide_disk.specs.declared.disk.Disk.{Ghosts}
 use Rattle.ide_journal.specs.Format.{Entry}
 use Rattle.ide_journal.specs.Lists.{entries_of, entry_of}
@@ -15,10 +15,12 @@ use Rattle.ide_slots.specs.Slot.{AreCommands, IsPartEntry, NumberedEntry, Slot}
 use Rattle.ide_slots.specs.declared.record.NumberedRecord.{NumberedRecord}
 use Rattle.ide_wire.specs.declared.refused.Refused.{Refused}
 use Rattle.ide_store.specs.TwoDisks.{commands_from, commands_of}
+use Rattle.ide_store.specs.Versioned.{VersionedEntry, plain}
 use Rattle.ide_slot_store.specs.Commands.{IsPlanOverRefusal, PlansOver, over_failure, over_limit, over_memory, over_unfit}
 use Rattle.ide_slot_store.specs.Half.{HasNoCommand, IsPlanAllRefusal, PlansAllOver, Writes, all_failed, all_memory, all_unfit}
 use Rattle.ide_slot_store.specs.declared.writer.SlotWriterHalf.{SlotWriterHalf}
 use Rattle.ide_slot_store.proofs.Half.{plan_writes}
+use Rattle.ide_slot_store.proofs.Writing.{all_spelled}
 use Rattle.ide_store.proofs.TwoDisksPlans.{commands_both}
 
 pub some_in : (n : ℕ) → false ≡ nat_eq n 0 → 0 < n
@@ -75,21 +77,26 @@ module _ {D : Type 0} {G : Ghosts D} where
     abbrev kept : List NumberedEntry
     kept = all_numbered old.commands.items ++ commands_from (records_stored old.journal) (entries_of old.waiting.items)
 
-    count_is : (slot other : Slot) (records : List Entry) (stored : ℕ) → Writes slot other records stored old → count ≡ length records
+    count_is : (slot other : Slot) (records : List VersionedEntry) (stored : ℕ) → Writes slot other records stored old → count ≡ length records
     count_is slot other records stored writes =
         let stands = writes.behind.stands.count ∙ writes.behind.count in
-        let waiting = sym (length-map old.waiting.items entry_of) ∙ ap length writes.waiting ∙ length-drop stored records in
+        let waiting = sym (length-map old.waiting.items entry_of) ∙ ap length writes.waiting ∙ length-map (drop stored records) plain
+        ∙ length-drop stored records in
         let some = writes.behind.some in
         omega (arith, stands, waiting, some)
 
-    kept_are : (slot other : Slot) (records : List Entry) (stored : ℕ) → Writes slot other records stored old → kept ≡ commands_of records
+    kept_are : (slot other : Slot) (records : List VersionedEntry) (stored : ℕ) → Writes slot other records stored old → kept ≡ commands_of records
     kept_are slot other records stored writes =
-        let early : 0 + length (take stored records) ≡ stored = let short = length-take-le stored records writes.behind.some in omega (arith, short) in
+        let first = map plain (take stored records) in
+        let rest = map plain (drop stored records) in
+        let early : 0 + length first ≡ stored =
+        let short = length-take-le stored records writes.behind.some in omega (arith, short, length-map (take stored records) plain) in
         ap (λ (rs : List NumberedEntry). rs ++ commands_from (records_stored old.journal) (entries_of old.waiting.items)) writes.commands
         ∙ ap (λ (n : ℕ). commands_of (take stored records) ++ commands_from n (entries_of old.waiting.items)) (writes.behind.stands.count ∙ writes.behind.count)
         ∙ ap (λ (es : List Entry). commands_of (take stored records) ++ commands_from stored es) writes.waiting
-        ∙ ap (λ (n : ℕ). commands_of (take stored records) ++ commands_from n (drop stored records)) (sym early)
-        ∙ sym (commands_both 0 (take stored records) (drop stored records))
+        ∙ ap (λ (n : ℕ). commands_of (take stored records) ++ commands_from n rest) (sym early)
+        ∙ sym (commands_both 0 first rest)
+        ∙ ap (commands_from 0) (sym (map-append plain (take stored records) (drop stored records)))
         ∙ ap commands_of (take-append-drop stored records)
 
     pub all_planned : (parts : List Entry) → new.waiting.items ≡ old.waiting.items → new.commands.items ≡ old.commands.items
@@ -101,7 +108,9 @@ module _ {D : Type 0} {G : Ghosts D} where
       commands = plans.commands_are ∙ kept_are slot other records stored writes;
       parts_are = plans.parts_are;
       bare = plans.bare;
-      writes = plan_writes old new plans.planned same commands plans.plans slot other records stored writes;
+      writes = plan_writes old new plans.planned same commands plans.plans slot other records stored writes
+          (all_spelled old.journal new.journal plans.planned slot other records stored writes.behind plans.plans
+          (plans.base_is ∙ count_is slot other records stored writes));
     }
 
     pub none_kept : kept ≡ [] → HasNoCommand old

@@ -3,8 +3,6 @@
 use Rattle.std.proofs.Common.{◌≡◌, ◌∙◌, ◌++◌, ℕ, Bool, true, false, List, [], ◌∷◌, Result, ap, refl, subst, sym}
 use Rattle.ide_disk.specs.Disk.{DiskState}
 use Rattle.ide_disk.specs.declared.disk.Disk.{Ghosts}
-use Rattle.ide_journal.specs.Format.{Head, head_of}
-use Rattle.ide_journal.specs.declared.version.Version.TheVariants.{Two}
 use Rattle.ide_slot_journal.specs.Opened.{settled_both}
 use Rattle.ide_slot_journal.specs.Stands.{disks_of}
 use Rattle.ide_slots.specs.Sides.{Sides}
@@ -25,33 +23,33 @@ use Rattle.ide_slot_store.specs.Runs.{AreOnRun, AreOnRunUnlessFailed, SlotEngine
 use Rattle.ide_slot_store.specs.declared.writer.SlotWriterHalf.{SlotWriterHalf}
 use Rattle.ide_slot_store.proofs.Adopted.{adopting_stays}
 
-module _ {F L : Type 0} (a : Analysis F L) (head : Head) where
+module _ {F L : Type 0} (a : Analysis F L) (tag : ℕ) where
   -- what events lead to leaves disks
-  left_by : (w : SlotWorld a head) → IsReached a (OnTwoDisks head) w → (events : List (SlotEvent a head)) → MayHappen a head w events
-      → IsLeftByRun a (OnTwoDisks head) (after_events a head w events).world.disks
+  left_by : (w : SlotWorld a tag) → IsReached a (OnTwoDisks tag) w → (events : List (SlotEvent a tag)) → MayHappen a tag w events
+      → IsLeftByRun a (OnTwoDisks tag) (after_events a tag w events).world.disks
   left_by w reached events can = record {
-    world = after_events a head w events;
-    reached = reached_more a (OnTwoDisks head) w (happening a head events) reached can;
+    world = after_events a tag w events;
+    reached = reached_more a (OnTwoDisks tag) w (happening a tag events) reached can;
     stands = refl;
   }
 
   -- behind some events, a call that fails and a crash leave just what the crash does
-  crash_last : (w : SlotWorld a head) (events : List (SlotEvent a head)) (failed : Sides DiskState) (left : Sides (List ℕ))
-      → (after_events a head w (events ++ Fails failed ∷ Crashes left ∷ [])).world.disks ≡ settled_both left
+  crash_last : (w : SlotWorld a tag) (events : List (SlotEvent a tag)) (failed : Sides DiskState) (left : Sides (List ℕ))
+      → (after_events a tag w (events ++ Fails failed ∷ Crashes left ∷ [])).world.disks ≡ settled_both left
   crash_last w [] failed left = refl
-  crash_last w (e ∷ events) failed left = crash_last (after_act a (OnTwoDisks head) w (Happens e)) events failed left
+  crash_last w (e ∷ events) failed left = crash_last (after_act a (OnTwoDisks tag) w (Happens e)) events failed left
 
-  crash_leaves : (w : SlotWorld a head) → IsReached a (OnTwoDisks head) w → (left : Sides (List ℕ)) → MayCrash a head w left
-      → IsLeftByRun a (OnTwoDisks head) (settled_both left)
+  crash_leaves : (w : SlotWorld a tag) → IsReached a (OnTwoDisks tag) w → (left : Sides (List ℕ)) → MayCrash a tag w left
+      → IsLeftByRun a (OnTwoDisks tag) (settled_both left)
   crash_leaves w reached left (at_once can) = left_by w reached (Crashes left ∷ []) can
   crash_leaves w reached left (within_call events failed own can) =
-      subst (IsLeftByRun a (OnTwoDisks head)) (crash_last w events failed left) (left_by w reached (events ++ Fails failed ∷ Crashes left ∷ []) can)
+      subst (IsLeftByRun a (OnTwoDisks tag)) (crash_last w events failed left) (left_by w reached (events ++ Fails failed ∷ Crashes left ∷ []) can)
   crash_leaves w reached left (within_opening can) = left_by w reached (Stops (settled_both left) Closed ∷ Crashes left ∷ []) can
 
-module _ {F L : Type 0} (a : Analysis F L) {D : Type 0} {G : Ghosts D} (head : Head) where
+module _ {F L : Type 0} (a : Analysis F L) {D : Type 0} {G : Ghosts D} (tag : ℕ) where
   -- ---- calls of the half that works
-  stay : (new : TableData F) (writer : SlotWriterHalf D G) (w : SlotWorld a head) (table : TableData F)
-      (at : AreAtWork a head w table writer) → WorksFrom a (OnTwoDisks head) w new at.handed → AreOnRun a head new writer
+  stay : (new : TableData F) (writer : SlotWriterHalf D G) (w : SlotWorld a tag) (table : TableData F)
+      (at : AreAtWork a tag w table writer) → WorksFrom a (OnTwoDisks tag) w new at.handed → AreOnRun a tag new writer
   stay new writer w table at goes = record {
     world = goes.world;
     reached = goes.reached;
@@ -68,26 +66,26 @@ module _ {F L : Type 0} (a : Analysis F L) {D : Type 0} {G : Ghosts D} (head : H
   }
 
   act_stays : (old new : TableData F) (writer : SlotWriterHalf D G) (act : (place : Place) → StoreAct a place)
-      → ((place : Place) → IsOfTable a place (act place)) → IsAct a old new act → AreOnRun a head old writer → AreOnRun a head new writer
+      → ((place : Place) → IsOfTable a place (act place)) → IsAct a old new act → AreOnRun a tag old writer → AreOnRun a tag new writer
   act_stays old new writer act of is on =
       let at = on.at_work in
-      stay new writer on.world old at (act_goes a old new act of is (OnTwoDisks head) on.world at.handed on.reached at.works)
+      stay new writer on.world old at (act_goes a old new act of is (OnTwoDisks tag) on.world at.handed on.reached at.works)
 
   works_stay : (old new : TableData F) (writer : SlotWriterHalf D G) (claims releases : ℕ) → WorksBy a old new claims releases
-      → AreOnRun a head old writer → AreOnRun a head new writer
+      → AreOnRun a tag old writer → AreOnRun a tag new writer
   works_stay old new writer claims releases by on =
       let at = on.at_work in
-      stay new writer on.world old at (works_go a old new claims releases by (OnTwoDisks head) on.world at.handed on.reached at.works)
+      stay new writer on.world old at (works_go a old new claims releases by (OnTwoDisks tag) on.world at.handed on.reached at.works)
 
   -- ---- a call of a disk
   step_stays : (old new : TableData F) (writer after : SlotWriterHalf D G) (result : Result Bool Refused)
-      → StepsDisksOver a head old new writer after result → AreOnRun a head old writer → AreOnRunUnlessFailed a head new after
+      → StepsDisksOver a tag old new writer after result → AreOnRun a tag old writer → AreOnRunUnlessFailed a tag new after
   step_stays old new writer after result steps on = made result (steps on.world on.reached on.at_work)
     where
-      made : (result : Result Bool Refused) → StepsDisks a head on.world old new after result → AreOnRunUnlessFailed a head new after
+      made : (result : Result Bool Refused) → StepsDisks a tag on.world old new after result → AreOnRunUnlessFailed a tag new after
       made _ (did_call call) working = record {
-        world = after_events a head on.world call.events;
-        reached = reached_more a (OnTwoDisks head) on.world (happening a head call.events) on.reached call.can;
+        world = after_events a tag on.world call.events;
+        reached = reached_more a (OnTwoDisks tag) on.world (happening a tag call.events) on.reached call.can;
         at_work = call.at_work;
       }
       made _ (did_fail fault) working =
@@ -98,39 +96,35 @@ module _ {F L : Type 0} (a : Analysis F L) {D : Type 0} {G : Ghosts D} (head : H
 
   -- ---- an opening
   opening_stays : (before : Sides DiskState) (table : TableData F) (writer : SlotWriterHalf D G)
-      → IsLeftByRun a (OnTwoDisks head) before → AreOpened a head before table writer → AreOnRun a head table writer
+      → IsLeftByRun a (OnTwoDisks tag) before → AreOpened a tag before table writer → AreOnRun a tag table writer
   opening_stays before table writer left opens =
       let is = opens left.world left.reached left.stands in
-      let act : StoreAct a (OnTwoDisks head) = Happens (Opens is.0 is.1 is.2 (disks_of writer.journal)) in
+      let act : StoreAct a (OnTwoDisks tag) = Happens (Opens is.0 is.1 is.2 (disks_of writer.journal)) in
       record {
-        world = after_act a (OnTwoDisks head) left.world act;
-        reached = reached_more a (OnTwoDisks head) left.world (act ∷ []) left.reached (is.3.0, tt);
+        world = after_act a (OnTwoDisks tag) left.world act;
+        reached = reached_more a (OnTwoDisks tag) left.world (act ∷ []) left.reached (is.3.0, tt);
         at_work = is.3.1;
       }
 
--- slots of the second version, of that tag
-abbrev two : ℕ → Head
-two tag = head_of Two tag
-
--- ---- a call that asks for a checkpoint, in such slots
+-- ---- a call that asks for a checkpoint
 module _ {F L : Type 0} (a : Analysis F L) {D : Type 0} {G : Ghosts D} (tag : ℕ) where
   asked_stays : (old new : TableData F) (writer after : SlotWriterHalf D G) (result : Result Bool Refused)
-      → AsksOver a tag old new writer after result → AreOnRun a (two tag) old writer → AreOnRun a (two tag) new after
+      → AsksOver a tag old new writer after result → AreOnRun a tag old writer → AreOnRun a tag new after
   asked_stays old new writer after result asks on = made result (asks on.world on.reached on.at_work)
     where
-      on_acts : (acts : List (StoreAct a (OnTwoDisks (two tag)))) → MayDoAll a (OnTwoDisks (two tag)) on.world acts
-          → AreAtWork a (two tag) (after_acts a (OnTwoDisks (two tag)) on.world acts) new after → AreOnRun a (two tag) new after
+      on_acts : (acts : List (StoreAct a (OnTwoDisks tag))) → MayDoAll a (OnTwoDisks tag) on.world acts
+          → AreAtWork a tag (after_acts a (OnTwoDisks tag) on.world acts) new after → AreOnRun a tag new after
       on_acts acts can at_work = record {
-        world = after_acts a (OnTwoDisks (two tag)) on.world acts;
-        reached = reached_more a (OnTwoDisks (two tag)) on.world acts on.reached can;
+        world = after_acts a (OnTwoDisks tag) on.world acts;
+        reached = reached_more a (OnTwoDisks tag) on.world acts on.reached can;
         at_work = at_work;
       }
 
-      sealed : DidSeal a (two tag) on.world new after → AreOnRun a (two tag) new after
-      sealed did = on_acts (sealing a (two tag) did.batch) did.can did.at_work
+      sealed : DidSeal a tag on.world new after → AreOnRun a tag new after
+      sealed did = on_acts (sealing a tag did.batch) did.can did.at_work
 
-      made : (result : Result Bool Refused) → ComesTo a tag on.world new after writer result → AreOnRun a (two tag) new after
-      made _ (begins did) = on_acts (sealing a (two tag) did.batch ++ Happens (Begins did.work) ∷ []) did.can did.at_work
+      made : (result : Result Bool Refused) → ComesTo a tag on.world new after writer result → AreOnRun a tag new after
+      made _ (begins did) = on_acts (sealing a tag did.batch ++ Happens (Begins did.work) ∷ []) did.can did.at_work
       made _ (was_under_way under did) = sealed did
       made _ (none_is_new none did) = sealed did
       made _ (no_program none did) = sealed did
@@ -138,26 +132,26 @@ module _ {F L : Type 0} (a : Analysis F L) {D : Type 0} {G : Ghosts D} (tag : �
 
 pub slot_engines_stay_on_runs : {P F L D : Type 0} (a : Analysis F L) {G : Ghosts D} → SlotEnginesStayOnRuns P a G
 slot_engines_stay_on_runs a = record {
-  made = λ head table writer new. record {
-    world = new_store a (OnTwoDisks head) new.work (disks_of writer.journal);
-    reached = reached_new a (OnTwoDisks head) new.work (disks_of writer.journal) new.live;
+  made = λ tag table writer new. record {
+    world = new_store a (OnTwoDisks tag) new.work (disks_of writer.journal);
+    reached = reached_new a (OnTwoDisks tag) new.work (disks_of writer.journal) new.live;
     at_work = new.at_work;
   };
   opened = opening_stays a;
   adopted = adopting_stays a;
-  leaves = λ head table writer on. record { world = on.world; reached = on.reached; stands = on.at_work.disks };
+  leaves = λ tag table writer on. record { world = on.world; reached = on.reached; stands = on.at_work.disks };
   crashes = crash_leaves a;
   act = act_stays a;
   works = works_stay a;
-  nothing = λ head old new writer finds.
-      works_stay a head old new writer 0 0 (works_still a old new (λ place w handed reached works. (finds.caught_up place w handed reached works).1));
-  same = λ head old new writer same. works_stay a head old new writer 0 0 (works_unchanged a old new same.rest same.core);
+  nothing = λ tag old new writer finds.
+      works_stay a tag old new writer 0 0 (works_still a old new (λ place w handed reached works. (finds.caught_up place w handed reached works).1));
+  same = λ tag old new writer same. works_stay a tag old new writer 0 0 (works_unchanged a old new same.rest same.core);
   step = step_stays a;
   asked = asked_stays a;
-  frozen = λ head table writer closed image on. record {
-    place = OnTwoDisks head;
+  frozen = λ tag table writer closed image on. record {
+    place = OnTwoDisks tag;
     world = on.world;
     reached = on.reached;
-    image = image (OnTwoDisks head) on.world on.at_work.handed on.reached on.at_work.works;
+    image = image (OnTwoDisks tag) on.world on.at_work.handed on.reached on.at_work.works;
   };
 }

@@ -6,7 +6,7 @@ use Rattle.std.specs.Prelude.{IfErr}
 use Rattle.std.proofs.lemmas.List.Elements.{All-cons, All-nil}
 use Rattle.ide_disk.specs.Disk.{CrashLeaves, DiskState, settled}
 use Rattle.ide_disk.specs.declared.disk.Disk.{Ghosts}
-use Rattle.ide_journal.specs.Format.{Entry, Head, IsEntry}
+use Rattle.ide_journal.specs.Format.{Entry, IsEntry}
 use Rattle.ide_journal.specs.Lists.{entries_of}
 use Rattle.ide_journal.specs.declared.version.Version.{Version}
 use Rattle.ide_slot_journal.specs.Opened.{StopsAnywhere, settled_both, states_of}
@@ -27,6 +27,7 @@ use Rattle.ide_store.proofs.OpenStops.{half_not_disk}
 use Rattle.ide_store.specs.Opening.{IsOpenStop}
 use Rattle.ide_store.specs.Table.{Analysis, TableData}
 use Rattle.ide_store.specs.TwoDisks.{FailsTwo}
+use Rattle.ide_store.specs.Versioned.{in_version}
 use Rattle.ide_store.specs.World as world
 use Rattle.ide_slot_store.specs.Engine.{AreAtWork, CrashesOpening, CrashesOver, IsGoodCall, IsTableStop, MayCrash, SlotWorld, StopsOpening, at_once, no_fold, no_room, within_call, within_opening}
 use Rattle.ide_slot_store.specs.Half.{CrashesStep, MayLeave, at_once as before_call, behind_failure}
@@ -35,31 +36,31 @@ use Rattle.ide_slot_store.specs.declared.writer.SlotWriterHalf.{SlotWriterHalf}
 use Rattle.ide_slot_store.proofs.Stepping.{calls_over, fails_over, handed_at_work}
 
 -- ---- within a step
-module _ {F L : Type 0} (a : Analysis F L) {D : Type 0} {G : Ghosts D} (head : Head) where
-  module _ (w : SlotWorld a head) (table : TableData F) (half : SlotWriterHalf D G) (at : AreAtWork a head w table half) (left : Sides (List ℕ)) where
+module _ {F L : Type 0} (a : Analysis F L) {D : Type 0} {G : Ghosts D} (tag : ℕ) where
+  module _ (w : SlotWorld a tag) (table : TableData F) (half : SlotWriterHalf D G) (at : AreAtWork a tag w table half) (left : Sides (List ℕ)) where
     -- behind a call that fails
     behind : (mid : SlotWriter) (failed : Sides DiskState)
         → BeginsFirst at.handed w.world.stored (slot_writer at.other half.journal) (disks_of half.journal) mid
-        → FailsTwo at.handed w.world.stored mid (disks_of half.journal) failed → LeavesTwo failed left → MayCrash a head w left
+        → FailsTwo at.handed w.world.stored mid (disks_of half.journal) failed → LeavesTwo failed left → MayCrash a tag w left
     behind mid failed first fails leaves = by first
       where
-        call : FailsTwo (at.handed ++ table.waiting) w.world.stored mid (disks_of half.journal) failed
-        call = fails_over at.handed table.waiting w.world.stored mid (disks_of half.journal) failed fails
+        call : FailsTwo (at.handed ++ in_version table.version table.waiting) w.world.stored mid (disks_of half.journal) failed
+        call = fails_over at.handed (in_version table.version table.waiting) w.world.stored mid (disks_of half.journal) failed fails
 
-        by : BeginsFirst at.handed w.world.stored (slot_writer at.other half.journal) (disks_of half.journal) mid → MayCrash a head w left
+        by : BeginsFirst at.handed w.world.stored (slot_writer at.other half.journal) (disks_of half.journal) mid → MayCrash a tag w left
         by (inl same) =
-            within_call [] failed (All-nil (IsGoodCall a head))
+            within_call [] failed (All-nil (IsGoodCall a tag))
             ((tt, (at.works.running, rw (at.works.waits, at.work ∙ sym same, at.disks) call)), ((tt, leaves), tt))
         by (inr begins) =
-            let one = calls_over at.handed table.waiting w.world.stored (slot_writer at.other half.journal) mid (disks_of half.journal) (disks_of half.journal)
+            let one = calls_over at.handed (in_version table.version table.waiting) w.world.stored (slot_writer at.other half.journal) mid (disks_of half.journal) (disks_of half.journal)
             begins in
             within_call (world.Calls mid (disks_of half.journal) ∷ []) failed
-            (All-cons (IsGoodCall a head) (world.Calls mid (disks_of half.journal)) [] tt (All-nil (IsGoodCall a head))) (
+            (All-cons (IsGoodCall a tag) (world.Calls mid (disks_of half.journal)) [] tt (All-nil (IsGoodCall a tag))) (
               (tt, (at.works.running, rw (at.works.waits, at.work, at.disks) one)),
               ((tt, (at.works.running, rw at.works.waits call)), ((tt, leaves), tt)),
             )
 
-    crash_of : MayLeave at.handed w.world.stored (slot_writer at.other half.journal) (disks_of half.journal) left → MayCrash a head w left
+    crash_of : MayLeave at.handed w.world.stored (slot_writer at.other half.journal) (disks_of half.journal) left → MayCrash a tag w left
     crash_of (before_call leaves) = at_once ((tt, subst (λ (d : Sides DiskState). LeavesTwo d left) (sym at.disks) leaves), tt)
     crash_of (behind_failure mid failed first fails leaves) = behind mid failed first fails leaves
 
@@ -67,23 +68,23 @@ module _ {F L : Type 0} (a : Analysis F L) {D : Type 0} {G : Ghosts D} (head : H
   pub stepped_crashes : (table mid_table : TableData F) (old mid : SlotWriterHalf D G) → mid.journal ≡ old.journal
       → mid.commands.items ≡ old.commands.items → table.sealed ≤ 4294967295
       → All IsEntry (entries_of mid.waiting.items) → HandsTo table mid_table old.waiting.items mid.waiting.items → (new : SlotWriterHalf D G)
-      → CrashesStep mid new → CrashesOver a head table old new
+      → CrashesStep mid new → CrashesOver a tag table old new
   stepped_crashes table mid_table old mid journal commands few proper hands new crashes w reached at left first second =
-      let there = handed_at_work a head w table mid_table old mid at journal commands few proper hands in
+      let there = handed_at_work a tag w table mid_table old mid at journal commands few proper hands in
       crash_of w mid_table mid there left
       (crashes there.slot there.other there.handed w.world.stored there.writes left
       (subst (λ (j : SlotJournal D G). G.left_since (sides_of new.journal).a (G.moment (sides_of j).a) left.a) (sym journal) first)
       (subst (λ (j : SlotJournal D G). G.left_since (sides_of new.journal).b (G.moment (sides_of j).b) left.b) (sym journal) second))
 
 -- ---- within an opening
-module _ {F L : Type 0} (a : Analysis F L) (head : Head) {D : Type 0} (G : Ghosts D) (first second : D) (after : Sides D) where
-  pub opening_crashes : StopsAnywhere G first second after → CrashesOpening a head G first second after
+module _ {F L : Type 0} (a : Analysis F L) (tag : ℕ) {D : Type 0} (G : Ghosts D) (first second : D) (after : Sides D) where
+  pub opening_crashes : StopsAnywhere G first second after → CrashesOpening a tag G first second after
   opening_crashes stops w reached on left one two =
       let may = stops left one two in
       within_opening
       ((tt, ((λ no. cc (no)), subst (λ (d : Sides DiskState). StopsTwo d (settled_both left)) (sym on) may)), ((tt, (refl, refl)), tt))
 
-  pub opening_stops : StopsTwo (states_of G first second) (states_of G after.a after.b) → StopsOpening a head G first second after
+  pub opening_stops : StopsTwo (states_of G first second) (states_of G after.a after.b) → StopsOpening a tag G first second after
   opening_stops stops w reached on mode stopped =
       (tt, (stopped, subst (λ (d : Sides DiskState). StopsTwo d (states_of G after.a after.b)) (sym on) stops))
 

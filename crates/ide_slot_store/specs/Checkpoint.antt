@@ -1,7 +1,7 @@
 -- A checkpoint of all that is sealed in a store on two disks is one that the store may begin.
 use Rattle.std.specs.Prelude.{◌≡◌, ℕ, List, [], ◌∷◌, Some}
 use Rattle.ide_disk.specs.declared.disk.Disk.{Ghosts}
-use Rattle.ide_journal.specs.Format.{Entry, head_of}
+use Rattle.ide_journal.specs.Format.{Entry}
 use Rattle.ide_journal.specs.declared.version.Version.TheVariants.{Two}
 use Rattle.ide_slot_journal.specs.Stands.{sides_of}
 use Rattle.ide_slots.specs.Two.{SlotWriter}
@@ -24,16 +24,19 @@ module _ {F L : Type 0} (a : Analysis F L) {D : Type 0} {G : Ghosts D} where
     pub plans : PlansAllOver parts old new
     pub sides : sides_of new.journal ≡ sides_of old.journal
 
-module _ {F L : Type 0} (a : Analysis F L) {D : Type 0} (G : Ghosts D) where
-  -- then a checkpoint begins, in each world of the second version on which the halves are at work, and they are at work on the
-  -- world after that
-  abbrev pub CheckpointsBegin : Type 0
-  CheckpointsBegin = (tag : ℕ) (w : SlotWorld a (head_of Two tag)) (table : TableData F) (old new : SlotWriterHalf D G)
-      → AreAtWork a (head_of Two tag) w table old → PlansImage a table old new
-      → (work : SlotWriter) × (let events = Begins work ∷ [] in
-      MayHappen a (head_of Two tag) w events × AreAtWork a (head_of Two tag) (after_events a (head_of Two tag) w events) table new)
+-- from then on the half that works spells records in the second version
+abbrev pub spelling_anew : {F : Type 0} → TableData F → TableData F
+spelling_anew table = record table { version = Two }
 
-  -- so an engine that is on a run of that version stays on it
+module _ {F L : Type 0} (a : Analysis F L) {D : Type 0} (G : Ghosts D) where
+  -- then a checkpoint begins, in each world on which the halves are at work, and they are at work on the world after that
+  abbrev pub CheckpointsBegin : Type 0
+  CheckpointsBegin = (tag : ℕ) (w : SlotWorld a tag) (table : TableData F) (old new : SlotWriterHalf D G)
+      → AreAtWork a tag w table old → PlansImage a table old new
+      → (work : SlotWriter) × (let events = Begins work ∷ [] in
+      MayHappen a tag w events × AreAtWork a tag (after_events a tag w events) (spelling_anew table) new)
+
+  -- so an engine that is on a run stays on it
   abbrev pub CheckpointsStayOnRuns : Type 0
-  CheckpointsStayOnRuns = (tag : ℕ) (table : TableData F) (old new : SlotWriterHalf D G) → AreOnRun a (head_of Two tag) table old
-      → PlansImage a table old new → AreOnRun a (head_of Two tag) table new
+  CheckpointsStayOnRuns = (tag : ℕ) (table : TableData F) (old new : SlotWriterHalf D G) → AreOnRun a tag table old
+      → PlansImage a table old new → AreOnRun a tag (spelling_anew table) new

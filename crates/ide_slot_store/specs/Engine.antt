@@ -4,8 +4,7 @@ use Rattle.std.specs.List.{All}
 use Rattle.ide_batch.specs.Fold.{ProgramImage}
 use Rattle.ide_disk.specs.Disk.{DiskState}
 use Rattle.ide_disk.specs.declared.disk.Disk.{Ghosts}
-use Rattle.ide_journal.specs.Format.{Entry, Head, head_of}
-use Rattle.ide_journal.specs.declared.version.Version.TheVariants.{Two}
+use Rattle.ide_journal.specs.Format.{Entry}
 use Rattle.ide_slot_journal.specs.Moments.{LeavesOnlyTwo}
 use Rattle.ide_slot_journal.specs.Opened.{IsOpeningRefusal, disk_sides, settled_both, states_of}
 use Rattle.ide_slot_journal.specs.Opening.{now_of}
@@ -20,19 +19,20 @@ use Rattle.ide_store.specs.Hands.{Happens, ProgramEvent}
 use Rattle.ide_store.specs.Opening.{IsOpenStop}
 use Rattle.ide_store.specs.Places.{OnTwoDisks}
 use Rattle.ide_store.specs.Table.{Analysis, IsReached, MayDo, MayDoAll, StoreAct, StoreWorld, TableData, WorksOn, after_act, after_acts, new_store, store_at}
+use Rattle.ide_store.specs.Versioned.{VersionedEntry}
 use Rattle.ide_store.specs.World.{Calls, Closed, Crashes, Fails, Mode, Opens, Running, Stops, Stores}
 use Rattle.ide_slot_store.specs.Batches.{batches_of}
 use Rattle.ide_slot_store.specs.Half.{OpensStore, Writes}
 use Rattle.ide_slot_store.specs.declared.engine.SlotEngine.{SlotEngine}
 use Rattle.ide_slot_store.specs.declared.writer.SlotWriterHalf.{SlotWriterHalf}
 
-module _ {F L : Type 0} (a : Analysis F L) (head : Head) where
-  -- worlds of the analysis on two disks, with records of that version, for the instance of that tag
+module _ {F L : Type 0} (a : Analysis F L) (tag : ℕ) where
+  -- worlds of the analysis on two disks, for the instance of that tag
   abbrev pub SlotWorld : Type 0
-  SlotWorld = StoreWorld a (OnTwoDisks head)
+  SlotWorld = StoreWorld a (OnTwoDisks tag)
 
   abbrev pub SlotEvent : Type 0
-  SlotEvent = ProgramEvent F (store_at a (OnTwoDisks head))
+  SlotEvent = ProgramEvent F (store_at a (OnTwoDisks tag))
 
   -- a good call of the writer, which stores a record or not; a checkpoint that waits begins its calls by one that calls no disk
   abbrev pub IsGoodCall : SlotEvent → Type 0
@@ -41,54 +41,54 @@ module _ {F L : Type 0} (a : Analysis F L) (head : Head) where
   IsGoodCall e = ⊥
 
   -- these happen, one after the other
-  abbrev pub happening : List SlotEvent → List (StoreAct a (OnTwoDisks head))
+  abbrev pub happening : List SlotEvent → List (StoreAct a (OnTwoDisks tag))
   happening events = map (λ (e : SlotEvent). Happens e) events
 
   abbrev pub MayHappen : SlotWorld → List SlotEvent → Type 0
-  MayHappen w events = MayDoAll a (OnTwoDisks head) w (happening events)
+  MayHappen w events = MayDoAll a (OnTwoDisks tag) w (happening events)
 
   abbrev pub after_events : SlotWorld → List SlotEvent → SlotWorld
-  after_events w events = after_acts a (OnTwoDisks head) w (happening events)
+  after_events w events = after_acts a (OnTwoDisks tag) w (happening events)
 
-module _ {F L : Type 0} (a : Analysis F L) {D : Type 0} {G : Ghosts D} (head : Head) where
+module _ {F L : Type 0} (a : Analysis F L) {D : Type 0} {G : Ghosts D} (tag : ℕ) where
   -- the two halves are at work on the world: the one works on it, and the other writes the records that it was handed, in a
   -- slot of that tag
-  pub record AreAtWork (w : SlotWorld a head) (table : TableData F) (writer : SlotWriterHalf D G) : Type 0 where
-    pub handed : List Entry
-    pub works : WorksOn a (OnTwoDisks head) w table handed
+  pub record AreAtWork (w : SlotWorld a tag) (table : TableData F) (writer : SlotWriterHalf D G) : Type 0 where
+    pub handed : List VersionedEntry
+    pub works : WorksOn a (OnTwoDisks tag) w table handed
     pub slot : Slot
     pub other : Slot
     pub writes : Writes slot other handed w.world.stored writer
-    pub tag_is : slot.head.tag ≡ head.tag
+    pub tag_is : slot.head.tag ≡ tag
     pub work : w.world.work ≡ slot_writer other writer.journal
     pub disks : w.world.disks ≡ disks_of writer.journal
 
   -- they are at work on a new store
   pub record AreNewHalves (table : TableData F) (writer : SlotWriterHalf D G) : Type 0 where
     pub work : SlotWriter
-    pub live : (store_at a (OnTwoDisks head)).Live [] 0 work (disks_of writer.journal)
-    pub at_work : AreAtWork (new_store a (OnTwoDisks head) work (disks_of writer.journal)) table writer
+    pub live : (store_at a (OnTwoDisks tag)).Live [] 0 work (disks_of writer.journal)
+    pub at_work : AreAtWork (new_store a (OnTwoDisks tag) work (disks_of writer.journal)) table writer
 
   -- over each world that acts led to and that stood on the disks as they were: the opening happens, and they are at work
   abbrev pub AreOpened : Sides DiskState → TableData F → SlotWriterHalf D G → Type 0
-  AreOpened before table writer = (w : SlotWorld a head) → IsReached a (OnTwoDisks head) w → w.world.disks ≡ before
-      → (found : List Entry) × (image : ProgramImage F) × (work : SlotWriter)
+  AreOpened before table writer = (w : SlotWorld a tag) → IsReached a (OnTwoDisks tag) w → w.world.disks ≡ before
+      → (found : List VersionedEntry) × (image : ProgramImage F) × (work : SlotWriter)
       × (let act = Happens (Opens found image work (disks_of writer.journal)) in
-      MayDo a (OnTwoDisks head) w act × AreAtWork (after_act a (OnTwoDisks head) w act) table writer)
+      MayDo a (OnTwoDisks tag) w act × AreAtWork (after_act a (OnTwoDisks tag) w act) table writer)
 
-  module _ (w : SlotWorld a head) (table new_table : TableData F) (new : SlotWriterHalf D G) where
+  module _ (w : SlotWorld a tag) (table new_table : TableData F) (new : SlotWriterHalf D G) where
     -- good calls happened: one of a disk, before which a checkpoint that waited may have begun its calls
     pub record DidCalls : Type 0 where
-      pub events : List (SlotEvent a head)
-      pub own : All (IsGoodCall a head) events
-      pub can : MayHappen a head w events
-      pub at_work : AreAtWork (after_events a head w events) new_table new
+      pub events : List (SlotEvent a tag)
+      pub own : All (IsGoodCall a tag) events
+      pub can : MayHappen a tag w events
+      pub at_work : AreAtWork (after_events a tag w events) new_table new
 
     -- and then one failed: no half works any more
     pub record DidFail : Type 0 where
-      pub events : List (SlotEvent a head)
-      pub own : All (IsGoodCall a head) events
-      pub can : MayHappen a head w (events ++ Fails (disks_of new.journal) ∷ [])
+      pub events : List (SlotEvent a tag)
+      pub own : All (IsGoodCall a tag) events
+      pub can : MayHappen a tag w (events ++ Fails (disks_of new.journal) ∷ [])
       pub failed : new_table ≡ record table { waiting = new_table.waiting; failed = true }
 
     -- what a step of the disks comes to: such a call; or all that was sealed is stored; or memory is wanting for the next record
@@ -100,34 +100,34 @@ module _ {F L : Type 0} (a : Analysis F L) {D : Type 0} {G : Ghosts D} (head : H
 
   -- over each world that acts led to, and on which the halves were at work
   abbrev pub StepsDisksOver : (table new_table : TableData F) (old new : SlotWriterHalf D G) → Result Bool Refused → Type 0
-  StepsDisksOver table new_table old new result = (w : SlotWorld a head) → IsReached a (OnTwoDisks head) w → AreAtWork w table old
+  StepsDisksOver table new_table old new result = (w : SlotWorld a tag) → IsReached a (OnTwoDisks tag) w → AreAtWork w table old
       → StepsDisks w table new_table new result
 
-module _ {F L : Type 0} (a : Analysis F L) (head : Head) where
+module _ {F L : Type 0} (a : Analysis F L) (tag : ℕ) where
   -- a crash that leaves these bytes may happen to the world: at once, or behind calls of which the last one does not end, or
   -- behind an opening that does not
-  pub data MayCrash (w : SlotWorld a head) (left : Sides (List ℕ)) : Type 0 where
-    at_once : MayHappen a head w (Crashes left ∷ []) → MayCrash w left
-    within_call : (events : List (SlotEvent a head)) (failed : Sides DiskState) → All (IsGoodCall a head) events
-        → MayHappen a head w (events ++ Fails failed ∷ Crashes left ∷ []) → MayCrash w left
-    within_opening : MayHappen a head w (Stops (settled_both left) Closed ∷ Crashes left ∷ []) → MayCrash w left
+  pub data MayCrash (w : SlotWorld a tag) (left : Sides (List ℕ)) : Type 0 where
+    at_once : MayHappen a tag w (Crashes left ∷ []) → MayCrash w left
+    within_call : (events : List (SlotEvent a tag)) (failed : Sides DiskState) → All (IsGoodCall a tag) events
+        → MayHappen a tag w (events ++ Fails failed ∷ Crashes left ∷ []) → MayCrash w left
+    within_opening : MayHappen a tag w (Stops (settled_both left) Closed ∷ Crashes left ∷ []) → MayCrash w left
 
   module _ {D : Type 0} {G : Ghosts D} where
     -- whatever a crash at any moment of the step leaves, it may happen to each world on which the halves were at work
     abbrev pub CrashesOver : TableData F → (old new : SlotWriterHalf D G) → Type 0
-    CrashesOver table old new = (w : SlotWorld a head) → IsReached a (OnTwoDisks head) w → AreAtWork a head w table old
+    CrashesOver table old new = (w : SlotWorld a tag) → IsReached a (OnTwoDisks tag) w → AreAtWork a tag w table old
         → LeavesOnlyTwo G (sides_of old.journal) (sides_of new.journal) (MayCrash w)
 
   module _ {D : Type 0} (G : Ghosts D) (a_disk b_disk : D) (after : Sides D) where
     -- whatever a crash at any moment of an opening leaves, it may happen to each world whose disks these were
     abbrev pub CrashesOpening : Type 0
-    CrashesOpening = (w : SlotWorld a head) → IsReached a (OnTwoDisks head) w → w.world.disks ≡ states_of G a_disk b_disk
+    CrashesOpening = (w : SlotWorld a tag) → IsReached a (OnTwoDisks tag) w → w.world.disks ≡ states_of G a_disk b_disk
         → LeavesOnlyTwo G (disk_sides a_disk b_disk) after (MayCrash w)
 
     -- an opening that stopped may have happened to each such world
     abbrev pub StopsOpening : Type 0
-    StopsOpening = (w : SlotWorld a head) → IsReached a (OnTwoDisks head) w → w.world.disks ≡ states_of G a_disk b_disk
-        → (mode : Mode) → (mode ≡ Running → ⊥) → MayDo a (OnTwoDisks head) w (Happens (Stops (states_of G after.a after.b) mode))
+    StopsOpening = (w : SlotWorld a tag) → IsReached a (OnTwoDisks tag) w → w.world.disks ≡ states_of G a_disk b_disk
+        → (mode : Mode) → (mode ≡ Running → ⊥) → MayDo a (OnTwoDisks tag) w (Happens (Stops (states_of G after.a after.b) mode))
 
 -- the disks after an opening, in the engine or beside the refusal
 abbrev pub engine_sides_after : {P D L F : Type 0} {G : Ghosts D} → Result (SlotEngine P D L F G) (Refused × D × D) → Sides D
@@ -138,34 +138,33 @@ module _ {F L : Type 0} (a : Analysis F L) {P D E : Type 0} {G : Ghosts D} where
   -- over honest disks, an engine that was made is at work on a new store
   abbrev pub MakesEngine : ℕ → (first second : D) → Result (SlotEngine P D L F G) E → Type 0
   MakesEngine tag first second result = G.honest first → G.honest second
-      → IfOk result (λ engine. AreNewHalves a (head_of Two tag) engine.table engine.writer)
+      → IfOk result (λ engine. AreNewHalves a tag engine.table engine.writer)
 
   -- over honest disks, one that was opened is at work on each world that acts led to and that stood on them
   abbrev pub OpensEngine : ℕ → (first second : D) → Result (SlotEngine P D L F G) E → Type 0
   OpensEngine tag first second result = G.honest first → G.honest second
-      → IfOk result (λ engine.
-      AreOpened a (head_of engine.writer.journal.version tag) (states_of G first second) engine.table engine.writer)
+      → IfOk result (λ engine. AreOpened a tag (states_of G first second) engine.table engine.writer)
 
 module _ {F L : Type 0} (a : Analysis F L) {P D : Type 0} {G : Ghosts D} (first second : D)
     (result : Result (SlotEngine P D L F G) (Refused × D × D)) where
   -- whatever a crash at any moment of the opening leaves, it may leave of each world that stood on the disks
   abbrev pub CrashesEngineOpening : Type 0
-  CrashesEngineOpening = G.honest first → G.honest second → (head : Head)
-      → CrashesOpening a head G first second (engine_sides_after result)
+  CrashesEngineOpening = G.honest first → G.honest second → (tag : ℕ)
+      → CrashesOpening a tag G first second (engine_sides_after result)
 
   -- a refused opening has stopped in each of them
   abbrev pub StopsEngineOpening : Type 0
-  StopsEngineOpening = G.honest first → G.honest second → (head : Head)
-      → IfErr result (λ _. StopsOpening a head G first second (engine_sides_after result))
+  StopsEngineOpening = G.honest first → G.honest second → (tag : ℕ)
+      → IfErr result (λ _. StopsOpening a tag G first second (engine_sides_after result))
 
 module _ {F L : Type 0} (a : Analysis F L) {P D : Type 0} {G : Ghosts D} (old new : SlotEngine P D L F G) where
   -- over honest disks, a step of the engine is a step of the disks in each world on which it is at work
   abbrev pub StepsEngine : Result Bool Refused → Type 0
-  StepsEngine result = AreHonest old.writer.journal → (head : Head) → StepsDisksOver a head old.table new.table old.writer new.writer result
+  StepsEngine result = AreHonest old.writer.journal → (tag : ℕ) → StepsDisksOver a tag old.table new.table old.writer new.writer result
 
   -- and what a crash at any moment of the step leaves, it may leave of each such world
   abbrev pub CrashesEngine : Type 0
-  CrashesEngine = AreHonest old.writer.journal → (head : Head) → CrashesOver a head old.table old.writer new.writer
+  CrashesEngine = AreHonest old.writer.journal → (tag : ℕ) → CrashesOver a tag old.table old.writer new.writer
 
 -- why there is no half that works over the records that a writer found: for the fold of them; or memory is wanting
 pub data IsTableStop {F L : Type 0} (a : Analysis F L) {D : Type 0} {G : Ghosts D} (writer : SlotWriterHalf D G) (given : List Entry)

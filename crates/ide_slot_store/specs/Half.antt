@@ -18,7 +18,8 @@ use Rattle.ide_slots.specs.Two.{LeavesTwo, SlotWriter, reads_two}
 use Rattle.ide_slots.specs.declared.record.NumberedRecord.{NumberedRecord}
 use Rattle.ide_wire.specs.declared.refused.Refused.{Refused}
 use Rattle.ide_wire.specs.declared.refused.Refused.TheVariants.{Disk, Failed, Limit, NoMemory}
-use Rattle.ide_store.specs.TwoDisks.{FailsTwo, commands_of, is_command}
+use Rattle.ide_store.specs.TwoDisks.{AreSpelledUpTo, FailsTwo, commands_of, is_command, sealing_version}
+use Rattle.ide_store.specs.Versioned.{VersionedEntry, plain}
 use Rattle.ide_slot_store.specs.Writing.{BeginsFirst, DidCall, DidFail, DidStore, StandsBehind}
 use Rattle.ide_slot_store.specs.declared.writer.SlotWriterHalf.{SlotWriterHalf}
 
@@ -43,7 +44,7 @@ FailsOne {G = G} old new = FailsOnce G old.current new.current ⊎ FailsOnce G o
 
 -- what a crash at some moment of a step leaves: at once, what one before the step may leave; or behind a failure, what one may
 -- leave behind a call of the step that failed, as a call counts that a crash ends, and which a checkpoint that waits begins first
-pub data MayLeave (records : List Entry) (stored : ℕ) (work : SlotWriter) (disks : Sides DiskState) (left : Sides (List ℕ))
+pub data MayLeave (records : List VersionedEntry) (stored : ℕ) (work : SlotWriter) (disks : Sides DiskState) (left : Sides (List ℕ))
     : Type 0 where
   at_once : LeavesTwo disks left → MayLeave records stored work disks left
   behind_failure : (mid : SlotWriter) (failed : Sides DiskState) → BeginsFirst records stored work disks mid
@@ -52,9 +53,9 @@ pub data MayLeave (records : List Entry) (stored : ℕ) (work : SlotWriter) (dis
 module _ {D : Type 0} {G : Ghosts D} where
   -- these are all that were sealed; so many of them are stored, in this current slot, and the others wait; the commands among
   -- the stored ones are kept
-  pub record Writes (slot other : Slot) (records : List Entry) (stored : ℕ) (half : SlotWriterHalf D G) : Type 0 where
+  pub record Writes (slot other : Slot) (records : List VersionedEntry) (stored : ℕ) (half : SlotWriterHalf D G) : Type 0 where
     pub behind : StandsBehind slot other records stored half.journal
-    pub waiting : map entry_of half.waiting.items ≡ drop stored records
+    pub waiting : map entry_of half.waiting.items ≡ map plain (drop stored records)
     pub commands : all_numbered half.commands.items ≡ commands_of (take stored records)
 
   -- no record was sealed, and no checkpoint is planned
@@ -66,7 +67,7 @@ module _ {D : Type 0} {G : Ghosts D} where
   -- where it is shown
   pub record OpensStore (tag : ℕ) (a b : D) (half : SlotWriterHalf D G) (found : List NumberedRecord) : Type 0 where
     pub opens : OpensOn tag (states_of G a b) half.journal found
-    pub writes : Shows opens.slot (reads_two (states_of G a b)) → (other : Slot) (records : List Entry)
+    pub writes : Shows opens.slot (reads_two (states_of G a b)) → (other : Slot) (records : List VersionedEntry)
         → length records ≡ slot_count opens.slot → commands_of records ≡ filter is_command (all_numbered found)
         → Writes opens.slot other records (length records) half
     pub commands : all_numbered half.commands.items ≡ filter is_command (all_numbered found)
@@ -84,12 +85,13 @@ module _ {D : Type 0} {G : Ghosts D} where
     pub waiting : new.waiting.items ≡ old.waiting.items
     pub commands : new.commands.items ≡ old.commands.items
 
-  -- one record more is sealed, if there may be one
+  -- one record more is sealed, if there may be one, in the version in which records are sealed
   abbrev pub Seals : Entry → (old new : SlotWriterHalf D G) → Type 0
-  Seals entry old new = (slot other : Slot) (records : List Entry) (stored : ℕ) → length records < 4294967295
-      → Writes slot other records stored old → Writes slot other (records ++ entry ∷ []) stored new
+  Seals entry old new = (slot other : Slot) (records : List VersionedEntry) (stored : ℕ) → length records < 4294967295
+      → Writes slot other records stored old
+      → Writes slot other (records ++ (sealing_version (slot_writer other old.journal), entry) ∷ []) stored new
 
-  module _ (slot other : Slot) (records : List Entry) (stored : ℕ) (old new : SlotWriterHalf D G) where
+  module _ (slot other : Slot) (records : List VersionedEntry) (stored : ℕ) (old new : SlotWriterHalf D G) where
     -- a good call was made that stored no record; the same slot is current, or that of the checkpoint
     pub record HasCalled : Type 0 where
       pub event : DidCall other records stored old.journal new.journal
@@ -128,43 +130,43 @@ module _ {D : Type 0} {G : Ghosts D} where
 
   -- over whatever records it writes, with whatever slot for its checkpoint
   abbrev pub StepsOver : (old new : SlotWriterHalf D G) → Result Bool Refused → Type 0
-  StepsOver old new result = (slot other : Slot) (records : List Entry) (stored : ℕ) → Writes slot other records stored old
+  StepsOver old new result = (slot other : Slot) (records : List VersionedEntry) (stored : ℕ) → Writes slot other records stored old
       → StepsTo slot other records stored old new result
 
   abbrev pub CallsOver : (old new : SlotWriterHalf D G) → Result Bool Refused → Type 0
-  CallsOver old new result = (slot other : Slot) (records : List Entry) (stored : ℕ) → Writes slot other records stored old
+  CallsOver old new result = (slot other : Slot) (records : List VersionedEntry) (stored : ℕ) → Writes slot other records stored old
       → CallsTo slot other records stored old new result
 
   -- and whatever a crash at any moment of the step leaves, one of the writer may leave, at once or behind a failed call
   abbrev pub CrashesStep : (old new : SlotWriterHalf D G) → Type 0
-  CrashesStep old new = (slot other : Slot) (records : List Entry) (stored : ℕ) → Writes slot other records stored old
+  CrashesStep old new = (slot other : Slot) (records : List VersionedEntry) (stored : ℕ) → Writes slot other records stored old
       → LeavesOnlyTwo G (sides_of old.journal) (sides_of new.journal)
       (MayLeave records stored (slot_writer other old.journal) (disks_of old.journal))
 
   -- it writes the records that it wrote
   abbrev pub KeepsWriting : (old new : SlotWriterHalf D G) → Type 0
-  KeepsWriting old new = (slot other : Slot) (records : List Entry) (stored : ℕ) → Writes slot other records stored old
+  KeepsWriting old new = (slot other : Slot) (records : List VersionedEntry) (stored : ℕ) → Writes slot other records stored old
       → Writes slot other records stored new
 
-  -- and with this slot for its checkpoint
+  -- and with this slot for its checkpoint, where they are of its version from its base on
   abbrev pub PlansWriting : Slot → (old new : SlotWriterHalf D G) → Type 0
-  PlansWriting planned old new = (slot other : Slot) (records : List Entry) (stored : ℕ) → Writes slot other records stored old
-      → Writes slot planned records stored new
+  PlansWriting planned old new = (slot other : Slot) (records : List VersionedEntry) (stored : ℕ) → Writes slot other records stored old
+      → AreSpelledUpTo planned.base old.journal.version planned.head.version records stored → Writes slot planned records stored new
 
   -- all records are stored
   abbrev pub HasStoredAll : SlotWriterHalf D G → Type 0
-  HasStoredAll half = (slot other : Slot) (records : List Entry) (stored : ℕ) → Writes slot other records stored half
+  HasStoredAll half = (slot other : Slot) (records : List VersionedEntry) (stored : ℕ) → Writes slot other records stored half
       → stored ≡ length records
 
   -- why none is put under way: want of memory, or more records than there may be, which it never writes
   pub data IsBeginRefusal (old : SlotWriterHalf D G) : Refused → Type 0 where
     memory : IsBeginRefusal old NoMemory
-    limit : ((slot other : Slot) (records : List Entry) (stored : ℕ) → Writes slot other records stored old → ⊥)
+    limit : ((slot other : Slot) (records : List VersionedEntry) (stored : ℕ) → Writes slot other records stored old → ⊥)
         → IsBeginRefusal old Limit
 
   -- ---- a checkpoint of all records
   -- it is planned, with the commands among them and these parts
-  pub record PlansAll (parts : List Entry) (slot other : Slot) (records : List Entry) (stored : ℕ) (old new : SlotWriterHalf D G)
+  pub record PlansAll (parts : List Entry) (slot other : Slot) (records : List VersionedEntry) (stored : ℕ) (old new : SlotWriterHalf D G)
       : Type 0 where
     pub planned : Slot
     pub plans : Plans planned old.journal new.journal
@@ -176,17 +178,17 @@ module _ {D : Type 0} {G : Ghosts D} where
 
   -- over whatever records it writes
   abbrev pub PlansAllOver : List Entry → (old new : SlotWriterHalf D G) → Type 0
-  PlansAllOver parts old new = (slot other : Slot) (records : List Entry) (stored : ℕ) → Writes slot other records stored old
+  PlansAllOver parts old new = (slot other : Slot) (records : List VersionedEntry) (stored : ℕ) → Writes slot other records stored old
       → PlansAll parts slot other records stored old new
 
   -- there is no command among them
   abbrev pub HasNoCommand : SlotWriterHalf D G → Type 0
-  HasNoCommand half = (slot other : Slot) (records : List Entry) (stored : ℕ) → Writes slot other records stored half
+  HasNoCommand half = (slot other : Slot) (records : List VersionedEntry) (stored : ℕ) → Writes slot other records stored half
       → commands_of records ≡ []
 
   -- why none is planned: want of memory; a disk call that failed before; or it writes no records whose commands ascend
   pub data IsPlanAllRefusal (old : SlotWriterHalf D G) : Refused → Type 0 where
     all_memory : IsPlanAllRefusal old NoMemory
     all_failed : HasFaulted old.journal → IsPlanAllRefusal old Failed
-    all_unfit : ((slot other : Slot) (records : List Entry) (stored : ℕ) → Writes slot other records stored old
+    all_unfit : ((slot other : Slot) (records : List VersionedEntry) (stored : ℕ) → Writes slot other records stored old
         → AreCommands 0 (length records) (commands_of records) → ⊥) → IsPlanAllRefusal old Limit

@@ -1,7 +1,6 @@
 -- That the two halves of a store on two disks that was opened are at work on it.
 use Rattle.std.specs.Prelude.{◌≡◌, ℕ, List}
 use Rattle.ide_disk.specs.declared.disk.Disk.{Ghosts}
-use Rattle.ide_journal.specs.Format.{head_of}
 use Rattle.ide_slot_journal.specs.Opened.{states_of}
 use Rattle.ide_slot_journal.specs.Stands.{records_stored}
 use Rattle.ide_slots.specs.declared.record.NumberedRecord.{NumberedRecord}
@@ -18,4 +17,4 @@ abbrev pub SlotHalvesOpen : {F L : Type 0} → Analysis F L → {D : Type 0} →
 SlotHalvesOpen {F} a {D} G = (tag : ℕ) (first second : D) (writer : SlotWriterHalf D G) (found : List NumberedRecord) (table : TableData F)
     → OpensStore tag first second writer found → HaveFold a writer.journal.version (batches_of found) → GoesOnFrom a (batches_of found) table
     → table.version ≡ writer.journal.version → table.sealed ≡ records_stored writer.journal
-    → AreOpened a (head_of writer.journal.version tag) (states_of G first second) table writer
+    → AreOpened a tag (states_of G first second) table writer

@@ -16,6 +16,7 @@ use Rattle.ide_wire.specs.declared.refused.Refused.TheVariants.{Limit, NoMemory}
 use Rattle.ide_store.specs.Table.{Analysis, TableData, forms_of}
 use Rattle.ide_store.specs.TwoDisks.{commands_of, unnumbered}
 use Rattle.ide_store.specs.TwoDisksLaws.{ArePartsOf, slots_of}
+use Rattle.ide_store.specs.Versioned.{VersionedEntry, in_version}
 use Rattle.ide_store.specs.World.{IsFolded, LeadTo}
 
 module _ {F : Type 0} (forms : Functions F) where
@@ -61,18 +62,18 @@ pub record IsBelow {F : Type 0} (before now : ProgramImage F) : Type 0 where
   pub absent : (key : Key) → now.get key ≡ None → image_entry before key ≡ image_entry now key
 
 module _ {F L : Type 0} (a : Analysis F L) where
-  -- the commands among records give back an image below the one that all of them do
+  -- the commands among records, of whatever version, give back in the second an image below the one that all of them do
   abbrev pub CommandsStayBelow : Type 0
-  CommandsStayBelow = (records : List Entry) (now : ProgramImage F) → IsFolded (slots_of a Two) records now
-      → (before : ProgramImage F) × IsFolded (slots_of a Two) (map unnumbered (commands_of records)) before × IsBelow before now
+  CommandsStayBelow = (records : List VersionedEntry) (now : ProgramImage F) → IsFolded (slots_of a) records now
+      → (before : ProgramImage F) × IsFolded (slots_of a) (in_version Two (map unnumbered (commands_of records))) before × IsBelow before now
 
   -- from each image below that of a core the parts of this one lead to it
   abbrev pub PartsLeadUp : Type 0
   PartsLeadUp = (table : TableData F) (parts : List Entry) (before now : ProgramImage F) → AreImageParts a table parts
-      → HasImage now table.core → IsBelow before now → LeadTo (slots_of a Two) parts before now
+      → HasImage now table.core → IsBelow before now → LeadTo (slots_of a) (in_version Two parts) before now
 
   -- so the parts of a core's image are parts of the records that give back this image, if there is a command among them
   abbrev pub ImagePartsMakeCheckpoints : Type 0
-  ImagePartsMakeCheckpoints = (table : TableData F) (records parts : List Entry) (now : ProgramImage F)
-      → AreImageParts a table parts → IsFolded (slots_of a Two) records now → HasImage now table.core
-      → 0 < length (commands_of records) → ArePartsOf (slots_of a Two) records parts
+  ImagePartsMakeCheckpoints = (table : TableData F) (records : List VersionedEntry) (parts : List Entry) (now : ProgramImage F)
+      → AreImageParts a table parts → IsFolded (slots_of a) records now → HasImage now table.core
+      → 0 < length (commands_of records) → ArePartsOf (slots_of a) records parts

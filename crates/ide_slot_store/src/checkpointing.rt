@@ -1,5 +1,5 @@
 //! A checkpoint of all that is sealed, which the engine is asked for.
-ghost use Rattle.std.specs.Prelude.{◌≡◌, ◌↔◌, ◌<◌, [], false, true, Err, Ok, Some, IfErr, IsTrue, OnOk};
+ghost use Rattle.std.specs.Prelude.{◌≡◌, ◌↔◌, ◌<◌, [], false, true, Err, Ok, Some, IfErr, IsTrue, OnErr, OnOk};
 ghost use Rattle.ide_journal.specs.declared.version.Version.TheVariants.{Two};
 
 use crate::engine::SlotEngine;
@@ -21,8 +21,6 @@ impl<P: Problem, D: Disk> SlotEngine<P, D> {
     /// and its records wait, spelled in the second version, as the slot has them that it turns to. False,
     /// where none begins: where one is under way, and nothing is done; where the current slot is of the second
     /// version and no sealed record stands at or past its base; or where no program is loaded.
-    ///
-    /// Of a slot of the first version a checkpoint is not told: no clause says on which run the store is then.
     ///
     /// Refusals, in this order: `Failed`, where a call failed before; `Limit`, where the current slot is of
     /// generation 4,294,967,295; those of [`TableHalf::seal`]; `NoMemory`, `Limit` or `Failed`, where the
@@ -53,14 +51,7 @@ impl<P: Problem, D: Disk> SlotEngine<P, D> {
         if !self.is_worth_a_checkpoint() {
             return Ok(false);
         }
-        match self.plan_image(alloc) {
-            Ok(true) => {
-                self.table.spell_in(Version::Two);
-                Ok(true)
-            }
-            Ok(false) => Ok(false),
-            Err(refused) => Err(refused),
-        }
+        self.plan_image(alloc)
     }
 
     /// Whether a checkpoint would change what the disks hold: a sealed record stands at or past the base of
@@ -86,20 +77,29 @@ impl<P: Problem, D: Disk> SlotEngine<P, D> {
         }
     }
 
-    /// Plans a checkpoint of all that the writer has, by the image as it stands.
+    /// Plans a checkpoint of all that the writer has, by the image as it stands. Where one is planned, records are
+    /// spelled in the second version from then on.
     fn plan_image(&mut self, alloc: Global) -> Result<bool, Refused>
         requires none { IsCheckpointing self.old.writer.journal → ⊥ }
         requires generation { self.old.writer.journal.generation < 4294967295 }
         requires handed { self.old.table.waiting ≡ [] }
         requires still { self.old.table.core.changes ≡ Some [] }
         ensures plans { PlansEngine ⟦<P as Kept>⟧.analysis self.old self.new result }
-        ensures table { self.new.table ≡ self.old.table }
+        ensures table { self.new.table ≡ record self.old.table { version = self.new.table.version } }
+        ensures version { result ≡ Ok true → self.new.table.version ≡ Two }
+        ensures unchanged { OnErr result (self.new.table ≡ self.old.table) }
         ensures disks { CallsNoDisk self.old self.new }
         ensures refused { IfErr result (IsImageStop ⟦<P as Kept>⟧.analysis self.old) }
     {
         slot_checkpoints_begin::<P, D>();
         match image_parts(alloc, &self.table) {
-            Ok(parts) => self.writer.plan_all(alloc, parts.as_slice()),
+            Ok(parts) => {
+                let planned = self.writer.plan_all(alloc, parts.as_slice());
+                if matches!(planned, Ok(true)) {
+                    self.table.spell_in(Version::Two);
+                }
+                planned
+            }
             Err(refused) => Err(refused),
         }
     }

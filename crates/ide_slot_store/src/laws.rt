@@ -1,5 +1,4 @@
 //! Laws of a store on two disks. The functions do nothing: their clauses are the laws.
-ghost use Rattle.ide_journal.specs.declared.version.Version.{Version};
 ghost use Rattle.ide_slot_store.specs.Checkpoint.{CheckpointsBegin, CheckpointsStayOnRuns};
 ghost use Rattle.ide_slot_store.specs.Openings.{SlotHalvesOpen};
 ghost use Rattle.ide_slot_store.specs.Runs.{SlotEnginesStayOnRuns};
@@ -17,7 +16,7 @@ use ide_store::{Kept, every_run_answers, every_run_answers_on_two_disks};
 /// whatever records the disks hold, and a new one behind none. What a crash leaves, within a call too, holds
 /// the stored records, and perhaps the next one.
 pub fn slot_journals_write_stores<P: Problem, D: Disk>()
-    ensures { (version : Version) → JournalsWriteTwo D.Disk (slots_of ⟦<P as Kept>⟧.analysis version) }
+    ensures { JournalsWriteTwo D.Disk (slots_of ⟦<P as Kept>⟧.analysis) }
 {}
 
 /// The two halves of a store on two disks that was opened, of either version, are at work on it: the one
@@ -35,15 +34,15 @@ pub fn slot_halves_open<P: Problem, D: Disk>()
 /// from one disk. An opening goes on with the run that left its disks, whatever crashed, and so does an
 /// adoption with the run that left its disk; and what is frozen is of that run, and so answers with best
 /// values, as `frozen_images_answer` of `ide_store` says of each run. The slots of a run are of either
-/// version; of a slot of the first version a checkpoint is not told.
+/// version, and a checkpoint goes over from the first to the second.
 pub fn slot_engines_stay_on_runs<P: Problem, D: Disk>()
     ensures { SlotEnginesStayOnRuns P ⟦<P as Kept>⟧.analysis D.Disk }
 {}
 
 /// A checkpoint that stands for all that is sealed, with the image as it stands in parts, is one that the
-/// store may begin, wherever the halves are at work on slots of the second version, nothing has changed
-/// since the last record, and all records are handed over. So an engine that is on a run of that version
-/// stays on it. Of a slot of the first version a checkpoint is not told.
+/// store may begin, wherever the halves are at work, nothing has changed since the last record, and all
+/// records are handed over; from then on the half that works spells records in the second version. So an
+/// engine that is on a run stays on it.
 pub fn slot_checkpoints_begin<P: Problem, D: Disk>()
     ensures begins { CheckpointsBegin ⟦<P as Kept>⟧.analysis D.Disk }
     ensures stays { CheckpointsStayOnRuns ⟦<P as Kept>⟧.analysis D.Disk }

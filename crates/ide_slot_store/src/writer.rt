@@ -250,9 +250,10 @@ impl<D: Disk> SlotWriterHalf<D> {
     /// Puts the oldest record that waits under way, if none is, and answers whether one is then.
     #[tactic(auto, using(crate::specs::Half::memory, crate::specs::Half::limit))]
     fn begin_next(&mut self) -> Result<bool, Refused>
+        requires { IsTurn self.old.journal }
         ensures writes { KeepsWriting self.old self.new }
         ensures quiet { IsQuiet self.old.journal self.new.journal }
-        ensures turn { IsTurn self.old.journal → IsTurn self.new.journal }
+        ensures turn { IsTurn self.new.journal }
         ensures busy { result ≡ Ok true → (HasNoNext self.new.journal → ⊥) }
         ensures rests { result ≡ Ok false → HasStoredAll self.old }
         ensures same { result ≡ Ok false → IsSameHalf self.old self.new }

@@ -27,7 +27,7 @@ empty_held head = record {
   split = ap (λ (xs : List ℕ). xs ++ 0 ∷ []) (sym (append-nil (header head)));
 }
 
-created : (head : Head) → 0 < head.tag → StandsTwo (first_slot head []) None (first_writer 4096) (two_sides First (first_disk head) (first_disk head))
+created : (head : Head) → 0 < head.tag → StandsTwo (first_slot head []) None (first_writer head.version 4096) (two_sides First (first_disk head) (first_disk head))
 created head tag = record {
   front = header head;
   whole = record {
@@ -36,6 +36,7 @@ created head tag = record {
     whole = refl;
     split = sym (first_header head []) ∙ sym (append-nil _);
   };
+  version = refl;
   generation = refl;
   gate = sym (length-header head);
   knows = (refl, refl);

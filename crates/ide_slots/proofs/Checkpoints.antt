@@ -29,6 +29,7 @@ moved : (slot : Slot) (next : Option Entry) (work : SlotWriter) (checkpoint : Ch
 moved slot next work checkpoint disks after stands same beside = record {
   front = stands.front;
   whole = stands.whole;
+  version = stands.version;
   generation = stands.generation;
   gate = stands.gate;
   knows = subst (λ (d : DiskState). KnowsNext work.stage stands.front (slot_count slot) next d) (sym same) stands.knows;
@@ -137,6 +138,7 @@ ended slot other next work new disks after stands ends =
     rw (ends.work_is, ends.disks_are) (record {
       front = front.front;
       whole = front.whole;
+      version = refl;
       generation = refl;
       gate = omega (
         arith,

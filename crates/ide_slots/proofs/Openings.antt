@@ -47,6 +47,7 @@ opened slot disks shows work after opens =
       stands = λ next fits. subst (λ (w : SlotWriter). StandsTwo slot next w after) (sym opens.work_is) (rw opens.disks_are (record {
         front = opens.front;
         whole = subst (λ (s : Slot). IsFront s opens.front) same opens.whole;
+        version = ap (λ (s : Slot). s.head.version) same;
         generation = ap (λ (s : Slot). s.generation) same;
         gate = refl;
         knows = knows_idle opens.front (slot_count slot) next (on work.side (two_sides work.side one other)) (on_two work.side one other);
@@ -58,7 +59,14 @@ opened slot disks shows work after opens =
 can_open : (slot : Slot) (disks : Sides DiskState) → Shows slot (reads_two disks) → (work : SlotWriter) × (after : Sides DiskState) × OpensTwo disks work after
 can_open slot disks shows =
     let holds : HoldsSlot slot (on shows.side disks).now = subst (HoldsSlot slot) (reads_on shows.side disks) shows.holds in (
-      record { side = shows.side; generation = slot.generation; gate = length holds.front; stage = Idle; checkpoint = NotBegun },
+      record {
+        side = shows.side;
+        version = slot.head.version;
+        generation = slot.generation;
+        gate = length holds.front;
+        stage = Idle;
+        checkpoint = NotBegun;
+      },
       two_sides shows.side (settled (holds.front ++ 0 ∷ [])) (settled (off shows.side disks).now),
       record {
         slot = slot;

@@ -37,6 +37,7 @@ waits : (slot : Slot) (next : Option Entry) (work : SlotWriter) (disks : Sides D
 waits slot next work disks stands fits = record {
   front = stands.front;
   whole = stands.whole;
+  version = stands.version;
   generation = stands.generation;
   gate = stands.gate;
   knows = go next;
@@ -64,6 +65,7 @@ begun : (slot : Slot) (entry : Entry) (work : SlotWriter) (disks : Sides DiskSta
 begun slot entry work disks stands turn idle = record {
   front = stands.front;
   whole = stands.whole;
+  version = stands.version;
   generation = stands.generation;
   gate = stands.gate;
   knows = (
@@ -113,6 +115,7 @@ called slot entry work new disks after stands calls =
     rw (calls.work_is, calls.disks_are) (record {
       front = stands.front;
       whole = stands.whole;
+      version = stands.version;
       generation = stands.generation;
       gate = stands.gate;
       knows = (not_failed calls.phase, subst (λ (d : DiskState). Knows (stage_after calls.phase) stands.front tail d) (sym (on_two work.side now (off work.side disks))) knows);
@@ -163,6 +166,7 @@ stored slot entry next work new disks after stands stores fits =
     rw (stores.work_is, stores.disks_are) (record {
       front = front;
       whole = front_more slot entry stands.front 1 stands.whole stands.fits.0 stands.fits.1 (λ same. absurd (omega (arith, same)));
+      version = stands.version;
       generation = stands.generation;
       gate = omega (arith, stands.gate, length-append behind (0 ∷ []), length-append stands.front (1 ∷ behind));
       knows = knows_idle front (slot_count (with_more slot entry)) next (on work.side (two_sides work.side now (off work.side disks)))

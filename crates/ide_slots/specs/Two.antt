@@ -5,6 +5,7 @@ use Rattle.ide_journal.specs.Bytes.{Knows}
 use Rattle.ide_journal.specs.Format.{Entry, Head, IsEntry, head_of, header}
 use Rattle.ide_journal.specs.declared.stage.Stage.{Stage}
 use Rattle.ide_journal.specs.declared.stage.Stage.TheVariants.{Idle, Failed}
+use Rattle.ide_journal.specs.declared.version.Version.{Version}
 use Rattle.ide_journal.specs.declared.version.Version.TheVariants as version
 use Rattle.ide_slots.specs.Filling.{AtFilling, Filling, IsLate, IsSettledWith, with_gate}
 use Rattle.ide_slots.specs.Sides.{First, IsBehind, Shows, Side, Sides, off, on}
@@ -16,10 +17,11 @@ pub data Checkpoint : Type 0 where
   Planned : Slot → Checkpoint
   UnderWay : Slot → Filling → Checkpoint
 
--- where the writer stands: which slot is current and of which generation, where its closed gate is, how far the next
--- record is, and how far a checkpoint
+-- where the writer stands: which slot is current, of which version and generation, where its closed gate is, how far the
+-- next record is, and how far a checkpoint
 pub record SlotWriter : Type 0 where
   pub side : Side
+  pub version : Version
   pub generation : ℕ
   pub gate : ℕ
   pub stage : Stage
@@ -68,6 +70,7 @@ Beside side slot stage (UnderWay next fill) disk = IsMade side slot next stage f
 pub record StandsTwo (slot : Slot) (next : Option Entry) (work : SlotWriter) (disks : Sides DiskState) : Type 0 where
   pub front : List ℕ
   pub whole : IsFront slot front
+  pub version : work.version ≡ slot.head.version
   pub generation : work.generation ≡ slot.generation
   pub gate : work.gate ≡ length front
   pub knows : KnowsNext work.stage front (slot_count slot) next (on work.side disks)
@@ -75,8 +78,9 @@ pub record StandsTwo (slot : Slot) (next : Option Entry) (work : SlotWriter) (di
   pub beside : Beside work.side slot work.stage work.checkpoint (off work.side disks)
 
 -- a new store: A is current, with the closed gate behind its first page
-abbrev pub first_writer : ℕ → SlotWriter
-first_writer gate = record { side = First; generation = 0; gate = gate; stage = Idle; checkpoint = NotBegun }
+abbrev pub first_writer : Version → ℕ → SlotWriter
+first_writer version gate =
+    record { side = First; version = version; generation = 0; gate = gate; stage = Idle; checkpoint = NotBegun }
 
 abbrev pub first_disk : Head → DiskState
 first_disk head = settled (header head ++ 0 ∷ [])

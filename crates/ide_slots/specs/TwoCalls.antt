@@ -112,6 +112,7 @@ pub record CallsCheckpoint (work : SlotWriter) (disks : Sides DiskState) (new : 
 abbrev pub turned_to : SlotWriter → Slot → SlotWriter
 turned_to work next = record {
   side = across work.side;
+  version = next.head.version;
   generation = next.generation;
   gate = 4096 + length (filled_by next);
   stage = Idle;
@@ -150,6 +151,7 @@ pub record OpensTwo (disks : Sides DiskState) (work : SlotWriter) (after : Sides
   pub closed : IsBefore front (on work.side disks).now
   pub work_is : work ≡ record {
     side = work.side;
+    version = slot.head.version;
     generation = slot.generation;
     gate = length front;
     stage = Idle;

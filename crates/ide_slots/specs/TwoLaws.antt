@@ -13,7 +13,7 @@ use Rattle.ide_slots.specs.TwoCalls.{BeginsCheckpoint, CallsCheckpoint, CallsRec
 -- is shown, as the slot of A, beside a closed B
 pub record StoresBegin : Type 0 where
   pub created : (head : Head) → 0 < head.tag
-      → StandsTwo (first_slot head []) None (first_writer 4096) (two_sides First (first_disk head) (first_disk head))
+      → StandsTwo (first_slot head []) None (first_writer head.version 4096) (two_sides First (first_disk head) (first_disk head))
   pub adopted : (head : Head) (entries : List Entry) (bytes other : List ℕ) → 0 < head.tag → Holds head entries bytes
       → IsClosedSlot other → Shows (first_slot head entries) (two_sides First bytes other)
 

@@ -6,11 +6,9 @@ use Rattle.std.specs.Option.{is_some}
 use Rattle.std.proofs.lemmas.List.{length-append, length-map, map-append, take_all}
 use Rattle.ide_batch.proofs.Folding.{lead}
 use Rattle.ide_batch.specs.Applied.{HasImage, IsGraphed}
-use Rattle.ide_batch.specs.Bodies.{IsEntryOf}
 use Rattle.ide_batch.specs.Fold.{IsBatch, ProgramImage, SaysChange, image_entry, named, procedures}
 use Rattle.ide_batch.specs.Items.{Item}
 use Rattle.ide_batch.specs.Records as records
-use Rattle.ide_batch.specs.Records.{RecordValue}
 use Rattle.ide_journal.specs.Format.{Entry, IsEntry}
 use Rattle.ide_journal.specs.declared.version.Version.{Version}
 use Rattle.ide_image.specs.Notes.{noted}
@@ -31,14 +29,15 @@ use Rattle.ide_store.proofs.Reached.{Knows, reached_whole}
 use Rattle.ide_store.proofs.Said.{graph_kept}
 use Rattle.ide_store.proofs.Told.{says_change}
 use Rattle.ide_store.proofs.Unloaded.{IsStill, base_still, image_still}
-use Rattle.ide_store.specs.Acting.{BeginsAnew, SpellsChanges, SpellsRecord, WaitsFor}
+use Rattle.ide_store.specs.Acting.{BeginsAnew, SpellsChanges, WaitsFor}
 use Rattle.ide_store.specs.Answers.{GraphBy, frame_by}
 use Rattle.ide_store.specs.Hands.{Batches}
 use Rattle.ide_store.specs.Machine.{Does}
 use Rattle.ide_store.proofs.Places.{does_at, exact_at, fits_at, laws_at}
-use Rattle.ide_store.specs.Places.{Place, version_at}
+use Rattle.ide_store.specs.Places.{Place, version_on}
 use Rattle.ide_store.specs.Table.{Analysis, HasNothingNew, IsAct, IsReached, KeepsRest, MayDo, StoreWorld, TableData, WorksOn, forms_of, rules_at, told, store_at}
 use Rattle.ide_store.specs.TableCalls.{FindsNothing}
+use Rattle.ide_store.specs.Versioned.{VersionedEntry, in_version}
 use Rattle.ide_store.specs.World.{IsFolded, Sealed, contents}
 
 module _ {F L : Type 0} (a : Analysis F L) where
@@ -81,35 +80,36 @@ module _ {F L : Type 0} (a : Analysis F L) where
   })
 
   -- one record more is sealed
-  pub waits_more : (sealed : List (Sealed Entry)) (handed waiting new_waiting : List Entry) (r : Entry) (mark : ℕ) → contents sealed ≡ handed ++ waiting
-      → new_waiting ≡ waiting ++ r ∷ [] → contents (pushed sealed r mark) ≡ handed ++ new_waiting
-  waits_more sealed handed waiting new_waiting r mark waits more =
-      map-append (λ (s : Sealed Entry). s.content) sealed (record { content = r; mark = mark } ∷ [])
-      ∙ ap (λ records. records ++ r ∷ []) waits ∙ append_assoc handed waiting (r ∷ []) ∙ ap (λ records. handed ++ records) (sym more)
+  pub waits_more : (sealed : List (Sealed VersionedEntry)) (handed : List VersionedEntry) (version new_version : Version) (waiting new_waiting : List Entry)
+      (entry : Entry) (mark : ℕ) → contents sealed ≡ handed ++ in_version version waiting → new_version ≡ version → new_waiting ≡ waiting ++ entry ∷ []
+      → contents (pushed sealed (version, entry) mark) ≡ handed ++ in_version new_version new_waiting
+  waits_more sealed handed version new_version waiting new_waiting entry mark waits same more =
+      map-append (λ (s : Sealed VersionedEntry). s.content) sealed (record { content = (version, entry); mark = mark } ∷ [])
+      ∙ ap (λ (records : List VersionedEntry). records ++ (version, entry) ∷ []) waits
+      ∙ append_assoc handed (in_version version waiting) ((version, entry) ∷ [])
+      ∙ ap (λ (records : List VersionedEntry). handed ++ records) (sym (map-append (λ (e : Entry). (version, e)) waiting (entry ∷ [])))
+      ∙ (λ i. handed ++ in_version (sym same i) (sym more i))
 
   -- and counted
-  pub counts_more : (sealed : List (Sealed Entry)) (r : Entry) (mark old new : ℕ) → length sealed ≡ old → new ≡ old + 1
+  pub counts_more : (sealed : List (Sealed VersionedEntry)) (r : VersionedEntry) (mark old new : ℕ) → length sealed ≡ old → new ≡ old + 1
       → length (pushed sealed r mark) ≡ new
   counts_more sealed r mark old new is more =
       let longer = length-append sealed (record { content = r; mark = mark } ∷ []) in omega arith
 
-  -- a record may be the next one
-  pub fits_next : (place : Place) (sealed : List (Sealed Entry)) (r : Entry) → IsEntry r → length sealed ≤ 4294967294
-      → (store_at a place).Fits (length (contents sealed)) r
-  fits_next place sealed r proper less =
-      fits_at a place (length (contents sealed)) r proper (let long = length-map sealed (λ (s : Sealed Entry). s.content) in omega (arith, long, less))
-
-  -- a record in the version of the half is one in that of the store
-  pub spelled_at : (place : Place) (table : TableData F) (value : RecordValue F) (entry : Entry) → table.version ≡ version_at place
-      → SpellsRecord a table value entry → IsEntryOf (forms_of a) (version_at place) value entry
-  spelled_at place table value entry same spells = subst (λ (version : Version). IsEntryOf (forms_of a) version value entry) same spells.spelled
+  -- a record may be the next one, of the version in which records are sealed
+  pub fits_next : (place : Place) (work : (store_at a place).Work) (sealed : List (Sealed VersionedEntry)) (r : VersionedEntry)
+      → r.0 ≡ version_on a.functions a.same (forms_of a) place work → IsEntry r.1 → length sealed ≤ 4294967294
+      → (store_at a place).Fits work (length (contents sealed)) r
+  fits_next place work sealed r is proper less =
+      fits_at a place work (length (contents sealed)) r is proper
+      (let long = length-map sealed (λ (s : Sealed VersionedEntry). s.content) in omega (arith, long, less))
 
   module _ (knows : Knows a) (place : Place) (w : StoreWorld a place) (reached : IsReached a place w) (table : TableData F)
-      {handed : List Entry} (works : WorksOn a place w table handed) (whole : IsWholeCore table.core) where
+      {handed : List VersionedEntry} (works : WorksOn a place w table handed) (whole : IsWholeCore table.core) where
     -- the image is good
     now_good : IsGoodImage w.world.image
     now_good =
-        good_now a.lattice a.functions a.targets a.same (forms_of a) (version_at place) (store_at a place) knows.is_same
+        good_now a.lattice a.functions a.targets a.same (forms_of a) (store_at a place) knows.is_same
         (exact_at a knows.prefix_free place) (laws_at a place) knows.known
         w (reached_whole a knows place w reached).held
 
@@ -118,7 +118,7 @@ module _ {F L : Type 0} (a : Analysis F L) where
     base_good =
         let all = take_all (length w.world.sealed) w.world.sealed (omega arith) in
         (reached_whole a knows place w reached).held.stored (length w.world.sealed) works.base.image
-        (subst (λ (sealed : List (Sealed Entry)). IsFolded (rules_at a place) (contents sealed) works.base.image) (sym all) works.base.folded)
+        (subst (λ (sealed : List (Sealed VersionedEntry)). IsFolded (rules_at a place) (contents sealed) works.base.image) (sym all) works.base.folded)
 
     -- an absent key was absent, and did not wait
     was_absent : (key : Key) → found table.core.table key ≡ None → told (entry_then table.core key) ≡ told (standing_entry table.core key)
@@ -157,38 +157,39 @@ module _ {F L : Type 0} (a : Analysis F L) where
         (says_change a.same knows.is_same table.core items key changed (was_absent key)))
 
     -- a record of them may be the next one
-    pub can_batch : (entry : Entry) → SpellsChanges a table entry → table.sealed < 4294967295 → MayDo a place w (Batches entry)
+    pub can_batch : (entry : Entry) → SpellsChanges a table entry → table.sealed < 4294967295 → MayDo a place w (Batches (table.version, entry))
     can_batch entry spells less = record {
       running = works.running;
       base = works.base.image;
       folded = works.base.folded;
       items = spells.items;
       exact = changes_told spells.items spells.changed;
-      spelled = spelled_at place table (records.Batch spells.items) entry works.version spells.spells;
-      fits = fits_next place w.world.sealed entry spells.spells.proper (let sealed = works.sealed in omega arith);
+      spelled = spells.spells.spelled;
+      fits = fits_next place w.world.work w.world.sealed (table.version, entry) works.version spells.spells.proper (let sealed = works.sealed in omega arith);
     }
 
     -- and its record gives back the image
     pub batch_folded : (entry : Entry) → SpellsChanges a table entry
-        → IsFolded (rules_at a place) (contents (pushed w.world.sealed entry (length w.world.history))) w.world.image
+        → IsFolded (rules_at a place) (contents (pushed w.world.sealed (table.version, entry) (length w.world.history))) w.world.image
     batch_folded entry spells =
-        let does : Does a.functions a.same (forms_of a) (version_at place) entry works.base.image w.world.image = record {
+        let r : VersionedEntry = (table.version, entry) in
+        let does : Does a.functions a.same (forms_of a) r works.base.image w.world.image = record {
           value = records.Batch spells.items;
-          spelled = spelled_at place table (records.Batch spells.items) entry works.version spells.spells;
+          spelled = spells.spells.spelled;
           leads = sym (lead spells.items works.base.image w.world.image works.base.program works.base.roots (changes_told spells.items spells.changed));
         } in
-        folded_pushed (rules_at a place) w.world.sealed entry (length w.world.history) works.base.image w.world.image works.base.folded
-        (does_at a place entry works.base.image w.world.image does)
+        folded_pushed (rules_at a place) w.world.sealed r (length w.world.history) works.base.image w.world.image works.base.folded
+        (does_at a place r works.base.image w.world.image does)
 
   -- where no item changed, entries are as the records give them back
   still_entries : Knows a → (table : TableData F) → IsWholeCore table.core → AreChangedItems table.core []
-      → (place : Place) (w : StoreWorld a place) {handed : List Entry} → IsReached a place w → (works : WorksOn a place w table handed)
+      → (place : Place) (w : StoreWorld a place) {handed : List VersionedEntry} → IsReached a place w → (works : WorksOn a place w table handed)
       → (key : Key) → image_entry works.base.image key ≡ image_entry w.world.image key
   still_entries knows table whole unchanged place w reached works key = changes_told knows place w reached table works whole [] unchanged key
 
   -- so nothing is new
   pub finds_nothing : Knows a → (table : TableData F) → IsWholeCore table.core → AreChangedItems table.core []
-      → (place : Place) (w : StoreWorld a place) {handed : List Entry} → IsReached a place w → WorksOn a place w table handed → HasNothingNew a place w
+      → (place : Place) (w : StoreWorld a place) {handed : List VersionedEntry} → IsReached a place w → WorksOn a place w table handed → HasNothingNew a place w
   finds_nothing knows table whole unchanged place w reached works = record {
     base = works.base.image;
     folded = works.base.folded;
@@ -218,14 +219,14 @@ module _ {F L : Type 0} (a : Analysis F L) where
               entries = λ key. still key ∙ entries_anew w.world.image new.core has (ap (λ (core : CoreData F). core.changes) anew) key;
             };
             sealed = works.sealed ∙ sym rest.sealed;
-            waits = works.waits ∙ ap (λ (more : List Entry). handed ++ more) (sym rest.waiting);
+            waits = works.waits ∙ (λ i. handed ++ in_version (sym rest.version i) (sym rest.waiting i));
           },
         );
   }
 
   -- the record of the items that changed is sealed
   pub seals_batch : Knows a → (entry : Entry) (old new : TableData F) → IsWholeCore old.core → SpellsChanges a old entry → old.sealed < 4294967295
-      → WaitsFor (entry ∷ []) old new → BeginsAnew old.core new.core → IsAct a old new (λ place. Batches entry)
+      → WaitsFor (entry ∷ []) old new → BeginsAnew old.core new.core → IsAct a old new (λ place. Batches (old.version, entry))
   seals_batch knows entry old new whole spells less waits anew place w handed reached works =
       let has : HasImage w.world.image new.core = has_anew w.world.image old.core new.core anew works.image in (
         can_batch knows place w reached old works whole entry spells less,
@@ -242,7 +243,8 @@ module _ {F L : Type 0} (a : Analysis F L) where
             roots = refl;
             entries = entries_anew w.world.image new.core has (ap (λ (core : CoreData F). core.changes) anew);
           };
-          sealed = counts_more w.world.sealed entry (length w.world.history) old.sealed new.sealed works.sealed waits.sealed;
-          waits = waits_more w.world.sealed handed old.waiting new.waiting entry (length w.world.history) works.waits waits.waiting;
+          sealed = counts_more w.world.sealed (old.version, entry) (length w.world.history) old.sealed new.sealed works.sealed waits.sealed;
+          waits = waits_more w.world.sealed handed old.version new.version old.waiting new.waiting entry (length w.world.history) works.waits waits.version
+              waits.waiting;
         },
       )

@@ -5,7 +5,6 @@ use Rattle.ide_graph.specs.SameGraphs.{AreSameGraphs}
 use Rattle.ide_graph.specs.Supergraph.{Supergraph}
 use Rattle.ide_graph.specs.declared.site.Site.{Site}
 use Rattle.ide_graph.specs.declared.site.Site.TheVariants.{Normal, Call, Exit}
-use Rattle.ide_journal.specs.Format.{Entry}
 use Rattle.ide_lattice.specs.Algebra.{EdgeAlgebra}
 use Rattle.ide_problem.specs.Flow.{Targets}
 use Rattle.ide_steps.specs.Claiming.{FindsTask, KeepsAllBut}
@@ -38,9 +37,10 @@ use Rattle.ide_store.proofs.Said.{graph_kept}
 use Rattle.ide_store.proofs.Unloaded.{image_still}
 use Rattle.ide_store.specs.Answers.{GraphBy, frame_by}
 use Rattle.ide_store.proofs.Places.{exact_at, laws_at}
-use Rattle.ide_store.specs.Places.{Place, version_at}
+use Rattle.ide_store.specs.Places.{Place}
 use Rattle.ide_store.specs.Table.{Analysis, IsReached, KeepsRest, StoreWorld, TableData, WorksOn, forms_of, store_at}
 use Rattle.ide_store.specs.TableCalls.{TakesTask}
+use Rattle.ide_store.specs.Versioned.{VersionedEntry}
 
 module _ {F L : Type 0} (functions : EdgeAlgebra F L) (targets : Targets F) (graph other : Supergraph) (table : Table F)
     (facts : graph.facts ≡ other.facts) where
@@ -80,7 +80,7 @@ module _ {F L : Type 0} (a : Analysis F L) (knows : Knows a) where
         edges = other.edges;
       })
 
-  module _ (place : Place) (w : StoreWorld a place) (table : TableData F) {handed : List Entry} (reached : IsReached a place w) (on : WorksOn a place w table handed) where
+  module _ (place : Place) (w : StoreWorld a place) (table : TableData F) {handed : List VersionedEntry} (reached : IsReached a place w) (on : WorksOn a place w table handed) where
     -- where a key waits, a program is loaded
     loaded_where : (key : Key) → w.world.image.pending key ≡ true → (v : ProgramValue) × (w.world.image.program ≡ Some v)
     loaded_where key waits =
@@ -97,7 +97,7 @@ module _ {F L : Type 0} (a : Analysis F L) (knows : Knows a) where
         let laws = laws_at a place in
         let K = frame_by a.lattice a.functions a.targets by in
         let run =
-        run_now a.lattice a.functions a.targets a.same (forms_of a) (version_at place) (store_at a place) knows.is_same exact laws knows.known w whole.held v is by in
+        run_now a.lattice a.functions a.targets a.same (forms_of a) (store_at a place) knows.is_same exact laws knows.known w whole.held v is by in
         let reaches = run-reached K (knows.known.lawful by) run in
         let graph = graph_kept table.core kept_whole on.image.graphed v (sym on.image.program ∙ is) in
         let kept : GraphBy v = graph.0 in

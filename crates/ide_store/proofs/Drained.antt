@@ -4,7 +4,7 @@ use Rattle.std.specs.Prelude.{IfErr, IfOk, IfSome, IsOkUnless, OnErr, OnOk, nat_
 use Rattle.std.specs.Option.{is_some}
 use Rattle.std.proofs.lemmas.Bool.{eqb-true}
 use Rattle.std.proofs.lemmas.List.Elements.{All-append, All-cons, All-nil}
-use Rattle.ide_journal.specs.Format.{Entry}
+use Rattle.ide_store.specs.Versioned.{VersionedEntry}
 use Rattle.ide_lattice.specs.Algebra.{EdgeAlgebra}
 use Rattle.ide_problem.specs.Flow.{Targets}
 use Rattle.ide_steps.proofs.Going.{state-unchanged}
@@ -70,14 +70,14 @@ module _ {F L : Type 0} (a : Analysis F L) where
 
   -- by none, where the half works on the same worlds
   pub works_still : (old new : TableData F)
-      → ((place : Place) (w : StoreWorld a place) (handed : List Entry) → IsReached a place w → WorksOn a place w old handed → WorksOn a place w new handed)
+      → ((place : Place) (w : StoreWorld a place) (handed : List VersionedEntry) → IsReached a place w → WorksOn a place w old handed → WorksOn a place w new handed)
       → WorksBy a old new 0 0
   works_still old new still place w handed reached works =
       ([], record { own = All-nil (IsByHand a place 0); claimed = refl; released = refl }, tt, still place w handed reached works)
 
   -- as it does where all stays
   pub works_same : (old new : TableData F) → KeepsRest old new → IsUnchanged old.core new.core
-      → (place : Place) (w : StoreWorld a place) (handed : List Entry) → IsReached a place w → WorksOn a place w old handed → WorksOn a place w new handed
+      → (place : Place) (w : StoreWorld a place) (handed : List VersionedEntry) → IsReached a place w → WorksOn a place w old handed → WorksOn a place w new handed
   works_same old new rest same place w handed reached on =
       works_on a place w old new w.world.image w.claims w.world.history w.tally on rest
       (record { program = same.program; graph = same.graph; roots = same.roots }) refl refl
@@ -156,10 +156,10 @@ put_nothing old new none puts h = puts h ∙ by (nat_eq 0 h) refl
 
 module _ {F L : Type 0} (a : Analysis F L) where
   -- one act of the hand that is neither a claim nor one that gives it back
-  plain : (old new : TableData F) (act : (place : Place) → StoreAct a place) → IsAct a old new act → ((place : Place) → IsByHand a place 0 (act place))
+  plain_act : (old new : TableData F) (act : (place : Place) → StoreAct a place) → IsAct a old new act → ((place : Place) → IsByHand a place 0 (act place))
       → ((place : Place) → count_of a place (is_claim a place) (act place ∷ []) ≡ 0) → ((place : Place) → count_of a place (is_release a place) (act place ∷ []) ≡ 0)
       → WorksBy a old new 0 0
-  plain old new act is own claimed released =
+  plain_act old new act is own claimed released =
       works_once a old new 0 0 act is (λ place. record {
         own = All-cons (IsByHand a place 0) (act place) [] (own place) (All-nil (IsByHand a place 0));
         claimed = claimed place;
@@ -171,7 +171,7 @@ module _ {F L : Type 0} (a : Analysis F L) where
       → IfOk result (λ sealed. IfSome sealed (λ ticket. SealsBatch a old new ticket.number)) → (result ≡ Ok None → FindsNothing a old new)
       → OnErr result ((new.core ≡ old.core) × KeepsRest old new) → WorksBy a old new 0 0
   seal_works (Ok (Some ticket)) old new seals nothing same =
-      plain old new (λ place. Batches seals.entry) seals.act (λ place. tt) (λ place. refl) (λ place. refl)
+      plain_act old new (λ place. Batches (old.version, seals.entry)) seals.act (λ place. tt) (λ place. refl) (λ place. refl)
   seal_works (Ok None) old new seals nothing same = works_still a old new (λ place w handed reached on. ((nothing refl).caught_up place w handed reached on).1)
   seal_works (Err e) old new seals nothing same = works_unchanged a old new same.1 (unchanged_equal old.core new.core same.0)
 
@@ -202,10 +202,10 @@ module _ {F L : Type 0} (a : Analysis F L) where
           → WorksBy a old new 0 0
       part_works (Ok Lowered) work after own lowers skips none same =
           let does = acts.lower 0 old new work after noting rest problem remembers own (lowers refl) in
-          plain old new (λ place. Parts 0 does.part.0 does.part.1) does.act (λ place. refl) (λ place. refl) (λ place. refl)
+          plain_act old new (λ place. Parts 0 does.part.0 does.part.1) does.act (λ place. refl) (λ place. refl) (λ place. refl)
       part_works (Ok Same) work after own lowers skips none same =
           let does = acts.skip 0 old new work after noting rest problem remembers own (skips refl) in
-          plain old new (λ place. Parts 0 does.part.0 does.part.1) does.act (λ place. refl) (λ place. refl) (λ place. refl)
+          plain_act old new (λ place. Parts 0 does.part.0 does.part.1) does.act (λ place. refl) (λ place. refl) (λ place. refl)
       part_works (Ok NoPart) work after own lowers skips none same = works_unchanged a old new rest (unchanged_equal old.core new.core (none refl).1)
       part_works (Err e) work after own lowers skips none same = works_unchanged a old new rest same.0
 
@@ -214,7 +214,7 @@ module _ {F L : Type 0} (a : Analysis F L) where
           → OnErr result (new.core ≡ old.core) → WorksBy a old new 0 0
       end_works (Ok x) ends same =
           let does = acts.finish 0 old new noting rest problem remembers ends in
-          plain old new (λ place. Ends 0 (claim_of a.functions a.targets does.held)) does.act (λ place. refl) (λ place. refl) (λ place. refl)
+          plain_act old new (λ place. Ends 0 (claim_of a.functions a.targets does.held)) does.act (λ place. refl) (λ place. refl) (λ place. refl)
       end_works (Err e) ends same = works_unchanged a old new rest (unchanged_equal old.core new.core same)
 
     -- the claim is given back, if there is one

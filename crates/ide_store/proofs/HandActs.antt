@@ -6,7 +6,6 @@ use Rattle.std.specs.Option.{is_some}
 use Rattle.std.proofs.lemmas.Option.{same_Some}
 use Rattle.ide_batch.specs.Applied.{IsGraphed, named_in}
 use Rattle.ide_batch.specs.Fold.{ProgramImage, procedures}
-use Rattle.ide_journal.specs.Format.{Entry}
 use Rattle.ide_lattice.specs.Algebra.{EdgeAlgebra}
 use Rattle.ide_problem.specs.Flow.{Targets}
 use Rattle.ide_steps.proofs.States.{claim-of-work}
@@ -33,6 +32,7 @@ use Rattle.ide_store.specs.Places.{Place}
 use Rattle.ide_store.specs.Table.{Analysis, IsAct, KeepsRest, StoreWorld, TableData, WorksOn, table_state, told}
 use Rattle.ide_store.specs.TableCalls.{DoesPart, EndsClaim, GivesClaimBack}
 use Rattle.ide_store.specs.Tally.{Tally, state_with}
+use Rattle.ide_store.specs.Versioned.{VersionedEntry, in_version}
 
 -- what is left from a place on begins with what stands there
 drop_at : {X : Type 0} (xs : List X) (i : ℕ) (x : X) → slice_get xs i ≡ Some x → drop i xs ≡ x ∷ drop (suc i) xs
@@ -90,7 +90,7 @@ has_next {F = F} functions targets core hand work part own at =
 
 module _ {F L : Type 0} (a : Analysis F L) (place : Place) where
   -- the image and the claims of a world are those of the core that works on it
-  pub state_is : (w : StoreWorld a place) (table : TableData F) {handed : List Entry} → WorksOn a place w table handed → state_with w.world.image w.claims ≡ table_state a table
+  pub state_is : (w : StoreWorld a place) (table : TableData F) {handed : List VersionedEntry} → WorksOn a place w table handed → state_with w.world.image w.claims ≡ table_state a table
   state_is w table on = λ i. record {
     get = λ key. on.image.get key i;
     pending = λ key. on.image.pending key i;
@@ -99,7 +99,7 @@ module _ {F L : Type 0} (a : Analysis F L) (place : Place) where
 
   -- the half works on the world of its new state, where nothing is sealed and entries of then stay
   pub works_on : (w : StoreWorld a place) (old new : TableData F) (image : ProgramImage F) (claims : ℕ → Option (Claim F)) (history : List (ProgramStep F))
-      (tally : Tally F) {handed : List Entry} → WorksOn a place w old handed → KeepsRest old new → IsSameProblem old.core new.core
+      (tally : Tally F) {handed : List VersionedEntry} → WorksOn a place w old handed → KeepsRest old new → IsSameProblem old.core new.core
       → image.program ≡ w.world.image.program → image.roots ≡ w.world.image.roots → state_with image claims ≡ table_state a new
       → ((key : Key) → entry_then new.core key ≡ entry_then old.core key)
       → WorksOn a place (record { world = record w.world { image = image; history = history }; claims = claims; tally = tally }) new handed
@@ -127,7 +127,7 @@ module _ {F L : Type 0} (a : Analysis F L) (place : Place) where
       entries = λ key. on.base.entries key ∙ ap told (sym (entries key));
     };
     sealed = on.sealed ∙ sym rest.sealed;
-    waits = on.waits ∙ ap (λ (more : List Entry). handed ++ more) (sym rest.waiting);
+    waits = on.waits ∙ (λ i. handed ++ in_version (sym rest.version i) (sym rest.waiting i));
   }
 
 module _ {F L : Type 0} (a : Analysis F L) where

@@ -4,12 +4,9 @@ use Rattle.std.specs.Option.{is_some}
 use Rattle.std.proofs.lemmas.Bool.{cases_lt}
 use Rattle.std.proofs.lemmas.List.{map-append, take-take, take_all}
 use Rattle.ide_batch.proofs.Folding.{lead}
-use Rattle.ide_batch.specs.Bodies.{IsEntryOf}
 use Rattle.ide_batch.specs.Fold.{ProgramImage, procedures}
 use Rattle.ide_batch.specs.Items.{Functions}
 use Rattle.ide_batch.specs.Records as records
-use Rattle.ide_journal.specs.Format.{Entry}
-use Rattle.ide_journal.specs.declared.version.Version.{Version}
 use Rattle.ide_lattice.specs.Algebra.{LatticeAlgebra, EdgeAlgebra}
 use Rattle.ide_problem.specs.Flow.{Targets}
 use Rattle.ide_steps.specs.Room.{key_space}
@@ -30,9 +27,10 @@ use Rattle.ide_theory.proofs.Laws.Ranks.{lowerings-few}
 use Rattle.ide_theory.proofs.Laws.Reached.{run-on}
 use Rattle.ide_store.specs.Answers.{GraphBy, IsWorkFew, frame_by}
 use Rattle.ide_store.specs.Hands.{Act, Allowed, AreAllowed, Batches, Roots, CanBatch, CanBegin, CanEnd, CanLoad, CanPart, CanRelease, CanClaim, Claims, Ends, EveryRunAnswers, FitsNext, Hands, Happens, IsOfStore, IsSoundWorld, Loads, Parts, ProgramEvent, Releases, absent_from, absent_in, claims_after, idle, next, state_in, tally_after, worked}
-use Rattle.ide_store.specs.Machine.{Does, ProgramStep}
+use Rattle.ide_store.specs.Machine.{Does, IsSpelled, ProgramStep}
 use Rattle.ide_store.specs.Store.{Store, StoreLaws}
 use Rattle.ide_store.specs.Tally.{state_with}
+use Rattle.ide_store.specs.Versioned.{VersionedEntry}
 use Rattle.ide_store.specs.World.{Acks, AreAlike, AreExact, Begins, Calls, Can, Crashes, Fails, IsFolded, LeadTo, Opens, Rules, Running, Seals, Sealed, Steps, Stops, Stores, after_event, contents, image_after}
 use Rattle.ide_store.proofs.Good.{HaveStarts, IsGood, good_is_best, good_released, has_roots, start_has, starts_kept, starts_more}
 use Rattle.ide_store.proofs.Marks.{all_pushed, folded_pushed, mark_at, mark_before, pushed, take_more}
@@ -76,20 +74,20 @@ pub record Known {F L : Type 0} (A : LatticeAlgebra L) (B : EdgeAlgebra F L) (ta
       × ((s : State F) → Run (frame_by A B targets by) s → (key : Key) (f : F) → s.get key ≡ Some f → IsIn key keys)
 
 -- the machine of an analysis whose records do that
-abbrev pub machine_by : {F L : Type 0} → EdgeAlgebra F L → (F → F → Bool) → (Entry → ProgramImage F → ProgramImage F → Type 0)
-    → Rules (ProgramImage F) (ProgramStep F) Entry
+abbrev pub machine_by : {F L : Type 0} → EdgeAlgebra F L → (F → F → Bool) → (VersionedEntry → ProgramImage F → ProgramImage F → Type 0)
+    → Rules (ProgramImage F) (ProgramStep F) VersionedEntry
 machine_by functions same Leads = record { empty = loaded None; step = step procedures functions same; Leads = Leads }
 
-module _ {F L : Type 0} {Leads : Entry → ProgramImage F → ProgramImage F → Type 0}
-    (A : LatticeAlgebra L) (B : EdgeAlgebra F L) (targets : Targets F) (same : F → F → Bool) (forms : Functions F) (version : Version)
-    (S : Store Entry) (is_same : IsSame same) (exact : AreExact (machine_by B same Leads)) (laws : StoreLaws (AreAlike (machine_by B same Leads)) S)
+module _ {F L : Type 0} {Leads : VersionedEntry → ProgramImage F → ProgramImage F → Type 0}
+    (A : LatticeAlgebra L) (B : EdgeAlgebra F L) (targets : Targets F) (same : F → F → Bool) (forms : Functions F)
+    (S : Store VersionedEntry) (is_same : IsSame same) (exact : AreExact (machine_by B same Leads)) (laws : StoreLaws (AreAlike (machine_by B same Leads)) S)
     (known : Known A B targets) where
-  abbrev acts_by : Rules (ProgramImage F) (ProgramStep F) Entry
+  abbrev acts_by : Rules (ProgramImage F) (ProgramStep F) VersionedEntry
   acts_by = machine_by B same Leads
 
   -- what a record of a journal does, it does by these rules
   abbrev pub DoAsRecords : Type 0
-  DoAsRecords = (r : Entry) (before now : ProgramImage F) → Does B same forms version r before now → Leads r before now
+  DoAsRecords = (r : VersionedEntry) (before now : ProgramImage F) → Does B same forms r before now → Leads r before now
 
   -- over each graph of its program the image is good
   abbrev IsGoodImage : ProgramImage F → Type 0
@@ -143,7 +141,7 @@ module _ {F L : Type 0} {Leads : Entry → ProgramImage F → ProgramImage F →
   run_now w held v is by = let work = held.work v is by in run-on (frame_by A B targets by) (known.lawful by) work.run work.way
 
   -- a record of the image as it is
-  sealed_held : (w : Hands F S) (r : Entry) → IsHeld w → Can acts_by w.world (Seals r) → IsWhole (record w { world = after_event acts_by w.world (Seals r) })
+  sealed_held : (w : Hands F S) (r : VersionedEntry) → IsHeld w → Can acts_by w.world (Seals r) → IsWhole (record w { world = after_event acts_by w.world (Seals r) })
   sealed_held w r held can =
       let catches = can.2 in
       record {
@@ -167,11 +165,11 @@ module _ {F L : Type 0} {Leads : Entry → ProgramImage F → ProgramImage F →
   some_base w held =
       let n : ℕ = length w.world.sealed in
       let base : ProgramImage F = image_after acts_by (take (mark_at w.world.sealed n) w.world.history) in
-      (base, subst (λ (xs : List (Sealed Entry)). IsFolded acts_by (contents xs) base) (take_all n w.world.sealed (omega arith)) (held.world.marks.images n))
+      (base, subst (λ (xs : List (Sealed VersionedEntry)). IsFolded acts_by (contents xs) base) (take_all n w.world.sealed (omega arith)) (held.world.marks.images n))
 
   -- ---- hands
-  claims_held : (w : Hands F S) (h : ℕ) (q : Key) (parts : List (Key × F)) → IsWhole w → CanClaim A B targets same forms version acts_by S w h q parts
-      → IsWhole (next A B targets same forms version acts_by S w (Claims h q parts))
+  claims_held : (w : Hands F S) (h : ℕ) (q : Key) (parts : List (Key × F)) → IsWhole w → CanClaim A B targets same forms acts_by S w h q parts
+      → IsWhole (next A B targets same forms acts_by S w (Claims h q parts))
   claims_held w h q parts whole can = record {
     held = record {
       world = whole.held.world;
@@ -185,14 +183,14 @@ module _ {F L : Type 0} {Leads : Entry → ProgramImage F → ProgramImage F →
     noted = whole.noted;
   }
 
-  parts_held : (w : Hands F S) (h : ℕ) (key : Key) (g : F) → IsWhole w → CanPart A B targets same forms version acts_by S w h key g
-      → IsWhole (next A B targets same forms version acts_by S w (Parts h key g))
+  parts_held : (w : Hands F S) (h : ℕ) (key : Key) (g : F) → IsWhole w → CanPart A B targets same forms acts_by S w h key g
+      → IsWhole (next A B targets same forms acts_by S w (Parts h key g))
   parts_held w h key g whole can = record {
     held = record {
       world = kept acts_by exact laws w.world (Steps (Part key g)) whole.held.world can.running;
       stored = whole.held.stored;
       work = λ v is by.
-          subst (λ (s : State F). IsWorkTo (frame_by A B targets by) (tally_after A B targets same forms version acts_by S w (Parts h key g)) s) (sym is_one)
+          subst (λ (s : State F). IsWorkTo (frame_by A B targets by) (tally_after A B targets same forms acts_by S w (Parts h key g)) s) (sym is_one)
           (parted_on (frame_by A B targets by) procedures same is_same w.tally (state_with w.world.image w.claims) h can.claim key g can.rest can.mine can.next
           (whole.held.work v is by));
       begun = λ v is by.
@@ -206,12 +204,12 @@ module _ {F L : Type 0} {Leads : Entry → ProgramImage F → ProgramImage F →
         record { program = noted.program; roots = noted.roots; present = λ k has. still_present (image_state w.world.image) key g k (noted.present k has) };
   }
     where
-      is_one : state_in A B targets same forms version acts_by S (next A B targets same forms version acts_by S w (Parts h key g))
+      is_one : state_in A B targets same forms acts_by S (next A B targets same forms acts_by S w (Parts h key g))
           ≡ part_done (received procedures B same (state_with w.world.image w.claims) key g) h
       is_one = part_is procedures B same w.world.image w.claims h key g
 
-  ends_held : (w : Hands F S) (h : ℕ) (c : Claim F) → IsWhole w → CanEnd A B targets same forms version acts_by S w h c
-      → IsWhole (next A B targets same forms version acts_by S w (Ends h c))
+  ends_held : (w : Hands F S) (h : ℕ) (c : Claim F) → IsWhole w → CanEnd A B targets same forms acts_by S w h c
+      → IsWhole (next A B targets same forms acts_by S w (Ends h c))
   ends_held w h c whole can = record {
     held = record {
       world = kept acts_by exact laws w.world (Steps (Finish c.key c.lowered)) whole.held.world can.running;
@@ -224,8 +222,8 @@ module _ {F L : Type 0} {Leads : Entry → ProgramImage F → ProgramImage F →
         record { program = noted.program; roots = noted.roots; present = noted.present };
   }
 
-  releases_held : (w : Hands F S) (h : ℕ) → IsWhole w → CanRelease A B targets same forms version acts_by S w h
-      → IsWhole (next A B targets same forms version acts_by S w (Releases h))
+  releases_held : (w : Hands F S) (h : ℕ) → IsWhole w → CanRelease A B targets same forms acts_by S w h
+      → IsWhole (next A B targets same forms acts_by S w (Releases h))
   releases_held w h whole can = record {
     held = record {
       world = whole.held.world;
@@ -237,16 +235,16 @@ module _ {F L : Type 0} {Leads : Entry → ProgramImage F → ProgramImage F →
   }
 
   -- ---- a program is loaded
-  loads_held : DoAsRecords → (w : Hands F S) (v : ProgramValue) (r : Entry) → IsWhole w → CanLoad A B targets same forms version acts_by S w v r
-      → IsWhole (next A B targets same forms version acts_by S w (Loads v r))
+  loads_held : DoAsRecords → (w : Hands F S) (v : ProgramValue) (r : VersionedEntry) → IsWhole w → CanLoad A B targets same forms acts_by S w v r
+      → IsWhole (next A B targets same forms acts_by S w (Loads v r))
   loads_held as_records w v r whole can =
       let base = some_base w whole.held in
       let now : Hands F S = record {
         world = after_event acts_by w.world (Steps (Load v));
         claims = λ h. None;
-        tally = tally_after A B targets same forms version acts_by S w (Loads v r);
+        tally = tally_after A B targets same forms acts_by S w (Loads v r);
       } in
-      let does : Does B same forms version r base.0 now.world.image = record {
+      let does : Does B same forms r base.0 now.world.image = record {
         value = records.Load can.text;
         spelled = can.spelled;
         leads = (can.program, can.parsed, ap (λ u. loaded (Some u)) (sym can.says));
@@ -261,11 +259,11 @@ module _ {F L : Type 0} {Leads : Entry → ProgramImage F → ProgramImage F →
       (can.running, can.fits, record { base = base.0; folded = base.1; leads = as_records r base.0 now.world.image does })
 
   -- ---- a batch
-  pub batches_held : DoAsRecords → (w : Hands F S) (r : Entry) → IsWhole w → CanBatch A B targets same forms version acts_by S w r
+  pub batches_held : DoAsRecords → (w : Hands F S) (r : VersionedEntry) → IsWhole w → CanBatch A B targets same forms acts_by S w r
       → IsWhole (record w { world = after_event acts_by w.world (Seals r) }) × IsFolded acts_by (contents (after_event acts_by w.world (Seals r)).sealed) w.world.image
   batches_held as_records w r whole can =
       let noted = whole.noted can.base can.folded in
-      let does : Does B same forms version r can.base w.world.image = record {
+      let does : Does B same forms r can.base w.world.image = record {
         value = records.Batch can.items;
         spelled = can.spelled;
         leads = sym (lead can.items can.base w.world.image noted.program noted.roots can.exact);
@@ -276,21 +274,21 @@ module _ {F L : Type 0} {Leads : Entry → ProgramImage F → ProgramImage F →
       )
 
   -- ---- a procedure becomes a root, where the records give back the image
-  root_held : DoAsRecords → (w : Hands F S) (name : List ℕ) (first : Option Entry) (r : Entry) (v : ProgramValue) (start : ℕ) → IsWhole w → w.world.mode ≡ Running
+  root_held : DoAsRecords → (w : Hands F S) (name : List ℕ) (first : Option VersionedEntry) (r : VersionedEntry) (v : ProgramValue) (start : ℕ) → IsWhole w → w.world.mode ≡ Running
       → IsFolded acts_by (contents w.world.sealed) w.world.image → w.world.image.program ≡ Some v → procedures.start v name ≡ Some start
-      → IsEntryOf forms version (records.Root name) r → FitsNext A B targets same forms version acts_by S w.world r
+      → IsSpelled forms (records.Root name) r → FitsNext A B targets same forms acts_by S w.world r
       → IsWhole (record {
         world = after_event acts_by (after_event acts_by w.world (Steps (Root name))) (Seals r);
-        claims = claims_after A B targets same forms version acts_by S w (Roots name first r);
-        tally = tally_after A B targets same forms version acts_by S w (Roots name first r);
+        claims = claims_after A B targets same forms acts_by S w (Roots name first r);
+        tally = tally_after A B targets same forms acts_by S w (Roots name first r);
       })
   root_held as_records w name first r v start whole running folded is_loaded starts spelled fits =
       let now : Hands F S = record {
         world = after_event acts_by w.world (Steps (Root name));
-        claims = claims_after A B targets same forms version acts_by S w (Roots name first r);
-        tally = tally_after A B targets same forms version acts_by S w (Roots name first r);
+        claims = claims_after A B targets same forms acts_by S w (Roots name first r);
+        tally = tally_after A B targets same forms acts_by S w (Roots name first r);
       } in
-      let does : Does B same forms version r w.world.image now.world.image = record { value = records.Root name; spelled = spelled; leads = refl } in
+      let does : Does B same forms r w.world.image now.world.image = record { value = records.Root name; spelled = spelled; leads = refl } in
       sealed_held now r
       (record {
         world = kept acts_by exact laws w.world (Steps (Root name)) whole.held.world running;
@@ -307,21 +305,21 @@ module _ {F L : Type 0} {Leads : Entry → ProgramImage F → ProgramImage F →
       starts_by u is = subst (λ (x : ProgramValue). procedures.start x name ≡ Some start) (some-inj (sym is_loaded ∙ is)) starts
 
       is_one : (u : ProgramValue) → w.world.image.program ≡ Some u → (by : GraphBy u)
-          → state_with (step procedures B same w.world.image (Root name)) (claims_after A B targets same forms version acts_by S w (Roots name first r))
+          → state_with (step procedures B same w.world.image (Root name)) (claims_after A B targets same forms acts_by S w (Roots name first r))
           ≡ seeded_below B s start (procedures.entries u)
       is_one u is by = root_is procedures (frame_by A B targets by) same w.world.image w.claims u name start is (starts_by u is)
 
       absent : (u : ProgramValue) → w.world.image.program ≡ Some u
-          → absent_in A B targets same forms version acts_by S w.world.image.program name s ≡ absent_below B s start (procedures.entries u)
+          → absent_in A B targets same forms acts_by S w.world.image.program name s ≡ absent_below B s start (procedures.entries u)
       absent u is =
-          ap (λ o. absent_in A B targets same forms version acts_by S o name s) is
-          ∙ ap (λ o. absent_from A B targets same forms version acts_by S u o s) (starts_by u is)
+          ap (λ o. absent_in A B targets same forms acts_by S o name s) is
+          ∙ ap (λ o. absent_from A B targets same forms acts_by S u o s) (starts_by u is)
 
       work : (u : ProgramValue) → w.world.image.program ≡ Some u → (by : GraphBy u)
-          → IsWorkTo (frame_by A B targets by) (tally_after A B targets same forms version acts_by S w (Roots name first r))
-          (state_with (step procedures B same w.world.image (Root name)) (claims_after A B targets same forms version acts_by S w (Roots name first r)))
+          → IsWorkTo (frame_by A B targets by) (tally_after A B targets same forms acts_by S w (Roots name first r))
+          (state_with (step procedures B same w.world.image (Root name)) (claims_after A B targets same forms acts_by S w (Roots name first r)))
       work u is by =
-          subst (λ (t : State F). IsWorkTo (frame_by A B targets by) (tally_after A B targets same forms version acts_by S w (Roots name first r)) t) (sym (is_one u is by))
+          subst (λ (t : State F). IsWorkTo (frame_by A B targets by) (tally_after A B targets same forms acts_by S w (Roots name first r)) t) (sym (is_one u is by))
           (subst (λ (n : ℕ). IsWorkTo (frame_by A B targets by) (record w.tally { entries = w.tally.entries + n }) (seeded_below B s start (procedures.entries u))) (sym (absent u is))
           (seeded_on (frame_by A B targets by) w.tally s start (procedures.entries u) (known.starts by name start (starts_by u is)) (known.fits by) (whole.held.work u is by)))
 
@@ -338,8 +336,8 @@ module _ {F L : Type 0} {Leads : Entry → ProgramImage F → ProgramImage F →
           (start_has procedures K u (known.lawful by) t name start (run-on K (known.lawful by) run way.way) (starts_by u is) begins_there
           (λ d less. entered-present K start s (procedures.entries u) d less)))
 
-  begins_held : DoAsRecords → (w : Hands F S) (name : List ℕ) (first : Option Entry) (r : Entry) → IsWhole w
-      → CanBegin A B targets same forms version acts_by S w name first r → IsWhole (next A B targets same forms version acts_by S w (Roots name first r))
+  begins_held : DoAsRecords → (w : Hands F S) (name : List ℕ) (first : Option VersionedEntry) (r : VersionedEntry) → IsWhole w
+      → CanBegin A B targets same forms acts_by S w name first r → IsWhole (next A B targets same forms acts_by S w (Roots name first r))
   begins_held as_records w name None r whole can =
       let noted = whole.noted can.first.base can.first.folded in
       let is : can.first.base ≡ w.world.image = λ i. record {
@@ -356,9 +354,9 @@ module _ {F L : Type 0} {Leads : Entry → ProgramImage F → ProgramImage F →
       before.1 can.loaded can.starts can.spelled can.fits
 
   -- ---- an opening
-  opened_held : (w : Hands F S) (found : List Entry) (image : ProgramImage F) (work : S.Work) (disks : S.Disks) → IsWhole w
+  opened_held : (w : Hands F S) (found : List VersionedEntry) (image : ProgramImage F) (work : S.Work) (disks : S.Disks) → IsWhole w
       → Can acts_by w.world (Opens found image work disks)
-      → IsWhole (next A B targets same forms version acts_by S w (Happens (Opens found image work disks)))
+      → IsWhole (next A B targets same forms acts_by S w (Happens (Opens found image work disks)))
   opened_held w found image work disks whole can =
       let is = read acts_by exact laws w.world found whole.held.world can.0 in
       let folded = is.image image can.1 in
@@ -380,9 +378,9 @@ module _ {F L : Type 0} {Leads : Entry → ProgramImage F → ProgramImage F →
       stored : (n : ℕ) (other : ProgramImage F) → IsFolded acts_by (contents (take n (take m w.world.sealed))) other → IsGoodImage other
       stored n other folded = elim (cases_lt m n) [
         | inl over ↦ whole.held.stored m other
-            (subst (λ (xs : List (Sealed Entry)). IsFolded acts_by (contents xs) other) (take_more n m w.world.sealed (omega arith)) folded)
+            (subst (λ (xs : List (Sealed VersionedEntry)). IsFolded acts_by (contents xs) other) (take_more n m w.world.sealed (omega arith)) folded)
         | inr under ↦ whole.held.stored n other
-            (subst (λ (xs : List (Sealed Entry)). IsFolded acts_by (contents xs) other) (take-take n m w.world.sealed under) folded)
+            (subst (λ (xs : List (Sealed VersionedEntry)). IsFolded acts_by (contents xs) other) (take-take n m w.world.sealed under) folded)
       ]
 
   -- what happens else leaves images, records and claims
@@ -392,7 +390,7 @@ module _ {F L : Type 0} {Leads : Entry → ProgramImage F → ProgramImage F →
   still_held w e whole can same_image same_sealed = record {
     held = record {
       world = kept acts_by exact laws w.world e whole.held.world can;
-      stored = λ n image folded. whole.held.stored n image (subst (λ (xs : List (Sealed Entry)). IsFolded acts_by (contents (take n xs)) image) same_sealed folded);
+      stored = λ n image folded. whole.held.stored n image (subst (λ (xs : List (Sealed VersionedEntry)). IsFolded acts_by (contents (take n xs)) image) same_sealed folded);
       work = λ v is by.
           subst (λ (i : ProgramImage F). IsWorkTo (frame_by A B targets by) w.tally (state_with i w.claims)) (sym same_image)
           (whole.held.work v (sym (ap (λ (i : ProgramImage F). i.program) same_image) ∙ is) by);
@@ -402,11 +400,11 @@ module _ {F L : Type 0} {Leads : Entry → ProgramImage F → ProgramImage F →
     };
     noted = λ base folded.
         subst (λ (i : ProgramImage F). IsNoted i base) (sym same_image)
-        (whole.noted base (subst (λ (xs : List (Sealed Entry)). IsFolded acts_by (contents xs) base) same_sealed folded));
+        (whole.noted base (subst (λ (xs : List (Sealed VersionedEntry)). IsFolded acts_by (contents xs) base) same_sealed folded));
   }
 
   happens_held : (w : Hands F S) (e : ProgramEvent F S) → IsWhole w → IsOfStore e × Can acts_by w.world e
-      → IsWhole (next A B targets same forms version acts_by S w (Happens e))
+      → IsWhole (next A B targets same forms acts_by S w (Happens e))
   happens_held w (Steps s) whole can = absurd can.0
   happens_held w (Seals r) whole can = absurd can.0
   happens_held w (Begins work) whole can = still_held w (Begins work) whole can.1 refl refl
@@ -419,8 +417,8 @@ module _ {F L : Type 0} {Leads : Entry → ProgramImage F → ProgramImage F →
   happens_held w (Stops disks mode) whole can = still_held w (Stops disks mode) whole can.1 refl refl
 
   -- ---- all acts
-  act_held : DoAsRecords → (w : Hands F S) (act : Act F S) → IsWhole w → Allowed A B targets same forms version acts_by S w act
-      → IsWhole (next A B targets same forms version acts_by S w act)
+  act_held : DoAsRecords → (w : Hands F S) (act : Act F S) → IsWhole w → Allowed A B targets same forms acts_by S w act
+      → IsWhole (next A B targets same forms acts_by S w act)
   act_held as_records w (Claims h q parts) whole can = claims_held w h q parts whole can
   act_held as_records w (Parts h key g) whole can = parts_held w h key g whole can
   act_held as_records w (Ends h c) whole can = ends_held w h c whole can
@@ -430,13 +428,13 @@ module _ {F L : Type 0} {Leads : Entry → ProgramImage F → ProgramImage F →
   act_held as_records w (Batches r) whole can = (batches_held as_records w r whole can).0
   act_held as_records w (Happens e) whole can = happens_held w e whole can
 
-  pub all_held : DoAsRecords → (w : Hands F S) (acts : List (Act F S)) → IsWhole w → AreAllowed A B targets same forms version acts_by S w acts
-      → IsWhole (worked A B targets same forms version acts_by S w acts)
+  pub all_held : DoAsRecords → (w : Hands F S) (acts : List (Act F S)) → IsWhole w → AreAllowed A B targets same forms acts_by S w acts
+      → IsWhole (worked A B targets same forms acts_by S w acts)
   all_held as_records w [] whole can = whole
   all_held as_records w (act ∷ acts) whole can =
-      all_held as_records (next A B targets same forms version acts_by S w act) acts (act_held as_records w act whole can.0) can.1
+      all_held as_records (next A B targets same forms acts_by S w act) acts (act_held as_records w act whole can.0) can.1
 
-  pub idle_held : (work : S.Work) (disks : S.Disks) → S.Live [] 0 work disks → IsWhole (idle A B targets same forms version acts_by S work disks)
+  pub idle_held : (work : S.Work) (disks : S.Disks) → S.Live [] 0 work disks → IsWhole (idle A B targets same forms acts_by S work disks)
   idle_held work disks live = record {
     held = record {
       world = kept_created acts_by exact laws work disks live;
@@ -473,7 +471,7 @@ module _ {F L : Type 0} {Leads : Entry → ProgramImage F → ProgramImage F →
             omega (arith, both, spent, work.lowerings, work.entries, room);
       }
 
-  pub sound : (w : Hands F S) → IsWhole w → IsSoundWorld A B targets same forms version acts_by S w
+  pub sound : (w : Hands F S) → IsWhole w → IsSoundWorld A B targets same forms acts_by S w
   sound w whole = record {
     recovers = recoverable acts_by exact laws w.world whole.held.world;
     answers = λ v is by.
@@ -486,7 +484,7 @@ module _ {F L : Type 0} {Leads : Entry → ProgramImage F → ProgramImage F →
     work = few w whole.held;
   }
 
-  pub every_run_answers : DoAsRecords → EveryRunAnswers A B targets same forms version acts_by S
+  pub every_run_answers : DoAsRecords → EveryRunAnswers A B targets same forms acts_by S
   every_run_answers as_records work disks live acts can =
-      let begun = idle A B targets same forms version acts_by S work disks in
-      sound (worked A B targets same forms version acts_by S begun acts) (all_held as_records begun acts (idle_held work disks live) can)
+      let begun = idle A B targets same forms acts_by S work disks in
+      sound (worked A B targets same forms acts_by S begun acts) (all_held as_records begun acts (idle_held work disks live) can)

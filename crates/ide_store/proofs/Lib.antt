@@ -5,6 +5,7 @@ pub mod Known
 pub mod Machine
 pub mod Marks
 pub mod OneDisk
+pub mod OneVersion
 pub mod TwoDisks
 pub mod TwoDisksBegin
 pub mod TwoDisksPlans

@@ -14,7 +14,6 @@ use Rattle.ide_journal.proofs.Lists.{holds_before, holds_either, pages_push}
 use Rattle.ide_journal.proofs.OneList.{holds_one_list, holds_the_same}
 use Rattle.ide_store.specs.OneDisk.{DoesGoodCall, Fails, IsLive, KnowsOf, Opens, Stops, Stores, Writer, next_stage, one_disk, tail_of}
 use Rattle.ide_store.specs.Store.{IsFoundOf, IsSafe, StoreLaws}
-use Rattle.ide_store.specs.World.{AreAlike, Rules}
 
 -- the record of a number, behind those before it
 pub next_taken : {X : Type 0} (xs : List X) (n : ℕ) (x : X) → slice_get xs n ≡ Some x → (n < length xs) × (take (n + 1) xs ≡ take n xs ++ x ∷ [])
@@ -294,11 +293,10 @@ stopped_safe head records stored disk after safe stops = record {
   possible = stops.possible;
 }
 
-pub one_disk_keeps : {Image Step : Type 0} (rules : Rules Image Step Entry) (head : Head) → StoreLaws (AreAlike rules) (one_disk head)
-one_disk_keeps rules head = record {
-  alike = λ found other left holds holds_other.
-      let same = (holds_one_list head head found other left holds holds_other).1 in
-      record { count = ap length same; there = λ image folded. rw (← same) folded; back = λ image folded. rw same folded };
+-- two lists that the same bytes hold are the same
+pub one_disk_keeps : (head : Head) → StoreLaws (λ found other. found ≡ other) (one_disk head)
+one_disk_keeps head = record {
+  alike = λ found other left holds holds_other. (holds_one_list head head found other left holds holds_other).1;
   crashed_leaves = λ left other leaves. leaves;
   crashed_reads = λ left. refl;
   live_safe = live_safe head;

@@ -8,7 +8,7 @@ use Rattle.ide_wire.specs.Form.{IsPrefixFree}
 use Rattle.ide_store.proofs.Adopted.{led_whole, start_whole}
 use Rattle.ide_store.proofs.Hands.{IsWhole, Known}
 use Rattle.ide_store.proofs.Places.{exact_at, laws_at}
-use Rattle.ide_store.specs.Places.{Place, version_at}
+use Rattle.ide_store.specs.Places.{Place}
 use Rattle.ide_store.specs.Table.{Analysis, IsReached, IsStart, StoreWorld, forms_of, store_at}
 
 -- the laws of its functions, of its records and of the graphs of programs
@@ -24,7 +24,7 @@ pub record Knows {F L : Type 0} (a : Analysis F L) : Type 0 where
 module _ {F L : Type 0} (a : Analysis F L) (knows : Knows a) (place : Place) where
   -- what is kept by acts is so of it
   pub reached_whole : (w : StoreWorld a place) → IsReached a place w
-      → IsWhole a.lattice a.functions a.targets a.same (forms_of a) (version_at place) (store_at a place) knows.is_same
+      → IsWhole a.lattice a.functions a.targets a.same (forms_of a) (store_at a place) knows.is_same
       (exact_at a knows.prefix_free place)
       (laws_at a place) knows.known w
   reached_whole w reached =

@@ -5,7 +5,6 @@ use Rattle.std.specs.Option.{option_map}
 use Rattle.std.proofs.lemmas.List.{map-append}
 use Rattle.ide_batch.proofs.Imaged.{has_loaded, starts_as}
 use Rattle.ide_batch.specs.Applied.{HasImage, IsGraphed, IsLoadedWith, named_in}
-use Rattle.ide_batch.specs.Bodies.{IsEntryOf}
 use Rattle.ide_batch.specs.Fold.{ProgramImage, procedures}
 use Rattle.ide_batch.specs.Records as records
 use Rattle.ide_graph.specs.Numbers.{start_of}
@@ -21,7 +20,7 @@ use Rattle.ide_text.specs.declared.program.Program.{Program}
 use Rattle.ide_theory.specs.Images.{Load, Root, entered, loaded, seeded_below, step}
 use Rattle.ide_theory.specs.State.{State}
 use Rattle.ide_store.proofs.BatchActs.{batch_folded, can_batch, counts_more, entries_anew, finds_nothing, fits_next, has_anew}
-use Rattle.ide_store.proofs.BatchActs.{seals_batch, spelled_at, waits_more}
+use Rattle.ide_store.proofs.BatchActs.{seals_batch, waits_more}
 use Rattle.ide_store.proofs.Marks.{folded_pushed, pushed}
 use Rattle.ide_store.proofs.Reached.{Knows, reached_whole}
 use Rattle.ide_store.proofs.Said.{graph_said}
@@ -31,10 +30,11 @@ use Rattle.ide_store.specs.Answers.{GraphBy, frame_by}
 use Rattle.ide_store.specs.Hands.{Batches, CanGoFirst, FitsNext, Loads, Roots, sealing_first}
 use Rattle.ide_store.specs.Machine.{Does}
 use Rattle.ide_store.proofs.Places.{does_at}
-use Rattle.ide_store.specs.Places.{Place, version_at}
+use Rattle.ide_store.specs.Places.{Place}
 use Rattle.ide_store.specs.Table.{Analysis, IsAct, MayDo, StoreWorld, TableData, WorksOn, after_act, forms_of, rules_at, store_at}
 use Rattle.ide_store.specs.TableCalls.{behind_first}
 use Rattle.ide_store.specs.Tally.{state_with}
+use Rattle.ide_store.specs.Versioned.{VersionedEntry}
 use Rattle.ide_store.specs.World.{IsFolded, after_all, contents}
 
 module _ {F L : Type 0} (a : Analysis F L) where
@@ -42,15 +42,15 @@ module _ {F L : Type 0} (a : Analysis F L) where
   pub seals_load : (program : Program) (text : List ℕ) (entry : Entry) (old new : TableData F) → IsWholeCore old.core
       → IsParsed text program → SpellsRecord a old (records.Load text) entry → old.sealed < 4294967295
       → WaitsFor (entry ∷ []) old new → IsLoadedWith program new.core → new.core.changes ≡ Some []
-      → IsAct a old new (λ place. Loads (value_of program) entry)
+      → IsAct a old new (λ place. Loads (value_of program) (old.version, entry))
   seals_load program text entry old new whole parsed spells less waits loads anew place w handed reached works =
       let v : ProgramValue = value_of program in
       let now : ProgramImage F = loaded (Some v) in
       let mark : ℕ = length (w.world.history ++ Load v ∷ []) in
-      let spelled = spelled_at a place old (records.Load text) entry works.version spells in
-      let does : Does a.functions a.same (forms_of a) (version_at place) entry works.base.image now = record {
+      let r : VersionedEntry = (old.version, entry) in
+      let does : Does a.functions a.same (forms_of a) r works.base.image now = record {
         value = records.Load text;
-        spelled = spelled;
+        spelled = spells.spelled;
         leads = (program, parsed, refl);
       } in
       let has : HasImage now new.core = has_loaded program new.core loads in (
@@ -60,8 +60,8 @@ module _ {F L : Type 0} (a : Analysis F L) where
           program = program;
           parsed = parsed;
           says = refl;
-          spelled = spelled;
-          fits = fits_next a place w.world.sealed entry spells.proper (let sealed = works.sealed in omega arith);
+          spelled = spells.spelled;
+          fits = fits_next a place w.world.work w.world.sealed r works.version spells.proper (let sealed = works.sealed in omega arith);
         },
         record {
           running = works.running;
@@ -71,19 +71,19 @@ module _ {F L : Type 0} (a : Analysis F L) where
           claims = λ hand. sym (ap (λ claims. option_map (claim_of a.functions a.targets) (slice_index_or claims hand None)) loads.claims);
           base = record {
             image = now;
-            folded = folded_pushed (rules_at a place) w.world.sealed entry mark works.base.image now works.base.folded
-                (does_at a place entry works.base.image now does);
+            folded = folded_pushed (rules_at a place) w.world.sealed r mark works.base.image now works.base.folded
+                (does_at a place r works.base.image now does);
             program = refl;
             roots = refl;
             entries = entries_anew a now new.core has anew;
           };
-          sealed = counts_more a w.world.sealed entry mark old.sealed new.sealed works.sealed waits.sealed;
-          waits = waits_more a w.world.sealed handed old.waiting new.waiting entry mark works.waits waits.waiting;
+          sealed = counts_more a w.world.sealed (old.version, entry) mark old.sealed new.sealed works.sealed waits.sealed;
+          waits = waits_more a w.world.sealed handed old.version new.version old.waiting new.waiting entry mark works.waits waits.version waits.waiting;
         },
       )
 
   -- ---- a procedure becomes a root
-  module _ (place : Place) (w : StoreWorld a place) (old : TableData F) {handed : List Entry} (works : WorksOn a place w old handed) (whole : IsWholeCore old.core)
+  module _ (place : Place) (w : StoreWorld a place) (old : TableData F) {handed : List VersionedEntry} (works : WorksOn a place w old handed) (whole : IsWholeCore old.core)
       (mid : CoreData F) (name : List ℕ) (begins : IsBegun a.lattice a.functions a.targets old.core mid name) where
     -- the program of the graph, and where the procedure begins
     abbrev said : IsGraphSaid old.core.program begins.graph
@@ -139,11 +139,11 @@ module _ {F L : Type 0} (a : Analysis F L) where
     }
 
     -- it may become one, where what changed is sealed first, if anything did
-    can_begin : (first : Option Entry) (entry : Entry) → SpellsRecord a old (records.Root name) entry
-        → CanGoFirst a.lattice a.functions a.targets a.same (forms_of a) (version_at place) (rules_at a place) (store_at a place) w first
-        → FitsNext a.lattice a.functions a.targets a.same (forms_of a) (version_at place) (rules_at a place) (store_at a place)
-        (after_all (rules_at a place) w.world (sealing_first first [])) entry
-        → MayDo a place w (Roots name first entry)
+    can_begin : (first : Option VersionedEntry) (entry : Entry) → SpellsRecord a old (records.Root name) entry
+        → CanGoFirst a.lattice a.functions a.targets a.same (forms_of a) (rules_at a place) (store_at a place) w first
+        → FitsNext a.lattice a.functions a.targets a.same (forms_of a) (rules_at a place) (store_at a place)
+        (after_all (rules_at a place) w.world (sealing_first first [])) (old.version, entry)
+        → MayDo a place w (Roots name first (old.version, entry))
     can_begin first entry spells goes fits = record {
       running = works.running;
       program = v;
@@ -151,19 +151,20 @@ module _ {F L : Type 0} (a : Analysis F L) where
       start = start;
       starts = starts;
       first = goes;
-      spelled = spelled_at a place old (records.Root name) entry works.version spells;
+      spelled = spells.spelled;
       fits = fits;
     }
 
     -- where the records give back the image, the half works on the world in which the procedure is a root
     works_rooted : IsFolded (rules_at a place) (contents w.world.sealed) w.world.image → (entry : Entry) (new : TableData F)
-        → IsEntryOf (forms_of a) (version_at place) (records.Root name) entry → BeginsAnew mid new.core → WaitsFor (entry ∷ []) old new
-        → WorksOn a place (after_act a place w (Roots name None entry)) new handed
-    works_rooted folded entry new spelled anew waits =
+        → SpellsRecord a old (records.Root name) entry → BeginsAnew mid new.core → WaitsFor (entry ∷ []) old new
+        → WorksOn a place (after_act a place w (Roots name None (old.version, entry))) new handed
+    works_rooted folded entry new spells anew waits =
         let mark : ℕ = length (w.world.history ++ Root name ∷ []) in
-        let does : Does a.functions a.same (forms_of a) (version_at place) entry w.world.image rooted = record {
+        let r : VersionedEntry = (old.version, entry) in
+        let does : Does a.functions a.same (forms_of a) r w.world.image rooted = record {
           value = records.Root name;
-          spelled = spelled;
+          spelled = spells.spelled;
           leads = refl;
         } in
         let has : HasImage rooted new.core = has_anew a rooted mid new.core anew has_rooted in
@@ -177,13 +178,13 @@ module _ {F L : Type 0} (a : Analysis F L) where
               ∙ ap (λ (core : CoreData F). (core_state a.functions a.targets core).claims hand) (sym anew);
           base = record {
             image = rooted;
-            folded = folded_pushed (rules_at a place) w.world.sealed entry mark w.world.image rooted folded (does_at a place entry w.world.image rooted does);
+            folded = folded_pushed (rules_at a place) w.world.sealed r mark w.world.image rooted folded (does_at a place r w.world.image rooted does);
             program = refl;
             roots = refl;
             entries = entries_anew a rooted new.core has (ap (λ (core : CoreData F). core.changes) anew);
           };
-          sealed = counts_more a w.world.sealed entry mark old.sealed new.sealed works.sealed waits.sealed;
-          waits = waits_more a w.world.sealed handed old.waiting new.waiting entry mark works.waits waits.waiting;
+          sealed = counts_more a w.world.sealed (old.version, entry) mark old.sealed new.sealed works.sealed waits.sealed;
+          waits = waits_more a w.world.sealed handed old.version new.version old.waiting new.waiting entry mark works.waits waits.version waits.waiting;
         }
 
   -- the half once what changed is sealed, before a root's record
@@ -219,7 +220,7 @@ module _ {F L : Type 0} (a : Analysis F L) where
   pub seals_root : Knows a → (name : List ℕ) (first : Option Entry) (entry : Entry) (old new : TableData F) (mid : CoreData F) → IsWholeCore old.core
       → SpellsFirst a old first → SpellsRecord a old (records.Root name) entry → old.sealed < 4294967294
       → IsBegun a.lattice a.functions a.targets old.core mid name → BeginsAnew mid new.core
-      → WaitsFor (behind_first first entry) old new → IsAct a old new (λ place. Roots name first entry)
+      → WaitsFor (behind_first first entry) old new → IsAct a old new (λ place. Roots name (option_map (λ batch. (old.version, batch)) first) (old.version, entry))
   seals_root knows name None entry old new mid whole unchanged spells less begins anew waits place w handed reached works =
       let nothing = finds_nothing a knows old whole unchanged place w reached works in
       let noted = (reached_whole a knows place w reached).noted nothing.base nothing.folded in
@@ -231,9 +232,10 @@ module _ {F L : Type 0} (a : Analysis F L) where
         pending = λ key. (nothing.entries key i).1;
       } in
       let folded = subst (λ (image : ProgramImage F). IsFolded (rules_at a place) (contents w.world.sealed) image) same nothing.folded in
-      let fits = fits_next a place w.world.sealed entry spells.proper (let sealed = works.sealed in omega arith) in (
+      let r : VersionedEntry = (old.version, entry) in
+      let fits = fits_next a place w.world.work w.world.sealed r works.version spells.proper (let sealed = works.sealed in omega arith) in (
         can_begin place w old works whole mid name begins None entry spells nothing fits,
-        works_rooted place w old works whole mid name begins folded entry new (spelled_at a place old (records.Root name) entry works.version spells) anew waits,
+        works_rooted place w old works whole mid name begins folded entry new spells anew waits,
       )
   seals_root knows name (Some batch) entry old new mid whole changed spells less begins anew waits place w handed reached works =
       let between : TableData F = half_between batch old in
@@ -248,9 +250,11 @@ module _ {F L : Type 0} (a : Analysis F L) where
         sealed = waits.sealed ∙ omega arith;
       } in
       let mark : ℕ = length w.world.history in
-      let fits = fits_next a place (pushed w.world.sealed batch mark) entry spells.proper (let sealed = before.1.sealed in omega arith) in (
-        can_begin place w old works whole mid name begins (Some batch) entry spells can fits,
-        works_rooted place (after_act a place w (Batches batch)) between before.1
+      let r : VersionedEntry = (old.version, entry) in
+      let first_r : VersionedEntry = (old.version, batch) in
+      let fits = fits_next a place w.world.work (pushed w.world.sealed first_r mark) r works.version spells.proper (let sealed = before.1.sealed in omega arith) in (
+        can_begin place w old works whole mid name begins (Some first_r) entry spells can fits,
+        works_rooted place (after_act a place w (Batches first_r)) between before.1
             (record { distinct = whole.distinct; sited = whole.sited; said = whole.said }) mid name (begins_between batch old mid name begins)
-            folded entry new (spelled_at a place old (records.Root name) entry works.version spells) anew rest,
+            folded entry new (record { spelled = spells.spelled; proper = spells.proper }) anew rest,
       )

@@ -4,7 +4,6 @@ use Rattle.std.proofs.Common.{◌≡◌, ◌∙◌, ◌<◌, ℕ, List, [], ◌�
 use Rattle.std.specs.List.{All}
 use Rattle.std.proofs.lemmas.List.Elements.{All-cons, All-nil, All-from_recursion, recursion_from_All}
 use Rattle.std.specs.List.{AllByRecursion}
-use Rattle.ide_journal.specs.Format.{Entry}
 use Rattle.ide_steps.specs.Frozen.{program_in}
 use Rattle.ide_steps.specs.declared.closed.Closed.{Closed}
 use Rattle.ide_image.specs.Tables.{found}
@@ -14,11 +13,12 @@ use Rattle.ide_wire.specs.declared.key.Key.{Key}
 use Rattle.ide_store.specs.Answers.{GraphBy, frame_by, roots_by}
 use Rattle.ide_store.specs.Draining.{AreByDrainer, IsByHand, WorksBy}
 use Rattle.ide_store.specs.Hands.{Batches, Claims, Ends, Happens, IsSoundWorld, Loads, Parts, Releases, Roots, RunsAnswer}
-use Rattle.ide_store.specs.Places.{OnOneDisk, OnTwoDisks, Place, version_at}
+use Rattle.ide_store.specs.Places.{OnOneDisk, OnTwoDisks, Place}
 use Rattle.ide_store.specs.Recovery.{OneDiskAnswers, PlaceAnswers}
 use Rattle.ide_store.specs.Runs.{IsBestImage, IsImageOfRun, IsOfTable, IsSameBelow}
 use Rattle.ide_store.specs.Table.{Analysis, AreActs, IsAct, IsReached, StoreAct, StoreWorld, TableData, WorksOn, after_act, after_acts, forms_of, rules_at, store_at}
 use Rattle.ide_store.specs.TwoDisksLaws.{TwoDisksAnswers}
+use Rattle.ide_store.specs.Versioned.{VersionedEntry}
 use Rattle.ide_store.proofs.Acts.{reached_more}
 
 -- ---- the disks beneath the half that works
@@ -57,7 +57,7 @@ module _ {F L : Type 0} (a : Analysis F L) (place : Place) where
 
 module _ {F L : Type 0} (a : Analysis F L) where
   -- the half works on a world to which acts of its own led from that one, with the same records handed over
-  pub record WorksFrom (place : Place) (w : StoreWorld a place) (new : TableData F) (handed : List Entry) : Type 0 where
+  pub record WorksFrom (place : Place) (w : StoreWorld a place) (new : TableData F) (handed : List VersionedEntry) : Type 0 where
     pub world : StoreWorld a place
     pub reached : IsReached a place world
     pub works : WorksOn a place world new handed
@@ -66,7 +66,7 @@ module _ {F L : Type 0} (a : Analysis F L) where
   module _ (old new : TableData F) where
     pub acts_go : (Are : (place : Place) → List (StoreAct a place) → Type 0)
         → ((place : Place) (acts : List (StoreAct a place)) → Are place acts → All (IsOfTable a place) acts) → AreActs a old new Are
-        → (place : Place) (w : StoreWorld a place) (handed : List Entry) → IsReached a place w → WorksOn a place w old handed
+        → (place : Place) (w : StoreWorld a place) (handed : List VersionedEntry) → IsReached a place w → WorksOn a place w old handed
         → WorksFrom place w new handed
     acts_go Are own acts place w handed reached works =
         let done = acts place w handed reached works in
@@ -78,7 +78,7 @@ module _ {F L : Type 0} (a : Analysis F L) where
         }
 
     pub act_goes : (act : (place : Place) → StoreAct a place) → ((place : Place) → IsOfTable a place (act place)) → IsAct a old new act
-        → (place : Place) (w : StoreWorld a place) (handed : List Entry) → IsReached a place w → WorksOn a place w old handed
+        → (place : Place) (w : StoreWorld a place) (handed : List VersionedEntry) → IsReached a place w → WorksOn a place w old handed
         → WorksFrom place w new handed
     act_goes act of is =
         acts_go (λ place acts. acts ≡ act place ∷ [])
@@ -87,7 +87,7 @@ module _ {F L : Type 0} (a : Analysis F L) where
         (λ place w handed reached works. let done = is place w handed reached works in (act place ∷ [], refl, (done.0, tt), done.1))
 
     pub works_go : (claims releases : ℕ) → WorksBy a old new claims releases
-        → (place : Place) (w : StoreWorld a place) (handed : List Entry) → IsReached a place w → WorksOn a place w old handed
+        → (place : Place) (w : StoreWorld a place) (handed : List VersionedEntry) → IsReached a place w → WorksOn a place w old handed
         → WorksFrom place w new handed
     works_go claims releases =
         acts_go (λ place. AreByDrainer a place claims releases)
@@ -102,17 +102,17 @@ pub places_answer : {F L : Type 0} (a : Analysis F L) → OneDiskAnswers a.latti
     → (place : Place) → PlaceAnswers a place
 places_answer a one two (OnOneDisk head) start new =
     subst (λ (w : StoreWorld a (OnOneDisk head)).
-    RunsAnswer a.lattice a.functions a.targets a.same (forms_of a) head.version (rules_at a (OnOneDisk head)) (store_at a (OnOneDisk head)) w)
+    RunsAnswer a.lattice a.functions a.targets a.same (forms_of a) (rules_at a (OnOneDisk head)) (store_at a (OnOneDisk head)) w)
     (sym new.is) (one head new.work new.disks new.live)
-places_answer a one two (OnTwoDisks head) start begins = two head start begins
+places_answer a one two (OnTwoDisks tag) start begins = two tag start begins
 
 module _ {F L : Type 0} (a : Analysis F L) (answers : (place : Place) → PlaceAnswers a place) where
   -- what is so of every run is so of the world
   pub sound : (place : Place) (w : StoreWorld a place) → IsReached a place w
-      → IsSoundWorld a.lattice a.functions a.targets a.same (forms_of a) (version_at place) (rules_at a place) (store_at a place) w
+      → IsSoundWorld a.lattice a.functions a.targets a.same (forms_of a) (rules_at a place) (store_at a place) w
   sound place w reached =
       subst (λ (u : StoreWorld a place).
-      IsSoundWorld a.lattice a.functions a.targets a.same (forms_of a) (version_at place) (rules_at a place) (store_at a place) u)
+      IsSoundWorld a.lattice a.functions a.targets a.same (forms_of a) (rules_at a place) (store_at a place) u)
       reached.is
       (answers place reached.start reached.begins reached.acts reached.can)
 

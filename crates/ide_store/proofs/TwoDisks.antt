@@ -1,16 +1,18 @@
 -- Two slots on two disks keep what a store has to.
-use Rattle.std.proofs.Common.{◌≡◌, ◌∙◌, ◌≤◌, ◌<◌, ℕ, ◌+◌, zero, suc, All, List, [], ◌∷◌, ◌++◌, Option, Some, None, length, take, drop, map, refl, ap, sym, subst, arith, inl, inr}
+use Rattle.std.proofs.Common.{◌≡◌, ◌∙◌, ◌≤◌, ◌<◌, ℕ, ◌+◌, zero, suc, All, List, [], ◌∷◌, ◌++◌, Option, Some, None, length, take, drop, map, ◌⊎◌, refl, ap, sym, subst, arith, inl, inr}
+use Rattle.std.specs.Option.{option_map}
 use Rattle.std.specs.Prelude.{slice_get}
 use Rattle.std.proofs.lemmas.Bool.{cases_lt}
-use Rattle.std.proofs.lemmas.List.Elements.{All-append, All-drop, All-nil}
-use Rattle.std.proofs.lemmas.List.{drop-append-le, drop-drop, drop_all, length-append, length-drop, length-take, length-take-le, take-append-drop, take-append-le, take_all}
-use Rattle.std.proofs.lemmas.Option.{slice_get_past}
+use Rattle.std.proofs.lemmas.List.Elements.{All-append, All-drop, All-map, All-nil}
+use Rattle.std.proofs.lemmas.List.{drop-append-le, drop-drop, drop_all, length-append, length-drop, length-map, length-take, length-take-le, map-append, take-append-drop, take-append-le, take_all}
+use Rattle.std.proofs.lemmas.Option.{same_Some, slice_get_past}
 use Rattle.ide_disk.specs.Disk.{DiskState}
-use Rattle.ide_journal.specs.Format.{Entry, IsEntry, head_of}
+use Rattle.ide_journal.specs.Format.{Entry, head_of}
 use Rattle.ide_journal.specs.declared.stage.Phase.{Phase}
 use Rattle.ide_journal.specs.declared.stage.Phase.TheVariants as phases
 use Rattle.ide_journal.specs.declared.stage.Stage.{Stage}
 use Rattle.ide_journal.specs.declared.stage.Stage.TheVariants.{Idle}
+use Rattle.ide_journal.specs.declared.version.Version.{Version}
 use Rattle.ide_journal.specs.declared.version.Version.TheVariants as version
 use Rattle.ide_slots.specs.DiskCalls.{FailsSo}
 use Rattle.ide_slots.specs.Filling.{Filling, Lasts, with_gate}
@@ -21,11 +23,12 @@ use Rattle.ide_slots.specs.TwoCalls.{BeginsCheckpoint, CallsRecord, FailsRecord,
 use Rattle.ide_slots.proofs.Checkpoints.{checkpoints_keep_standing}
 use Rattle.ide_slots.proofs.Chosen.{one_shown}
 use Rattle.ide_slots.proofs.Openings.{openings_find, stopped_possible, stopped_shows}
-use Rattle.ide_slots.proofs.Standing.{standing_is_safe}
+use Rattle.ide_slots.proofs.Standing.{at_idle, standing_is_safe}
 use Rattle.ide_slots.proofs.Writers.{records_keep_standing}
 use Rattle.ide_store.proofs.OneDisk.{next_taken}
 use Rattle.ide_store.specs.Store.{IsFoundOf, IsSafe, StoreLaws}
-use Rattle.ide_store.specs.TwoDisks.{AtCheckpoint, AtRecord, BeginsTwo, CallsTwo, FailsTwo, ForRecord, GiveTheSame, HasPlan, HoldsTwo, InCheckpoint, IsListOf, IsLiveTwo, LastInCheckpoint, StoresTwo, BeginsCalls, commands_of, unnumbered, two_disks}
+use Rattle.ide_store.specs.Versioned.{IsIn, IsPlainEntry, VersionedEntry, in_version, plain}
+use Rattle.ide_store.specs.TwoDisks.{AreSpelledFor, AreSpelledUpTo, AtCheckpoint, AtRecord, BeginsTwo, CallsTwo, FailsTwo, ForRecord, GiveTheSame, HasPlan, HoldsTwo, InCheckpoint, IsListOf, IsLiveTwo, LastInCheckpoint, StoresTwo, BeginsCalls, commands_of, next_entry, sealing_version, unnumbered, version_with, two_disks}
 use Rattle.ide_store.specs.World.{AreAlike, LeadTo, Rules}
 
 get_before : {X : Type 0} (xs ys : List X) (n : ℕ) → n < length xs → slice_get (xs ++ ys) n ≡ slice_get xs n
@@ -33,18 +36,30 @@ get_before [] ys n inside = absurd (omega (arith, inside))
 get_before (x ∷ xs) ys zero inside = refl
 get_before (x ∷ xs) ys (suc n) inside = get_before xs ys n (omega (arith, inside))
 
-one_next : {X : Type 0} (P : X → Type 0) (xs : List X) (n : ℕ) (x : X) → All P (drop n xs) → slice_get xs n ≡ Some x → P x
+pub one_next : {X : Type 0} (P : X → Type 0) (xs : List X) (n : ℕ) (x : X) → All P (drop n xs) → slice_get xs n ≡ Some x → P x
 one_next P [] n x each is = cc
 one_next P (y ∷ ys) zero x each is = let same : y ≡ x = cc in subst P same (each 0 y (omega arith))
 one_next P (y ∷ ys) (suc n) x each is = one_next P ys n x each is
 
+pub get_taken : {X : Type 0} (xs : List X) (m n : ℕ) → n < m → slice_get (take m xs) n ≡ slice_get xs n
+get_taken xs zero n less = absurd (omega (arith, less))
+get_taken [] (suc m) n less = refl
+get_taken (x ∷ xs) (suc m) zero less = refl
+get_taken (x ∷ xs) (suc m) (suc n) less = get_taken xs m n (omega (arith, less))
+
+-- what the journal has of the next record is that of one
+pub next_record : (o : Option VersionedEntry) (entry : Entry) → option_map plain o ≡ Some entry → (version : Version) × (o ≡ Some (version, entry))
+next_record None entry is = cc
+next_record (Some r) entry is = (r.0, ap (λ (e : Entry). Some (r.0, e)) (same_Some r.1 entry is))
+
 -- entries that are still to be stored can be
-can_be_next : (records : List Entry) (stored : ℕ) → length records ≤ 4294967295 → All IsEntry (drop stored records) → CanBeNext stored (slice_get records stored)
+pub can_be_next : (records : List VersionedEntry) (stored : ℕ) → length records ≤ 4294967295 → All IsPlainEntry (drop stored records)
+    → CanBeNext stored (next_entry records stored)
 can_be_next records stored few proper = go (slice_get records stored) refl
   where
-    go : (next : Option Entry) → slice_get records stored ≡ next → CanBeNext stored next
+    go : (next : Option VersionedEntry) → slice_get records stored ≡ next → CanBeNext stored (option_map plain next)
     go None is = tt
-    go (Some entry) is = (one_next IsEntry records stored entry proper is, let taken = next_taken records stored entry is in let less = taken.0 in omega arith)
+    go (Some r) is = (one_next IsPlainEntry records stored r proper is, let taken = next_taken records stored r is in let less = taken.0 in omega arith)
 
 -- the calls for the next record are those behind another slot of as many records
 due_too : (slot other : Slot) (work : SlotWriter) (phase : Phase) → slot_count slot ≡ slot_count other → IsDue slot work phase → IsDue other work phase
@@ -84,14 +99,58 @@ same_sides : {X : Type 0} (one other : Sides X) → one.a ≡ other.a → one.b 
 same_sides one other first second =
     ap (λ x. record { a = x; b = one.b }) first ∙ ap (λ x. record { a = other.a; b = x }) second
 
-module _ {Image Step : Type 0} (rules : Rules Image Step Entry) where
-  pub lead_on : (records others : List Entry) (before between now : Image) → LeadTo rules records before between → LeadTo rules others between now
+all_less : (P : VersionedEntry → Type 0) (records : List VersionedEntry) (stored : ℕ) → All P (drop stored records) → All P (drop (stored + 1) records)
+all_less P records stored each =
+    subst (λ (rs : List VersionedEntry). All P rs) (drop-drop 1 stored records) (All-drop P 1 (drop stored records) each)
+
+-- all of them are of the version in which they were put
+pub all_in : (version : Version) (entries : List Entry) → All (IsIn version) (in_version version entries)
+all_in version entries = All-map (IsIn version) (λ (entry : Entry). (version, entry)) entries (λ i d inside. refl)
+
+pub all_one : (P : VersionedEntry → Type 0) (r : VersionedEntry) → P r → All P (r ∷ [])
+all_one P r is zero d inside = is
+all_one P r is (suc k) d inside = absurd (omega (arith, inside))
+
+-- one of them is stored
+pub spelled_less : (records : List VersionedEntry) (stored : ℕ) (version : Version) (checkpoint : Checkpoint)
+    → AreSpelledFor version checkpoint records stored → AreSpelledFor version checkpoint records (stored + 1)
+spelled_less records stored version NotBegun all = all_less (IsIn version) records stored all
+spelled_less records stored version (Planned next) both =
+    record { within = both.within; below = all_less (IsIn version) (take next.base records) stored both.below; others = both.others }
+spelled_less records stored version (UnderWay next fill) both =
+    record { within = both.within; below = all_less (IsIn version) (take next.base records) stored both.below; others = both.others }
+
+-- others come behind a checkpoint's base
+spelled_behind : (records more : List VersionedEntry) (stored : ℕ) (version : Version) (next : Slot)
+    → AreSpelledUpTo next.base version next.head.version records stored → All (IsIn next.head.version) more
+    → AreSpelledUpTo next.base version next.head.version (records ++ more) stored
+spelled_behind records more stored version next both new =
+    let within = both.within in
+    record {
+      within = omega (arith, within, length-append records more);
+      below = subst (λ (rs : List VersionedEntry). All (IsIn version) (drop stored rs)) (sym (take-append-le next.base records more within)) both.below;
+      others = subst (λ (rs : List VersionedEntry). All (IsIn next.head.version) rs) (sym (drop-append-le next.base records more within))
+          (All-append (IsIn next.head.version) (drop next.base records) more both.others new);
+    }
+
+-- others are sealed behind them, of the version in which records are sealed
+pub spelled_with : (records more : List VersionedEntry) (stored : ℕ) (version : Version) (checkpoint : Checkpoint) → stored ≤ length records
+    → AreSpelledFor version checkpoint records stored → All (IsIn (version_with version checkpoint)) more
+    → AreSpelledFor version checkpoint (records ++ more) stored
+spelled_with records more stored version NotBegun some all new =
+    subst (λ (rs : List VersionedEntry). All (IsIn version) rs) (sym (drop-append-le stored records more some))
+    (All-append (IsIn version) (drop stored records) more all new)
+spelled_with records more stored version (Planned next) some both new = spelled_behind records more stored version next both new
+spelled_with records more stored version (UnderWay next fill) some both new = spelled_behind records more stored version next both new
+
+module _ {Image Step : Type 0} (rules : Rules Image Step VersionedEntry) where
+  pub lead_on : (records others : List VersionedEntry) (before between now : Image) → LeadTo rules records before between → LeadTo rules others between now
       → LeadTo rules (records ++ others) before now
   lead_on [] others before between now same rest = subst (λ (i : Image). LeadTo rules others i now) (sym same) rest
   lead_on (r ∷ records) others before between now (first, leads, more) rest =
       (first, leads, lead_on records others first between now more rest)
 
-  lead_split : (records others : List Entry) (before now : Image) → LeadTo rules (records ++ others) before now
+  lead_split : (records others : List VersionedEntry) (before now : Image) → LeadTo rules (records ++ others) before now
       → (between : Image) × LeadTo rules records before between × LeadTo rules others between now
   lead_split [] others before now leads = (before, refl, leads)
   lead_split (r ∷ records) others before now (first, leads, more) =
@@ -99,26 +158,31 @@ module _ {Image Step : Type 0} (rules : Rules Image Step Entry) where
       (rest.0, (first, leads, rest.1), rest.2)
 
   -- lists that give back the same do so with the same records behind them
-  same_behind : (records others behind : List Entry) → GiveTheSame rules records others → GiveTheSame rules (records ++ behind) (others ++ behind)
+  same_behind : (records others behind : List VersionedEntry) → GiveTheSame rules records others → GiveTheSame rules (records ++ behind) (others ++ behind)
   same_behind records others behind same image = (
     λ folded. let split = lead_split records behind rules.empty image folded in lead_on others behind rules.empty split.0 image ((same split.0).0 split.1) split.2,
     λ folded. let split = lead_split others behind rules.empty image folded in lead_on records behind rules.empty split.0 image ((same split.0).1 split.1) split.2,
   )
 
   -- what stands in a slot gives back the images of the list that it has
-  pub slot_gives : (records : List Entry) (slot : Slot) → IsListOf rules records slot
-      → GiveTheSame rules (map unnumbered slot.commands ++ slot.parts ++ slot.rest) records
+  pub slot_gives : (records : List VersionedEntry) (slot : Slot) → IsListOf rules records slot
+      → GiveTheSame rules (in_version slot.head.version (map unnumbered slot.commands ++ slot.parts ++ slot.rest)) records
   slot_gives records slot list =
-      subst (λ (rs : List Entry). GiveTheSame rules (map unnumbered slot.commands ++ slot.parts ++ slot.rest) rs)
-      (ap (λ (rs : List Entry). take slot.base records ++ rs) list.rest ∙ take-append-drop slot.base records)
-      (same_behind (map unnumbered slot.commands ++ slot.parts) (take slot.base records) slot.rest list.image)
+      let version = slot.head.version in
+      let first : List Entry = map unnumbered slot.commands ++ slot.parts in
+      let all : in_version version first ++ in_version version slot.rest ≡ in_version version (map unnumbered slot.commands ++ slot.parts ++ slot.rest) =
+      sym (map-append (λ (entry : Entry). (version, entry)) first slot.rest) in
+      subst (λ (rs : List VersionedEntry). GiveTheSame rules rs records) all
+      (subst (λ (rs : List VersionedEntry). GiveTheSame rules (in_version version first ++ in_version version slot.rest) rs)
+      (ap (λ (rs : List VersionedEntry). take slot.base records ++ rs) list.rest ∙ take-append-drop slot.base records)
+      (same_behind (in_version version first) (take slot.base records) (in_version version slot.rest) list.image))
 
-  list_count : (records : List Entry) (slot : Slot) → IsListOf rules records slot → slot_count slot ≡ length records
+  pub list_count : (records : List VersionedEntry) (slot : Slot) → IsListOf rules records slot → slot_count slot ≡ length records
   list_count records slot list =
       let within = list.within in
-      omega (arith, ap length list.rest ∙ length-drop slot.base records)
+      omega (arith, sym (length-map slot.rest (λ (entry : Entry). (slot.head.version, entry))) ∙ ap length list.rest ∙ length-drop slot.base records)
 
-  alike : (tag : ℕ) (found other : List Entry) (left : Sides (List ℕ)) → HoldsTwo rules tag found left → HoldsTwo rules tag other left
+  alike : (tag : ℕ) (found other : List VersionedEntry) (left : Sides (List ℕ)) → HoldsTwo rules tag found left → HoldsTwo rules tag other left
       → AreAlike rules found other
   alike tag found other left holds other_holds =
       let same : other_holds.slot ≡ holds.slot = one_shown other_holds.slot holds.slot left other_holds.shows holds.shows in
@@ -130,36 +194,39 @@ module _ {Image Step : Type 0} (rules : Rules Image Step Entry) where
       }
 
   -- the list with one record more
-  list_more : (records : List Entry) (entry : Entry) (slot : Slot) → IsListOf rules records slot → IsListOf rules (records ++ entry ∷ []) (with_more slot entry)
+  list_more : (records : List VersionedEntry) (entry : Entry) (slot : Slot) → IsListOf rules records slot
+      → IsListOf rules (records ++ (slot.head.version, entry) ∷ []) (with_more slot entry)
   list_more records entry slot list =
       let base = slot.base in
+      let version = slot.head.version in
       let within = list.within in
-      let first = sym (take-append-le base records (entry ∷ []) within) in
+      let first = sym (take-append-le base records ((version, entry) ∷ []) within) in
       record {
-        within = omega (arith, length-append records (entry ∷ []));
+        within = omega (arith, length-append records ((version, entry) ∷ []));
         commands = list.commands ∙ ap commands_of first;
-        image = subst (λ (rs : List Entry). GiveTheSame rules (map unnumbered slot.commands ++ slot.parts) rs) first list.image;
-        rest = ap (λ (rs : List Entry). rs ++ entry ∷ []) list.rest ∙ sym (drop-append-le base records (entry ∷ []) within);
+        image = subst (λ (rs : List VersionedEntry). GiveTheSame rules (in_version version (map unnumbered slot.commands ++ slot.parts)) rs) first list.image;
+        rest = map-append (λ (e : Entry). (version, e)) slot.rest (entry ∷ [])
+            ∙ ap (λ (rs : List VersionedEntry). rs ++ (version, entry) ∷ []) list.rest ∙ sym (drop-append-le base records ((version, entry) ∷ []) within);
       }
 
-  stored_more : (records : List Entry) (stored : ℕ) (entry : Entry) (slot : Slot) → IsListOf rules (take stored records) slot
-      → slice_get records stored ≡ Some entry → IsListOf rules (take (stored + 1) records) (with_more slot entry)
+  pub stored_more : (records : List VersionedEntry) (stored : ℕ) (entry : Entry) (slot : Slot) → IsListOf rules (take stored records) slot
+      → slice_get records stored ≡ Some (slot.head.version, entry) → IsListOf rules (take (stored + 1) records) (with_more slot entry)
   stored_more records stored entry slot list is =
-      subst (λ (rs : List Entry). IsListOf rules rs (with_more slot entry)) (sym (next_taken records stored entry is).1)
+      subst (λ (rs : List VersionedEntry). IsListOf rules rs (with_more slot entry)) (sym (next_taken records stored (slot.head.version, entry) is).1)
       (list_more (take stored records) entry slot list)
 
-  pub plan_within : (records : List Entry) (next : Slot) → IsListOf rules (take next.base records) next → next.base ≤ length records
+  pub plan_within : (records : List VersionedEntry) (next : Slot) → IsListOf rules (take next.base records) next → next.base ≤ length records
   plan_within records next list = let within = list.within in omega (arith, length-take next.base records)
 
-  plan_more : (records others : List Entry) (checkpoint : Checkpoint) → HasPlan rules records checkpoint → HasPlan rules (records ++ others) checkpoint
+  plan_more : (records others : List VersionedEntry) (checkpoint : Checkpoint) → HasPlan rules records checkpoint → HasPlan rules (records ++ others) checkpoint
   plan_more records others NotBegun plan = tt
   plan_more records others (Planned next) plan =
-      subst (λ (rs : List Entry). IsListOf rules rs next) (sym (take-append-le next.base records others (plan_within records next plan))) plan
+      subst (λ (rs : List VersionedEntry). IsListOf rules rs next) (sym (take-append-le next.base records others (plan_within records next plan))) plan
   plan_more records others (UnderWay next fill) plan =
-      subst (λ (rs : List Entry). IsListOf rules rs next) (sym (take-append-le next.base records others (plan_within records next plan))) plan
+      subst (λ (rs : List VersionedEntry). IsListOf rules rs next) (sym (take-append-le next.base records others (plan_within records next plan))) plan
 
   module _ (tag : ℕ) where
-    pub stored_count : (records : List Entry) (stored : ℕ) (slot : Slot) → stored ≤ length records → IsListOf rules (take stored records) slot
+    pub stored_count : (records : List VersionedEntry) (stored : ℕ) (slot : Slot) → stored ≤ length records → IsListOf rules (take stored records) slot
         → slot_count slot ≡ stored
     stored_count records stored slot some list = list_count (take stored records) slot list ∙ length-take-le stored records some
 
@@ -168,22 +235,62 @@ module _ {Image Step : Type 0} (rules : Rules Image Step Entry) where
     made slot next waits fill work disks stands is =
         subst (λ (c : Checkpoint). Beside work.side slot work.stage c (off work.side disks)) is stands.beside
 
-    planned_at : (records : List Entry) (next : Slot) (fill : Filling) (checkpoint : Checkpoint) → checkpoint ≡ UnderWay next fill
+    planned_at : (records : List VersionedEntry) (next : Slot) (fill : Filling) (checkpoint : Checkpoint) → checkpoint ≡ UnderWay next fill
         → HasPlan rules records checkpoint → IsListOf rules (take next.base records) next
     planned_at records next fill checkpoint is plan = subst (λ (c : Checkpoint). HasPlan rules records c) is plan
 
     -- the slot of a checkpoint that makes its calls has the stored records
-    made_list : (records : List Entry) (stored : ℕ) (slot next : Slot) (side : _) (stage : Stage) (fill : Filling) (disk : DiskState)
+    made_list : (records : List VersionedEntry) (stored : ℕ) (slot next : Slot) (side : _) (stage : Stage) (fill : Filling) (disk : DiskState)
         → slot_count slot ≡ stored → IsMade side slot next stage fill disk → IsListOf rules (take next.base records) next
         → IsListOf rules (take stored records) next
     made_list records stored slot next side stage fill disk count is list =
         subst (λ (n : ℕ). IsListOf rules (take n records) next) (sym is.stored ∙ count) list
 
-    -- what may be found has the stored records, or these and the next
-    found_list : (records : List Entry) (stored : ℕ) (work : SlotWriter) (disks : Sides DiskState) (left : Sides (List ℕ))
-        → (live : IsLiveTwo rules tag records stored work disks) → ShowsOne live.slot (slice_get records stored) work.checkpoint left
-        → (found : List Entry) × HoldsTwo rules tag found left × IsFoundOf records stored found
-    found_list records stored work disks left live shows = elim shows.may [
+    -- where no record is under way, the writer stands as with none that is next
+    none_next : (slot : Slot) (next : Option Entry) (work : SlotWriter) (disks : Sides DiskState) → StandsTwo slot next work disks → work.stage ≡ Idle
+        → StandsTwo slot None work disks
+    none_next slot next work disks stands idle = record {
+      front = stands.front;
+      whole = stands.whole;
+      version = stands.version;
+      generation = stands.generation;
+      gate = stands.gate;
+      knows = (idle, at_idle work.stage stands.front (slot_count slot) next (on work.side disks) idle stands.knows);
+      fits = tt;
+      beside = stands.beside;
+    }
+
+    -- the next record is of the version of the current slot; or it is a checkpoint's turn, and none is under way
+    abbrev pub IsOfSlot : List VersionedEntry → ℕ → Version → Type 0
+    IsOfSlot records stored version = (r : VersionedEntry) → slice_get records stored ≡ Some r → r.0 ≡ version
+
+    pub due_next : (records : List VersionedEntry) (stored : ℕ) (slot : Slot) (next : Option Entry) (work : SlotWriter) (disks : Sides DiskState)
+        → slot_count slot ≡ stored → StandsTwo slot next work disks → AreSpelledFor work.version work.checkpoint records stored
+        → IsOfSlot records stored slot.head.version ⊎ (work.stage ≡ Idle)
+    due_next records stored slot next work disks count stands spelled = go work.checkpoint stands.beside spelled
+      where
+        of : (rs : List VersionedEntry) → All (IsIn work.version) (drop stored rs) → (r : VersionedEntry) → slice_get rs stored ≡ Some r
+            → r.0 ≡ slot.head.version
+        of rs all r is = one_next (IsIn work.version) rs stored r all is ∙ stands.version
+
+        go : (checkpoint : Checkpoint) → Beside work.side slot work.stage checkpoint (off work.side disks)
+            → AreSpelledFor work.version checkpoint records stored → IsOfSlot records stored slot.head.version ⊎ (work.stage ≡ Idle)
+        go NotBegun beside all = inl (of records all)
+        go (Planned other) beside both = elim beside.1.up_to [
+          | inl less ↦ inl (λ r is. of (take other.base records) both.below r (get_taken records other.base stored (omega (arith, less, count)) ∙ is))
+          | inr idle ↦ inr idle.1
+        ]
+        go (UnderWay other fill) beside both = inr beside.idle
+
+    -- what may be found has the stored records, or these and the next, if that is of the slot's version
+    abbrev IsNextOf : List VersionedEntry → ℕ → Version → Option Entry → Type 0
+    IsNextOf records stored version next = (entry : Entry) → next ≡ Some entry → slice_get records stored ≡ Some (version, entry)
+
+    found_list : (records : List VersionedEntry) (stored : ℕ) (work : SlotWriter) (disks : Sides DiskState) (left : Sides (List ℕ))
+        → (live : IsLiveTwo rules tag records stored work disks) (next : Option Entry) → IsNextOf records stored live.slot.head.version next
+        → ShowsOne live.slot next work.checkpoint left
+        → (found : List VersionedEntry) × HoldsTwo rules tag found left × IsFoundOf records stored found
+    found_list records stored work disks left live next next_of shows = elim shows.may [
       | inl same ↦ (
         take stored records,
         record {
@@ -195,14 +302,15 @@ module _ {Image Step : Type 0} (rules : Rules Image Step Entry) where
         record { count = stored; least = omega arith; most = live.some; is = refl },
       )
       | inr (inl more) ↦
-          let taken = next_taken records stored more.entry more.next_is in
+          let is = next_of more.entry more.next_is in
+          let taken = next_taken records stored (live.slot.head.version, more.entry) is in
           let less = taken.0 in (
             take (stored + 1) records,
             record {
               slot = with_more live.slot more.entry;
               tag_is = live.tag_is;
               shows = subst (λ (s : Slot). Shows s left) more.is shows.shows;
-              list = stored_more records stored more.entry live.slot live.list more.next_is;
+              list = stored_more records stored more.entry live.slot live.list is;
             },
             record { count = stored + 1; least = omega arith; most = omega arith; is = refl },
           )
@@ -210,80 +318,96 @@ module _ {Image Step : Type 0} (rules : Rules Image Step Entry) where
     ]
       where
         of_checkpoint : (checkpoint : Checkpoint) → work.checkpoint ≡ checkpoint → IsOfCheckpoint checkpoint shows.found
-            → (found : List Entry) × HoldsTwo rules tag found left × IsFoundOf records stored found
+            → (found : List VersionedEntry) × HoldsTwo rules tag found left × IsFoundOf records stored found
         of_checkpoint NotBegun is turned = absurd turned
-        of_checkpoint (Planned next) is turned = absurd turned
-        of_checkpoint (UnderWay next fill) is turned =
+        of_checkpoint (Planned other) is turned = absurd turned
+        of_checkpoint (UnderWay other fill) is turned =
             let some = live.some in
-            let calls = made live.slot next (slice_get records stored) fill work disks live.stands is in (
+            let calls = made live.slot other (next_entry records stored) fill work disks live.stands is in (
               take stored records,
               record {
-                slot = next;
+                slot = other;
                 tag_is = ap (λ (h : _). h.tag) calls.follows.head ∙ live.tag_is;
                 shows = subst (λ (s : Slot). Shows s left) turned.1 shows.shows;
-                list = made_list records stored live.slot next work.side work.stage fill (off work.side disks)
-                    (stored_count records stored live.slot live.some live.list) calls (planned_at records next fill work.checkpoint is live.plan);
+                list = made_list records stored live.slot other work.side work.stage fill (off work.side disks)
+                    (stored_count records stored live.slot live.some live.list) calls (planned_at records other fill work.checkpoint is live.plan);
               },
               record { count = stored; least = omega arith; most = live.some; is = refl },
             )
 
-    safe_of : (records : List Entry) (stored : ℕ) (work : SlotWriter) (disks after : Sides DiskState) → (live : IsLiveTwo rules tag records stored work disks)
-        → IsSafeTwo live.slot (slice_get records stored) work.checkpoint after → IsSafe (two_disks rules tag) records stored after
-    safe_of records stored work disks after live safe = record {
-      each = λ left leaves. found_list records stored work disks left live (safe.each left leaves);
+    safe_of : (records : List VersionedEntry) (stored : ℕ) (work : SlotWriter) (disks after : Sides DiskState)
+        → (live : IsLiveTwo rules tag records stored work disks) (next : Option Entry) → IsNextOf records stored live.slot.head.version next
+        → IsSafeTwo live.slot next work.checkpoint after → IsSafe (two_disks rules tag) records stored after
+    safe_of records stored work disks after live next next_of safe = record {
+      each = λ left leaves. found_list records stored work disks left live next next_of (safe.each left leaves);
       possible = safe.possible;
     }
 
-    live_safe : (records : List Entry) (stored : ℕ) (work : SlotWriter) (disks : Sides DiskState) → IsLiveTwo rules tag records stored work disks
+    none_of : (records : List VersionedEntry) (stored : ℕ) (version : Version) → IsNextOf records stored version None
+    none_of records stored version entry is = cc
+
+    live_safe : (records : List VersionedEntry) (stored : ℕ) (work : SlotWriter) (disks : Sides DiskState) → IsLiveTwo rules tag records stored work disks
         → IsSafe (two_disks rules tag) records stored disks
     live_safe records stored work disks live =
-        safe_of records stored work disks disks live (standing_is_safe live.slot (slice_get records stored) work disks live.stands)
+        elim (due_next records stored live.slot (next_entry records stored) work disks (stored_count records stored live.slot live.some live.list)
+        live.stands live.spelled) [
+          | inl of ↦
+              safe_of records stored work disks disks live (next_entry records stored)
+              (λ entry is.
+              let one = next_record (slice_get records stored) entry is in
+              one.1 ∙ ap (λ (v : Version). Some (v, entry)) (of (one.0, entry) one.1))
+              (standing_is_safe live.slot (next_entry records stored) work disks live.stands)
+          | inr idle ↦
+              safe_of records stored work disks disks live None (none_of records stored live.slot.head.version)
+              (standing_is_safe live.slot None work disks (none_next live.slot (next_entry records stored) work disks live.stands idle))
+        ]
 
     -- one record more is sealed: it waits where none did
-    live_sealed : (records : List Entry) (stored : ℕ) (r : Entry) (work : SlotWriter) (disks : Sides DiskState) → IsLiveTwo rules tag records stored work disks
-        → CanBeNext (length records) (Some r) → IsLiveTwo rules tag (records ++ r ∷ []) stored work disks
+    live_sealed : (records : List VersionedEntry) (stored : ℕ) (r : VersionedEntry) (work : SlotWriter) (disks : Sides DiskState)
+        → IsLiveTwo rules tag records stored work disks → IsIn (sealing_version work) r × CanBeNext (length records) (Some r.1)
+        → IsLiveTwo rules tag (records ++ r ∷ []) stored work disks
     live_sealed records stored r work disks live fits =
         let some = live.some in
-        let less = fits.1 in
+        let less = fits.1.1 in
         let few : length (records ++ r ∷ []) ≤ 4294967295 = omega (arith, length-append records (r ∷ [])) in
-        let proper : All IsEntry (drop stored (records ++ r ∷ [])) =
-        subst (λ (rs : List Entry). All IsEntry rs) (sym (drop-append-le stored records (r ∷ []) live.some))
-        (All-append IsEntry (drop stored records) (r ∷ []) live.proper (one_entry r fits.0)) in
+        let proper : All IsPlainEntry (drop stored (records ++ r ∷ [])) =
+        subst (λ (rs : List VersionedEntry). All IsPlainEntry rs) (sym (drop-append-le stored records (r ∷ []) live.some))
+        (All-append IsPlainEntry (drop stored records) (r ∷ []) live.proper (all_one IsPlainEntry r fits.1.0)) in
         record {
           slot = live.slot;
           tag_is = live.tag_is;
-          list = subst (λ (rs : List Entry). IsListOf rules rs live.slot) (sym (take-append-le stored records (r ∷ []) live.some)) live.list;
+          list = subst (λ (rs : List VersionedEntry). IsListOf rules rs live.slot) (sym (take-append-le stored records (r ∷ []) live.some)) live.list;
           stands = elim (cases_lt stored (length records)) [
-            | inl before ↦ subst (λ (o : Option Entry). StandsTwo live.slot o work disks) (sym (get_before records (r ∷ []) stored before)) live.stands
+            | inl before ↦ subst (λ (o : Option VersionedEntry). StandsTwo live.slot (option_map plain o) work disks)
+                (sym (get_before records (r ∷ []) stored before)) live.stands
             | inr last ↦
-                let none = subst (λ (o : Option Entry). StandsTwo live.slot o work disks) (slice_get_past records stored last) live.stands in
+                let none = subst (λ (o : Option VersionedEntry). StandsTwo live.slot (option_map plain o) work disks) (slice_get_past records stored last) live.stands in
                 let count = stored_count records stored live.slot live.some live.list in
-                records_keep_standing.waits live.slot (slice_get (records ++ r ∷ []) stored) work disks none
-                (subst (λ (n : ℕ). CanBeNext n (slice_get (records ++ r ∷ []) stored)) (sym count) (can_be_next (records ++ r ∷ []) stored few proper))
+                records_keep_standing.waits live.slot (next_entry (records ++ r ∷ []) stored) work disks none
+                (subst (λ (n : ℕ). CanBeNext n (next_entry (records ++ r ∷ []) stored)) (sym count) (can_be_next (records ++ r ∷ []) stored few proper))
           ];
           some = omega (arith, length-append records (r ∷ []));
           few = few;
           proper = proper;
+          spelled = spelled_with records (r ∷ []) stored work.version work.checkpoint live.some live.spelled
+              (all_one (IsIn (sealing_version work)) r fits.0);
           plan = plan_more records (r ∷ []) work.checkpoint live.plan;
         }
-      where
-        one_entry : (r : Entry) → IsEntry r → All IsEntry (r ∷ [])
-        one_entry r is zero d inside = is
-        one_entry r is (suc k) d inside = absurd (omega (arith, inside))
 
-    live_called : (records : List Entry) (stored : ℕ) (work new : SlotWriter) (disks after : Sides DiskState) → IsLiveTwo rules tag records stored work disks
-        → CallsTwo records stored work disks new after → IsLiveTwo rules tag records stored new after
+    live_called : (records : List VersionedEntry) (stored : ℕ) (work new : SlotWriter) (disks after : Sides DiskState)
+        → IsLiveTwo rules tag records stored work disks → CallsTwo records stored work disks new after → IsLiveTwo rules tag records stored new after
     live_called records stored work new disks after live calls = go calls
       where
         next : Option Entry
-        next = slice_get records stored
+        next = next_entry records stored
 
         count : slot_count live.slot ≡ stored
         count = stored_count records stored live.slot live.some live.list
 
         -- with the same slot
-        so : StandsTwo live.slot next new after → HasPlan rules records new.checkpoint → IsLiveTwo rules tag records stored new after
-        so stands plan = record {
+        so : StandsTwo live.slot next new after → AreSpelledFor new.version new.checkpoint records stored → HasPlan rules records new.checkpoint
+            → IsLiveTwo rules tag records stored new after
+        so stands spelled plan = record {
           slot = live.slot;
           tag_is = live.tag_is;
           list = live.list;
@@ -291,20 +415,30 @@ module _ {Image Step : Type 0} (rules : Rules Image Step Entry) where
           some = live.some;
           few = live.few;
           proper = live.proper;
+          spelled = spelled;
           plan = plan;
         }
 
-        -- a new checkpoint of the same slot
-        moved : (slot : Slot) (fill : Filling) → new.checkpoint ≡ UnderWay slot fill → IsListOf rules (take slot.base records) slot
-            → HasPlan rules records new.checkpoint
-        moved slot fill is plan = subst (λ (c : Checkpoint). HasPlan rules records c) (sym is) plan
+        -- a checkpoint with the same slot goes on
+        moved : (slot : Slot) (fill : Filling) → new ≡ record work { checkpoint = UnderWay slot fill } → StandsTwo live.slot next new after
+            → AreSpelledUpTo slot.base work.version slot.head.version records stored → IsListOf rules (take slot.base records) slot
+            → IsLiveTwo rules tag records stored new after
+        moved slot fill is stands spelled plan =
+            so stands (subst (λ (w : SlotWriter). AreSpelledFor w.version w.checkpoint records stored) (sym is) spelled)
+            (subst (λ (w : SlotWriter). HasPlan rules records w.checkpoint) (sym is) plan)
+
+        spelled_at : (slot : Slot) (fill : Filling) → work.checkpoint ≡ UnderWay slot fill
+            → AreSpelledUpTo slot.base work.version slot.head.version records stored
+        spelled_at slot fill is = subst (λ (c : Checkpoint). AreSpelledFor work.version c records stored) is live.spelled
 
         go : CallsTwo records stored work disks new after → IsLiveTwo rules tag records stored new after
         go (ForRecord slot entry behind calls) =
             let here = calls_too slot live.slot entry work new disks after (behind.count ∙ sym count) calls in
-            let stands = subst (λ (o : Option Entry). StandsTwo live.slot o work disks) behind.next_is live.stands in
-            so (subst (λ (o : Option Entry). StandsTwo live.slot o new after) (sym behind.next_is)
+            let is : next ≡ Some entry = ap (option_map plain) behind.next_is in
+            let stands = subst (λ (o : Option Entry). StandsTwo live.slot o work disks) is live.stands in
+            so (subst (λ (o : Option Entry). StandsTwo live.slot o new after) (sym is)
             (records_keep_standing.called live.slot entry work new disks after stands here))
+            (subst (λ (w : SlotWriter). AreSpelledFor w.version w.checkpoint records stored) (sym calls.work_is) live.spelled)
             (subst (λ (w : SlotWriter). HasPlan rules records w.checkpoint) (sym calls.work_is) live.plan)
         go (BeginsCalls slot same_count begins same) =
             let here : BeginsCheckpoint live.slot work disks new = record {
@@ -315,16 +449,19 @@ module _ {Image Step : Type 0} (rules : Rules Image Step Entry) where
               tells = begins.tells;
               work_is = begins.work_is;
             } in
-            so (subst (λ (d : Sides DiskState). StandsTwo live.slot next new d) (sym same)
+            moved begins.next _ begins.work_is
+            (subst (λ (d : Sides DiskState). StandsTwo live.slot next new d) (sym same)
             (checkpoints_keep_standing.begun live.slot next work new disks live.stands here))
-            (moved begins.next _ (ap (λ (w : SlotWriter). w.checkpoint) begins.work_is)
-            (subst (λ (c : Checkpoint). HasPlan rules records c) begins.planned live.plan))
+            (subst (λ (c : Checkpoint). AreSpelledFor work.version c records stored) begins.planned live.spelled)
+            (subst (λ (c : Checkpoint). HasPlan rules records c) begins.planned live.plan)
         go (InCheckpoint calls) =
-            so (checkpoints_keep_standing.called live.slot next work new disks after live.stands calls)
-            (moved calls.next _ (ap (λ (w : SlotWriter). w.checkpoint) calls.work_is)
-            (planned_at records calls.next calls.fill work.checkpoint calls.under_way live.plan))
+            moved calls.next _ calls.work_is
+            (checkpoints_keep_standing.called live.slot next work new disks after live.stands calls)
+            (spelled_at calls.next calls.fill calls.under_way)
+            (planned_at records calls.next calls.fill work.checkpoint calls.under_way live.plan)
         go (LastInCheckpoint slot ends) =
             let is = made live.slot slot next Lasts work disks live.stands ends.under_way in
+            let base : slot.base ≡ stored = sym is.stored ∙ count in
             record {
               slot = slot;
               tag_is = ap (λ (h : _). h.tag) is.follows.head ∙ live.tag_is;
@@ -334,55 +471,62 @@ module _ {Image Step : Type 0} (rules : Rules Image Step Entry) where
               some = live.some;
               few = live.few;
               proper = live.proper;
+              spelled = subst (λ (w : SlotWriter). AreSpelledFor w.version w.checkpoint records stored) (sym ends.work_is)
+                  (subst (λ (n : ℕ). All (IsIn slot.head.version) (drop n records)) base (spelled_at slot Lasts ends.under_way).others);
               plan = subst (λ (w : SlotWriter). HasPlan rules records w.checkpoint) (sym ends.work_is) tt;
             }
 
-    live_stored : (records : List Entry) (stored : ℕ) (work new : SlotWriter) (disks after : Sides DiskState) → IsLiveTwo rules tag records stored work disks
-        → StoresTwo records stored work disks new after → IsLiveTwo rules tag records (stored + 1) new after
+    live_stored : (records : List VersionedEntry) (stored : ℕ) (work new : SlotWriter) (disks after : Sides DiskState)
+        → IsLiveTwo rules tag records stored work disks → StoresTwo records stored work disks new after → IsLiveTwo rules tag records (stored + 1) new after
     live_stored records stored work new disks after live stores =
         let some = live.some in
         let count = stored_count records stored live.slot live.some live.list in
         let here = stores_too stores.slot live.slot stores.entry work new disks after (stores.next.count ∙ sym count) stores.stores in
-        let stands = subst (λ (o : Option Entry). StandsTwo live.slot o work disks) stores.next.next_is live.stands in
-        let taken = next_taken records stored stores.entry stores.next.next_is in
+        let stands = subst (λ (o : Option Entry). StandsTwo live.slot o work disks) (ap (option_map plain) stores.next.next_is) live.stands in
+        let taken = next_taken records stored (work.version, stores.entry) stores.next.next_is in
         let less = taken.0 in
-        let proper : All IsEntry (drop (stored + 1) records) =
-        subst (λ (rs : List Entry). All IsEntry rs) (drop-drop 1 stored records) (All-drop IsEntry 1 (drop stored records) live.proper) in
+        let proper : All IsPlainEntry (drop (stored + 1) records) = all_less IsPlainEntry records stored live.proper in
         let more : slot_count (with_more live.slot stores.entry) ≡ stored + 1 = omega (arith, count, length-append live.slot.rest (stores.entry ∷ [])) in
         record {
           slot = with_more live.slot stores.entry;
           tag_is = live.tag_is;
-          list = stored_more records stored stores.entry live.slot live.list stores.next.next_is;
-          stands = records_keep_standing.stored live.slot stores.entry (slice_get records (stored + 1)) work new disks after stands here
-              (subst (λ (n : ℕ). CanBeNext n (slice_get records (stored + 1))) (sym more) (can_be_next records (stored + 1) live.few proper));
+          list = stored_more records stored stores.entry live.slot live.list
+              (stores.next.next_is ∙ ap (λ (v : Version). Some (v, stores.entry)) live.stands.version);
+          stands = records_keep_standing.stored live.slot stores.entry (next_entry records (stored + 1)) work new disks after stands here
+              (subst (λ (n : ℕ). CanBeNext n (next_entry records (stored + 1))) (sym more) (can_be_next records (stored + 1) live.few proper));
           some = omega arith;
           few = live.few;
           proper = proper;
+          spelled = subst (λ (w : SlotWriter). AreSpelledFor w.version w.checkpoint records (stored + 1)) (sym here.work_is)
+              (spelled_less records stored work.version work.checkpoint live.spelled);
           plan = subst (λ (w : SlotWriter). HasPlan rules records w.checkpoint) (sym here.work_is) live.plan;
         }
 
-    failed_safe : (records : List Entry) (stored : ℕ) (work : SlotWriter) (disks after : Sides DiskState) → IsLiveTwo rules tag records stored work disks
-        → FailsTwo records stored work disks after → IsSafe (two_disks rules tag) records stored after
+    failed_safe : (records : List VersionedEntry) (stored : ℕ) (work : SlotWriter) (disks after : Sides DiskState)
+        → IsLiveTwo rules tag records stored work disks → FailsTwo records stored work disks after → IsSafe (two_disks rules tag) records stored after
     failed_safe records stored work disks after live (AtRecord slot entry behind fails) =
         let count = stored_count records stored live.slot live.some live.list in
         let here = fails_too slot live.slot entry work disks after (behind.count ∙ sym count) fails in
-        let stands = subst (λ (o : Option Entry). StandsTwo live.slot o work disks) behind.next_is live.stands in
-        safe_of records stored work disks after live
-        (subst (λ (o : Option Entry). IsSafeTwo live.slot o work.checkpoint after) (sym behind.next_is)
-        (records_keep_standing.failed live.slot entry work disks after stands here))
+        let stands = subst (λ (o : Option Entry). StandsTwo live.slot o work disks) (ap (option_map plain) behind.next_is) live.stands in
+        let next_of : IsNextOf records stored live.slot.head.version (Some entry) = λ other is.
+        behind.next_is ∙ (λ i. Some (live.stands.version i, same_Some entry other is i)) in
+        safe_of records stored work disks after live (Some entry) next_of
+        (records_keep_standing.failed live.slot entry work disks after stands here)
     failed_safe records stored work disks after live (AtCheckpoint fails) =
-        safe_of records stored work disks after live
-        (checkpoints_keep_standing.failed live.slot (slice_get records stored) work disks after live.stands fails)
+        let idle = (made live.slot fails.next (next_entry records stored) fails.fill work disks live.stands fails.under_way).idle in
+        safe_of records stored work disks after live None (none_of records stored live.slot.head.version)
+        (checkpoints_keep_standing.failed live.slot None work disks after
+        (none_next live.slot (next_entry records stored) work disks live.stands idle) fails)
 
     -- the base of a checkpoint over all the records
-    whole_base : (records : List Entry) (next : Slot) → next.rest ≡ [] → IsListOf rules records next → next.base ≡ length records
+    whole_base : (records : List VersionedEntry) (next : Slot) → next.rest ≡ [] → IsListOf rules records next → next.base ≡ length records
     whole_base records next bare list =
         let within = list.within in
-        let none : length (drop next.base records) ≡ 0 = ap length (sym list.rest ∙ bare) in
+        let none : length (drop next.base records) ≡ 0 = ap length (sym list.rest) ∙ ap (λ (es : List Entry). length (in_version next.head.version es)) bare in
         omega (arith, length-drop next.base records)
 
     -- records below the base are still to be stored, or none is under way
-    pub up_to : (records : List Entry) (stored : ℕ) (work : SlotWriter) (disks : Sides DiskState) (base : ℕ)
+    pub up_to : (records : List VersionedEntry) (stored : ℕ) (work : SlotWriter) (disks : Sides DiskState) (base : ℕ)
         → (live : IsLiveTwo rules tag records stored work disks) → base ≡ length records → IsUpTo (slot_count live.slot) base work.stage
     up_to records stored work disks base live all =
         let some = live.some in
@@ -391,12 +535,12 @@ module _ {Image Step : Type 0} (rules : Rules Image Step Entry) where
           | inl before ↦ inl (omega (arith, count, all, before))
           | inr last ↦ inr (
             omega (arith, count, all, last),
-            (subst (λ (o : Option Entry). KnowsNext work.stage live.stands.front (slot_count live.slot) o (on work.side disks))
+            (subst (λ (o : Option VersionedEntry). KnowsNext work.stage live.stands.front (slot_count live.slot) (option_map plain o) (on work.side disks))
                 (slice_get_past records stored last) live.stands.knows).0,
           )
         ]
 
-    live_begun : (records : List Entry) (stored : ℕ) (work new : SlotWriter) (disks : Sides DiskState) → IsLiveTwo rules tag records stored work disks
+    live_begun : (records : List VersionedEntry) (stored : ℕ) (work new : SlotWriter) (disks : Sides DiskState) → IsLiveTwo rules tag records stored work disks
         → BeginsTwo rules tag records work new → IsLiveTwo rules tag records stored new disks
     live_begun records stored work new disks live begins =
         let next = begins.plans.next in
@@ -421,35 +565,44 @@ module _ {Image Step : Type 0} (rules : Rules Image Step Entry) where
           slot = live.slot;
           tag_is = live.tag_is;
           list = live.list;
-          stands = checkpoints_keep_standing.planned live.slot (slice_get records stored) work new disks live.stands planned;
+          stands = checkpoints_keep_standing.planned live.slot (next_entry records stored) work new disks live.stands planned;
           some = live.some;
           few = live.few;
           proper = live.proper;
+          spelled = subst (λ (w : SlotWriter). AreSpelledFor w.version w.checkpoint records stored) (sym begins.plans.work_is) (record {
+            within = omega (arith, base);
+            below = subst (λ (rs : List VersionedEntry). All (IsIn work.version) (drop stored rs)) all
+                (subst (λ (c : Checkpoint). AreSpelledFor work.version c records stored) begins.plans.none live.spelled);
+            others = subst (λ (rs : List VersionedEntry). All (IsIn next.head.version) rs)
+                (sym (drop_all next.base records (omega (arith, base)))) (All-nil (IsIn next.head.version));
+          });
           plan = subst (λ (w : SlotWriter). HasPlan rules records w.checkpoint) (sym begins.plans.work_is)
-              (subst (λ (rs : List Entry). IsListOf rules rs next) all begins.list);
+              (subst (λ (rs : List VersionedEntry). IsListOf rules rs next) all begins.list);
         }
 
-    live_opened : (found : List Entry) (disks after : Sides DiskState) (work : SlotWriter) → HoldsTwo rules tag found (reads_two disks)
+    live_opened : (found : List VersionedEntry) (disks after : Sides DiskState) (work : SlotWriter) → HoldsTwo rules tag found (reads_two disks)
         → OpensTwo disks work after → IsLiveTwo rules tag found (length found) work after
     live_opened found disks after work holds opens =
         let finds = openings_find.opened holds.slot disks holds.shows work after opens in
         let count = list_count found holds.slot holds.list in
         let few : length found ≤ 4294967295 = let within = holds.shows.holds.whole.proper.few in omega (arith, count) in
         let none : drop (length found) found ≡ [] = drop_all (length found) found (omega arith) in
-        let proper : All IsEntry (drop (length found) found) = subst (λ (rs : List Entry). All IsEntry rs) (sym none) (All-nil IsEntry) in
+        let proper : All IsPlainEntry (drop (length found) found) = subst (λ (rs : List VersionedEntry). All IsPlainEntry rs) (sym none) (All-nil IsPlainEntry) in
         record {
           slot = holds.slot;
           tag_is = holds.tag_is;
-          list = subst (λ (rs : List Entry). IsListOf rules rs holds.slot) (sym (take_all (length found) found (omega arith))) holds.list;
-          stands = finds.stands (slice_get found (length found))
-              (subst (λ (n : ℕ). CanBeNext n (slice_get found (length found))) (sym count) (can_be_next found (length found) few proper));
+          list = subst (λ (rs : List VersionedEntry). IsListOf rules rs holds.slot) (sym (take_all (length found) found (omega arith))) holds.list;
+          stands = finds.stands (next_entry found (length found))
+              (subst (λ (n : ℕ). CanBeNext n (next_entry found (length found))) (sym count) (can_be_next found (length found) few proper));
           some = omega arith;
           few = few;
           proper = proper;
+          spelled = subst (λ (w : SlotWriter). AreSpelledFor w.version w.checkpoint found (length found)) (sym opens.work_is)
+              (subst (λ (rs : List VersionedEntry). All (IsIn opens.slot.head.version) rs) (sym none) (All-nil (IsIn opens.slot.head.version)));
           plan = subst (λ (w : SlotWriter). HasPlan rules found w.checkpoint) (sym opens.work_is) tt;
         }
 
-    stopped_safe : (records : List Entry) (stored : ℕ) (disks after : Sides DiskState) → IsSafe (two_disks rules tag) records stored disks
+    stopped_safe : (records : List VersionedEntry) (stored : ℕ) (disks after : Sides DiskState) → IsSafe (two_disks rules tag) records stored disks
         → StopsTwo disks after → IsSafe (two_disks rules tag) records stored after
     stopped_safe records stored disks after safe stops = record {
       each = λ left leaves.
@@ -463,7 +616,7 @@ module _ {Image Step : Type 0} (rules : Rules Image Step Entry) where
       possible = stopped_possible disks after stops;
     }
 
-pub two_disks_keep : {Image Step : Type 0} (rules : Rules Image Step Entry) (tag : ℕ) → StoreLaws (AreAlike rules) (two_disks rules tag)
+pub two_disks_keep : {Image Step : Type 0} (rules : Rules Image Step VersionedEntry) (tag : ℕ) → StoreLaws (AreAlike rules) (two_disks rules tag)
 two_disks_keep rules tag = record {
   alike = alike rules tag;
   crashed_leaves = λ left other leaves. same_sides other left leaves.0 leaves.1;
@@ -472,7 +625,7 @@ two_disks_keep rules tag = record {
   sealed = live_sealed rules tag;
   called = live_called rules tag;
   stores = live_stored rules tag;
-  stores_some = λ records stored work next disks after stores. (next_taken records stored stores.entry stores.next.next_is).0;
+  stores_some = λ records stored work next disks after stores. (next_taken records stored (work.version, stores.entry) stores.next.next_is).0;
   failed = failed_safe rules tag;
   begun = live_begun rules tag;
   opened = λ found disks after work possible holds opens. live_opened rules tag found disks after work holds opens;

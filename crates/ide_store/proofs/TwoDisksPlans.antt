@@ -3,11 +3,12 @@ use Rattle.std.proofs.Common.{◌≡◌, ◌∙◌, ◌≤◌, ◌<◌, ℕ, ◌
 use Rattle.std.specs.Prelude.{nat_le}
 use Rattle.std.specs.List.{filter}
 use Rattle.std.proofs.lemmas.Bool.{leb-true}
-use Rattle.std.proofs.lemmas.List.Elements.{All-drop, All-nil, filter-append}
+use Rattle.std.proofs.lemmas.List.Elements.{All-drop, All-map, All-nil, filter-append}
 use Rattle.std.proofs.lemmas.List.Sums.{count_by-le-length, length-filter}
-use Rattle.std.proofs.lemmas.List.{drop_all, length-append, length-take-le, map-append, take-append-drop, take_all}
+use Rattle.std.proofs.lemmas.List.{drop_all, length-append, length-map, length-take-le, map-append, take-append-drop, take_all}
 use Rattle.ide_disk.specs.Disk.{DiskState}
 use Rattle.ide_journal.specs.Format.{Entry, IsEntry, head_of}
+use Rattle.ide_journal.specs.declared.version.Version.{Version}
 use Rattle.ide_journal.specs.declared.version.Version.TheVariants as version
 use Rattle.ide_slots.specs.Sides.{Sides}
 use Rattle.ide_slots.specs.Slot.{AreCommands, IsCommandEntry, IsSlot, NumberedEntry, Slot, numbered_from, records_of}
@@ -15,7 +16,9 @@ use Rattle.ide_slots.specs.Two.{Planned, SlotWriter}
 use Rattle.ide_slots.specs.TwoCalls.{PlansCheckpoint}
 use Rattle.ide_slots.proofs.Records.{length-numbered}
 use Rattle.ide_store.proofs.TwoDisks.{lead_on, slot_gives, two_disks_keep, up_to}
+use Rattle.ide_store.proofs.OneVersion.{plain_again}
 use Rattle.ide_store.proofs.World.{one_image}
+use Rattle.ide_store.specs.Versioned.{IsPlainEntry, VersionedEntry, in_version, plain}
 use Rattle.ide_store.specs.TwoDisks.{GiveTheSame, IsListOf, IsLiveTwo, commands_from, commands_of, unnumbered, is_command}
 use Rattle.ide_store.specs.TwoDisksLaws.{ArePartsOf, CheckpointsCanBePlanned, SlotsGiveBack}
 use Rattle.ide_store.specs.World.{AreExact, IsFolded, Rules}
@@ -43,18 +46,23 @@ commands_both number xs ys =
     ap (λ (rs : List NumberedEntry). filter is_command rs) (numbered_both number xs ys)
     ∙ filter-append is_command (numbered_from number xs) (numbered_from (number + length xs) ys)
 
-pub slots_give_back : {Image Step : Type 0} (rules : Rules Image Step Entry) → SlotsGiveBack rules
+pub slots_give_back : {Image Step : Type 0} (rules : Rules Image Step VersionedEntry) → SlotsGiveBack rules
 slots_give_back rules = record {
   images = λ records slot list.
-      subst (λ (rs : List Entry). GiveTheSame rules rs records) (sym (all_of slot)) (slot_gives rules records slot list);
+      subst (λ (es : List Entry). GiveTheSame rules (in_version slot.head.version es) records) (sym (all_of slot)) (slot_gives rules records slot list);
   commands = λ records slot list.
       let base = slot.base in
-      let from : 0 + length (take base records) ≡ base = let short = length-take-le base records list.within in omega arith in
-      ap commands_of (sym (take-append-drop base records))
-      ∙ commands_both 0 (take base records) (drop base records)
-      ∙ ap (λ (n : ℕ). commands_of (take base records) ++ commands_from n (drop base records)) from
-      ∙ ap (λ (rs : List NumberedEntry). rs ++ commands_from base (drop base records)) (sym list.commands)
-      ∙ ap (λ (rs : List Entry). slot.commands ++ commands_from base rs) (sym list.rest);
+      let first = map plain (take base records) in
+      let rest = map plain (drop base records) in
+      let from : 0 + length first ≡ base =
+      let short = length-take-le base records list.within in omega (arith, length-map (take base records) plain) in
+      let same : rest ≡ slot.rest = ap (map plain) (sym list.rest) ∙ plain_again slot.head.version slot.rest in
+      ap (λ (rs : List VersionedEntry). commands_of rs) (sym (take-append-drop base records))
+      ∙ ap (commands_from 0) (map-append plain (take base records) (drop base records))
+      ∙ commands_both 0 first rest
+      ∙ ap (λ (n : ℕ). commands_of (take base records) ++ commands_from n rest) from
+      ∙ ap (λ (rs : List NumberedEntry). rs ++ commands_from base rest) (sym list.commands)
+      ∙ ap (λ (es : List Entry). slot.commands ++ commands_from base es) same;
 }
 
 later : (from to base : ℕ) (records : List NumberedEntry) → from ≤ to → AreCommands to base records → AreCommands from base records
@@ -102,52 +110,73 @@ commands_among number (entry ∷ entries) each =
     go false is proper rest =
         among false is (later number (number + 1) (number + suc (length entries)) (commands_from (number + 1) entries) (omega arith) rest)
 
-more_commands : (records more : List Entry) → AreCommands 0 (length records) (commands_of records) → All IsEntry more
+more_commands : (records more : List VersionedEntry) → AreCommands 0 (length records) (commands_of records) → All IsPlainEntry more
     → AreCommands 0 (length (records ++ more)) (commands_of (records ++ more))
 more_commands records more are proper =
-    let long = length-append records more in
-    let among : AreCommands (length records) (length (records ++ more)) (commands_from (length records) more) =
-    subst (λ (n : ℕ). AreCommands (length records) n (commands_from (length records) more)) (sym long) (commands_among (length records) more proper) in
-    let from : length records ≡ 0 + length records = omega arith in
-    let both : commands_of records ++ commands_from (length records) more ≡ commands_of (records ++ more) =
-    ap (λ (n : ℕ). commands_of records ++ commands_from n more) from ∙ sym (commands_both 0 records more) in
+    let first = map plain records in
+    let rest = map plain more in
+    let count = length-map records plain in
+    let long : length records + length rest ≡ length (records ++ more) = omega (arith, length-append records more, length-map more plain) in
+    let among : AreCommands (length records) (length (records ++ more)) (commands_from (length records) rest) =
+    subst (λ (n : ℕ). AreCommands (length records) n (commands_from (length records) rest)) long
+    (commands_among (length records) rest (all_plain more proper)) in
+    let from : length records ≡ 0 + length first = omega (arith, count) in
+    let both : commands_of records ++ commands_from (length records) rest ≡ commands_of (records ++ more) =
+    ap (λ (n : ℕ). commands_of records ++ commands_from n rest) from ∙ sym (commands_both 0 first rest)
+    ∙ ap (commands_from 0) (sym (map-append plain records more)) in
     subst (λ (rs : List NumberedEntry). AreCommands 0 (length (records ++ more)) rs) both
-    (ascend_both 0 (length records) (length (records ++ more)) (commands_of records) (commands_from (length records) more) (omega arith) (omega arith) are among)
+    (ascend_both 0 (length records) (length (records ++ more)) (commands_of records) (commands_from (length records) rest) (omega arith)
+    (omega (arith, length-append records more)) are among)
+  where
+    all_plain : (rs : List VersionedEntry) → All IsPlainEntry rs → All IsEntry (map plain rs)
+    all_plain rs all = All-map IsEntry plain rs all
 
-module _ {Image Step : Type 0} (rules : Rules Image Step Entry) (tag : ℕ) where
+module _ {Image Step : Type 0} (rules : Rules Image Step VersionedEntry) (tag : ℕ) where
   -- those among all the records
-  all_commands : (records : List Entry) (stored : ℕ) (work : SlotWriter) (disks : Sides DiskState) → IsLiveTwo rules tag records stored work disks
+  all_commands : (records : List VersionedEntry) (stored : ℕ) (work : SlotWriter) (disks : Sides DiskState) → IsLiveTwo rules tag records stored work disks
       → AreCommands 0 (length records) (commands_of records)
   all_commands records stored work disks live =
-      let early : List Entry = take stored records in
+      let early : List VersionedEntry = take stored records in
       let base = live.slot.base in
       let within = live.list.within in
       let proper = live.stands.whole.proper in
       let first : AreCommands 0 (length (take base early)) (commands_of (take base early)) =
       subst (λ (n : ℕ). AreCommands 0 n (commands_of (take base early))) (sym (length-take-le base early within))
       (subst (λ (rs : List NumberedEntry). AreCommands 0 base rs) live.list.commands proper.commands) in
-      let rest : All IsEntry (drop base early) = subst (λ (rs : List Entry). All IsEntry rs) live.list.rest proper.rest in
+      let rest : All IsPlainEntry (drop base early) =
+      subst (λ (rs : List VersionedEntry). All IsPlainEntry rs) live.list.rest (all_versioned live.slot.head.version live.slot.rest proper.rest) in
       let both : AreCommands 0 (length early) (commands_of early) =
-      subst (λ (rs : List Entry). AreCommands 0 (length rs) (commands_of rs)) (take-append-drop base early) (more_commands (take base early) (drop base early) first rest) in
-      subst (λ (rs : List Entry). AreCommands 0 (length rs) (commands_of rs)) (take-append-drop stored records) (more_commands early (drop stored records) both live.proper)
+      subst (λ (rs : List VersionedEntry). AreCommands 0 (length rs) (commands_of rs)) (take-append-drop base early)
+      (more_commands (take base early) (drop base early) first rest) in
+      subst (λ (rs : List VersionedEntry). AreCommands 0 (length rs) (commands_of rs)) (take-append-drop stored records)
+      (more_commands early (drop stored records) both live.proper)
+    where
+      all_versioned : (version : Version) (es : List Entry) → All IsEntry es → All IsPlainEntry (in_version version es)
+      all_versioned version es all = All-map IsPlainEntry (λ (e : Entry). (version, e)) es all
 
   -- the commands and such parts give back the image of all the records
-  pub parts_give : AreExact rules → (records parts : List Entry) → ArePartsOf rules records parts
-      → GiveTheSame rules (map unnumbered (commands_of records) ++ parts) records
+  pub parts_give : AreExact rules → (records : List VersionedEntry) (parts : List Entry) → ArePartsOf rules records parts
+      → GiveTheSame rules (in_version version.Two (map unnumbered (commands_of records) ++ parts)) records
   parts_give exact records parts are image =
-      let both = lead_on rules (map unnumbered (commands_of records)) parts rules.empty are.before are.now are.commands are.lead in (
-        λ folded. subst (λ (i : Image). IsFolded rules records i) (one_image rules exact (two_disks_keep rules tag) (map unnumbered (commands_of records) ++ parts) rules.empty are.now image both folded) are.whole,
-        λ folded. subst (λ (i : Image). IsFolded rules (map unnumbered (commands_of records) ++ parts) i) (one_image rules exact (two_disks_keep rules tag) records rules.empty are.now image are.whole folded) both,
+      let all : List VersionedEntry = in_version version.Two (map unnumbered (commands_of records) ++ parts) in
+      let both : IsFolded rules all are.now =
+      subst (λ (rs : List VersionedEntry). IsFolded rules rs are.now)
+      (sym (map-append (λ (e : Entry). (version.Two, e)) (map unnumbered (commands_of records)) parts))
+      (lead_on rules (in_version version.Two (map unnumbered (commands_of records))) (in_version version.Two parts) rules.empty are.before are.now
+      are.commands are.lead) in (
+        λ folded. subst (λ (i : Image). IsFolded rules records i) (one_image rules exact (two_disks_keep rules tag) all rules.empty are.now image both folded) are.whole,
+        λ folded. subst (λ (i : Image). IsFolded rules all i) (one_image rules exact (two_disks_keep rules tag) records rules.empty are.now image are.whole folded) both,
       )
 
-  few_commands : (records : List Entry) → length (commands_of records) ≤ length records
+  few_commands : (records : List VersionedEntry) → length (commands_of records) ≤ length records
   few_commands records =
-      let count = length-filter is_command (numbered_from 0 records) in
-      let most = count_by-le-length is_command (numbered_from 0 records) in
-      let long = length-numbered 0 records in
+      let count = length-filter is_command (numbered_from 0 (map plain records)) in
+      let most = count_by-le-length is_command (numbered_from 0 (map plain records)) in
+      let long = length-numbered 0 (map plain records) in
+      let same = length-map records plain in
       omega arith
 
-pub checkpoints_can_be_planned : {Image Step : Type 0} (rules : Rules Image Step Entry) → AreExact rules → CheckpointsCanBePlanned rules
+pub checkpoints_can_be_planned : {Image Step : Type 0} (rules : Rules Image Step VersionedEntry) → AreExact rules → CheckpointsCanBePlanned rules
 checkpoints_can_be_planned rules exact tag records parts stored work disks live none least are =
     let next : Slot = record {
       head = head_of version.Two tag;
@@ -178,7 +207,8 @@ checkpoints_can_be_planned rules exact tag records parts stored work disks live 
     let list : IsListOf rules records next = record {
       within = omega arith;
       commands = ap commands_of whole;
-      image = subst (λ (rs : List Entry). GiveTheSame rules (map unnumbered (commands_of records) ++ parts) rs) whole (parts_give rules tag exact records parts are);
+      image = subst (λ (rs : List VersionedEntry). GiveTheSame rules (in_version version.Two (map unnumbered (commands_of records) ++ parts)) rs) whole
+          (parts_give rules tag exact records parts are);
       rest = sym (drop_all (length records) records (omega arith));
     } in
     let plans : PlansCheckpoint live.slot work (record work { checkpoint = Planned next }) = record {

@@ -4,7 +4,7 @@ use Rattle.std.proofs.lemmas.Bool.{cases_lt}
 use Rattle.std.proofs.lemmas.List.{length-append, take-append-le, take-take, take_all}
 use Rattle.std.proofs.lemmas.List.Sums.{fold-append}
 use Rattle.ide_batch.specs.Fold.{ProgramImage}
-use Rattle.ide_journal.specs.Format.{Entry, Head}
+use Rattle.ide_journal.specs.Format.{head_of}
 use Rattle.ide_text.specs.Value.{ProgramValue}
 use Rattle.ide_theory.specs.Images.{Finish, Load, Part, Root}
 use Rattle.ide_theory.specs.State.{Claim}
@@ -18,8 +18,9 @@ use Rattle.ide_store.specs.Hands.{Batches, Claims, Ends, Happens, Loads, Parts, 
 use Rattle.ide_store.specs.Machine.{ProgramStep}
 use Rattle.ide_store.proofs.Adopted.{start_whole}
 use Rattle.ide_store.proofs.Places.{does_at, exact_at, laws_at}
-use Rattle.ide_store.specs.Places.{OnOneDisk, OnTwoDisks, Place, version_at}
+use Rattle.ide_store.specs.Places.{OnOneDisk, OnTwoDisks, Place}
 use Rattle.ide_store.specs.Table.{Analysis, at_adopted, at_meeting, at_new, BeginsOnTwo, IsLedTo, IsNew, IsReached, IsStart, MayDo, MayDoAll, StoreAct, StoreWorld, after_act, after_acts, forms_of, rules_at, store_at}
+use Rattle.ide_store.specs.Versioned.{VersionedEntry}
 use Rattle.ide_store.specs.World.{Acks, Begins, Calls, Crashes, Fails, IsFolded, Opens, Rules, Running, Seals, Steps, Stops, Stores, contents, image_after}
 
 -- with no program no key waits
@@ -27,7 +28,7 @@ abbrev pub IsStill : {F : Type 0} → ProgramImage F → Type 0
 IsStill image = image.program ≡ None → (key : Key) → image.pending key ≡ false
 
 module _ {F L : Type 0} (a : Analysis F L) (place : Place) where
-  abbrev acts_by : Rules (ProgramImage F) (ProgramStep F) Entry
+  abbrev acts_by : Rules (ProgramImage F) (ProgramStep F) VersionedEntry
   acts_by = rules_at a place
 
   -- the image after each beginning of the steps is still, and with no program no hand has a claim
@@ -122,7 +123,7 @@ module _ {F L : Type 0} (a : Analysis F L) (place : Place) where
     -- what acts keep besides
     abbrev IsWholeIn : StoreWorld a place → Type 0
     IsWholeIn w =
-        IsWhole a.lattice a.functions a.targets a.same (forms_of a) (version_at place) (store_at a place) knows.is_same
+        IsWhole a.lattice a.functions a.targets a.same (forms_of a) (store_at a place) knows.is_same
         (exact_at a knows.prefix_free place) (laws_at a place) knows.known w
 
     -- acts, one after the other
@@ -132,7 +133,7 @@ module _ {F L : Type 0} (a : Analysis F L) (place : Place) where
     acts_still w (act ∷ acts) whole still can =
         let exact = exact_at a knows.prefix_free place in
         let next : IsWholeIn (after_act a place w act) =
-        all_held a.lattice a.functions a.targets a.same (forms_of a) (version_at place) (store_at a place) knows.is_same exact (laws_at a place)
+        all_held a.lattice a.functions a.targets a.same (forms_of a) (store_at a place) knows.is_same exact (laws_at a place)
         knows.known (does_at a place) w (act ∷ []) whole (can.0, tt) in
         acts_still (after_act a place w act) acts next (act_still w act whole.held.world still can.0) can.1
 
@@ -153,21 +154,21 @@ module _ {F L : Type 0} (a : Analysis F L) (knows : Knows a) where
       let whole = start_whole a knows.is_same knows.prefix_free knows.known place led.start (starts led.start led.begins) in
       subst (IsStillIn a place) led.is (acts_still a place knows led.start led.acts whole (still led.start led.begins) led.can)
 
-  two_still : (head : Head) (start : StoreWorld a (OnTwoDisks head)) → BeginsOnTwo a head start → IsStillIn a (OnTwoDisks head) start
-  two_still head start (at_new new) = new_still (OnTwoDisks head) start new
-  two_still head start (at_adopted adopted) =
-      let one = OnOneDisk head in
+  two_still : (tag : ℕ) (start : StoreWorld a (OnTwoDisks tag)) → BeginsOnTwo a tag start → IsStillIn a (OnTwoDisks tag) start
+  two_still tag start (at_new new) = new_still (OnTwoDisks tag) start new
+  two_still tag start (at_adopted adopted) =
+      let one = OnOneDisk (head_of adopted.version tag) in
       let before = led_still one (IsNew a one) (λ begun new. new) (new_still one) adopted.world adopted.run in
-      subst (IsStillIn a (OnTwoDisks head)) (sym adopted.is) (record { images = before.images; claims = before.claims })
-  two_still head _ (at_meeting begun begins acts can stored work disks live) =
-      let place = OnTwoDisks head in
+      subst (IsStillIn a (OnTwoDisks tag)) (sym adopted.is) (record { images = before.images; claims = before.claims })
+  two_still tag _ (at_meeting begun begins acts can stored work disks live) =
+      let place = OnTwoDisks tag in
       let whole = start_whole a knows.is_same knows.prefix_free knows.known place begun begins in
-      let before = acts_still a place knows begun acts whole (two_still head begun begins) can in
+      let before = acts_still a place knows begun acts whole (two_still tag begun begins) can in
       record { images = before.images; claims = before.claims }
 
   start_still : (place : Place) (start : StoreWorld a place) → IsStart a place start → IsStillIn a place start
   start_still (OnOneDisk head) start new = new_still (OnOneDisk head) start new
-  start_still (OnTwoDisks head) start begins = two_still head start begins
+  start_still (OnTwoDisks tag) start begins = two_still tag start begins
 
   -- and of each world that acts led to
   reached_still : (place : Place) (w : StoreWorld a place) → IsReached a place w → IsStillIn a place w

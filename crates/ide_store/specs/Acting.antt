@@ -1,6 +1,6 @@
 -- That the calls of a core are acts of a store whose half that works they are made for.
 use Rattle.std.specs.Prelude.{◌≡◌, ◌<◌, ◌++◌, ℕ, ◌+◌, true, List, [], ◌∷◌, Option, Some, None, length}
-use Rattle.std.specs.Option.{is_some}
+use Rattle.std.specs.Option.{is_some, option_map}
 use Rattle.ide_batch.specs.Applied.{IsLoadedWith}
 use Rattle.ide_batch.specs.Bodies.{IsEntryOf}
 use Rattle.ide_batch.specs.Items.{Item}
@@ -71,12 +71,12 @@ pub record CallsAreActs {F L : Type 0} (a : Analysis F L) : Type 0 where
   pub load : (program : Program) (text : List ℕ) (entry : Entry) (old new : TableData F) → IsWholeCore old.core
       → IsParsed text program → SpellsRecord a old (records.Load text) entry → old.sealed < 4294967295
       → WaitsFor (entry ∷ []) old new → IsLoadedWith program new.core → new.core.changes ≡ Some []
-      → IsAct a old new (λ place. Loads (value_of program) entry)
+      → IsAct a old new (λ place. Loads (value_of program) (old.version, entry))
   pub root : (name : List ℕ) (first : Option Entry) (entry : Entry) (old new : TableData F) (mid : CoreData F) → IsWholeCore old.core
       → SpellsFirst a old first → SpellsRecord a old (records.Root name) entry → old.sealed < 4294967294
       → IsBegun a.lattice a.functions a.targets old.core mid name → BeginsAnew mid new.core
-      → WaitsFor (behind_first first entry) old new → IsAct a old new (λ place. Roots name first entry)
+      → WaitsFor (behind_first first entry) old new → IsAct a old new (λ place. Roots name (option_map (λ batch. (old.version, batch)) first) (old.version, entry))
   pub batch : (entry : Entry) (old new : TableData F) → IsWholeCore old.core → SpellsChanges a old entry → old.sealed < 4294967295
-      → WaitsFor (entry ∷ []) old new → BeginsAnew old.core new.core → IsAct a old new (λ place. Batches entry)
+      → WaitsFor (entry ∷ []) old new → BeginsAnew old.core new.core → IsAct a old new (λ place. Batches (old.version, entry))
   pub nothing : (old new : TableData F) → IsWholeCore old.core → AreChangedItems old.core [] → KeepsRest old new → BeginsAnew old.core new.core
       → FindsNothing a old new

@@ -1,13 +1,13 @@
 -- What a frozen image is of a store's world.
 use Rattle.std.specs.Prelude.{◌≡◌, false, List, Some, map}
 use Rattle.ide_batch.specs.Applied.{named_in}
-use Rattle.ide_journal.specs.Format.{Entry}
 use Rattle.ide_steps.specs.Frozen.{graph_in, program_in}
 use Rattle.ide_steps.specs.declared.closed.Closed.{Closed}
 use Rattle.ide_image.specs.Tables.{found}
 use Rattle.ide_wire.specs.declared.key.Key.{Key}
 use Rattle.ide_store.specs.Places.{Place}
 use Rattle.ide_store.specs.Table.{Analysis, IsReached, StoreWorld, TableData, WorksOn}
+use Rattle.ide_store.specs.Versioned.{VersionedEntry}
 
 module _ {P F L : Type 0} (a : Analysis F L) where
   -- the frozen image is the world's, and nothing is pending in it
@@ -19,5 +19,5 @@ module _ {P F L : Type 0} (a : Analysis F L) where
 
   -- of each world that acts led to, and on which the half works
   abbrev pub IsImageOver : TableData F → Closed P L F → Type 0
-  IsImageOver table closed = (place : Place) (w : StoreWorld a place) (handed : List Entry) → IsReached a place w → WorksOn a place w table handed
+  IsImageOver table closed = (place : Place) (w : StoreWorld a place) (handed : List VersionedEntry) → IsReached a place w → WorksOn a place w table handed
       → IsImageOf place w closed

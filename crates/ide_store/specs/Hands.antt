@@ -1,11 +1,8 @@
 -- The world of a store with the hands that work on its image: what each of them may do, and what that is to the store.
 use Rattle.std.specs.Prelude.{◌≡◌, ◌≢◌, ℕ, ◌+◌, Bool, true, cond, List, [], ◌∷◌, Option, Some, None, length}
-use Rattle.ide_batch.specs.Bodies.{IsEntryOf}
 use Rattle.ide_batch.specs.Fold.{IsBatch, ProgramImage, image_entry, procedures}
 use Rattle.ide_batch.specs.Items.{Functions, Item}
 use Rattle.ide_batch.specs.Records as records
-use Rattle.ide_journal.specs.Format.{Entry}
-use Rattle.ide_journal.specs.declared.version.Version.{Version}
 use Rattle.ide_lattice.specs.Algebra.{LatticeAlgebra, EdgeAlgebra}
 use Rattle.ide_problem.specs.Flow.{Targets}
 use Rattle.ide_text.specs.Parsed.{IsParsed}
@@ -17,19 +14,20 @@ use Rattle.ide_theory.specs.Run.{ArePartsOf}
 use Rattle.ide_theory.specs.State.{Claim, State, finished, new_claim, part_done, with_claim}
 use Rattle.ide_wire.specs.declared.key.Key.{Key}
 use Rattle.ide_store.specs.Answers.{AnswersBest, GraphBy, IsWorkFew, frame_by}
-use Rattle.ide_store.specs.Machine.{ProgramStep}
+use Rattle.ide_store.specs.Machine.{IsSpelled, ProgramStep}
 use Rattle.ide_store.specs.Store.{Store}
 use Rattle.ide_store.specs.Tally.{Tally, nothing_since, state_with}
+use Rattle.ide_store.specs.Versioned.{VersionedEntry}
 use Rattle.ide_store.specs.World.{Can, Event, IsFolded, IsRecoverable, Opens, Rules, Running, Seals, Steps, World, after_all, contents, created}
 
-abbrev pub ProgramWorld : (F : Type 0) → Store Entry → Type 0
+abbrev pub ProgramWorld : (F : Type 0) → Store VersionedEntry → Type 0
 ProgramWorld F S = World (ProgramImage F) (ProgramStep F) S
 
-abbrev pub ProgramEvent : (F : Type 0) → Store Entry → Type 0
+abbrev pub ProgramEvent : (F : Type 0) → Store VersionedEntry → Type 0
 ProgramEvent F S = Event (ProgramImage F) (ProgramStep F) S
 
 -- the world of a store, the claim of each hand, and what they did since an opening or a load
-pub record Hands (F : Type 0) (S : Store Entry) : Type 0 where
+pub record Hands (F : Type 0) (S : Store VersionedEntry) : Type 0 where
   pub world : ProgramWorld F S
   pub claims : ℕ → Option (Claim F)
   pub tally : Tally F
@@ -37,28 +35,28 @@ pub record Hands (F : Type 0) (S : Store Entry) : Type 0 where
 -- a hand claims a key and owes these parts, does its next part, ends its claim or gives it back; a program is loaded, with
 -- its record; a procedure becomes a root, with its record, and before it one of what changed, if anything did; what
 -- changed is sealed; or something happens to the store
-pub data Act (F : Type 0) (S : Store Entry) : Type 0 where
+pub data Act (F : Type 0) (S : Store VersionedEntry) : Type 0 where
   Claims : ℕ → Key → List (Key × F) → Act F S
   Parts : ℕ → Key → F → Act F S
   Ends : ℕ → Claim F → Act F S
   Releases : ℕ → Act F S
-  Loads : ProgramValue → Entry → Act F S
-  Roots : List ℕ → Option Entry → Entry → Act F S
-  Batches : Entry → Act F S
+  Loads : ProgramValue → VersionedEntry → Act F S
+  Roots : List ℕ → Option VersionedEntry → VersionedEntry → Act F S
+  Batches : VersionedEntry → Act F S
   Happens : ProgramEvent F S → Act F S
 
 -- what happens to a store by itself
-abbrev pub IsOfStore : {F : Type 0} {S : Store Entry} → ProgramEvent F S → Type 0
+abbrev pub IsOfStore : {F : Type 0} {S : Store VersionedEntry} → ProgramEvent F S → Type 0
 IsOfStore (Steps s) = ⊥
 IsOfStore (Seals r) = ⊥
 IsOfStore e = Unit {0}
 
-abbrev pub sealing_first : {F : Type 0} {S : Store Entry} → Option Entry → List (ProgramEvent F S) → List (ProgramEvent F S)
+abbrev pub sealing_first : {F : Type 0} {S : Store VersionedEntry} → Option VersionedEntry → List (ProgramEvent F S) → List (ProgramEvent F S)
 sealing_first None events = events
 sealing_first (Some batch) events = Seals batch ∷ events
 
 -- what an act is to the store
-abbrev pub events_of : {F : Type 0} {S : Store Entry} → Act F S → List (ProgramEvent F S)
+abbrev pub events_of : {F : Type 0} {S : Store VersionedEntry} → Act F S → List (ProgramEvent F S)
 events_of (Claims h q parts) = []
 events_of (Parts h key g) = Steps (Part key g) ∷ []
 events_of (Ends h c) = Steps (Finish c.key c.lowered) ∷ []
@@ -68,9 +66,9 @@ events_of (Roots name first r) = sealing_first first (Steps (Root name) ∷ Seal
 events_of (Batches r) = Seals r ∷ []
 events_of (Happens e) = e ∷ []
 
--- over a store of that version, whose records do what the rules say
+-- over a store whose records do what the rules say
 module _ {F L : Type 0} (A : LatticeAlgebra L) (B : EdgeAlgebra F L) (targets : Targets F) (same : F → F → Bool)
-    (forms : Functions F) (version : Version) (rules : Rules (ProgramImage F) (ProgramStep F) Entry) (S : Store Entry) where
+    (forms : Functions F) (rules : Rules (ProgramImage F) (ProgramStep F) VersionedEntry) (S : Store VersionedEntry) where
   -- the image and the claims as a state of the tabulation
   abbrev pub state_in : Hands F S → State F
   state_in w = state_with w.world.image w.claims
@@ -147,27 +145,27 @@ module _ {F L : Type 0} (A : LatticeAlgebra L) (B : EdgeAlgebra F L) (targets : 
     pub mine : w.claims h ≡ Some claim
 
   -- the next record may be this one
-  abbrev pub FitsNext : ProgramWorld F S → Entry → Type 0
-  FitsNext w r = S.Fits (length (contents w.sealed)) r
+  abbrev pub FitsNext : ProgramWorld F S → VersionedEntry → Type 0
+  FitsNext w r = S.Fits w.work (length (contents w.sealed)) r
 
   -- the record has a text of the program
-  pub record CanLoad (w : Hands F S) (v : ProgramValue) (r : Entry) : Type 0 where
+  pub record CanLoad (w : Hands F S) (v : ProgramValue) (r : VersionedEntry) : Type 0 where
     pub running : w.world.mode ≡ Running
     pub text : List ℕ
     pub program : Program
     pub parsed : IsParsed text program
     pub says : value_of program ≡ v
-    pub spelled : IsEntryOf forms version (records.Load text) r
+    pub spelled : IsSpelled forms (records.Load text) r
     pub fits : FitsNext w.world r
 
   -- the record tells what changed since the last one
-  pub record CanBatch (w : Hands F S) (r : Entry) : Type 0 where
+  pub record CanBatch (w : Hands F S) (r : VersionedEntry) : Type 0 where
     pub running : w.world.mode ≡ Running
     pub base : ProgramImage F
     pub folded : IsFolded rules (contents w.world.sealed) base
     pub items : List (Item F)
     pub exact : IsBatch items base w.world.image
-    pub spelled : IsEntryOf forms version (records.Batch items) r
+    pub spelled : IsSpelled forms (records.Batch items) r
     pub fits : FitsNext w.world r
 
   -- nothing changed since the last record
@@ -176,19 +174,19 @@ module _ {F L : Type 0} (A : LatticeAlgebra L) (B : EdgeAlgebra F L) (targets : 
     pub folded : IsFolded rules (contents w.world.sealed) base
     pub entries : (key : Key) → image_entry base key ≡ image_entry w.world.image key
 
-  abbrev pub CanGoFirst : Hands F S → Option Entry → Type 0
+  abbrev pub CanGoFirst : Hands F S → Option VersionedEntry → Type 0
   CanGoFirst w None = IsCaughtUp w
   CanGoFirst w (Some batch) = CanBatch w batch
 
   -- the program has the procedure, and the record names it
-  pub record CanBegin (w : Hands F S) (name : List ℕ) (batch : Option Entry) (r : Entry) : Type 0 where
+  pub record CanBegin (w : Hands F S) (name : List ℕ) (batch : Option VersionedEntry) (r : VersionedEntry) : Type 0 where
     pub running : w.world.mode ≡ Running
     pub program : ProgramValue
     pub loaded : w.world.image.program ≡ Some program
     pub start : ℕ
     pub starts : procedures.start program name ≡ Some start
     pub first : CanGoFirst w batch
-    pub spelled : IsEntryOf forms version (records.Root name) r
+    pub spelled : IsSpelled forms (records.Root name) r
     pub fits : FitsNext (after_all rules w.world (sealing_first batch [])) r
 
   abbrev pub Allowed : Hands F S → Act F S → Type 0

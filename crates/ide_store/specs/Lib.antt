@@ -17,5 +17,6 @@ pub mod TableCalls
 pub mod Tally
 pub mod TwoDisks
 pub mod TwoDisksLaws
+pub mod Versioned
 pub mod World
 pub mod Writing

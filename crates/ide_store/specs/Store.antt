@@ -14,8 +14,8 @@ pub record Store (R : Type 0) : Type 1 where
   pub Leaves : Disks → Left → Type 0
   -- what is left holds the records
   pub Holds : List R → Left → Type 0
-  -- a record can be spelled under that number
-  pub Fits : ℕ → R → Type 0
+  -- where the writer stands so, a record may be sealed under that number
+  pub Fits : Work → ℕ → R → Type 0
   -- the writer stands so, with these records sealed and so many stored
   pub Live : (records : List R) (stored : ℕ) → Work → Disks → Type 0
   -- its calls: a good one, a good one that stores a record, and one that failed
@@ -49,7 +49,7 @@ pub record StoreLaws {R : Type 0} (Alike : List R → List R → Type 0) (S : St
   pub live_safe : (records : List R) (stored : ℕ) (work : S.Work) (disks : S.Disks)
       → S.Live records stored work disks → IsSafe S records stored disks
   pub sealed : (records : List R) (stored : ℕ) (r : R) (work : S.Work) (disks : S.Disks)
-      → S.Live records stored work disks → S.Fits (length records) r → S.Live (records ++ r ∷ []) stored work disks
+      → S.Live records stored work disks → S.Fits work (length records) r → S.Live (records ++ r ∷ []) stored work disks
   pub called : (records : List R) (stored : ℕ) (work next : S.Work) (disks after : S.Disks)
       → S.Live records stored work disks → S.Calls records stored work disks next after → S.Live records stored next after
   pub stores : (records : List R) (stored : ℕ) (work next : S.Work) (disks after : S.Disks)

@@ -6,7 +6,7 @@ use Rattle.ide_batch.specs.Applied.{HasImage}
 use Rattle.ide_batch.specs.Fold.{ProgramImage, image_entry}
 use Rattle.ide_batch.specs.Items.{Functions, functions_by}
 use Rattle.ide_disk.specs.Disk.{DiskState, settled}
-use Rattle.ide_journal.specs.Format.{Entry, Head, IsEntry}
+use Rattle.ide_journal.specs.Format.{Entry, IsEntry, head_of}
 use Rattle.ide_journal.specs.declared.version.Version.{Version}
 use Rattle.ide_lattice.specs.Algebra.{LatticeAlgebra, EdgeAlgebra}
 use Rattle.ide_problem.specs.Flow.{Targets}
@@ -23,8 +23,9 @@ use Rattle.ide_theory.specs.State.{State}
 use Rattle.ide_wire.specs.declared.key.Key.{Key}
 use Rattle.ide_store.specs.Hands.{Act, Allowed, AreAllowed, Hands, IsCaughtUp, idle, next, worked}
 use Rattle.ide_store.specs.Machine.{ProgramStep}
-use Rattle.ide_store.specs.Places.{OnOneDisk, OnTwoDisks, Place, machine_at, store_on, version_at}
+use Rattle.ide_store.specs.Places.{OnOneDisk, OnTwoDisks, Place, machine_at, store_on, version_on}
 use Rattle.ide_store.specs.Store.{Store}
+use Rattle.ide_store.specs.Versioned.{VersionedEntry, in_version}
 use Rattle.ide_store.specs.World.{Closed, IsFolded, Rules, Running, contents}
 
 -- an analysis, as contracts see it: its lattice and its functions, what its flow does, and how functions are told apart
@@ -82,7 +83,7 @@ told note = (note.function, note.pending)
 
 module _ {F L : Type 0} (a : Analysis F L) (place : Place) where
   -- the store of the analysis at such a place
-  abbrev pub store_at : Store Entry
+  abbrev pub store_at : Store VersionedEntry
   store_at = store_on a.functions a.same (forms_of a) place
 
   -- a world of it
@@ -93,25 +94,29 @@ module _ {F L : Type 0} (a : Analysis F L) (place : Place) where
   StoreAct = Act F store_at
 
   -- what its records do
-  abbrev pub rules_at : Rules (ProgramImage F) (ProgramStep F) Entry
+  abbrev pub rules_at : Rules (ProgramImage F) (ProgramStep F) VersionedEntry
   rules_at = machine_at a.functions a.same (forms_of a) place
+
+  -- the version in which its records are sealed
+  abbrev pub version_in : StoreWorld → Version
+  version_in w = version_on a.functions a.same (forms_of a) place w.world.work
 
   -- the act may be done, and the world after it
   abbrev pub MayDo : StoreWorld → StoreAct → Type 0
-  MayDo w act = Allowed a.lattice a.functions a.targets a.same (forms_of a) (version_at place) rules_at store_at w act
+  MayDo w act = Allowed a.lattice a.functions a.targets a.same (forms_of a) rules_at store_at w act
 
   abbrev pub after_act : StoreWorld → StoreAct → StoreWorld
-  after_act w act = next a.lattice a.functions a.targets a.same (forms_of a) (version_at place) rules_at store_at w act
+  after_act w act = next a.lattice a.functions a.targets a.same (forms_of a) rules_at store_at w act
 
   abbrev pub MayDoAll : StoreWorld → List StoreAct → Type 0
-  MayDoAll w acts = AreAllowed a.lattice a.functions a.targets a.same (forms_of a) (version_at place) rules_at store_at w acts
+  MayDoAll w acts = AreAllowed a.lattice a.functions a.targets a.same (forms_of a) rules_at store_at w acts
 
   abbrev pub after_acts : StoreWorld → List StoreAct → StoreWorld
-  after_acts w acts = worked a.lattice a.functions a.targets a.same (forms_of a) (version_at place) rules_at store_at w acts
+  after_acts w acts = worked a.lattice a.functions a.targets a.same (forms_of a) rules_at store_at w acts
 
   -- a store that was just created, with no hand at work
   abbrev pub new_store : store_at.Work → store_at.Disks → StoreWorld
-  new_store work disks = idle a.lattice a.functions a.targets a.same (forms_of a) (version_at place) rules_at store_at work disks
+  new_store work disks = idle a.lattice a.functions a.targets a.same (forms_of a) rules_at store_at work disks
 
   -- it is such a one
   pub record IsNew (start : StoreWorld) : Type 0 where
@@ -129,9 +134,13 @@ module _ {F L : Type 0} (a : Analysis F L) (place : Place) where
     pub is : after_acts start acts ≡ w
 
 module _ {F L : Type 0} (a : Analysis F L) where
-  -- a world on one disk, as one on two: the disk as it stood is A, and these bytes are B. The store is closed
-  abbrev pub beside : (head : Head) → StoreWorld a (OnOneDisk head) → SlotWriter → List ℕ → StoreWorld a (OnTwoDisks head)
-  beside head w work other = record {
+  -- worlds on one disk, with records of that version, for the instance of that tag
+  abbrev pub OneWorld : Version → ℕ → Type 0
+  OneWorld version tag = StoreWorld a (OnOneDisk (head_of version tag))
+
+  -- such a world, as one on two: the disk as it stood is A, and these bytes are B. The store is closed
+  abbrev pub beside : (version : Version) (tag : ℕ) → OneWorld version tag → SlotWriter → List ℕ → StoreWorld a (OnTwoDisks tag)
+  beside version tag w work other = record {
     world = record {
       image = w.world.image;
       history = w.world.history;
@@ -146,35 +155,36 @@ module _ {F L : Type 0} (a : Analysis F L) where
     tally = w.tally;
   }
 
-  -- a store that acts led to on one disk was adopted: a closed slot was put beside it
-  pub record IsAdopted (head : Head) (start : StoreWorld a (OnTwoDisks head)) : Type 0 where
-    pub some_tag : 0 < head.tag
-    pub world : StoreWorld a (OnOneDisk head)
-    pub run : IsLedTo a (OnOneDisk head) (IsNew a (OnOneDisk head)) world
+  -- a store that acts led to on one disk, of either version, was adopted: a closed slot was put beside it
+  pub record IsAdopted (tag : ℕ) (start : StoreWorld a (OnTwoDisks tag)) : Type 0 where
+    pub some_tag : 0 < tag
+    pub version : Version
+    pub world : OneWorld version tag
+    pub run : IsLedTo a (OnOneDisk (head_of version tag)) (IsNew a (OnOneDisk (head_of version tag))) world
     pub work : SlotWriter
     pub other : List ℕ
     pub closed : IsClosedSlot other
-    pub is : start ≡ beside head world work other
+    pub is : start ≡ beside version tag world work other
 
   -- the half that writes went on by itself: so many of the sealed records are stored, and acknowledged, and it stands there
-  abbrev pub gone_on : (head : Head) → StoreWorld a (OnTwoDisks head) → ℕ → SlotWriter → Sides DiskState → StoreWorld a (OnTwoDisks head)
-  gone_on head w stored work disks =
+  abbrev pub gone_on : (tag : ℕ) → StoreWorld a (OnTwoDisks tag) → ℕ → SlotWriter → Sides DiskState → StoreWorld a (OnTwoDisks tag)
+  gone_on tag w stored work disks =
       record w { world = record w.world { stored = stored; acked = stored; work = work; disks = disks } }
 
   -- where runs on two disks begin: at a new store; at one that was adopted; or where halves that went on apart from each other
   -- meet: the one that works is led there from a beginning, and the one that writes is live with the records that were sealed
-  pub data BeginsOnTwo (head : Head) : StoreWorld a (OnTwoDisks head) → Type 0 where
-    at_new : {start : StoreWorld a (OnTwoDisks head)} → IsNew a (OnTwoDisks head) start → BeginsOnTwo head start
-    at_adopted : {start : StoreWorld a (OnTwoDisks head)} → IsAdopted head start → BeginsOnTwo head start
-    at_meeting : (begun : StoreWorld a (OnTwoDisks head)) → BeginsOnTwo head begun → (acts : List (StoreAct a (OnTwoDisks head)))
-        → MayDoAll a (OnTwoDisks head) begun acts → (stored : ℕ) (work : SlotWriter) (disks : Sides DiskState)
-        → (store_at a (OnTwoDisks head)).Live (contents (after_acts a (OnTwoDisks head) begun acts).world.sealed) stored work disks
-        → BeginsOnTwo head (gone_on head (after_acts a (OnTwoDisks head) begun acts) stored work disks)
+  pub data BeginsOnTwo (tag : ℕ) : StoreWorld a (OnTwoDisks tag) → Type 0 where
+    at_new : {start : StoreWorld a (OnTwoDisks tag)} → IsNew a (OnTwoDisks tag) start → BeginsOnTwo tag start
+    at_adopted : {start : StoreWorld a (OnTwoDisks tag)} → IsAdopted tag start → BeginsOnTwo tag start
+    at_meeting : (begun : StoreWorld a (OnTwoDisks tag)) → BeginsOnTwo tag begun → (acts : List (StoreAct a (OnTwoDisks tag)))
+        → MayDoAll a (OnTwoDisks tag) begun acts → (stored : ℕ) (work : SlotWriter) (disks : Sides DiskState)
+        → (store_at a (OnTwoDisks tag)).Live (contents (after_acts a (OnTwoDisks tag) begun acts).world.sealed) stored work disks
+        → BeginsOnTwo tag (gone_on tag (after_acts a (OnTwoDisks tag) begun acts) stored work disks)
 
   -- where runs begin
   abbrev pub IsStart : (place : Place) → StoreWorld a place → Type 0
   IsStart (OnOneDisk head) start = IsNew a (OnOneDisk head) start
-  IsStart (OnTwoDisks head) start = BeginsOnTwo head start
+  IsStart (OnTwoDisks tag) start = BeginsOnTwo tag start
 
   -- acts that could be done one after the other led to the world
   abbrev pub IsReached : (place : Place) → StoreWorld a place → Type 0
@@ -192,28 +202,28 @@ module _ {F L : Type 0} (a : Analysis F L) (place : Place) where
 
   -- nothing changed since the last record
   abbrev pub HasNothingNew : StoreWorld a place → Type 0
-  HasNothingNew w = IsCaughtUp a.lattice a.functions a.targets a.same (forms_of a) (version_at place) (rules_at a place) (store_at a place) w
+  HasNothingNew w = IsCaughtUp a.lattice a.functions a.targets a.same (forms_of a) (rules_at a place) (store_at a place) w
 
   -- the half works on the world: its core has the image and the claims, it knows what changed since the last record, and
-  -- of the sealed records these were handed over to the writer, and the others wait
-  pub record WorksOn (w : StoreWorld a place) (table : TableData F) (handed : List Entry) : Type 0 where
+  -- of the sealed records these were handed over to the writer, and the others wait, in the version in which it seals
+  pub record WorksOn (w : StoreWorld a place) (table : TableData F) (handed : List VersionedEntry) : Type 0 where
     pub running : w.world.mode ≡ Running
     pub working : table.failed ≡ false
-    pub version : table.version ≡ version_at place
+    pub version : table.version ≡ version_in a place w
     pub image : HasImage w.world.image table.core
     pub claims : (hand : ℕ) → w.claims hand ≡ (table_state a table).claims hand
     pub base : IsBase w table.core
     pub sealed : length w.world.sealed ≡ table.sealed
-    pub waits : contents w.world.sealed ≡ handed ++ table.waiting
+    pub waits : contents w.world.sealed ≡ handed ++ in_version table.version table.waiting
 
 module _ {F L : Type 0} (a : Analysis F L) (old new : TableData F) where
   -- over each world that acts led to, and on which the half worked, the act may be done, and the half works on the world
   -- after it, with the same records handed over
   abbrev pub IsAct : ((place : Place) → StoreAct a place) → Type 0
-  IsAct act = (place : Place) (w : StoreWorld a place) (handed : List Entry) → IsReached a place w → WorksOn a place w old handed
+  IsAct act = (place : Place) (w : StoreWorld a place) (handed : List VersionedEntry) → IsReached a place w → WorksOn a place w old handed
       → MayDo a place w (act place) × WorksOn a place (after_act a place w (act place)) new handed
 
   -- and so may some acts, one after the other, that are such as is told
   abbrev pub AreActs : ((place : Place) → List (StoreAct a place) → Type 0) → Type 0
-  AreActs Are = (place : Place) (w : StoreWorld a place) (handed : List Entry) → IsReached a place w → WorksOn a place w old handed
+  AreActs Are = (place : Place) (w : StoreWorld a place) (handed : List VersionedEntry) → IsReached a place w → WorksOn a place w old handed
       → (acts : List (StoreAct a place)) × Are place acts × MayDoAll a place w acts × WorksOn a place (after_acts a place w acts) new handed

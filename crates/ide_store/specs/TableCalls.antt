@@ -1,5 +1,6 @@
 -- What each call of the half that works does, by what it answers, and why it is refused.
 use Rattle.std.specs.Prelude.{◌≡◌, ℕ, ◌+◌, ◌<◌, ◌≤◌, ◌++◌, true, false, List, [], ◌∷◌, Option, Some, None, length, slice_get}
+use Rattle.std.specs.Option.{option_map}
 use Rattle.ide_batch.specs.Items.{Item, is_proper_item}
 use Rattle.ide_journal.specs.Format.{Entry}
 use Rattle.ide_lattice.specs.Algebra.{EdgeAlgebra}
@@ -23,6 +24,7 @@ use Rattle.ide_image.specs.Worklist.{claim_at}
 use Rattle.ide_image.specs.declared.claim.Claim.{Claim as Held}
 use Rattle.ide_store.specs.Hands.{Batches, Claims, Ends, Loads, Parts, Releases, Roots}
 use Rattle.ide_store.specs.Places.{Place}
+use Rattle.ide_store.specs.Versioned.{VersionedEntry}
 use Rattle.ide_store.specs.Table.{Analysis, HasNothingNew, IsAct, IsReached, KeepsRest, StoreWorld, TableData, WorksOn, forms_of}
 
 -- one record more waits, with the number that is answered
@@ -62,18 +64,18 @@ module _ {F L : Type 0} (a : Analysis F L) where
   pub record LoadsProgram (v : ProgramValue) (old new : TableData F) (number : ℕ) : Type 0 where
     pub entry : Entry
     pub seals : SealsOne old new entry number
-    pub act : IsAct a old new (λ place. Loads v entry)
+    pub act : IsAct a old new (λ place. Loads v (old.version, entry))
 
   -- what changed is sealed
   pub record SealsBatch (old new : TableData F) (number : ℕ) : Type 0 where
     pub entry : Entry
     pub seals : SealsOne old new entry number
-    pub act : IsAct a old new (λ place. Batches entry)
+    pub act : IsAct a old new (λ place. Batches (old.version, entry))
 
   -- nothing changed since the last record, and nothing is sealed
   pub record FindsNothing (old new : TableData F) : Type 0 where
     pub rest : KeepsRest old new
-    pub caught_up : (place : Place) (w : StoreWorld a place) (handed : List Entry) → IsReached a place w → WorksOn a place w old handed
+    pub caught_up : (place : Place) (w : StoreWorld a place) (handed : List VersionedEntry) → IsReached a place w → WorksOn a place w old handed
         → HasNothingNew a place w × WorksOn a place w new handed
 
   -- the procedure of the name becomes a root; what changed is sealed first, if anything did, and then the root's record,
@@ -84,7 +86,7 @@ module _ {F L : Type 0} (a : Analysis F L) where
     pub waits : new.waiting ≡ old.waiting ++ behind_first first entry
     pub sealed : new.sealed ≡ old.sealed + length (behind_first first entry)
     pub number_is : number + 1 ≡ new.sealed
-    pub act : IsAct a old new (λ place. Roots name first entry)
+    pub act : IsAct a old new (λ place. Roots name (option_map (λ batch. (old.version, batch)) first) (old.version, entry))
 
 -- ---- refusals
 module _ {F : Type 0} where

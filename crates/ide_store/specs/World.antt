@@ -108,7 +108,7 @@ pub record Catches {Image Step R : Type 0} {S : Store R} (rules : Rules Image St
 abbrev pub Can : {Image Step R : Type 0} {S : Store R} → Rules Image Step R → World Image Step S → Event Image Step S → Type 0
 Can rules w (Steps s) = w.mode ≡ Running
 Can {S = S} rules w (Seals r) =
-    (w.mode ≡ Running) × S.Fits (length (contents w.sealed)) r × Catches rules w r
+    (w.mode ≡ Running) × S.Fits w.work (length (contents w.sealed)) r × Catches rules w r
 Can {S = S} rules w (Begins work) = (w.mode ≡ Running) × S.Begins (contents w.sealed) w.work work
 Can {S = S} rules w (Calls work disks) = (w.mode ≡ Running) × S.Calls (contents w.sealed) w.stored w.work w.disks work disks
 Can {S = S} rules w (Stores work disks) = (w.mode ≡ Running) × S.Stores (contents w.sealed) w.stored w.work w.disks work disks

@@ -1,6 +1,5 @@
 //! Laws of the store. The functions do nothing: their clauses are the laws.
 ghost use Rattle.ide_batch.specs.Items.{functions_by};
-ghost use Rattle.ide_journal.specs.declared.version.Version.{Version};
 ghost use Rattle.ide_store.specs.Acting.{CallsAreActs};
 ghost use Rattle.ide_store.specs.Opening.{HalvesBegin};
 ghost use Rattle.ide_store.specs.Recovery.{OneDiskAnswers, OneDiskRecovers};
@@ -33,17 +32,17 @@ pub fn every_run_recovers<P: Problem>()
 /// back the image of the records, and its commands are theirs; and where there are parts of that image,
 /// a checkpoint over all records can be planned.
 pub fn two_disks_are_a_store<P: Problem>()
-    ensures keep { (version : Version) → TwoDisksKeep (slots_of ⟦<P as Kept>⟧.analysis version) }
-    ensures begin { (version : Version) → TwoDisksBegin (slots_of ⟦<P as Kept>⟧.analysis version) }
-    ensures go_on { (version : Version) → TwoDisksGoOn (slots_of ⟦<P as Kept>⟧.analysis version) }
-    ensures give_back { (version : Version) → SlotsGiveBack (slots_of ⟦<P as Kept>⟧.analysis version) }
-    ensures plan { (version : Version) → CheckpointsCanBePlanned (slots_of ⟦<P as Kept>⟧.analysis version) }
+    ensures keep { TwoDisksKeep (slots_of ⟦<P as Kept>⟧.analysis) }
+    ensures begin { TwoDisksBegin (slots_of ⟦<P as Kept>⟧.analysis) }
+    ensures go_on { TwoDisksGoOn (slots_of ⟦<P as Kept>⟧.analysis) }
+    ensures give_back { SlotsGiveBack (slots_of ⟦<P as Kept>⟧.analysis) }
+    ensures plan { CheckpointsCanBePlanned (slots_of ⟦<P as Kept>⟧.analysis) }
 {}
 
 /// As [`every_run_recovers`], of a store on two disks, with the beginnings and the calls of checkpoints
 /// among what happens.
 pub fn every_run_recovers_on_two_disks<P: Problem>()
-    ensures { (version : Version) → TwoDisksRecover (slots_of ⟦<P as Kept>⟧.analysis version) }
+    ensures { TwoDisksRecover (slots_of ⟦<P as Kept>⟧.analysis) }
 {}
 
 /// Over every list of claims, parts, ends and releases of any hands, loads, roots, batches, disk calls,
@@ -62,10 +61,10 @@ pub fn every_run_answers<P: Problem>()
 }
 
 /// As [`every_run_answers`], of a store on two disks, whose slots are of either version, with the
-/// beginnings and the calls of checkpoints among what happens: over each checkpoint, each crash and each
-/// opening the values that follow stay the best ones, and the bounds of the work are the same. A run begins
-/// at a new store, or at one of that version which a run on one disk left, and beside which a closed slot
-/// was put.
+/// beginnings and the calls of checkpoints among what happens, also of those that go over from the first
+/// version to the second: over each checkpoint, each crash and each opening the values that follow stay the
+/// best ones, and the bounds of the work are the same. A run begins at a new store, or at one of either version
+/// which a run on one disk left, and beside which a closed slot was put.
 pub fn every_run_answers_on_two_disks<P: Problem>()
     ensures { TwoDisksAnswers ⟦<P as Kept>⟧.analysis }
 {

@@ -1,5 +1,4 @@
 use Rattle.ide_store.specs.Table.{Analysis}
-use Rattle.ide_journal.specs.declared.version.Version.TheVariants.{Two}
 use Rattle.ide_desks.proofs.Apart.{halves_meet}
 use Rattle.ide_desks.proofs.laws.halves_meet.Goals as goal
 
@@ -13,4 +12,4 @@ returns g c =
       proper = g.P.F.Wire.proper;
       form = g.P.F.Wire.form;
     } in
-    halves_meet a g.D.Disk (c.two_disks_are_a_store.ensures.keep Two)
+    halves_meet a g.D.Disk c.two_disks_are_a_store.ensures.keep

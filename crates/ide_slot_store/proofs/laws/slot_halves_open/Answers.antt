@@ -14,4 +14,4 @@ returns g c =
       form = g.P.F.Wire.form;
     } in
     slot_halves_open a g.D.Disk (places_answer a c.every_run_answers.ensures c.every_run_answers_on_two_disks.ensures)
-    (λ head. c.slot_journals_write_stores.ensures head.version)
+    (λ tag. c.slot_journals_write_stores.ensures)

@@ -4,7 +4,7 @@ use Rattle.ide_slot_store.proofs.Writing.{journals_write_two}
 use Rattle.ide_slot_store.proofs.laws.slot_journals_write_stores.Goals as goal
 
 pub returns : goal.returns
-returns g c = λ version.
+returns g c =
     let a : Analysis g.row.P-F.Denot g.row.P-L.Denot = record {
       lattice = g.P.L.Lattice.algebra;
       functions = g.P.F.EdgeFn.edge;
@@ -13,4 +13,4 @@ returns g c = λ version.
       proper = g.P.F.Wire.proper;
       form = g.P.F.Wire.form;
     } in
-    journals_write_two g.D.Disk (slots_of a version)
+    journals_write_two g.D.Disk (slots_of a)

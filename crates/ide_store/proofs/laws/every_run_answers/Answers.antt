@@ -2,9 +2,10 @@ use Rattle.ide_batch.specs.Items.{functions_by}
 use Rattle.ide_store.proofs.Hands.{every_run_answers}
 use Rattle.ide_store.proofs.Known.{known}
 use Rattle.ide_store.proofs.Machine.{machine_is_exact}
-use Rattle.ide_store.proofs.OneDisk.{one_disk_keeps}
+use Rattle.ide_store.proofs.OneVersion.{one_disk_in_version}
 use Rattle.ide_store.specs.Machine.{machine}
 use Rattle.ide_store.specs.OneDisk.{one_disk}
+use Rattle.ide_store.specs.Versioned.{one_version}
 use Rattle.ide_store.proofs.laws.every_run_answers.Goals as goal
 
 pub returns : goal.returns
@@ -14,9 +15,9 @@ returns g c = λ head.
     let targets = g.P.Problem.targets in
     let same = g.P.F.PartialEq.eq in
     let forms = functions_by g.P.F.Wire.proper g.P.F.Wire.form same B.all_top in
-    every_run_answers A B targets same forms head.version (one_disk head)
+    every_run_answers A B targets same forms (one_version head.version (one_disk head))
     (record { exact = g.met.P.F.EdgeFn.exact; refl = g.met.P.F.Eq.laws.refl })
-    (machine_is_exact B same forms g.met.P.F.Wire.prefix_free head.version) (one_disk_keeps (machine B same forms head.version) head)
+    (machine_is_exact B same forms g.met.P.F.Wire.prefix_free) (one_disk_in_version (machine B same forms) head)
     (known c.graphs_of_programs_are_closed.ensures c.sites_of_programs_are_joined.ensures A B targets
     g.met.P.L.Lattice.lawful g.met.P.F.EdgeFn.lawful g.met.P.Problem.lawful c.ends_of_programs_are_nodes.ensures c.keys_stand_at_nodes.ensures)
     (λ r before now does. does)

@@ -5,7 +5,7 @@ use Rattle.ide_store.specs.Table.{Analysis}
 use Rattle.ide_store.proofs.laws.every_run_answers_on_two_disks.Goals as goal
 
 pub returns : goal.returns
-returns g c = λ head.
+returns g c = λ tag.
     let a : Analysis g.row.P-F.Denot g.row.P-L.Denot = record {
       lattice = g.P.L.Lattice.algebra;
       functions = g.P.F.EdgeFn.edge;
@@ -17,4 +17,4 @@ returns g c = λ head.
     place_answers a (record { exact = g.met.P.F.EdgeFn.exact; refl = g.met.P.F.Eq.laws.refl }) g.met.P.F.Wire.prefix_free
     (known c.graphs_of_programs_are_closed.ensures c.sites_of_programs_are_joined.ensures a.lattice a.functions a.targets
     g.met.P.L.Lattice.lawful g.met.P.F.EdgeFn.lawful g.met.P.Problem.lawful c.ends_of_programs_are_nodes.ensures c.keys_stand_at_nodes.ensures)
-    (OnTwoDisks head)
+    (OnTwoDisks tag)

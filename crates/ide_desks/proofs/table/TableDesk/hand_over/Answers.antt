@@ -1,6 +1,5 @@
 use Rattle.std.proofs.Common.{◌≡◌, ◌∙◌, ap, arith, length, subst, sym}
 use Rattle.std.proofs.Math.Logic.{∥∥₁_map₂}
-use Rattle.ide_journal.specs.declared.version.Version.TheVariants.{Two}
 use Rattle.ide_desks.specs.Desks.{CountsSealed, CountsTaken, IsTableDesk, IsWriterDesk}
 use Rattle.ide_desks.proofs.Lists.{first_of_more, prefix_length}
 use Rattle.ide_desks.proofs.Meeting.{handed_sealed, table_takes, writer_takes}
@@ -37,7 +36,7 @@ invariant_of-self g c =
       });
       kept = λ told. ∥∥₁_map₂ (old.kept told) (writer.kept told) (λ desk writes.
           subst (IsTableDesk _ _ _ c.take_over.new.working) (sym over.table)
-          (table_takes _ _ _ (c.two_disks_are_a_store.ensures.keep Two) old.half c.take_over.new.working writer.half c.take_over.new.writing old.seat writer.seat writer.failed
+          (table_takes _ _ _ c.two_disks_are_a_store.ensures.keep old.half c.take_over.new.working writer.half c.take_over.new.writing old.seat writer.seat writer.failed
           c.if-writer.false old.counts over.begins over.all all c.take_over.ensures.hands desk writes));
     }
 
@@ -61,7 +60,7 @@ invariant_of-writer g c =
       });
       kept = λ told. ∥∥₁_map₂ (old.kept told) (writer.kept told) (λ desk writes.
           subst (λ w. IsWriterDesk (kept g) g.P.Problem.TAG (g.J.Accord.first told) c.take_over.new.writing w writer.failed) (sym over.writer)
-          (writer_takes _ _ _ (c.two_disks_are_a_store.ensures.keep Two) old.half c.take_over.new.working writer.half c.take_over.new.writing old.seat writer.seat writer.failed
+          (writer_takes _ _ _ c.two_disks_are_a_store.ensures.keep old.half c.take_over.new.working writer.half c.take_over.new.writing old.seat writer.seat writer.failed
           c.if-writer.false old.counts over.begins over.all all c.take_over.ensures.hands desk writes c.take_over.ensures.journal c.take_over.ensures.commands
           c.take_over.ensures.few c.take_over.ensures.proper));
     }

@@ -15,7 +15,7 @@ invariant_of-self g c =
       named = (old.named.0, ap (λ s. s.board) c.note_last.ensures.seat ∙ old.named.1);
       counts = one_counted old.half new old.seat seat old.counts loads.entry _ by loads.seals c.note_last.ensures.seat;
       kept = one_kept _ _ old.half new old.seat seat old.counts c.in-Ok.ensures.working loads.entry _ by loads.seals c.note_last.ensures.seat
-          (λ place. Loads _ loads.entry) (λ place. tt) loads.act old.kept;
+          (λ place. Loads _ (old.half.version, loads.entry)) (λ place. tt) loads.act old.kept;
     }
 
 pub invariant_of-self-in-Err-1 : goal.invariant_of-self-in-Err-1

@@ -2,7 +2,6 @@ use Rattle.std.proofs.Common.{All, List, Ok, ap, refl, subst, sym, ◌∙◌}
 use Rattle.std.proofs.Math.Logic.{∥∥₁_map, ∥∥₁_map₂}
 use Rattle.ide_journal.specs.Lists.{entries_of}
 use Rattle.ide_journal.specs.declared.record.RawRecord.{RawRecord}
-use Rattle.ide_journal.specs.declared.version.Version.TheVariants.{Two}
 use Rattle.ide_slots.specs.Slot.{IsPartEntry}
 use Rattle.ide_slot_store.specs.Parts.{AreImageParts}
 use Rattle.ide_slot_store.proofs.ImageParts.{parts_proper}
@@ -43,7 +42,7 @@ invariant_of-writer g c =
       counts = writer.counts;
       kept = λ told. ∥∥₁_map₂ (table.kept told) (writer.kept told) (λ desk writes.
           desk_after (kept g) g.P.Problem.TAG (g.J.Accord.first told) table.half writer.half c.plan_all.new.self table.seat writer.seat c.halves_meet.ensures
-          c.runs_are_live.ensures c.slot_checkpoints_begin.ensures.begins (c.two_disks_are_a_store.ensures.keep Two) table.counts c.requires.handed
+          c.runs_are_live.ensures c.slot_checkpoints_begin.ensures.begins c.two_disks_are_a_store.ensures.keep table.counts c.requires.handed
           c.requires.taken desk (sym c.is_stopped.ensures ∙ c.if-is_stopped.false) writer.failed (sym c.has_failed.ensures ∙ c.if-has_failed.false) writes
           c.requires.still (entries_of c.as_slice.result.now) image c.plan_all.ensures.disks c.plan_all.result c.plan_all.ensures.planned
           c.plan_all.ensures.unplanned c.plan_all.ensures.quiet);

@@ -1,6 +1,7 @@
 use Rattle.std.proofs.Common.{◌∙◌, ◌<◌, ◌≤◌, Some, ap, arith}
 use Rattle.std.proofs.Math.Logic.{∥∥₁_map}
 use Rattle.ide_store.specs.Hands.{Roots}
+use Rattle.std.specs.Option.{option_map}
 use Rattle.ide_desks.proofs.Works.{root_counted, root_kept, root_spelled, sealed_alone, sealed_first, stayed, still_counted, still_kept}
 use Rattle.ide_desks.proofs.table.TableDesk.root.Goals as goal
 
@@ -29,7 +30,7 @@ invariant_of-self g c =
       named = (old.named.0, ap (λ s. s.board) c.note_last_two.ensures.seat ∙ old.named.1);
       counts = root_counted old.half new old.seat seat old.counts begins.first begins.entry by begins.sealed (λ none. absurd (some none)) (λ _. c.note_last_two.ensures.seat);
       kept = root_kept _ _ old.half new old.seat seat old.counts c.in-Ok.ensures.working begins.first begins.entry by begins.waits
-          (λ none. absurd (some none)) (λ _. c.note_last_two.ensures.seat) (λ place. Roots _ begins.first begins.entry) (λ place. tt) begins.act old.kept;
+          (λ none. absurd (some none)) (λ _. c.note_last_two.ensures.seat) (λ place. Roots _ (option_map (λ batch. (old.half.version, batch)) begins.first) (old.half.version, begins.entry)) (λ place. tt) begins.act old.kept;
     }
 
 -- ---- nothing was
@@ -48,7 +49,7 @@ invariant_of-self-in-Ok g c =
       named = (old.named.0, ap (λ s. s.board) c.note_last.ensures.seat ∙ old.named.1);
       counts = root_counted old.half new old.seat seat old.counts begins.first begins.entry by begins.sealed (λ _. c.note_last.ensures.seat) (λ some. absurd (none some));
       kept = root_kept _ _ old.half new old.seat seat old.counts c.in-Ok.ensures.working begins.first begins.entry by begins.waits
-          (λ _. c.note_last.ensures.seat) (λ some. absurd (none some)) (λ place. Roots _ begins.first begins.entry) (λ place. tt) begins.act old.kept;
+          (λ _. c.note_last.ensures.seat) (λ some. absurd (none some)) (λ place. Roots _ (option_map (λ batch. (old.half.version, batch)) begins.first) (old.half.version, begins.entry)) (λ place. tt) begins.act old.kept;
     }
 
 pub invariant_of-self-in-Err-1 : goal.invariant_of-self-in-Err-1

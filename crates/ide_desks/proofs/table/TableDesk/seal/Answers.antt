@@ -27,7 +27,7 @@ invariant_of-self-in-Ok g c =
       named = (old.named.0, ap (λ s. s.board) c.seal_shown.ensures ∙ old.named.1);
       counts = one_counted old.half new old.seat c.seal_shown.new.table old.counts seals.entry _ None seals.seals c.seal_shown.ensures;
       kept = one_kept _ _ old.half new old.seat c.seal_shown.new.table old.counts c.in-Ok.ensures.working seals.entry _ None seals.seals c.seal_shown.ensures
-          (λ place. Batches seals.entry) (λ place. tt) seals.act old.kept;
+          (λ place. Batches (old.half.version, seals.entry)) (λ place. tt) seals.act old.kept;
     }
 
 pub invariant_of-self : goal.invariant_of-self

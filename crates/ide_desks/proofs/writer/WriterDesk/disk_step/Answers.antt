@@ -2,7 +2,6 @@ use Rattle.std.proofs.Common.{◌≡◌, ◌∙◌, ◌+◌, ◌<◌, Bool, Ok, 
 use Rattle.std.proofs.Math.Logic.{∥∥₁_elim, ∥∥₁_map, ∥∥₁_prop}
 use Rattle.std.proofs.Props.{props}
 use Rattle.std.proofs.lemmas.List.{length-take-le}
-use Rattle.ide_journal.specs.declared.version.Version.TheVariants.{Two}
 use Rattle.ide_slot_journal.specs.Stands.{AreHonest}
 use Rattle.ide_slot_store.specs.Half.{StepsOver}
 use Rattle.ide_store.specs.Table.{Analysis}
@@ -48,7 +47,7 @@ invariant_of-self g c =
       });
       kept = λ told. ∥∥₁_map (old.kept told) (λ desk.
           subst (λ w. IsWriterDesk (kept g) g.P.Problem.TAG (g.J.Accord.first told) c.disk_step.new.self w old.failed) (sym c.publish.ensures)
-          (desk_stores (kept g) g.P.Problem.TAG (c.two_disks_are_a_store.ensures.keep Two) (g.J.Accord.first told) old.half c.disk_step.new.self old.seat old.failed
+          (desk_stores (kept g) g.P.Problem.TAG c.two_disks_are_a_store.ensures.keep (g.J.Accord.first told) old.half c.disk_step.new.self old.seat old.failed
           c.if-self.false desk c.disk_step.ensures.honest
           (subst (λ (r : Result Bool Refused). AreHonest old.half.journal → StepsOver old.half c.disk_step.new.self r) result c.disk_step.ensures.steps)
           (omega (arith, more, before, after)) room));
@@ -58,7 +57,7 @@ pub returns-then-is_one_more-clause-crashes : goal.returns-then-is_one_more-clau
 returns-then-is_one_more-clause-crashes g c told going left here there =
     let old = c.args.self.now in
     ∥∥₁_elim (old.kept told) ∥∥₁_prop (λ desk.
-    desk_crashes (kept g) g.P.Problem.TAG (c.two_disks_are_a_store.ensures.keep Two) (g.J.Accord.first told) old.half c.disk_step.new.self old.seat old.failed
+    desk_crashes (kept g) g.P.Problem.TAG c.two_disks_are_a_store.ensures.keep (g.J.Accord.first told) old.half c.disk_step.new.self old.seat old.failed
     c.if-self.false desk c.disk_step.ensures.honest c.disk_step.ensures.any_moment left here there)
 
 -- ---- a call was made that stored none
@@ -74,7 +73,7 @@ invariant_of-self-else-is_one_more g c =
       named = old.named;
       counts = old.counts;
       kept = λ told. ∥∥₁_map (old.kept told) (λ desk.
-          desk_calls (kept g) g.P.Problem.TAG (c.two_disks_are_a_store.ensures.keep Two) (g.J.Accord.first told) old.half c.disk_step.new.self old.seat old.failed
+          desk_calls (kept g) g.P.Problem.TAG c.two_disks_are_a_store.ensures.keep (g.J.Accord.first told) old.half c.disk_step.new.self old.seat old.failed
           c.if-self.false desk c.disk_step.ensures.honest
           (subst (λ (r : Result Bool Refused). AreHonest old.half.journal → StepsOver old.half c.disk_step.new.self r) result c.disk_step.ensures.steps)
           (λ both. let more = both.0 in let less = both.1 in
@@ -85,7 +84,7 @@ pub returns-else-is_one_more-clause-crashes : goal.returns-else-is_one_more-clau
 returns-else-is_one_more-clause-crashes g c told going left here there =
     let old = c.args.self.now in
     ∥∥₁_elim (old.kept told) ∥∥₁_prop (λ desk.
-    desk_crashes (kept g) g.P.Problem.TAG (c.two_disks_are_a_store.ensures.keep Two) (g.J.Accord.first told) old.half c.disk_step.new.self old.seat old.failed
+    desk_crashes (kept g) g.P.Problem.TAG c.two_disks_are_a_store.ensures.keep (g.J.Accord.first told) old.half c.disk_step.new.self old.seat old.failed
     c.if-self.false desk c.disk_step.ensures.honest c.disk_step.ensures.any_moment left here there)
 
 -- ---- there was none to make
@@ -97,7 +96,7 @@ invariant_of-self-in-Ok-false g c =
       named = old.named;
       counts = old.counts;
       kept = λ told. ∥∥₁_map (old.kept told) (λ desk.
-          (desk_rests (kept g) g.P.Problem.TAG (c.two_disks_are_a_store.ensures.keep Two) (g.J.Accord.first told) old.half c.disk_step.new.self old.seat old.failed
+          (desk_rests (kept g) g.P.Problem.TAG c.two_disks_are_a_store.ensures.keep (g.J.Accord.first told) old.half c.disk_step.new.self old.seat old.failed
           c.if-self.false desk c.disk_step.ensures.honest
           (subst (λ (r : Result Bool Refused). AreHonest old.half.journal → StepsOver old.half c.disk_step.new.self r) result c.disk_step.ensures.steps)).1);
     }
@@ -107,7 +106,7 @@ returns-in-Ok-false-clause-all g c told rests =
     let old = c.args.self.now in
     let result = c.in-Ok-false.is ∙ ap (λ b. Ok b) c.in-Ok-false.field-0-test in
     ∥∥₁_elim (old.kept told) (Prim.hlevel props) (λ desk.
-    (desk_rests (kept g) g.P.Problem.TAG (c.two_disks_are_a_store.ensures.keep Two) (g.J.Accord.first told) old.half c.disk_step.new.self old.seat old.failed
+    (desk_rests (kept g) g.P.Problem.TAG c.two_disks_are_a_store.ensures.keep (g.J.Accord.first told) old.half c.disk_step.new.self old.seat old.failed
     c.if-self.false desk c.disk_step.ensures.honest
     (subst (λ (r : Result Bool Refused). AreHonest old.half.journal → StepsOver old.half c.disk_step.new.self r) result c.disk_step.ensures.steps)).0)
 
@@ -115,7 +114,7 @@ pub returns-in-Ok-false-clause-crashes : goal.returns-in-Ok-false-clause-crashes
 returns-in-Ok-false-clause-crashes g c told going left here there =
     let old = c.args.self.now in
     ∥∥₁_elim (old.kept told) ∥∥₁_prop (λ desk.
-    desk_crashes (kept g) g.P.Problem.TAG (c.two_disks_are_a_store.ensures.keep Two) (g.J.Accord.first told) old.half c.disk_step.new.self old.seat old.failed
+    desk_crashes (kept g) g.P.Problem.TAG c.two_disks_are_a_store.ensures.keep (g.J.Accord.first told) old.half c.disk_step.new.self old.seat old.failed
     c.if-self.false desk c.disk_step.ensures.honest c.disk_step.ensures.any_moment left here there)
 
 -- ---- it was refused
@@ -127,7 +126,7 @@ invariant_of-self-then-is_fault g c =
       named = old.named;
       counts = old.counts;
       kept = λ told. ∥∥₁_map (old.kept told) (λ desk.
-          desk_fails (kept g) g.P.Problem.TAG (c.two_disks_are_a_store.ensures.keep Two) (g.J.Accord.first told) old.half c.disk_step.new.self old.seat old.failed
+          desk_fails (kept g) g.P.Problem.TAG c.two_disks_are_a_store.ensures.keep (g.J.Accord.first told) old.half c.disk_step.new.self old.seat old.failed
           c.if-self.false desk c.disk_step.ensures.honest
           (subst (λ (r : Result Bool Refused). AreHonest old.half.journal → StepsOver old.half c.disk_step.new.self r) result c.disk_step.ensures.steps));
     }
@@ -136,7 +135,7 @@ pub returns-then-is_fault-clause-crashes : goal.returns-then-is_fault-clause-cra
 returns-then-is_fault-clause-crashes g c told going left here there =
     let old = c.args.self.now in
     ∥∥₁_elim (old.kept told) ∥∥₁_prop (λ desk.
-    desk_crashes (kept g) g.P.Problem.TAG (c.two_disks_are_a_store.ensures.keep Two) (g.J.Accord.first told) old.half c.disk_step.new.self old.seat old.failed
+    desk_crashes (kept g) g.P.Problem.TAG c.two_disks_are_a_store.ensures.keep (g.J.Accord.first told) old.half c.disk_step.new.self old.seat old.failed
     c.if-self.false desk c.disk_step.ensures.honest c.disk_step.ensures.any_moment left here there)
 
 pub invariant_of-self-else-is_fault : goal.invariant_of-self-else-is_fault
@@ -146,7 +145,7 @@ invariant_of-self-else-is_fault g c =
       named = old.named;
       counts = old.counts;
       kept = λ told. ∥∥₁_map (old.kept told) (λ desk.
-          desk_waits (kept g) g.P.Problem.TAG (c.two_disks_are_a_store.ensures.keep Two) (g.J.Accord.first told) old.half c.disk_step.new.self old.seat old.failed
+          desk_waits (kept g) g.P.Problem.TAG c.two_disks_are_a_store.ensures.keep (g.J.Accord.first told) old.half c.disk_step.new.self old.seat old.failed
           c.if-self.false desk c.disk_step.ensures.honest c.in-Err.refused (λ is. let no = c.if-is_fault.ensures.1 is in cc (no))
           (subst (λ (r : Result Bool Refused). AreHonest old.half.journal → StepsOver old.half c.disk_step.new.self r) c.in-Err.is c.disk_step.ensures.steps));
     }
@@ -155,7 +154,7 @@ pub returns-else-is_fault-clause-crashes : goal.returns-else-is_fault-clause-cra
 returns-else-is_fault-clause-crashes g c told going left here there =
     let old = c.args.self.now in
     ∥∥₁_elim (old.kept told) ∥∥₁_prop (λ desk.
-    desk_crashes (kept g) g.P.Problem.TAG (c.two_disks_are_a_store.ensures.keep Two) (g.J.Accord.first told) old.half c.disk_step.new.self old.seat old.failed
+    desk_crashes (kept g) g.P.Problem.TAG c.two_disks_are_a_store.ensures.keep (g.J.Accord.first told) old.half c.disk_step.new.self old.seat old.failed
     c.if-self.false desk c.disk_step.ensures.honest c.disk_step.ensures.any_moment left here there)
 
 -- ---- and for one of these reasons
@@ -170,6 +169,6 @@ pub returns-else-is_fault-clause-refused : goal.returns-else-is_fault-clause-ref
 returns-else-is_fault-clause-refused g c told =
     let old = c.args.self.now in
     ∥∥₁_map (old.kept told) (λ desk.
-    desk_refused (kept g) g.P.Problem.TAG (c.two_disks_are_a_store.ensures.keep Two) (g.J.Accord.first told) old.half c.disk_step.new.self old.seat old.failed
+    desk_refused (kept g) g.P.Problem.TAG c.two_disks_are_a_store.ensures.keep (g.J.Accord.first told) old.half c.disk_step.new.self old.seat old.failed
     c.if-self.false desk c.disk_step.ensures.honest c.in-Err.refused (λ is. let no = c.if-is_fault.ensures.1 is in cc (no))
     (subst (λ (r : Result Bool Refused). AreHonest old.half.journal → StepsOver old.half c.disk_step.new.self r) c.in-Err.is c.disk_step.ensures.steps))

@@ -1,5 +1,4 @@
 use Rattle.std.proofs.Common.{ℕ, subst}
-use Rattle.ide_journal.specs.declared.version.Version.TheVariants.{Two}
 use Rattle.ide_store.specs.Table.{Analysis}
 use Rattle.ide_slot_store.specs.Half.{IsNewHalf}
 use Rattle.ide_slot_store.proofs.Openings.{new_halves}
@@ -21,4 +20,4 @@ pub returns-in-Ok-clause-made : goal.returns-in-Ok-clause-made
 returns-in-Ok-clause-made g c first second =
     new_halves (kept g) g.P.Problem.TAG c.in-Ok.writer
     (subst (λ (tag : ℕ). IsNewHalf tag c.in-Ok.writer) c.TAG.ensures (c.in-Ok.ensures.made first second)) c.new-table.result
-    (c.slot_journals_write_stores.ensures Two) c.new-table.ensures.begins c.new-table.ensures.version
+    c.slot_journals_write_stores.ensures c.new-table.ensures.begins c.new-table.ensures.version

@@ -18,41 +18,41 @@ kept g = record {
 
 -- ---- a good call, or none
 pub returns-in-Ok-clause-steps : goal.returns-in-Ok-clause-steps
-returns-in-Ok-clause-steps g c honest head =
-    stepped_disks (kept g) head c.args.self.now.table c.take_from.new.table c.args.self.now.writer c.take_from.new.self c.take_from.ensures.journal
+returns-in-Ok-clause-steps g c honest tag =
+    stepped_disks (kept g) tag c.args.self.now.table c.take_from.new.table c.args.self.now.writer c.take_from.new.self c.take_from.ensures.journal
     c.take_from.ensures.commands c.take_from.ensures.few c.take_from.ensures.proper c.take_from.ensures.hands c.take_from.new.table c.disk_step.new.self _
     (c.in-Ok.ensures.steps (taken_honest c.args.self.now.writer c.take_from.new.self c.take_from.ensures.journal honest)) (λ no. cc (no)) (λ other. refl)
 
 -- ---- a call that failed
 pub returns-then-is_fault-clause-steps : goal.returns-then-is_fault-clause-steps
-returns-then-is_fault-clause-steps g c honest head =
-    stepped_disks (kept g) head c.args.self.now.table c.take_from.new.table c.args.self.now.writer c.take_from.new.self c.take_from.ensures.journal
+returns-then-is_fault-clause-steps g c honest tag =
+    stepped_disks (kept g) tag c.args.self.now.table c.take_from.new.table c.args.self.now.writer c.take_from.new.self c.take_from.ensures.journal
     c.take_from.ensures.commands c.take_from.ensures.few c.take_from.ensures.proper c.take_from.ensures.hands c.stop.new.self c.disk_step.new.self _
     (c.in-Err.ensures.steps (taken_honest c.args.self.now.writer c.take_from.new.self c.take_from.ensures.journal honest)) (λ is. c.stop.ensures)
     (λ other. absurd (other (ap refuses (c.if-is_fault.ensures.0 refl))))
 
 -- ---- want of memory
 pub returns-else-is_fault-clause-steps : goal.returns-else-is_fault-clause-steps
-returns-else-is_fault-clause-steps g c honest head =
-    stepped_disks (kept g) head c.args.self.now.table c.take_from.new.table c.args.self.now.writer c.take_from.new.self c.take_from.ensures.journal
+returns-else-is_fault-clause-steps g c honest tag =
+    stepped_disks (kept g) tag c.args.self.now.table c.take_from.new.table c.args.self.now.writer c.take_from.new.self c.take_from.ensures.journal
     c.take_from.ensures.commands c.take_from.ensures.few c.take_from.ensures.proper c.take_from.ensures.hands c.take_from.new.table c.disk_step.new.self _
     (c.in-Err.ensures.steps (taken_honest c.args.self.now.writer c.take_from.new.self c.take_from.ensures.journal honest))
     (λ is. let no = c.if-is_fault.ensures.1 (same_refusal _ _ is) in cc (no)) (λ other. refl)
 
 pub returns-in-Ok-clause-crashes : goal.returns-in-Ok-clause-crashes
-returns-in-Ok-clause-crashes g c honest head =
-    stepped_crashes (kept g) head c.args.self.now.table c.take_from.new.table c.args.self.now.writer c.take_from.new.self c.take_from.ensures.journal
+returns-in-Ok-clause-crashes g c honest tag =
+    stepped_crashes (kept g) tag c.args.self.now.table c.take_from.new.table c.args.self.now.writer c.take_from.new.self c.take_from.ensures.journal
     c.take_from.ensures.commands c.take_from.ensures.few c.take_from.ensures.proper c.take_from.ensures.hands c.disk_step.new.self
     (c.in-Ok.ensures.any_moment (taken_honest c.args.self.now.writer c.take_from.new.self c.take_from.ensures.journal honest))
 
 pub returns-then-is_fault-clause-crashes : goal.returns-then-is_fault-clause-crashes
-returns-then-is_fault-clause-crashes g c honest head =
-    stepped_crashes (kept g) head c.args.self.now.table c.take_from.new.table c.args.self.now.writer c.take_from.new.self c.take_from.ensures.journal
+returns-then-is_fault-clause-crashes g c honest tag =
+    stepped_crashes (kept g) tag c.args.self.now.table c.take_from.new.table c.args.self.now.writer c.take_from.new.self c.take_from.ensures.journal
     c.take_from.ensures.commands c.take_from.ensures.few c.take_from.ensures.proper c.take_from.ensures.hands c.disk_step.new.self
     (c.in-Err.ensures.any_moment (taken_honest c.args.self.now.writer c.take_from.new.self c.take_from.ensures.journal honest))
 
 pub returns-else-is_fault-clause-crashes : goal.returns-else-is_fault-clause-crashes
-returns-else-is_fault-clause-crashes g c honest head =
-    stepped_crashes (kept g) head c.args.self.now.table c.take_from.new.table c.args.self.now.writer c.take_from.new.self c.take_from.ensures.journal
+returns-else-is_fault-clause-crashes g c honest tag =
+    stepped_crashes (kept g) tag c.args.self.now.table c.take_from.new.table c.args.self.now.writer c.take_from.new.self c.take_from.ensures.journal
     c.take_from.ensures.commands c.take_from.ensures.few c.take_from.ensures.proper c.take_from.ensures.hands c.disk_step.new.self
     (c.in-Err.ensures.any_moment (taken_honest c.args.self.now.writer c.take_from.new.self c.take_from.ensures.journal honest))

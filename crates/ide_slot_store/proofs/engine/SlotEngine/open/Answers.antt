@@ -35,19 +35,19 @@ returns-in-Ok-table_over-clause-opened g c first second =
     c.in-Ok-table_over.ensures.folds c.in-Ok-table_over.ensures.opened c.in-Ok-table_over.ensures.version c.in-Ok-table_over.ensures.sealed
 
 pub returns-in-Ok-table_over-clause-crashes : goal.returns-in-Ok-table_over-clause-crashes
-returns-in-Ok-table_over-clause-crashes g c first second head =
-    opening_crashes (kept g) head g.D.Disk c.args.a c.args.b (sides_of c.in-Ok.writer.journal) (c.in-Ok.ensures.any_moment first second)
+returns-in-Ok-table_over-clause-crashes g c first second tag =
+    opening_crashes (kept g) tag g.D.Disk c.args.a c.args.b (sides_of c.in-Ok.writer.journal) (c.in-Ok.ensures.any_moment first second)
 
 -- ---- the records make no half that works
 pub returns-in-Err-table_over-clause-crashes : goal.returns-in-Err-table_over-clause-crashes
-returns-in-Err-table_over-clause-crashes g c first second head =
+returns-in-Err-table_over-clause-crashes g c first second tag =
     let back = c.into_disks-a.result in
-    opening_crashes (kept g) head g.D.Disk c.args.a c.args.b (record { a = back.0; b = back.1 })
+    opening_crashes (kept g) tag g.D.Disk c.args.a c.args.b (record { a = back.0; b = back.1 })
     (subst (λ (pair : g.row.D.Denot × g.row.D.Denot). StopsAnywhere g.D.Disk c.args.a c.args.b (record { a = pair.0; b = pair.1 }))
     (sym c.into_disks-a.ensures) (c.in-Ok.ensures.any_moment first second))
 
 pub returns-in-Err-table_over-clause-stops : goal.returns-in-Err-table_over-clause-stops
-returns-in-Err-table_over-clause-stops g c first second head =
+returns-in-Err-table_over-clause-stops g c first second tag =
     let G = g.D.Disk in
     let back = c.into_disks-a.result in
     let journal = c.in-Ok.writer.journal in
@@ -59,7 +59,7 @@ returns-in-Err-table_over-clause-stops g c first second head =
     (g.met.D.Disk.possible c.args.b second) in
     let held : StopsTwo before (states_of G (sides_of journal).a (sides_of journal).b) =
     subst (StopsTwo before) (sym (held_by G journal.side journal.current journal.other)) done in
-    opening_stops (kept g) head G c.args.a c.args.b (record { a = back.0; b = back.1 })
+    opening_stops (kept g) tag G c.args.a c.args.b (record { a = back.0; b = back.1 })
     (subst (λ (pair : g.row.D.Denot × g.row.D.Denot). StopsTwo before (states_of G pair.0 pair.1)) (sym c.into_disks-a.ensures) held)
 
 pub returns-in-Err-table_over-clause-refused : goal.returns-in-Err-table_over-clause-refused

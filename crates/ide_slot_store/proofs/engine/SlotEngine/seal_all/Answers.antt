@@ -18,11 +18,11 @@ kept g = record {
 
 -- ---- what changed is sealed, and handed over
 pub returns-in-Ok-clause-seals : goal.returns-in-Ok-clause-seals
-returns-in-Ok-clause-seals g c head w reached at =
+returns-in-Ok-clause-seals g c tag w reached at =
     let sealed =
-    sealed_or_not (kept g) head w c.seal.result c.args.self.now.table c.seal.new.self c.args.self.now.writer c.seal.ensures.seals c.seal.ensures.nothing
+    sealed_or_not (kept g) tag w c.seal.result c.args.self.now.table c.seal.new.self c.args.self.now.writer c.seal.ensures.seals c.seal.ensures.nothing
     c.seal.ensures.unchanged reached at in
-    handed_or_not (kept g) head w c.take_all_from.result c.seal.new.self c.take_all_from.new.table c.args.self.now.writer c.take_all_from.new.self
+    handed_or_not (kept g) tag w c.take_all_from.result c.seal.new.self c.take_all_from.new.table c.args.self.now.writer c.take_all_from.new.self
     c.take_all_from.ensures.hands c.take_all_from.ensures.unchanged c.take_all_from.ensures.queue c.take_all_from.ensures.journal
     c.take_all_from.ensures.commands c.take_all_from.ensures.few c.take_all_from.ensures.proper reached sealed
 
@@ -31,8 +31,8 @@ returns-in-Ok-clause-refused g c = queue_stop (kept g) c.args.self.now c.take_al
 
 -- ---- it is not sealed
 pub returns-in-Err-clause-seals : goal.returns-in-Err-clause-seals
-returns-in-Err-clause-seals g c head w reached at =
-    sealed_or_not (kept g) head w (Err c.in-Err.refused) c.args.self.now.table c.seal.new.self c.args.self.now.writer tt (λ no. cc (no))
+returns-in-Err-clause-seals g c tag w reached at =
+    sealed_or_not (kept g) tag w (Err c.in-Err.refused) c.args.self.now.table c.seal.new.self c.args.self.now.writer tt (λ no. cc (no))
     c.in-Err.ensures.unchanged reached at
 
 pub returns-in-Err-clause-refused : goal.returns-in-Err-clause-refused

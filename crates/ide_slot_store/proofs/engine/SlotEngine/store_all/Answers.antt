@@ -17,7 +17,7 @@ kept g = record {
 
 pub loop-init : goal.loop-init
 loop-init g c = (
-  λ honest head w reached at_work. record { world = w; reached = reached; at_work = at_work; honest = honest; same = refl },
+  λ honest tag w reached at_work. record { world = w; reached = reached; at_work = at_work; honest = honest; same = refl },
   λ honest. honest,
 )
 
@@ -25,17 +25,17 @@ pub loop-preserved : goal.loop-preserved
 loop-preserved g c =
     let before = c.loop.invariant in
     let step = c.in_ok-disk_step.ensures in (
-      λ honest head w reached at_work.
-          let on = before.0 honest head w reached at_work in
-          call_then (kept g) head w.world.sealed _ _ _ _ c.in_ok-disk_step.field-0 on (step.steps on.honest head) c.if-not-branch.false (step.honest on.honest),
+      λ honest tag w reached at_work.
+          let on = before.0 honest tag w reached at_work in
+          call_then (kept g) tag w.world.sealed _ _ _ _ c.in_ok-disk_step.field-0 on (step.steps on.honest tag) c.if-not-branch.false (step.honest on.honest),
       λ honest. step.honest (before.1 honest),
     )
 
 pub returns-then-not-branch-clause-stored : goal.returns-then-not-branch-clause-stored
-returns-then-not-branch-clause-stored g c = λ honest head w reached at_work.
-    let on = c.loop.invariant.0 honest head w reached at_work in
+returns-then-not-branch-clause-stored g c = λ honest tag w reached at_work.
+    let on = c.loop.invariant.0 honest tag w reached at_work in
     let step = c.in_ok-disk_step.ensures in
-    all_then (kept g) head w.world.sealed _ _ _ _ c.in_ok-disk_step.field-0 on (step.steps on.honest head) c.if-not-branch.true (step.honest on.honest)
+    all_then (kept g) tag w.world.sealed _ _ _ _ c.in_ok-disk_step.field-0 on (step.steps on.honest tag) c.if-not-branch.true (step.honest on.honest)
 
 pub returns-then-not-branch-clause-honest : goal.returns-then-not-branch-clause-honest
 returns-then-not-branch-clause-honest g c = λ honest. c.in_ok-disk_step.ensures.honest (c.loop.invariant.1 honest)

@@ -18,7 +18,7 @@ pub returns-in-Ok-clause-writes : goal.returns-in-Ok-clause-writes
 returns-in-Ok-clause-writes g c =
     let old = c.args.self.now in
     let found = found_is old.waiting.items c.in-Some.next.now c.in-Some.ensures.item.0 c.in-Some.ensures.item.1 in
-    put_writes old _ c.in-Some.next.now refl c.reserve.ensures.items (c.if-not-is_idle.ensures.0 refl) found c.in-Ok.ensures.next
+    put_writes old _ c.in-Some.next.now refl c.reserve.ensures.items (c.if-not-is_idle.ensures.0 refl) c.requires found c.in-Ok.ensures.next c.in-Ok.ensures.other.filler
 
 pub returns-in-Err-clause-writes : goal.returns-in-Err-clause-writes
-returns-in-Err-clause-writes g c = none_writes c.args.self.now _ refl c.reserve.ensures.items (c.if-not-is_idle.ensures.0 refl) c.in-Err.ensures.none
+returns-in-Err-clause-writes g c = none_writes c.args.self.now _ refl c.reserve.ensures.items (c.if-not-is_idle.ensures.0 refl) c.in-Err.ensures.none c.in-Err.ensures.other.filler
