@@ -149,6 +149,7 @@ fn work_on<J: Accord + Send + Sync, R: Threads + Wait + Clock + Sync + AllocGlob
     pace: Pace,
 ) -> Result<Amounts>
     requires board { arc_value opened.board ≡ J.board }
+    requires switches { opened.switch.board ≡ J.switches }
     requires untold { J.told → ⊥ }
 {
     end_run!(rt, opened, pace)
@@ -175,6 +176,7 @@ fn work_dear_on<J: Accord + Send + Sync, R: Threads + Wait + Clock + Sync + Allo
     pace: Pace,
 ) -> Result<Amounts>
     requires board { arc_value opened.board ≡ J.board }
+    requires switches { opened.switch.board ≡ J.switches }
     requires untold { J.told → ⊥ }
 {
     end_run!(rt, opened, pace)

@@ -115,6 +115,7 @@ fn work_uninit<J: Accord + Send + Sync, R: Threads + Wait + Clock + Sync + Alloc
     out: &mut Vec<u8>,
 ) -> Result<(), Refused>
     requires board { arc_value opened.board ≡ J.board }
+    requires switches { opened.switch.board ≡ J.switches }
     requires untold { J.told → ⊥ }
     ensures { OnOk result (IsWorked asked.workers asked.checkpoint_every out.old out.new) }
 {
@@ -129,6 +130,7 @@ fn work_copy<J: Accord + Send + Sync, R: Threads + Wait + Clock + Sync + AllocGl
     out: &mut Vec<u8>,
 ) -> Result<(), Refused>
     requires board { arc_value opened.board ≡ J.board }
+    requires switches { opened.switch.board ≡ J.switches }
     requires untold { J.told → ⊥ }
     ensures { OnOk result (IsWorked asked.workers asked.checkpoint_every out.old out.new) }
 {
@@ -143,6 +145,7 @@ fn work_shift<J: Accord + Send + Sync, R: Threads + Wait + Clock + Sync + AllocG
     out: &mut Vec<u8>,
 ) -> Result<(), Refused>
     requires board { arc_value opened.board ≡ J.board }
+    requires switches { opened.switch.board ≡ J.switches }
     requires untold { J.told → ⊥ }
     ensures { OnOk result (IsWorked asked.workers asked.checkpoint_every out.old out.new) }
 {

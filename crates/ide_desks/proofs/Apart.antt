@@ -19,18 +19,18 @@ use Rattle.ide_desks.proofs.Meeting.{met_at_work, met_reached}
 
 module _ {F L : Type 0} (a : Analysis F L) {D : Type 0} (G : Ghosts D) where
   pub runs_are_live : Knows a → RunsAreLive a G
-  runs_are_live knows tag table half on second none =
+  runs_are_live knows tag table half on none =
       let at = on.at_work in
       let w = on.world in
       let live = (reached_whole a knows (OnTwoDisks tag) w on.reached).held.world.live at.works.running in
       let whole : contents w.world.sealed ≡ at.handed =
       at.works.waits ∙ ap (λ (more : List Entry). at.handed ++ in_version table.version more) none ∙ append-nil at.handed in (
-        record { second = second; world = w; reached = on.reached; works = at.works },
+        record { version_is = refl; world = w; reached = on.reached; works = at.works },
         record {
           slot = at.slot;
           other = at.other;
           writes = at.writes;
-          second = ap sealing_version (sym at.work) ∙ sym at.works.version ∙ second;
+          version_is = ap sealing_version (sym at.work) ∙ sym at.works.version;
           tag_is = at.tag_is;
           live =
               subst (λ (rs : List VersionedEntry). IsLiveTwo (slots_of a) tag rs w.world.stored (slot_writer at.other half.journal) (disks_of half.journal)) whole
@@ -40,11 +40,11 @@ module _ {F L : Type 0} (a : Analysis F L) {D : Type 0} (G : Ghosts D) where
       )
 
   pub halves_meet : TwoDisksKeep (slots_of a) → HalvesMeet a G
-  halves_meet keep tag table half handed stored none works on = (
+  halves_meet keep tag version table half handed stored none works on = (
     record {
       world = _;
-      reached = met_reached a tag keep table half handed stored none works on;
-      at_work = met_at_work a tag keep table half handed stored none works on;
+      reached = met_reached a tag version keep table half handed stored none works on;
+      at_work = met_at_work a tag version keep table half handed stored none works on;
     },
     refl,
     refl,

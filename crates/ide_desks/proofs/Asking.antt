@@ -3,30 +3,30 @@ use Rattle.std.proofs.Common.{◌≡◌, ◌∙◌, Bool, true, false, Option, N
 use Rattle.std.specs.Prelude.{IfErr, IfOk, IfSome, OnErr}
 use Rattle.ide_board.specs.Records.{TableView, WriterView}
 use Rattle.ide_disk.specs.declared.disk.Disk.{Ghosts}
-use Rattle.ide_journal.specs.Format.{Entry}
 use Rattle.ide_slot_store.specs.Parts.{IsPartsStop}
 use Rattle.ide_slot_store.specs.declared.writer.SlotWriterHalf.{SlotWriterHalf}
 use Rattle.ide_store.specs.Table.{Analysis, TableData}
 use Rattle.ide_store.specs.TableCalls.{IsRefusal, IsSealStop, after_failure, by_itself}
+use Rattle.ide_store.specs.Versioned.{VersionedEntry}
 use Rattle.ide_store.specs.declared.outbox.Ticket.{Ticket}
 use Rattle.ide_wire.specs.declared.refused.Refused.{Refused}
 use Rattle.ide_desks.specs.Asking.{IsAskStop, IsPlanStop, SealsForNone, no_parts, no_plan, none_sealed, not_planned, not_sealed, one_sealed, table_told, writer_told}
-use Rattle.ide_desks.specs.Desks.{HandsOver, last_entry, with_last}
+use Rattle.ide_desks.specs.Desks.{HandsOver, last_sealed, with_last}
 
 -- a seal is for no client, or seals nothing
-pub sealed_for_none : {F : Type 0} (S T : Type 0) (result : Result (Option Ticket) Refused) (seat after : TableView Entry) (table : TableData F)
+pub sealed_for_none : {F : Type 0} (S T : Type 0) (result : Result (Option Ticket) Refused) (seat after : TableView VersionedEntry) (table : TableData F)
     → IfOk result (λ sealed. IfSome sealed (λ _. after ≡ with_last seat table None)) → (result ≡ Ok None → S × (after ≡ seat))
     → OnErr result (T × (after ≡ seat)) → SealsForNone seat.sealed after.sealed
 sealed_for_none S T (Ok (Some ticket)) seat after table marked nothing unchanged =
-    one_sealed (last_entry table.waiting) (ap (λ (t : TableView Entry). t.sealed) marked)
-sealed_for_none S T (Ok None) seat after table marked nothing unchanged = none_sealed (ap (λ (t : TableView Entry). t.sealed) (nothing refl).1)
-sealed_for_none S T (Err refused) seat after table marked nothing unchanged = none_sealed (ap (λ (t : TableView Entry). t.sealed) unchanged.1)
+    one_sealed (last_sealed table) (ap (λ (t : TableView VersionedEntry). t.sealed) marked)
+sealed_for_none S T (Ok None) seat after table marked nothing unchanged = none_sealed (ap (λ (t : TableView VersionedEntry). t.sealed) (nothing refl).1)
+sealed_for_none S T (Err refused) seat after table marked nothing unchanged = none_sealed (ap (λ (t : TableView VersionedEntry). t.sealed) unchanged.1)
 
 -- a hand over seals nothing
-pub hands_sealed : (over : Bool) (old new : TableView Entry) (before after : WriterView Entry) → (over ≡ true → HandsOver old new before after)
+pub hands_sealed : (over : Bool) (old new : TableView VersionedEntry) (before after : WriterView VersionedEntry) → (over ≡ true → HandsOver old new before after)
     → (over ≡ false → (new ≡ old) × (after ≡ before)) → new.sealed ≡ old.sealed
-hands_sealed true old new before after hands none = ap (λ (t : TableView Entry). t.sealed) (hands refl).table
-hands_sealed false old new before after hands none = ap (λ (t : TableView Entry). t.sealed) (none refl).0
+hands_sealed true old new before after hands none = ap (λ (t : TableView VersionedEntry). t.sealed) (hands refl).table
+hands_sealed false old new before after hands none = ap (λ (t : TableView VersionedEntry). t.sealed) (none refl).0
 
 module _ {F L : Type 0} (a : Analysis F L) {D : Type 0} {G : Ghosts D} (before after : TableData F) (old : SlotWriterHalf D G) (failed : Bool) where
   -- a seal is refused, though no call of a disk failed

@@ -8,7 +8,11 @@ use Rattle.ide_board.specs.Records.{Marked, unmarked}
 use Rattle.ide_journal.specs.Format.{Entry}
 use Rattle.ide_desks.specs.Desks.{last_but_one, last_entry}
 use Rattle.ide_store.specs.Versioned.{VersionedEntry}
-use Rattle.ide_desks.specs.Keeping.{known, records_in, unknown}
+use Rattle.ide_desks.specs.Keeping.{records_in, unknown}
+
+-- the record of a marked one
+abbrev pub record_of : Marked VersionedEntry → VersionedEntry
+record_of m = m.0
 
 -- ---- the last of some records, and the last but one
 pub last_pushed : (xs : List Entry) (x : Entry) → last_entry (xs ++ x ∷ []) ≡ x
@@ -28,50 +32,50 @@ last_but_pushed (z ∷ w ∷ []) x y = refl
 last_but_pushed (z ∷ w ∷ v ∷ xs) x y = last_but_pushed (w ∷ v ∷ xs) x y
 
 -- ---- the records that a board knows, behind those that it began with
-pub records_count : (first : List VersionedEntry) (sealed : List (Marked Entry)) → length first ≤ length sealed
+pub records_count : (first : List VersionedEntry) (sealed : List (Marked VersionedEntry)) → length first ≤ length sealed
     → length (records_in first sealed) ≡ length sealed
-records_count [] sealed few = length-map sealed known
+records_count [] sealed few = length-map sealed record_of
 records_count (x ∷ first) [] few = absurd (omega (arith, few))
 records_count (x ∷ first) (m ∷ sealed) few = ap suc (records_count first sealed (omega (arith, few)))
 
 -- more are sealed
-records_more : (first : List VersionedEntry) (sealed marks : List (Marked Entry)) → length first ≤ length sealed
-    → records_in first (sealed ++ marks) ≡ records_in first sealed ++ map known marks
-records_more [] sealed marks few = map-append known sealed marks
+records_more : (first : List VersionedEntry) (sealed marks : List (Marked VersionedEntry)) → length first ≤ length sealed
+    → records_in first (sealed ++ marks) ≡ records_in first sealed ++ map record_of marks
+records_more [] sealed marks few = map-append record_of sealed marks
 records_more (x ∷ first) [] marks few = absurd (omega (arith, few))
 records_more (x ∷ first) (n ∷ sealed) marks few = ap (λ (rs : List VersionedEntry). x ∷ rs) (records_more first sealed marks (omega (arith, few)))
 
 -- so many of them
-pub records_take : (first : List VersionedEntry) (sealed : List (Marked Entry)) (n : ℕ) → length first ≤ n → n ≤ length sealed
+pub records_take : (first : List VersionedEntry) (sealed : List (Marked VersionedEntry)) (n : ℕ) → length first ≤ n → n ≤ length sealed
     → records_in first (take n sealed) ≡ take n (records_in first sealed)
-records_take [] sealed n some few = sym (take-map known n sealed)
+records_take [] sealed n some few = sym (take-map record_of n sealed)
 records_take (x ∷ first) [] n some few = absurd (omega (arith, some, few))
 records_take (x ∷ first) (m ∷ sealed) zero some few = absurd (omega (arith, some))
 records_take (x ∷ first) (m ∷ sealed) (suc n) some few =
     ap (λ (rs : List VersionedEntry). x ∷ rs) (records_take first sealed n (omega (arith, some)) (omega (arith, few)))
 
 -- and each behind the first
-pub records_get : (first : List VersionedEntry) (sealed : List (Marked Entry)) (i : ℕ) → length first ≤ length sealed → length first ≤ i
-    → slice_get (records_in first sealed) i ≡ option_map known (slice_get sealed i)
-records_get [] sealed i few behind = slice_get-map known sealed i
+pub records_get : (first : List VersionedEntry) (sealed : List (Marked VersionedEntry)) (i : ℕ) → length first ≤ length sealed → length first ≤ i
+    → slice_get (records_in first sealed) i ≡ option_map record_of (slice_get sealed i)
+records_get [] sealed i few behind = slice_get-map record_of sealed i
 records_get (x ∷ first) [] i few behind = absurd (omega (arith, few))
 records_get (x ∷ first) (m ∷ sealed) zero few behind = absurd (omega (arith, behind))
 records_get (x ∷ first) (m ∷ sealed) (suc i) few behind = records_get first sealed i (omega (arith, few)) (omega (arith, behind))
 
 -- those that were handed over are the same, and they wait behind the others
-pub handed_more : (first : List VersionedEntry) (sealed marks : List (Marked Entry)) (handed : ℕ) → length first ≤ length sealed
+pub handed_more : (first : List VersionedEntry) (sealed marks : List (Marked VersionedEntry)) (handed : ℕ) → length first ≤ length sealed
     → handed ≤ length sealed → take handed (records_in first (sealed ++ marks)) ≡ take handed (records_in first sealed)
 handed_more first sealed marks handed some few =
     let count = records_count first sealed some in
     ap (take handed) (records_more first sealed marks some)
-    ∙ take-append-le handed (records_in first sealed) (map known marks) (omega (arith, few, count))
+    ∙ take-append-le handed (records_in first sealed) (map record_of marks) (omega (arith, few, count))
 
-pub waiting_more : (first : List VersionedEntry) (sealed marks : List (Marked Entry)) (handed : ℕ) → length first ≤ length sealed
-    → handed ≤ length sealed → drop handed (records_in first (sealed ++ marks)) ≡ drop handed (records_in first sealed) ++ map known marks
+pub waiting_more : (first : List VersionedEntry) (sealed marks : List (Marked VersionedEntry)) (handed : ℕ) → length first ≤ length sealed
+    → handed ≤ length sealed → drop handed (records_in first (sealed ++ marks)) ≡ drop handed (records_in first sealed) ++ map record_of marks
 waiting_more first sealed marks handed some few =
     let count = records_count first sealed some in
     ap (drop handed) (records_more first sealed marks some)
-    ∙ drop-append-le handed (records_in first sealed) (map known marks) (omega (arith, few, count))
+    ∙ drop-append-le handed (records_in first sealed) (map record_of marks) (omega (arith, few, count))
 
 -- ---- beginnings of lists
 pub get_take : {X : Type 0} (xs : List X) (n i : ℕ) → i < n → slice_get (take n xs) i ≡ slice_get xs i
@@ -108,15 +112,15 @@ take_replicate zero (suc k) x few = absurd (omega (arith, few))
 take_replicate (suc n) (suc k) x few = ap (λ (xs : List _). x ∷ xs) (take_replicate n k x (omega (arith, few)))
 
 -- where all records are among the first, these are all
-pub records_first : (first : List VersionedEntry) (sealed : List (Marked Entry)) → length first ≡ length sealed → records_in first sealed ≡ first
+pub records_first : (first : List VersionedEntry) (sealed : List (Marked VersionedEntry)) → length first ≡ length sealed → records_in first sealed ≡ first
 records_first [] [] same = refl
 records_first [] (m ∷ sealed) same = absurd (omega (arith, same))
 records_first (x ∷ first) [] same = absurd (omega (arith, same))
 records_first (x ∷ first) (m ∷ sealed) same = ap (λ (rs : List VersionedEntry). x ∷ rs) (records_first first sealed (omega (arith, same)))
 
-pub unknown_marked : (k : ℕ) → unmarked (replicate k (0, [])) ≡ replicate k unknown
+pub unknown_marked : (k : ℕ) → unmarked (replicate k unknown.0) ≡ replicate k unknown
 unknown_marked zero = refl
-unknown_marked (suc k) = ap (λ (xs : List (Marked Entry)). unknown ∷ xs) (unknown_marked k)
+unknown_marked (suc k) = ap (λ (xs : List (Marked VersionedEntry)). unknown ∷ xs) (unknown_marked k)
 
 pub replicate_more : {X : Type 0} (k n : ℕ) (x : X) → k ≤ n → replicate k x ++ replicate (n - k) x ≡ replicate n x
 replicate_more zero n x few = ap (λ (m : ℕ). replicate m x) (omega arith)

@@ -13,7 +13,6 @@ use Rattle.ide_journal.specs.Format.{Entry, IsEntry}
 use Rattle.ide_journal.specs.Lists.{entries_of, entry_of}
 use Rattle.ide_journal.specs.declared.record.RawRecord.{RawRecord}
 use Rattle.ide_journal.specs.declared.version.Version.{Version}
-use Rattle.ide_journal.specs.declared.version.Version.TheVariants.{Two}
 use Rattle.ide_slot_journal.specs.Stands.{AreHonest, disks_of, slot_writer}
 use Rattle.ide_slot_journal.specs.declared.journal.SlotJournal.{SlotJournal}
 use Rattle.ide_slots.specs.Records.{all_numbered}
@@ -51,31 +50,31 @@ last_all : {X : Type 0} (P : X → Type 0) (xs ys : List X) → AllByRecursion P
 last_all P [] ys all = all
 last_all P (x ∷ xs) ys all = last_all P xs ys all.1
 
-module _ {F L : Type 0} (a : Analysis F L) (tag : ℕ) (keep : TwoDisksKeep (slots_of a)) where
+module _ {F L : Type 0} (a : Analysis F L) (tag : ℕ) (version : Version) (keep : TwoDisksKeep (slots_of a)) where
   abbrev LiveWith : List VersionedEntry → ℕ → SlotWriter → Sides DiskState → Type 0
   LiveWith records stored work disks = IsLiveTwo (slots_of a) tag records stored work disks
 
   -- a writer is live with records that are sealed besides, in the version in which it has them sealed
   live_more : (records : List VersionedEntry) (more : List Entry) (stored : ℕ) (work : SlotWriter) (disks : Sides DiskState)
-      → sealing_version work ≡ Two → LiveWith records stored work disks
-      → AllByRecursion IsEntry more → length records + length more ≤ 4294967295 → LiveWith (records ++ in_version Two more) stored work disks
-  live_more records [] stored work disks second live proper few =
+      → sealing_version work ≡ version → LiveWith records stored work disks
+      → AllByRecursion IsEntry more → length records + length more ≤ 4294967295 → LiveWith (records ++ in_version version more) stored work disks
+  live_more records [] stored work disks version_is live proper few =
       subst (λ (rs : List VersionedEntry). LiveWith rs stored work disks) (sym (append-nil records)) live
-  live_more records (entry ∷ more) stored work disks second live proper few =
-      let r : VersionedEntry = (Two, entry) in
+  live_more records (entry ∷ more) stored work disks version_is live proper few =
+      let r : VersionedEntry = (version, entry) in
       let longer = length-append records (r ∷ []) in
-      let fits = fits_at a (OnTwoDisks tag) work (length records) r (sym second) proper.0 (omega (arith, few)) in
-      subst (λ (rs : List VersionedEntry). LiveWith rs stored work disks) (append_assoc records (r ∷ []) (in_version Two more))
-      (live_more (records ++ r ∷ []) more stored work disks second ((keep tag).sealed records stored r work disks live fits) proper.1
+      let fits = fits_at a (OnTwoDisks tag) work (length records) r (sym version_is) proper.0 (omega (arith, few)) in
+      subst (λ (rs : List VersionedEntry). LiveWith rs stored work disks) (append_assoc records (r ∷ []) (in_version version more))
+      (live_more (records ++ r ∷ []) more stored work disks version_is ((keep tag).sealed records stored r work disks live fits) proper.1
       (omega (arith, few, longer)))
 
   -- ---- what was sealed goes over: to the half that writes
   module _ {D : Type 0} {G : Ghosts D} (table mid_table : TableData F) (old mid : SlotWriterHalf D G) (handed : List VersionedEntry) (stored : ℕ)
       (journal : mid.journal ≡ old.journal) (commands : mid.commands.items ≡ old.commands.items)
       (few : length handed + length table.waiting ≤ 4294967295) (proper : All IsEntry (entries_of mid.waiting.items))
-      (hands : HandsAll table mid_table old.waiting.items mid.waiting.items) (on : WritesLive a tag handed stored old) where
+      (hands : HandsAll table mid_table old.waiting.items mid.waiting.items) (on : WritesLive a tag version handed stored old) where
     abbrev left : List VersionedEntry
-    left = in_version Two table.waiting
+    left = in_version version table.waiting
 
     abbrev all : List VersionedEntry
     all = handed ++ left
@@ -90,39 +89,39 @@ module _ {F L : Type 0} (a : Analysis F L) (tag : ℕ) (keep : TwoDisksKeep (slo
         let before = on.writes.behind in
         let waiting : map entry_of mid.waiting.items ≡ map plain (drop stored all) =
         hands.waits ∙ ap (λ (es : List Entry). es ++ table.waiting) on.writes.waiting
-        ∙ ap (λ (es : List Entry). map plain (drop stored handed) ++ es) (sym (plain_again Two table.waiting))
+        ∙ ap (λ (es : List Entry). map plain (drop stored handed) ++ es) (sym (plain_again version table.waiting))
         ∙ sym (map-append plain (drop stored handed) left)
         ∙ ap (map plain) (sym (drop-append-le stored handed left before.some)) in
-        let longer = length-map {B = VersionedEntry} table.waiting (λ (entry : Entry). (Two, entry)) in
+        let longer = length-map {B = VersionedEntry} table.waiting (λ (entry : Entry). (version, entry)) in
         record {
           behind = more_behind on.slot on.other handed left stored old.journal mid.journal journal (omega (arith, few, longer))
-              (All-map IsPlainEntry (λ (entry : Entry). (Two, entry)) table.waiting (All-from_recursion IsEntry table.waiting waiting_proper))
-              (subst (λ (v : Version). All (IsIn v) left) (sym on.second) (all_in Two table.waiting)) before;
+              (All-map IsPlainEntry (λ (entry : Entry). (version, entry)) table.waiting (All-from_recursion IsEntry table.waiting waiting_proper))
+              (subst (λ (v : Version). All (IsIn v) left) (sym on.version_is) (all_in version table.waiting)) before;
           waiting = waiting;
           commands = ap all_numbered commands ∙ on.writes.commands ∙ ap commands_of (sym (take-append-le stored handed left before.some));
         }
 
-    pub writer_handed : WritesLive a tag all stored mid
+    pub writer_handed : WritesLive a tag version all stored mid
     writer_handed = record {
       slot = on.slot;
       other = on.other;
       writes = writes_all;
-      second = ap (λ (j : SlotJournal D G). sealing_version (slot_writer on.other j)) journal ∙ on.second;
+      version_is = ap (λ (j : SlotJournal D G). sealing_version (slot_writer on.other j)) journal ∙ on.version_is;
       tag_is = on.tag_is;
       live = subst (λ (j : SlotJournal D G). LiveWith all stored (slot_writer on.other j) (disks_of j)) (sym journal)
-          (live_more handed table.waiting stored (slot_writer on.other old.journal) (disks_of old.journal) on.second on.live waiting_proper few);
+          (live_more handed table.waiting stored (slot_writer on.other old.journal) (disks_of old.journal) on.version_is on.live waiting_proper few);
     }
 
   -- and from the half that works
   pub table_handed : (table mid_table : TableData F) (handed : List VersionedEntry) → mid_table ≡ record table { waiting = [] }
-      → WorksOnRun a tag table handed → WorksOnRun a tag mid_table (handed ++ in_version Two table.waiting)
+      → WorksOnRun a tag version table handed → WorksOnRun a tag version mid_table (handed ++ in_version version table.waiting)
   table_handed table mid_table handed rest works =
       let w = works.world in
-      let all : List VersionedEntry = handed ++ in_version Two table.waiting in
+      let all : List VersionedEntry = handed ++ in_version version table.waiting in
       let split : contents w.world.sealed ≡ all =
-      works.works.waits ∙ ap (λ (v : Version). handed ++ in_version v table.waiting) works.second in
+      works.works.waits ∙ ap (λ (v : Version). handed ++ in_version v table.waiting) works.version_is in
       record {
-        second = ap (λ (t : TableData F). t.version) rest ∙ works.second;
+        version_is = ap (λ (t : TableData F). t.version) rest ∙ works.version_is;
         world = w;
         reached = works.reached;
         works = subst (λ (t : TableData F). WorksOn a (OnTwoDisks tag) w t all) (sym rest)
@@ -132,7 +131,7 @@ module _ {F L : Type 0} (a : Analysis F L) (tag : ℕ) (keep : TwoDisksKeep (slo
 
   -- ---- where none waits, the halves are at work on one world
   module _ {D : Type 0} {G : Ghosts D} (table : TableData F) (half : SlotWriterHalf D G) (handed : List VersionedEntry) (stored : ℕ)
-      (none : table.waiting ≡ []) (works : WorksOnRun a tag table handed) (on : WritesLive a tag handed stored half) where
+      (none : table.waiting ≡ []) (works : WorksOnRun a tag version table handed) (on : WritesLive a tag version handed stored half) where
     abbrev work : SlotWriter
     work = slot_writer on.other half.journal
 
@@ -164,7 +163,7 @@ module _ {F L : Type 0} (a : Analysis F L) (tag : ℕ) (keep : TwoDisksKeep (slo
       works = record {
         running = works.works.running;
         working = works.works.working;
-        version = works.second ∙ sym on.second;
+        version = works.version_is ∙ sym on.version_is;
         image = works.works.image;
         claims = works.works.claims;
         base = record {
@@ -186,9 +185,9 @@ module _ {F L : Type 0} (a : Analysis F L) (tag : ℕ) (keep : TwoDisksKeep (slo
     }
 
 -- ---- what both desks keep then
-module _ {F L : Type 0} (a : Analysis F L) (tag : ℕ) (first : List VersionedEntry) (keep : TwoDisksKeep (slots_of a))
-    {D : Type 0} {G : Ghosts D} (table new_table : TableData F) (old new : SlotWriterHalf D G) (seat : TableView Entry)
-    (writer : WriterView Entry) (counts : CountsSealed table seat) (kept : IsTableDesk a tag first table seat)
+module _ {F L : Type 0} (a : Analysis F L) (tag : ℕ) (version : Version) (first : List VersionedEntry) (keep : TwoDisksKeep (slots_of a))
+    {D : Type 0} {G : Ghosts D} (table new_table : TableData F) (old new : SlotWriterHalf D G) (seat : TableView VersionedEntry)
+    (writer : WriterView VersionedEntry) (counts : CountsSealed table seat) (kept : IsTableDesk a tag version first table seat)
     (begins : IsPrefix writer.taken seat.sealed) (count : length writer.taken ≡ seat.handed) where
   some_sealed : length first ≤ length seat.sealed
   some_sealed = let some = kept.begun in let few = counts.handed in omega (arith, some, few)
@@ -197,7 +196,7 @@ module _ {F L : Type 0} (a : Analysis F L) (tag : ℕ) (first : List VersionedEn
   sealed_count = records_count first seat.sealed some_sealed
 
   -- all that is sealed: what was handed over, and what waits
-  all_sealed : handed_of first seat ++ in_version Two table.waiting ≡ records_in first seat.sealed
+  all_sealed : handed_of first seat ++ in_version version table.waiting ≡ records_in first seat.sealed
   all_sealed =
       ap (λ (xs : List VersionedEntry). handed_of first seat ++ xs) kept.waits ∙ take-append-drop seat.handed (records_in first seat.sealed)
 
@@ -206,23 +205,23 @@ module _ {F L : Type 0} (a : Analysis F L) (tag : ℕ) (first : List VersionedEn
       ap (records_in first) (first_of writer.taken seat.sealed seat.handed begins count)
       ∙ records_take first seat.sealed seat.handed kept.begun counts.handed
 
-  pub table_desk : new_table ≡ record table { waiting = [] } → IsTableDesk a tag first new_table (record seat { handed = length seat.sealed })
+  pub table_desk : new_table ≡ record table { waiting = [] } → IsTableDesk a tag version first new_table (record seat { handed = length seat.sealed })
   table_desk rest =
       let same = sealed_count in
       record {
         begun = some_sealed;
-        waits = ap (λ (t : TableData F). in_version Two t.waiting) rest ∙ sym (drop_all (length seat.sealed) (records_in first seat.sealed) (omega (arith, same)));
+        waits = ap (λ (t : TableData F). in_version version t.waiting) rest ∙ sym (drop_all (length seat.sealed) (records_in first seat.sealed) (omega (arith, same)));
         run = λ working.
-            subst (WorksOnRun a tag new_table)
+            subst (WorksOnRun a tag version new_table)
             (all_sealed ∙ sym (take_all (length seat.sealed) (records_in first seat.sealed) (omega (arith, same))))
-            (table_handed a tag keep table new_table (handed_of first seat) rest
+            (table_handed a tag version keep table new_table (handed_of first seat) rest
             (kept.run (sym (ap (λ (t : TableData F). t.failed) rest) ∙ working)));
       }
 
-  pub writer_desk : IsWriterDesk a tag first old writer false → length writer.stored ≤ length writer.taken → new.journal ≡ old.journal
+  pub writer_desk : IsWriterDesk a tag version first old writer false → length writer.stored ≤ length writer.taken → new.journal ≡ old.journal
       → new.commands.items ≡ old.commands.items → table.sealed ≤ 4294967295 → All IsEntry (entries_of new.waiting.items)
       → HandsAll table new_table old.waiting.items new.waiting.items
-      → IsWriterDesk a tag first new (record writer { taken = seat.sealed }) false
+      → IsWriterDesk a tag version first new (record writer { taken = seat.sealed }) false
   writer_desk writes some journal commands few proper hands =
       let within : length writer.taken ≤ length seat.sealed = prefix_length writer.taken seat.sealed begins in
       let least = writes.begun in
@@ -232,16 +231,16 @@ module _ {F L : Type 0} (a : Analysis F L) (tag : ℕ) (first : List VersionedEn
         unknown_first = take_prefix (length first) writer.taken seat.sealed begins least ∙ writes.unknown_first;
         honest = subst AreHonest (sym journal) writes.honest;
         keeps =
-            subst (λ (rs : List VersionedEntry). WritesLive a tag rs (length writer.stored) new) all_sealed
-            (writer_handed a tag keep table new_table old new (handed_of first seat) (length writer.stored) journal commands
+            subst (λ (rs : List VersionedEntry). WritesLive a tag version rs (length writer.stored) new) all_sealed
+            (writer_handed a tag version keep table new_table old new (handed_of first seat) (length writer.stored) journal commands
             (omega (
               arith,
               long,
               few,
-              length-append (handed_of first seat) (in_version Two table.waiting),
-              length-map {B = VersionedEntry} table.waiting (λ (entry : Entry). (Two, entry)),
+              length-append (handed_of first seat) (in_version version table.waiting),
+              length-map {B = VersionedEntry} table.waiting (λ (entry : Entry). (version, entry)),
             )) proper hands
-            (subst (λ (rs : List VersionedEntry). WritesLive a tag rs (length writer.stored) old) taken_is writes.keeps));
+            (subst (λ (rs : List VersionedEntry). WritesLive a tag version rs (length writer.stored) old) taken_is writes.keeps));
       }
 
 -- where none waits in the queue, all that waits with the half that works goes over
@@ -254,16 +253,16 @@ pub handed_sealed : {F : Type 0} (old new : TableData F) (before after : List Ra
 handed_sealed {F = F} old new before after (gave none took same) = ap (λ (t : TableData F). t.sealed) same
 handed_sealed {F = F} old new before after (kept some items same) = ap (λ (t : TableData F). t.sealed) same
 
-module _ {F L : Type 0} (a : Analysis F L) (tag : ℕ) (first : List VersionedEntry) (keep : TwoDisksKeep (slots_of a))
-    {D : Type 0} {G : Ghosts D} (table new_table : TableData F) (old new : SlotWriterHalf D G) (seat : TableView Entry)
-    (writer : WriterView Entry) (failed : Bool) (works : failed ≡ false) (counts : CountsSealed table seat)
+module _ {F L : Type 0} (a : Analysis F L) (tag : ℕ) (version : Version) (first : List VersionedEntry) (keep : TwoDisksKeep (slots_of a))
+    {D : Type 0} {G : Ghosts D} (table new_table : TableData F) (old new : SlotWriterHalf D G) (seat : TableView VersionedEntry)
+    (writer : WriterView VersionedEntry) (failed : Bool) (works : failed ≡ false) (counts : CountsSealed table seat)
     (begins : IsPrefix writer.taken seat.sealed) (count : length writer.taken ≡ seat.handed) (all : length writer.stored ≡ length writer.taken)
     (hands : HandsTo table new_table old.waiting.items new.waiting.items) where
-  going : IsWriterDesk a tag first old writer failed → IsWriterDesk a tag first old writer false
-  going desk = subst (IsWriterDesk a tag first old writer) works desk
+  going : IsWriterDesk a tag version first old writer failed → IsWriterDesk a tag version first old writer false
+  going desk = subst (IsWriterDesk a tag version first old writer) works desk
 
   -- the writer has nothing left
-  none_left : IsWriterDesk a tag first old writer failed → old.waiting.items ≡ []
+  none_left : IsWriterDesk a tag version first old writer failed → old.waiting.items ≡ []
   none_left desk =
       let one = going desk in
       let long = records_count first writer.taken one.begun in
@@ -271,19 +270,19 @@ module _ {F L : Type 0} (a : Analysis F L) (tag : ℕ) (first : List VersionedEn
       (one.keeps.writes.waiting
       ∙ ap (map plain) (drop_all (length writer.stored) (records_in first writer.taken) (omega (arith, long, all))))
 
-  pub table_takes : IsTableDesk a tag first table seat → IsWriterDesk a tag first old writer failed
-      → IsTableDesk a tag first new_table (record seat { handed = length seat.sealed })
+  pub table_takes : IsTableDesk a tag version first table seat → IsWriterDesk a tag version first old writer failed
+      → IsTableDesk a tag version first new_table (record seat { handed = length seat.sealed })
   table_takes desk writes =
       let over = hands_all table new_table old.waiting.items new.waiting.items hands (none_left writes) in
-      table_desk a tag first keep table new_table old new seat writer counts desk begins count over.rest
+      table_desk a tag version first keep table new_table old new seat writer counts desk begins count over.rest
 
-  pub writer_takes : IsTableDesk a tag first table seat → IsWriterDesk a tag first old writer failed → new.journal ≡ old.journal
+  pub writer_takes : IsTableDesk a tag version first table seat → IsWriterDesk a tag version first old writer failed → new.journal ≡ old.journal
       → new.commands.items ≡ old.commands.items → table.sealed ≤ 4294967295 → All IsEntry (entries_of new.waiting.items)
-      → IsWriterDesk a tag first new (record writer { taken = seat.sealed }) failed
+      → IsWriterDesk a tag version first new (record writer { taken = seat.sealed }) failed
   writer_takes desk writes journal commands few proper =
       let over = hands_all table new_table old.waiting.items new.waiting.items hands (none_left writes) in
-      subst (IsWriterDesk a tag first new (record writer { taken = seat.sealed })) (sym works)
-      (writer_desk a tag first keep table new_table old new seat writer counts desk begins count (going writes) (omega (arith, all)) journal commands few
+      subst (IsWriterDesk a tag version first new (record writer { taken = seat.sealed })) (sym works)
+      (writer_desk a tag version first keep table new_table old new seat writer counts desk begins count (going writes) (omega (arith, all)) journal commands few
       proper over)
 
 -- what a hand over of all leaves of the half that works, if memory does not want
@@ -302,28 +301,28 @@ none_failed false c is = (refl, is)
 none_failed true c is = cc (is)
 
 -- ---- desks that are given up: their halves are on one run, where nothing waits with the one that works
-module _ {F L : Type 0} (a : Analysis F L) (tag : ℕ) (first : List VersionedEntry) (keep : TwoDisksKeep (slots_of a)) {D : Type 0} {G : Ghosts D}
-    (meet : HalvesMeet a G) (table mid : TableData F) (old new : SlotWriterHalf D G) (seat : TableView Entry) (writer : WriterView Entry)
+module _ {F L : Type 0} (a : Analysis F L) (tag : ℕ) (version : Version) (first : List VersionedEntry) (keep : TwoDisksKeep (slots_of a)) {D : Type 0} {G : Ghosts D}
+    (meet : HalvesMeet a G) (table mid : TableData F) (old new : SlotWriterHalf D G) (seat : TableView VersionedEntry) (writer : WriterView VersionedEntry)
     (counts : CountsSealed table seat) (within : length writer.stored ≤ length writer.taken) (begins : IsPrefix writer.taken seat.sealed)
     (count : length writer.taken ≡ seat.handed) (journal : new.journal ≡ old.journal) (commands : new.commands.items ≡ old.commands.items)
     (few : table.sealed ≤ 4294967295) (proper : All IsEntry (entries_of new.waiting.items)) (working : table.failed ≡ false)
     (none : mid.waiting ≡ []) where
-  on_run : (records : List VersionedEntry) → WorksOnRun a tag mid records → WritesLive a tag records (length writer.stored) new → AreOnRun a tag mid new
-  on_run records works writes = (meet tag mid new records (length writer.stored) none works writes).0
+  on_run : (records : List VersionedEntry) → WorksOnRun a tag version mid records → WritesLive a tag version records (length writer.stored) new → AreOnRun a tag mid new
+  on_run records works writes = (meet tag version mid new records (length writer.stored) none works writes).0
 
   pub met_on_run : {T : Type 0} (result : Result T Refused) → OnOk result (HandsAll table mid old.waiting.items new.waiting.items) → OnErr result (IsSameTable table mid)
-      → OnErr result (new.waiting.items ≡ old.waiting.items) → IsTableDesk a tag first table seat → IsWriterDesk a tag first old writer false
+      → OnErr result (new.waiting.items ≡ old.waiting.items) → IsTableDesk a tag version first table seat → IsWriterDesk a tag version first old writer false
       → AreOnRun a tag mid new
   met_on_run (Ok done) hands same queue desk writes =
-      let after = table_desk a tag first keep table mid old new seat writer counts desk begins count hands.rest in
-      let written = writer_desk a tag first keep table mid old new seat writer counts desk begins count writes within journal commands few proper hands in
-      let long = sealed_count a tag first keep table mid old new seat writer counts desk begins count in
+      let after = table_desk a tag version first keep table mid old new seat writer counts desk begins count hands.rest in
+      let written = writer_desk a tag version first keep table mid old new seat writer counts desk begins count writes within journal commands few proper hands in
+      let long = sealed_count a tag version first keep table mid old new seat writer counts desk begins count in
       on_run (records_in first seat.sealed)
-      (subst (WorksOnRun a tag mid) (take_all (length seat.sealed) (records_in first seat.sealed) (omega (arith, long)))
+      (subst (WorksOnRun a tag version mid) (take_all (length seat.sealed) (records_in first seat.sealed) (omega (arith, long)))
       (after.run (ap (λ (t : TableData F). t.failed) hands.rest ∙ working))) written.keeps
   met_on_run (Err refused) hands same queue desk writes =
-      on_run (handed_of first seat) (stayed a tag (handed_of first seat) table mid same (desk.run working))
-      (subst (λ (rs : List VersionedEntry). WritesLive a tag rs (length writer.stored) new)
-      (taken_is a tag first keep table mid old new seat writer counts desk begins count)
-      (same_half_live a tag keep (records_in first writer.taken) (length writer.stored) old new writes.keeps
+      on_run (handed_of first seat) (stayed a tag version (handed_of first seat) table mid same (desk.run working))
+      (subst (λ (rs : List VersionedEntry). WritesLive a tag version rs (length writer.stored) new)
+      (taken_is a tag version first keep table mid old new seat writer counts desk begins count)
+      (same_half_live a tag version keep (records_in first writer.taken) (length writer.stored) old new writes.keeps
       (record { journal = journal; waiting = queue; commands = commands })))

@@ -6,7 +6,7 @@ use Rattle.atomic_table.specs.Seated.{TableId}
 use Rattle.ide_board.specs.Records.{TableView, WriterView}
 use Rattle.ide_disk.specs.declared.disk.Disk.{Ghosts}
 use Rattle.ide_journal.specs.Format.{Entry, IsEntry}
-use Rattle.ide_journal.specs.declared.version.Version.TheVariants.{Two}
+use Rattle.ide_journal.specs.declared.version.Version.{Version}
 use Rattle.ide_journal.specs.Lists.{entries_of}
 use Rattle.ide_slot_journal.specs.Stands.{records_stored}
 use Rattle.ide_slot_store.specs.declared.engine.SlotEngine.{SlotEngine}
@@ -21,8 +21,8 @@ use Rattle.ide_desks.specs.Opened.{AreNewSeats, IsToldOf, StaysOnRun}
 use Rattle.ide_desks.proofs.Lists.{records_first, take_replicate}
 use Rattle.ide_desks.proofs.Steps.{live_count}
 
-module _ {P D L F : Type 0} {G : Ghosts D} (board : TableId) (engine : SlotEngine P D L F G) (table : TableView Entry)
-    (writer : WriterView Entry) (seats : AreNewSeats board engine table writer) where
+module _ {P D L F : Type 0} {G : Ghosts D} (board : TableId) (engine : SlotEngine P D L F G) (table : TableView VersionedEntry)
+    (writer : WriterView VersionedEntry) (seats : AreNewSeats board engine table writer) where
   abbrev sealed : ℕ
   sealed = engine.table.sealed
 
@@ -51,19 +51,21 @@ module _ {P D L F : Type 0} {G : Ghosts D} (board : TableId) (engine : SlotEngin
             ∙ ap (take stored) (sym (seats.taken ∙ seats.sealed)) ∙ ap (λ (n : ℕ). take n writer.taken) (sym stored_count);
       }
 
-  module _ (a : Analysis F L) (tag : ℕ) (first : List VersionedEntry) (told : IsToldOf a tag engine first) (live : RunsAreLive a G) where
+  module _ (a : Analysis F L) (tag : ℕ) (version : Version) (first : List VersionedEntry) (told : IsToldOf a tag engine version first)
+      (live : RunsAreLive a G) where
     first_count : length first ≡ sealed
     first_count =
         let works = told.run.at_work.works in
         let whole = works.waits ∙ ap (λ (more : List Entry). told.run.at_work.handed ++ in_version engine.table.version more) seats.none ∙ append-nil told.run.at_work.handed in
         ap length (told.is ∙ sym whole) ∙ length-map told.run.world.world.sealed (λ s. s.content) ∙ works.sealed
 
-    halves : WorksOnRun a tag engine.table first × WritesLive a tag first told.run.world.world.stored engine.writer
+    halves : WorksOnRun a tag version engine.table first × WritesLive a tag version first told.run.world.world.stored engine.writer
     halves =
-        subst (λ (rs : List VersionedEntry). WorksOnRun a tag engine.table rs × WritesLive a tag rs told.run.world.world.stored engine.writer) (sym told.is)
-        (live tag engine.table engine.writer told.run told.second seats.none)
+        subst (λ (v : Version). WorksOnRun a tag v engine.table first × WritesLive a tag v first told.run.world.world.stored engine.writer) told.version_is
+        (subst (λ (rs : List VersionedEntry). WorksOnRun a tag engine.table.version engine.table rs × WritesLive a tag engine.table.version rs told.run.world.world.stored engine.writer)
+        (sym told.is) (live tag engine.table engine.writer told.run seats.none))
 
-    pub new_table_desk : IsTableDesk a tag first engine.table table
+    pub new_table_desk : IsTableDesk a tag version first engine.table table
     new_table_desk =
         let same = first_count in
         let count = sealed_count in
@@ -71,11 +73,11 @@ module _ {P D L F : Type 0} {G : Ghosts D} (board : TableId) (engine : SlotEngin
         let all = records_first first table.sealed (omega (arith, same, count)) in
         record {
           begun = omega (arith, same, handed);
-          waits = ap (in_version Two) seats.none ∙ sym (ap (drop table.handed) all ∙ drop_all table.handed first (omega (arith, same, handed)));
-          run = λ working. subst (WorksOnRun a tag engine.table) (sym (ap (take table.handed) all ∙ take_all table.handed first (omega (arith, same, handed)))) halves.0;
+          waits = ap (in_version version) seats.none ∙ sym (ap (drop table.handed) all ∙ drop_all table.handed first (omega (arith, same, handed)));
+          run = λ working. subst (WorksOnRun a tag version engine.table) (sym (ap (take table.handed) all ∙ take_all table.handed first (omega (arith, same, handed)))) halves.0;
         }
 
-    pub new_writer_desk : IsWriterDesk a tag first engine.writer writer false
+    pub new_writer_desk : IsWriterDesk a tag version first engine.writer writer false
     new_writer_desk =
         let same = first_count in
         let count = taken_count in
@@ -86,9 +88,9 @@ module _ {P D L F : Type 0} {G : Ghosts D} (board : TableId) (engine : SlotEngin
               ap (take (length first)) (seats.taken ∙ seats.sealed) ∙ take_replicate sealed (length first) unknown (omega (arith, same));
           honest = told.honest;
           keeps =
-              subst (λ (rs : List VersionedEntry). WritesLive a tag rs (length writer.stored) engine.writer) (sym all)
-              (subst (λ (n : ℕ). WritesLive a tag first n engine.writer)
-              (sym (live_count a tag first told.run.world.world.stored engine.writer halves.1) ∙ sym stored_count) halves.1);
+              subst (λ (rs : List VersionedEntry). WritesLive a tag version rs (length writer.stored) engine.writer) (sym all)
+              (subst (λ (n : ℕ). WritesLive a tag version first n engine.writer)
+              (sym (live_count a tag version first told.run.world.world.stored engine.writer halves.1) ∙ sym stored_count) halves.1);
         }
 
 -- what is handed over leaves an engine on its run

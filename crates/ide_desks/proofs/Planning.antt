@@ -1,6 +1,6 @@
 -- A checkpoint of all that is sealed, where nothing waits with the half that works: the writer stays live with the records that it
 -- took, since a run on which both halves are goes on with the beginning of the checkpoint.
-use Rattle.std.proofs.Common.{◌≡◌, ◌∙◌, ◌++◌, ℕ, Bool, true, false, List, [], ◌∷◌, Some, Result, Ok, Err, length, refl, ap, sym, subst, arith}
+use Rattle.std.proofs.Common.{◌≡◌, ◌∙◌, ◌++◌, ℕ, Bool, false, List, [], ◌∷◌, Some, length, ap, sym, subst, arith}
 use Rattle.std.proofs.lemmas.List.{append-nil, drop_all, take_all}
 use Rattle.ide_board.specs.Records.{TableView, WriterView}
 use Rattle.ide_disk.specs.declared.disk.Disk.{Ghosts}
@@ -25,7 +25,6 @@ use Rattle.ide_store.specs.Places.{OnTwoDisks}
 use Rattle.ide_store.specs.Table.{Analysis, TableData}
 use Rattle.ide_store.specs.TwoDisksLaws.{TwoDisksKeep, slots_of}
 use Rattle.ide_store.specs.World.{Begins, contents}
-use Rattle.ide_wire.specs.declared.refused.Refused.{Refused}
 use Rattle.ide_desks.specs.Apart.{HalvesMeet, RunsAreLive}
 use Rattle.ide_desks.specs.Desks.{CountsSealed, IsTableDesk, IsWriterDesk}
 use Rattle.ide_desks.specs.Keeping.{WorksOnRun, WritesLive, handed_of, records_in}
@@ -49,18 +48,18 @@ same_honest {D = D} {G = G} old new same are =
     honest_each G new.side new.current new.other
     (subst (λ (s : Sides D). G.honest s.a × G.honest s.b) (sym same) (honest_both G old.side old.current old.other are))
 
-module _ {F L : Type 0} (a : Analysis F L) (tag : ℕ) (first : List VersionedEntry) {D : Type 0} {G : Ghosts D} (table : TableData F)
-    (old new : SlotWriterHalf D G) (seat : TableView Entry) (writer : WriterView Entry) where
+module _ {F L : Type 0} (a : Analysis F L) (tag : ℕ) (version : Version) (first : List VersionedEntry) {D : Type 0} {G : Ghosts D}
+    (table : TableData F) (old new : SlotWriterHalf D G) (seat : TableView VersionedEntry) (writer : WriterView VersionedEntry) where
   -- ---- all that is sealed is handed over
   module _ (counts : CountsSealed table seat) (handed : seat.handed ≡ length seat.sealed) (taken : writer.taken ≡ seat.sealed)
-      (desk : IsTableDesk a tag first table seat) where
+      (desk : IsTableDesk a tag version first table seat) where
     all_count : length (records_in first seat.sealed) ≡ length seat.sealed
     all_count = (let some = desk.begun in records_count first seat.sealed (omega (arith, some, handed)))
 
     none_waits : table.waiting ≡ []
     none_waits =
         let count = all_count in
-        none_mapped (λ (entry : Entry). (Two, entry)) table.waiting
+        none_mapped (λ (entry : Entry). (version, entry)) table.waiting
         (desk.waits ∙ drop_all seat.handed (records_in first seat.sealed) (omega (arith, count, handed)))
 
     all_handed : handed_of first seat ≡ records_in first writer.taken
@@ -73,10 +72,12 @@ module _ {F L : Type 0} (a : Analysis F L) (tag : ℕ) (first : List VersionedEn
       abbrev records : List VersionedEntry
       records = records_in first writer.taken
 
-      planned_live : (stored : ℕ) → WritesLive a tag records stored old → PlansImage a table old new → WritesLive a tag records stored new
+      -- the run goes on with its beginning, and both seal in the second version then
+      planned_live : (stored : ℕ) → WritesLive a tag version records stored old → PlansImage a table old new
+          → WorksOnRun a tag Two (spelling_anew table) records × WritesLive a tag Two records stored new
       planned_live stored writes plan =
-          let works = subst (WorksOnRun a tag table) all_handed (desk.run working) in
-          let met = meet tag table old records stored none_waits works writes in
+          let works = subst (WorksOnRun a tag version table) all_handed (desk.run working) in
+          let met = meet tag version table old records stored none_waits works writes in
           let on = met.0 in
           let begun = law tag on.world table old new on.at_work plan in
           let events : List (SlotEvent a tag) = Begins begun.0 ∷ [] in
@@ -89,70 +90,49 @@ module _ {F L : Type 0} (a : Analysis F L) (tag : ℕ) (first : List VersionedEn
           on.at_work.works.waits ∙ ap (λ (more : List Entry). on.at_work.handed ++ in_version table.version more) none_waits ∙ append-nil on.at_work.handed in
           let after_is : contents on.world.world.sealed ≡ after.at_work.handed =
           after.at_work.works.waits ∙ ap (λ (more : List Entry). after.at_work.handed ++ in_version Two more) none_waits ∙ append-nil after.at_work.handed in
-          subst (λ (rs : List VersionedEntry). WritesLive a tag rs stored new) (sym after_is ∙ before_is ∙ met.1)
-          (subst (λ (n : ℕ). WritesLive a tag after.at_work.handed n new) met.2 (live tag (spelling_anew table) new after refl none_waits).1)
+          let both = live tag (spelling_anew table) new after none_waits in
+          let same = sym after_is ∙ before_is ∙ met.1 in (
+            subst (WorksOnRun a tag Two (spelling_anew table)) same both.0,
+            subst (λ (rs : List VersionedEntry). WritesLive a tag Two rs stored new) same
+                (subst (λ (n : ℕ). WritesLive a tag Two after.at_work.handed n new) met.2 both.1),
+          )
 
-      pub desk_planned : (failed : Bool) → failed ≡ false → IsWriterDesk a tag first old writer failed → table.core.changes ≡ Some [] → (parts : List Entry)
-          → AreImageParts a table parts → PlansAllOver parts old new → sides_of new.journal ≡ sides_of old.journal
-          → IsWriterDesk a tag first new writer failed
-      desk_planned failed going writes still parts image plans sides =
-          let plan : PlansImage a table old new =
-          record { handed = none_waits; still = still; parts = parts; image = image; plans = plans; sides = sides } in
-          record {
-            begun = writes.begun;
-            unknown_first = writes.unknown_first;
-            honest = same_honest old.journal new.journal sides writes.honest;
-            keeps = subst (λ (b : Bool). keeping.KeepsWriting a tag b records (length writer.stored) new) (sym going)
-                (planned_live (length writer.stored)
-                (subst (λ (b : Bool). keeping.KeepsWriting a tag b records (length writer.stored) old) going writes.keeps) plan);
-          }
+      module _ (failed : Bool) (going : failed ≡ false) (writes : IsWriterDesk a tag version first old writer failed)
+          (still : table.core.changes ≡ Some []) (parts : List Entry) (image : AreImageParts a table parts) (plans : PlansAllOver parts old new)
+          (sides : sides_of new.journal ≡ sides_of old.journal) where
+        both_live : WorksOnRun a tag Two (spelling_anew table) records × WritesLive a tag Two records (length writer.stored) new
+        both_live =
+            planned_live (length writer.stored)
+            (subst (λ (b : Bool). keeping.KeepsWriting a tag version b records (length writer.stored) old) going writes.keeps)
+            (record { handed = none_waits; still = still; parts = parts; image = image; plans = plans; sides = sides })
+
+        pub desk_planned : IsWriterDesk a tag Two first new writer failed
+        desk_planned = record {
+          begun = writes.begun;
+          unknown_first = writes.unknown_first;
+          honest = same_honest old.journal new.journal sides writes.honest;
+          keeps = subst (λ (b : Bool). keeping.KeepsWriting a tag Two b records (length writer.stored) new) (sym going) both_live.1;
+        }
+
+        -- the half that works spells records in the second version then
+        pub desk_spelled : IsTableDesk a tag Two first (spelling_anew table) seat
+        desk_spelled =
+            let count = all_count in
+            record {
+              begun = desk.begun;
+              waits = ap (in_version Two) none_waits
+                  ∙ sym (drop_all seat.handed (records_in first seat.sealed) (omega (arith, count, handed)));
+              run = λ _. subst (WorksOnRun a tag Two (spelling_anew table)) (sym all_handed) both_live.0;
+            }
 
   -- ---- it plans none
   pub desk_unplanned : TwoDisksKeep (slots_of a) → (failed : Bool) → failed ≡ false → sides_of new.journal ≡ sides_of old.journal → KeepsWriting old new
-      → IsQuiet old.journal new.journal → IsWriterDesk a tag first old writer failed → IsWriterDesk a tag first new writer failed
+      → IsQuiet old.journal new.journal → IsWriterDesk a tag version first old writer failed → IsWriterDesk a tag version first new writer failed
   desk_unplanned keep failed going sides keeps quiet writes = record {
     begun = writes.begun;
     unknown_first = writes.unknown_first;
     honest = same_honest old.journal new.journal sides writes.honest;
-    keeps = subst (λ (b : Bool). keeping.KeepsWriting a tag b (records_in first writer.taken) (length writer.stored) new) (sym going)
-        (stays_live a tag keep (records_in first writer.taken) (length writer.stored) old new
-        (subst (λ (b : Bool). keeping.KeepsWriting a tag b (records_in first writer.taken) (length writer.stored) old) going writes.keeps) keeps quiet);
-  }
-
-  -- ---- and whatever it answers
-  pub desk_after : (meet : HalvesMeet a G) (live : RunsAreLive a G) (law : CheckpointsBegin a G) → TwoDisksKeep (slots_of a) → CountsSealed table seat
-      → seat.handed ≡ length seat.sealed → writer.taken ≡ seat.sealed → IsTableDesk a tag first table seat → table.failed ≡ false → (failed : Bool)
-      → failed ≡ false → IsWriterDesk a tag first old writer failed → table.core.changes ≡ Some [] → (parts : List Entry) → AreImageParts a table parts
-      → sides_of new.journal ≡ sides_of old.journal → (result : Result Bool Refused) → (result ≡ Ok true → PlansAllOver parts old new)
-      → ((result ≡ Ok true → ⊥) → KeepsWriting old new) → ((result ≡ Ok true → ⊥) → IsQuiet old.journal new.journal)
-      → IsWriterDesk a tag first new writer failed
-  desk_after meet live law keep counts handed taken desk working failed going writes still parts image sides (Ok true) plans keeps quiet =
-      desk_planned counts handed taken desk meet live law working failed going writes still parts image (plans refl) sides
-  desk_after meet live law keep counts handed taken desk working failed going writes still parts image sides (Ok false) plans keeps quiet =
-      desk_unplanned keep failed going sides (keeps (λ no. cc (no))) (quiet (λ no. cc (no))) writes
-  desk_after meet live law keep counts handed taken desk working failed going writes still parts image sides (Err refused) plans keeps quiet =
-      desk_unplanned keep failed going sides (keeps (λ no. cc (no))) (quiet (λ no. cc (no))) writes
-
-  -- ---- the half that works spells records in the second version, as it did on each run
-  pub desk_spelled : IsTableDesk a tag first table seat → IsTableDesk a tag first (record table { version = Two }) seat
-  desk_spelled desk = record {
-    begun = desk.begun;
-    waits = desk.waits;
-    run = λ working.
-        let on = desk.run working in
-        record {
-          second = refl;
-          world = on.world;
-          reached = on.reached;
-          works = record {
-            running = on.works.running;
-            working = on.works.working;
-            version = sym on.second ∙ on.works.version;
-            image = on.works.image;
-            claims = on.works.claims;
-            base = on.works.base;
-            sealed = on.works.sealed;
-            waits = on.works.waits ∙ ap (λ (v : Version). handed_of first seat ++ in_version v table.waiting) on.second;
-          };
-        };
+    keeps = subst (λ (b : Bool). keeping.KeepsWriting a tag version b (records_in first writer.taken) (length writer.stored) new) (sym going)
+        (stays_live a tag version keep (records_in first writer.taken) (length writer.stored) old new
+        (subst (λ (b : Bool). keeping.KeepsWriting a tag version b (records_in first writer.taken) (length writer.stored) old) going writes.keeps) keeps quiet);
   }

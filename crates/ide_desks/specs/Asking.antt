@@ -2,7 +2,6 @@
 use Rattle.std.specs.Prelude.{◌≡◌, ◌++◌, Bool, true, List, [], ◌∷◌, None, length}
 use Rattle.ide_board.specs.Records.{Marked, TableView, WriterView}
 use Rattle.ide_disk.specs.declared.disk.Disk.{Ghosts}
-use Rattle.ide_journal.specs.Format.{Entry}
 use Rattle.ide_journal.specs.declared.version.Version.TheVariants.{Two}
 use Rattle.ide_slot_journal.specs.Stands.{IsCheckpointing}
 use Rattle.ide_slot_store.specs.Asking.{IsWorthACheckpoint}
@@ -11,25 +10,27 @@ use Rattle.ide_slot_store.specs.Parts.{IsPartsStop}
 use Rattle.ide_slot_store.specs.declared.writer.SlotWriterHalf.{SlotWriterHalf}
 use Rattle.ide_store.specs.Table.{Analysis, TableData}
 use Rattle.ide_store.specs.TableCalls.{IsSealStop}
+use Rattle.ide_store.specs.Versioned.{VersionedEntry}
 use Rattle.ide_wire.specs.declared.refused.Refused.{Refused}
 use Rattle.ide_wire.specs.declared.refused.Refused.TheVariants.{Failed, Limit}
 
 -- what changed is sealed for no client, if anything did
-pub data SealsForNone (before after : List (Marked Entry)) : Type 0 where
+pub data SealsForNone (before after : List (Marked VersionedEntry)) : Type 0 where
   none_sealed : after ≡ before → SealsForNone before after
-  one_sealed : (batch : Entry) → after ≡ before ++ (batch, None) ∷ [] → SealsForNone before after
+  one_sealed : (batch : VersionedEntry) → after ≡ before ++ (batch, None) ∷ [] → SealsForNone before after
 
 module _ {F : Type 0} {D : Type 0} {G : Ghosts D} where
   -- one begins: it would change what the disks hold; all that is sealed is handed over, and what is sealed from then on is spelled
   -- in the second version
-  pub record BeginsCheckpoint (old : SlotWriterHalf D G) (table : TableData F) (seat : TableView Entry) (writer : WriterView Entry) : Type 0 where
+  pub record BeginsCheckpoint (old : SlotWriterHalf D G) (table : TableData F) (seat : TableView VersionedEntry)
+      (writer : WriterView VersionedEntry) : Type 0 where
     pub worth : IsWorthACheckpoint old.journal table.sealed
     pub handed : writer.taken ≡ seat.sealed
     pub version : table.version ≡ Two
 
   -- why none begins: one is under way; or the writer has not stored all that it took; or the disks would hold the same; or there is
   -- no command among the records
-  pub data FindsNoCheckpoint (old : SlotWriterHalf D G) (writer : WriterView Entry) (table : TableData F) : Type 0 where
+  pub data FindsNoCheckpoint (old : SlotWriterHalf D G) (writer : WriterView VersionedEntry) (table : TableData F) : Type 0 where
     under_way : IsCheckpointing old.journal → FindsNoCheckpoint old writer table
     some_wait : ¬ (length writer.stored ≡ length writer.taken) → FindsNoCheckpoint old writer table
     nothing_new : ¬ (IsWorthACheckpoint old.journal table.sealed) → FindsNoCheckpoint old writer table

@@ -6,7 +6,7 @@ use Rattle.ide_desks.specs.declared.writer.Stepped.TheVariants.{Called, Rested, 
 use Rattle.ide_desks.specs.Keeping.{KeepsWriting, WorksOnRun, handed_of, records_in, unknown, waiting_of}
 use Rattle.ide_disk.specs.declared.disk.Disk.{Ghosts}
 use Rattle.ide_journal.specs.Format.{Entry}
-use Rattle.ide_journal.specs.declared.version.Version.TheVariants.{Two}
+use Rattle.ide_journal.specs.declared.version.Version.{Version}
 use Rattle.ide_slot_journal.specs.Stands.{AreHonest}
 use Rattle.ide_slot_store.specs.declared.writer.SlotWriterHalf.{SlotWriterHalf}
 use Rattle.ide_store.specs.Table.{Analysis, TableData}
@@ -24,60 +24,64 @@ last_but_one (entry ∷ []) = (0, [])
 last_but_one (entry ∷ last ∷ []) = entry
 last_but_one (entry ∷ next ∷ last ∷ rest) = last_but_one (next ∷ last ∷ rest)
 
--- the record that was sealed last, of those that wait
-abbrev pub last_sealed : {F : Type 0} → TableData F → Entry
-last_sealed table = last_entry table.waiting
+-- the record that was sealed last, of those that wait, and the last but one
+abbrev pub last_sealed : {F : Type 0} → TableData F → VersionedEntry
+last_sealed table = (table.version, last_entry table.waiting)
+
+abbrev pub last_but_sealed : {F : Type 0} → TableData F → VersionedEntry
+last_but_sealed table = (table.version, last_but_one table.waiting)
 
 -- the seat after one more record was sealed, the last that waits, with that mark
-abbrev pub with_last : {F : Type 0} → TableView Entry → TableData F → Option ℕ → TableView Entry
-with_last seat table by = with_sealed seat (last_entry table.waiting, by)
+abbrev pub with_last : {F : Type 0} → TableView VersionedEntry → TableData F → Option ℕ → TableView VersionedEntry
+with_last seat table by = with_sealed seat (last_sealed table, by)
 
 -- after what changed was, the last but one
-abbrev pub with_changes : {F : Type 0} → TableView Entry → TableData F → TableView Entry
-with_changes seat table = with_sealed seat (last_but_one table.waiting, None)
+abbrev pub with_changes : {F : Type 0} → TableView VersionedEntry → TableData F → TableView VersionedEntry
+with_changes seat table = with_sealed seat (last_but_sealed table, None)
 
 -- and then one more
-abbrev pub with_last_two : {F : Type 0} → TableView Entry → TableData F → Option ℕ → TableView Entry
+abbrev pub with_last_two : {F : Type 0} → TableView VersionedEntry → TableData F → Option ℕ → TableView VersionedEntry
 with_last_two seat table by = with_last (with_changes seat table) table by
 
 -- a root is sealed for the client, and before it what changed, if anything did, for none
-pub data IsMarked {F : Type 0} (seat after : TableView Entry) (table : TableData F) (client : ℕ) : Type 0 where
+pub data IsMarked {F : Type 0} (seat after : TableView VersionedEntry) (table : TableData F) (client : ℕ) : Type 0 where
   alone : after ≡ with_last seat table (Some client) → IsMarked seat after table client
   behind_changes : after ≡ with_last_two seat table (Some client) → IsMarked seat after table client
 
 -- the seat of the table knows all that the half sealed
-pub record CountsSealed {F : Type 0} (table : TableData F) (seat : TableView Entry) : Type 0 where
+pub record CountsSealed {F : Type 0} (table : TableData F) (seat : TableView VersionedEntry) : Type 0 where
   pub count : table.sealed ≡ length seat.sealed
   pub handed : seat.handed ≤ length seat.sealed
 
 -- the writer's desk counts what was taken over, and the stored records are the first of them
-pub record CountsTaken (seat : WriterView Entry) (taken : ℕ) : Type 0 where
+pub record CountsTaken (seat : WriterView VersionedEntry) (taken : ℕ) : Type 0 where
   pub count : taken ≡ length seat.taken
   pub within : length seat.stored ≤ length seat.taken
   pub beginning : seat.stored ≡ take (length seat.stored) seat.taken
 
--- what the two desks of a service keep besides, where these are the records that their board began with
-module _ {F L : Type 0} (a : Analysis F L) (tag : ℕ) (first : List VersionedEntry) where
+-- what the two desks of a service keep besides, where records are sealed in that version, and these are those that their board began
+-- with
+module _ {F L : Type 0} (a : Analysis F L) (tag : ℕ) (version : Version) (first : List VersionedEntry) where
   -- of the records that were not handed over the half has each; and until it is told of a failure it works on a run
-  pub record IsTableDesk (table : TableData F) (seat : TableView Entry) : Type 0 where
+  pub record IsTableDesk (table : TableData F) (seat : TableView VersionedEntry) : Type 0 where
     pub begun : length first ≤ seat.handed
-    pub waits : in_version Two table.waiting ≡ waiting_of first seat
-    pub run : table.failed ≡ false → WorksOnRun a tag table (handed_of first seat)
+    pub waits : in_version version table.waiting ≡ waiting_of first seat
+    pub run : table.failed ≡ false → WorksOnRun a tag version table (handed_of first seat)
 
   -- the disks keep the stored ones of the records that were taken over
-  pub record IsWriterDesk {D : Type 0} {G : Ghosts D} (half : SlotWriterHalf D G) (seat : WriterView Entry) (failed : Bool) : Type 0 where
+  pub record IsWriterDesk {D : Type 0} {G : Ghosts D} (half : SlotWriterHalf D G) (seat : WriterView VersionedEntry) (failed : Bool) : Type 0 where
     pub begun : length first ≤ length seat.taken
     pub unknown_first : take (length first) seat.taken ≡ replicate (length first) unknown
     pub honest : AreHonest half.journal
-    pub keeps : KeepsWriting a tag failed (records_in first seat.taken) (length seat.stored) half
+    pub keeps : KeepsWriting a tag version failed (records_in first seat.taken) (length seat.stored) half
 
 -- the writer's seat after a step: one more record is stored, or none
-abbrev pub seat_after : Stepped → WriterView Entry → WriterView Entry
+abbrev pub seat_after : Stepped → WriterView VersionedEntry → WriterView VersionedEntry
 seat_after Rested seat = seat
 seat_after Called seat = seat
 seat_after Stored seat = with_stored seat (length seat.stored + 1)
 
 -- all that is sealed is handed over: the writer's seat has taken it
-pub record HandsOver (old new : TableView Entry) (before after : WriterView Entry) : Type 0 where
+pub record HandsOver (old new : TableView VersionedEntry) (before after : WriterView VersionedEntry) : Type 0 where
   pub table : new ≡ record old { handed = length old.sealed }
   pub writer : after ≡ record before { taken = old.sealed }

@@ -5,3 +5,4 @@ pub mod Apart
 pub mod Asking
 pub mod Orders
 pub mod Stepping
+pub mod Switching

@@ -72,6 +72,7 @@ impl<P: Problem, J: Accord> TableDesk<P, J> {
         requires still { self.old.half.core.changes ≡ Some [] }
         requires handed { self.old.seat.handed ≡ length self.old.seat.sealed }
         requires taken { writer.old.seat.taken ≡ self.old.seat.sealed }
+        requires agreed { writer.old.switch.seat.taken ≡ self.old.switch.seat.sealed }
         ensures version { result ≡ Ok true → self.new.half.version ≡ Two }
         ensures none { result ≡ Ok false → HasNoCommand writer.old.half }
         ensures half { self.new.half ≡ record self.old.half { version = self.new.half.version } }
@@ -95,6 +96,7 @@ impl<P: Problem, J: Accord> TableDesk<P, J> {
         match writer.half.plan_all(alloc, parts.as_slice()) {
             Ok(true) => {
                 self.half.spell_in(Version::Two);
+                self.switch.note(&mut writer.switch);
                 Ok(true)
             }
             Ok(false) => Ok(false),

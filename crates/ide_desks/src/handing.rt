@@ -24,6 +24,7 @@ impl<P: Problem, J: Accord> TableDesk<P, J> {
         ensures table { self.new.half ≡ record self.old.half { waiting = self.new.half.waiting } }
         ensures journal { writer.new.half.journal ≡ writer.old.half.journal }
         ensures failed { writer.new.failed ≡ writer.old.failed }
+        ensures agreed { result ≡ true → writer.new.switch.seat.taken ≡ self.new.switch.seat.sealed }
     {
         two_disks_are_a_store::<P>();
         if writer.failed || writer.seat.stored() < writer.taken {
@@ -31,6 +32,7 @@ impl<P: Problem, J: Accord> TableDesk<P, J> {
         }
         take_over(&mut self.half, &mut writer.half);
         self.board.hand_over(&mut self.seat, &mut writer.seat);
+        self.switch.agree(&mut writer.switch);
         writer.taken = self.half.sealed();
         true
     }

@@ -13,6 +13,7 @@ mod handing;
 mod laws;
 mod opened;
 mod rejoined;
+mod switch;
 mod table;
 mod writer;
 

@@ -3,11 +3,12 @@ ghost use Rattle.std.specs.Prelude.{◌≡◌, ◌+◌, ◌<◌, ◌≤◌, ◌�
 ghost use Rattle.std.specs.Arc.{arc_value};
 ghost use Rattle.ide_board.specs.Records.{new_clients};
 ghost use Rattle.ide_desks.specs.Keeping.{unknown};
-ghost use Rattle.ide_desks.specs.Opened.{AreNewSeats, IsToldOf, StaysOnRun};
+ghost use Rattle.ide_desks.specs.Opened.{AreNewSeats, IsNewSwitch, IsToldOf, StaysOnRun};
 ghost use Rattle.ide_slot_journal.specs.Stands.{records_stored};
 
 use crate::accord::Accord;
 use crate::laws::runs_are_live;
+use crate::switch::{TableSwitch, WriterSwitch};
 use crate::table::{SealedRecord, TableDesk};
 use crate::writer::WriterDesk;
 use ide_board::{Board, ClientSeat, Shows, TableSeat, WriterSeat};
@@ -25,8 +26,9 @@ struct Unknown;
 
 impl Shows<Unknown, SealedRecord> for Unknown {
     ghost use Rattle.std.specs.Prelude.{[]};
+    ghost use Rattle.ide_desks.specs.Keeping.{unknown};
 
-    ghost shown = { λ _. (0, []) };
+    ghost shown = { λ _. unknown.0 };
 }
 
 /// An engine and a new board, with the seats of both desks at it. All that is sealed is handed over.
@@ -38,8 +40,11 @@ pub struct Opened<P: Kept, D: Disk> {
     pub(crate) board_of_writer: Arc<Board<SealedRecord>>,
     pub(crate) table: TableSeat<SealedRecord>,
     pub(crate) writer: WriterSeat<SealedRecord>,
+    pub(crate) switch: TableSwitch,
+    pub(crate) writers_switch: WriterSwitch,
     ghost same_for_table: { arc_value board_of_table ≡ arc_value board },
     ghost same_for_writer: { arc_value board_of_writer ≡ arc_value board },
+    ghost switches: { IsNewSwitch switch writers_switch },
     ghost seats: { AreNewSeats (arc_value board) engine table writer },
 }
 
@@ -51,9 +56,12 @@ struct NewSeats {
     board_of_writer: Arc<Board<SealedRecord>>,
     table: TableSeat<SealedRecord>,
     writer: WriterSeat<SealedRecord>,
+    switch: TableSwitch,
+    writers_switch: WriterSwitch,
     clients: Vec<ClientSeat<SealedRecord>>,
     ghost same_for_table: { arc_value board_of_table ≡ arc_value board },
     ghost same_for_writer: { arc_value board_of_writer ≡ arc_value board },
+    ghost switches: { IsNewSwitch switch writers_switch },
 }
 
 /// How many clients a board may have.
@@ -84,6 +92,8 @@ impl<P: Problem, D: Disk> Opened<P, D> {
                     board_of_writer,
                     table,
                     writer,
+                    switch,
+                    writers_switch,
                     clients,
                 } = seats;
                 let opened = Opened {
@@ -93,6 +103,8 @@ impl<P: Problem, D: Disk> Opened<P, D> {
                     board_of_writer,
                     table,
                     writer,
+                    switch,
+                    writers_switch,
                 };
                 Ok((opened, clients))
             }
@@ -109,7 +121,8 @@ impl<P: Problem, D: Disk> Opened<P, D> {
         Arc<Board<SealedRecord>>,
     )
         requires board { arc_value self.board ≡ J.board }
-        requires told { (told : J.told) → IsToldOf ⟦<P as Kept>⟧.analysis P.TAG self.engine (J.first told) }
+        requires switches { self.switch.board ≡ J.switches }
+        requires told { (told : J.told) → IsToldOf ⟦<P as Kept>⟧.analysis P.TAG self.engine (J.version told) (J.first told) }
         ensures { arc_value result.2 ≡ J.board }
     {
         runs_are_live::<P, D>();
@@ -120,14 +133,16 @@ impl<P: Problem, D: Disk> Opened<P, D> {
             board_of_writer,
             table,
             writer,
+            switch,
+            writers_switch,
         } = self;
         let SlotEngine {
             table: working,
             writer: writing,
         } = engine;
         let taken = working.sealed();
-        let table = TableDesk::over(working, table, board_of_table);
-        let writer = WriterDesk::over(writing, writer, board_of_writer, taken);
+        let table = TableDesk::over(working, table, board_of_table, switch);
+        let writer = WriterDesk::over(writing, writer, board_of_writer, writers_switch, taken);
         (table, writer, board)
     }
 }
@@ -157,14 +172,31 @@ fn seats_of<P: Problem, D: Disk>(
     let board = Arc::new(alloc, board)?;
     let board_of_table = Arc::try_clone(&board)?;
     let board_of_writer = Arc::try_clone(&board)?;
+    let (switch, writers_switch) = new_switch(alloc)?;
     Ok(NewSeats {
         board,
         board_of_table,
         board_of_writer,
         table,
         writer,
+        switch,
+        writers_switch,
         clients,
     })
+}
+
+/// What both desks know of the version, on a new board on which nothing is noted.
+fn new_switch(alloc: Global) -> Result<(TableSwitch, WriterSwitch), Refused>
+    ensures new { IfOk result (λ both. IsNewSwitch both.0 both.1) }
+    ensures refused { IfErr result (λ why. why ≡ Refused.NoMemory) }
+{
+    let (board, seat, writer, _) = Board::new::<Brand>(alloc, 0, 0)?;
+    let switch = TableSwitch {
+        board,
+        seat,
+        noted: false,
+    };
+    Ok((switch, WriterSwitch { seat: writer }))
 }
 
 /// Seals so many records of which the board does not know what they are.

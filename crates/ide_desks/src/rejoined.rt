@@ -29,15 +29,18 @@ impl<P: Problem, J: Accord> TableDesk<P, J> {
             mut half,
             mut seat,
             board,
+            mut switch,
             ..
         } = self;
         let WriterDesk {
             half: mut writing,
             seat: mut writing_seat,
+            switch: mut writing_switch,
             failed,
             ..
         } = writer;
         board.hand_over(&mut seat, &mut writing_seat);
+        switch.agree(&mut writing_switch);
         let _ = writing.take_all_from(&mut half);
         SlotEngine {
             table: stopped_where(failed, half),

@@ -2,7 +2,8 @@
 ghost use Rattle.std.specs.Prelude.{◌≡◌, ◌+◌, ◌<◌, ◌≤◌, ◌∷◌, [], None, Some, length, false, true, Ok, IfErr, IfOk, IfSome, OnErr, OnOk};
 ghost use Rattle.std.specs.Arc.{arc_value};
 ghost use Rattle.ide_board.specs.Records.{with_own};
-ghost use Rattle.ide_desks.specs.Desks.{CountsSealed, IsMarked, IsTableDesk, last_entry, last_sealed, with_last, with_last_two};
+ghost use Rattle.ide_desks.specs.Desks.{CountsSealed, IsMarked, IsTableDesk, last_sealed, with_last, with_last_two};
+ghost use Rattle.ide_desks.specs.Switching.{version_after};
 ghost use Rattle.ide_desks.specs.Orders.{NotesOrder, SpellsLoad, SpellsRoot};
 ghost use Rattle.ide_steps.specs.ClaimRefusal.{IsClaimRefusal};
 ghost use Rattle.ide_steps.specs.Claiming.{FindsIdle, FindsQuiet, IfTask};
@@ -20,7 +21,9 @@ ghost use Rattle.ide_store.specs.TableCalls.{BeginsRoot, DoesPart, EndsClaim, Fi
 ghost use Rattle.ide_text.specs.Program.{value_of};
 
 use crate::accord::Accord;
+use crate::switch::TableSwitch;
 use ide_board::{Board, ClientSeat, Shows, TableSeat};
+use ide_journal::Version;
 use ide_problem::Problem;
 use ide_steps::{Claimed, Closed, Parted, cores_are_whole};
 use ide_store::{Kept, TableHalf, Ticket};
@@ -31,25 +34,25 @@ use std::collections::LinkedList;
 use std::marker::PhantomData;
 use std::sync::Arc;
 
-/// A sealed record, its kind and its body, as the seats of a board know it. No value of it is made.
-pub type SealedRecord = (u8, LinkedList<u8>);
+/// A sealed record, its version, its kind and its body, as the seats of a board know it. No value of it is made.
+pub type SealedRecord = (Version, (u8, LinkedList<u8>));
 
 /// Of a half, the last of the records that wait for the writer.
 struct Last;
 
 impl<P: Problem> Shows<TableHalf<P>, SealedRecord> for Last {
-    ghost use Rattle.ide_desks.specs.Desks.{last_entry};
+    ghost use Rattle.ide_desks.specs.Desks.{last_sealed};
 
-    ghost shown = { λ table. last_entry table.waiting };
+    ghost shown = { λ table. last_sealed table };
 }
 
 /// Of a half, the last but one.
 struct LastButOne;
 
 impl<P: Problem> Shows<TableHalf<P>, SealedRecord> for LastButOne {
-    ghost use Rattle.ide_desks.specs.Desks.{last_but_one};
+    ghost use Rattle.ide_desks.specs.Desks.{last_but_sealed};
 
-    ghost shown = { λ table. last_but_one table.waiting };
+    ghost shown = { λ table. last_but_sealed table };
 }
 
 /// The half of a store that works, beside the table's seat of the board.
@@ -58,10 +61,13 @@ pub struct TableDesk<P: Kept, J: Accord> {
     pub(crate) half: TableHalf<P>,
     pub(crate) seat: TableSeat<SealedRecord>,
     pub(crate) board: Arc<Board<SealedRecord>>,
+    pub(crate) switch: TableSwitch,
     of: PhantomData<J>,
     ghost named: { (arc_value board ≡ J.board) × (seat.board ≡ J.board) },
+    ghost switched: { switch.board ≡ J.switches },
     ghost counts: { CountsSealed half seat },
-    ghost kept: { (told : J.told) → ∥ IsTableDesk P.analysis P.TAG (J.first told) half seat ∥₁ },
+    ghost kept: { (told : J.told)
+        → ∥ IsTableDesk P.analysis P.TAG (version_after (J.version told) switch.seat.sealed) (J.first told) half seat ∥₁ },
 }
 
 impl<P: Problem, J: Accord> TableDesk<P, J> {
@@ -70,15 +76,19 @@ impl<P: Problem, J: Accord> TableDesk<P, J> {
         half: TableHalf<P>,
         seat: TableSeat<SealedRecord>,
         board: Arc<Board<SealedRecord>>,
+        switch: TableSwitch,
     ) -> Self
         requires named { (arc_value board ≡ J.board) × (seat.board ≡ J.board) }
+        requires switched { switch.board ≡ J.switches }
         requires counts { CountsSealed half seat }
-        requires kept { (told : J.told) → ∥ IsTableDesk ⟦<P as Kept>⟧.analysis P.TAG (J.first told) half seat ∥₁ }
+        requires kept { (told : J.told)
+            → ∥ IsTableDesk ⟦<P as Kept>⟧.analysis P.TAG (version_after (J.version told) switch.seat.sealed) (J.first told) half seat ∥₁ }
     {
         TableDesk {
             half,
             seat,
             board,
+            switch,
             of: PhantomData,
         }
     }
@@ -247,7 +257,7 @@ fn note_last<P: Problem>(
     requires room { length seat.old.sealed < 4294967295 }
     requires handed { seat.old.handed ≤ length seat.old.sealed }
     ensures seat { seat.new ≡ with_last seat.old half.now (Some client.old.number) }
-    ensures noted { client.new ≡ with_own client.old ((length seat.old.sealed, last_entry half.now.waiting) ∷ []) }
+    ensures noted { client.new ≡ with_own client.old ((length seat.old.sealed, last_sealed half.now) ∷ []) }
     ensures seen { client.old.seen ≤ length seat.old.sealed }
 {
     board.compare(seat, client);
@@ -267,7 +277,7 @@ fn note_last_two<P: Problem>(
     requires room { length seat.old.sealed < 4294967294 }
     requires handed { seat.old.handed ≤ length seat.old.sealed }
     ensures seat { seat.new ≡ with_last_two seat.old half.now (Some client.old.number) }
-    ensures noted { client.new ≡ with_own client.old ((length seat.old.sealed + 1, last_entry half.now.waiting) ∷ []) }
+    ensures noted { client.new ≡ with_own client.old ((length seat.old.sealed + 1, last_sealed half.now) ∷ []) }
     ensures seen { client.old.seen ≤ length seat.old.sealed + 1 }
 {
     board.seal_shown::<LastButOne, TableHalf<P>>(seat, half, None);

@@ -5,9 +5,11 @@ ghost use Rattle.ide_board.specs.Records.{AreStoredBelow};
 ghost use Rattle.ide_desks.specs.Desks.{CountsTaken, IsWriterDesk, seat_after};
 ghost use Rattle.ide_desks.specs.Keeping.{KeepsOwn, LeavesTaken};
 ghost use Rattle.ide_desks.specs.Stepping.{IsStepRefusal};
+ghost use Rattle.ide_desks.specs.Switching.{version_after};
 ghost use Rattle.ide_slot_journal.specs.Stands.{IsCheckpointing, IsFilling, pair_of, records_stored, sides_of};
 
 use crate::accord::Accord;
+use crate::switch::WriterSwitch;
 use crate::table::SealedRecord;
 use ide_board::{Board, ClientSeat, WriterSeat};
 use ide_disk::Disk;
@@ -35,14 +37,17 @@ pub struct WriterDesk<P: Kept, D: Disk, J: Accord> {
     pub(crate) half: SlotWriterHalf<D>,
     pub(crate) seat: WriterSeat<SealedRecord>,
     board: Arc<Board<SealedRecord>>,
+    pub(crate) switch: WriterSwitch,
     /// How many records were taken over.
     pub(crate) taken: u64,
     /// A call of a disk failed.
     pub(crate) failed: bool,
     of: PhantomData<(P, J)>,
     ghost named: { (arc_value board ≡ J.board) × (seat.board ≡ J.board) },
+    ghost switched: { switch.seat.board ≡ J.switches },
     ghost counts: { CountsTaken seat taken },
-    ghost kept: { (told : J.told) → ∥ IsWriterDesk P.analysis P.TAG (J.first told) half seat failed ∥₁ },
+    ghost kept: { (told : J.told)
+        → ∥ IsWriterDesk P.analysis P.TAG (version_after (J.version told) switch.seat.taken) (J.first told) half seat failed ∥₁ },
 }
 
 impl<P: Problem, D: Disk, J: Accord> WriterDesk<P, D, J> {
@@ -53,16 +58,20 @@ impl<P: Problem, D: Disk, J: Accord> WriterDesk<P, D, J> {
         half: SlotWriterHalf<D>,
         seat: WriterSeat<SealedRecord>,
         board: Arc<Board<SealedRecord>>,
+        switch: WriterSwitch,
         taken: u64,
     ) -> Self
         requires named { (arc_value board ≡ J.board) × (seat.board ≡ J.board) }
+        requires switched { switch.seat.board ≡ J.switches }
         requires counts { CountsTaken seat taken }
-        requires kept { (told : J.told) → ∥ IsWriterDesk ⟦<P as Kept>⟧.analysis P.TAG (J.first told) half seat false ∥₁ }
+        requires kept { (told : J.told)
+            → ∥ IsWriterDesk ⟦<P as Kept>⟧.analysis P.TAG (version_after (J.version told) switch.seat.taken) (J.first told) half seat false ∥₁ }
     {
         WriterDesk {
             half,
             seat,
             board,
+            switch,
             taken,
             failed: false,
             of: PhantomData,

@@ -5,7 +5,7 @@ use Rattle.std.specs.Prelude.{IfOk}
 use Rattle.ide_board.specs.Records.{ClientView}
 use Rattle.ide_desks.specs.Orders.{NotesOrder}
 use Rattle.ide_desks.specs.Stepping as steps
-use Rattle.ide_journal.specs.Format.{Entry}
+use Rattle.ide_store.specs.Versioned.{VersionedEntry}
 use Rattle.ide_store.specs.Table.{Analysis, TableData}
 use Rattle.ide_store.specs.TableCalls.{IsRefusal, IsSealStop, after_failure, by_itself, no_number_left, not_spelled, wants_memory}
 use Rattle.ide_store.specs.declared.outbox.Ticket.{Ticket}
@@ -14,8 +14,8 @@ use Rattle.ide_service.specs.Clients.{IsOrdered}
 use Rattle.ide_service.specs.Storing.{IsCommitRefusal, no_number, not_stored}
 
 -- the record that the client notes is that of its command
-pub ordered_by : (Told : Type 0) (Spells Says : Entry → Type 0) (result : Result Ticket Refused) (old new : ClientView Entry) (entry : Entry)
-    → ((e : Entry) → Spells e → Says e) → IfOk result (λ ticket. NotesOrder old new ticket.number entry)
+pub ordered_by : (Told : Type 0) (Spells Says : VersionedEntry → Type 0) (result : Result Ticket Refused) (old new : ClientView VersionedEntry) (entry : VersionedEntry)
+    → ((e : VersionedEntry) → Spells e → Says e) → IfOk result (λ ticket. NotesOrder old new ticket.number entry)
     → (Told → IfOk result (λ _. ∥ Spells entry ∥₁)) → IfOk result (λ ticket. IsOrdered Told Says old new ticket.number)
 ordered_by Told Spells Says (Ok ticket) old new entry more notes spells = record {
   entry = entry;

@@ -5,13 +5,13 @@ use Rattle.ide_board.specs.Records.{WriterView}
 use Rattle.ide_desks.specs.Desks.{seat_after}
 use Rattle.ide_desks.specs.declared.writer.Stepped.{Stepped}
 use Rattle.ide_desks.specs.declared.writer.Stepped.TheVariants.{Called, Rested, Stored}
-use Rattle.ide_journal.specs.Format.{Entry}
+use Rattle.ide_store.specs.Versioned.{VersionedEntry}
 use Rattle.ide_service.specs.Storing.{StoresOn}
 
-pub stores_none : (seat : WriterView Entry) → StoresOn seat seat
+pub stores_none : (seat : WriterView VersionedEntry) → StoresOn seat seat
 stores_none seat = record { board = refl; taken = refl; stored = omega arith }
 
-pub stores_then : (seat mid after : WriterView Entry) → StoresOn seat mid → StoresOn mid after → StoresOn seat after
+pub stores_then : (seat mid after : WriterView VersionedEntry) → StoresOn seat mid → StoresOn mid after → StoresOn seat after
 stores_then seat mid after first second = record {
   board = second.board ∙ first.board;
   taken = second.taken ∙ first.taken;
@@ -19,7 +19,7 @@ stores_then seat mid after first second = record {
 }
 
 -- a step stores one more record, or none
-pub stores_step : (stepped : Stepped) (seat after : WriterView Entry) → after ≡ seat_after stepped seat → length seat.stored ≤ length seat.taken
+pub stores_step : (stepped : Stepped) (seat after : WriterView VersionedEntry) → after ≡ seat_after stepped seat → length seat.stored ≤ length seat.taken
     → StoresOn seat after
 stores_step stepped seat after is within = subst (StoresOn seat) (sym is) (by stepped)
   where

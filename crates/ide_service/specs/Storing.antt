@@ -2,12 +2,12 @@
 use Rattle.std.specs.Prelude.{◌≡◌, ◌≤◌, length}
 use Rattle.ide_board.specs.Records.{WriterView}
 use Rattle.ide_desks.specs.Stepping.{IsStepRefusal}
-use Rattle.ide_journal.specs.Format.{Entry}
+use Rattle.ide_store.specs.Versioned.{VersionedEntry}
 use Rattle.ide_wire.specs.declared.refused.Refused.{Refused}
 use Rattle.ide_wire.specs.declared.refused.Refused.TheVariants.{Limit}
 
 -- nothing is taken over, and what was stored stays so
-pub record StoresOn (old new : WriterView Entry) : Type 0 where
+pub record StoresOn (old new : WriterView VersionedEntry) : Type 0 where
   pub board : new.board ≡ old.board
   pub taken : new.taken ≡ old.taken
   pub stored : length old.stored ≤ length new.stored

@@ -57,7 +57,8 @@ impl<P: Problem, D: Disk, J: Accord> Service<P, D, J> {
     /// tell of its run.
     pub fn new(alloc: Global, opened: Opened<P, D>) -> Self
         requires board { arc_value opened.board ≡ J.board }
-        requires told { (told : J.told) → IsToldOf ⟦<P as Kept>⟧.analysis P.TAG opened.engine (J.first told) }
+        requires switches { opened.switch.board ≡ J.switches }
+        requires told { (told : J.told) → IsToldOf ⟦<P as Kept>⟧.analysis P.TAG opened.engine (J.version told) (J.first told) }
     {
         Service::with_checkpoints(alloc, opened, CHECKPOINT_EVERY)
     }
@@ -65,7 +66,8 @@ impl<P: Problem, D: Disk, J: Accord> Service<P, D, J> {
     /// The same, with a checkpoint where so many records are stored past the last one.
     pub fn with_checkpoints(alloc: Global, opened: Opened<P, D>, checkpoint_every: u32) -> Self
         requires board { arc_value opened.board ≡ J.board }
-        requires told { (told : J.told) → IsToldOf ⟦<P as Kept>⟧.analysis P.TAG opened.engine (J.first told) }
+        requires switches { opened.switch.board ≡ J.switches }
+        requires told { (told : J.told) → IsToldOf ⟦<P as Kept>⟧.analysis P.TAG opened.engine (J.version told) (J.first told) }
     {
         let (table, writer, board) = opened.named::<J>();
         Service {

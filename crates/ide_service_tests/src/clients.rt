@@ -72,6 +72,7 @@ fn expect_seen<J: Accord, R: Wait + Clock + Abort + AllocGlobal>(
     mut client: Client,
 )
     requires board { arc_value opened.board ≡ J.board }
+    requires switches { opened.switch.board ≡ J.switches }
     requires client { client.board ≡ J.board }
     requires untold { J.told → ⊥ }
 {
@@ -100,6 +101,7 @@ fn expect_refused<J: Accord, R: Wait + Clock + Abort + AllocGlobal>(
     mut client: Client,
 )
     requires board { arc_value opened.board ≡ J.board }
+    requires switches { opened.switch.board ≡ J.switches }
     requires client { client.board ≡ J.board }
     requires untold { J.told → ⊥ }
 {
@@ -129,6 +131,7 @@ fn expect_one_stored<J: Accord, R: Wait + Clock + Abort + AllocGlobal>(
     mut client: Client,
 )
     requires board { arc_value opened.board ≡ J.board }
+    requires switches { opened.switch.board ≡ J.switches }
     requires client { client.board ≡ J.board }
     requires untold { J.told → ⊥ }
 {
@@ -155,6 +158,7 @@ fn expect_failed<J: Accord, R: Wait + Clock + Abort + AllocGlobal>(
     mut client: Client,
 )
     requires board { arc_value opened.board ≡ J.board }
+    requires switches { opened.switch.board ≡ J.switches }
     requires client { client.board ≡ J.board }
     requires untold { J.told → ⊥ }
 {
@@ -243,6 +247,7 @@ fn expect_both<J: Accord + Send + Sync, R: Threads + Wait + Clock + Sync + Abort
     second: Client,
 )
     requires board { arc_value opened.board ≡ J.board }
+    requires switches { opened.switch.board ≡ J.switches }
     requires clients { (first.board ≡ J.board) × (second.board ≡ J.board) }
     requires untold { J.told → ⊥ }
 {

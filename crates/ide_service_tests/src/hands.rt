@@ -27,6 +27,7 @@ fn work<J: Accord, R: Wait + Clock + AllocGlobal, G: Gate>(
     gate: &G,
 ) -> (Result<Ended, Refused>, Store)
     requires board { arc_value opened.board ≡ J.board }
+    requires switches { opened.switch.board ≡ J.switches }
     requires untold { J.told → ⊥ }
 {
     let service: Served<J> = Service::new(rt.alloc(), opened);
@@ -91,6 +92,7 @@ fn work_apart<J: Accord, R: Wait + Clock + AllocGlobal, G: Gate>(
     gate: &G,
 ) -> (Result<Ended, Refused>, Store)
     requires board { arc_value opened.board ≡ J.board }
+    requires switches { opened.switch.board ≡ J.switches }
     requires untold { J.told → ⊥ }
 {
     let service: Served<J> = Service::new(rt.alloc(), opened);

@@ -57,7 +57,8 @@ fn expect_solved_by<
     R: Threads + Wait + Clock + Sync + Abort + AllocGlobal,
 >(rt: &R, opened: OpenedStore, workers: usize, keys: usize, ahead: usize)
     requires board { arc_value opened.board ≡ J.board }
-    requires told { (told : J.told) → IsToldOf ⟦<CopyConst as Kept>⟧.analysis 2 opened.engine (J.first told) }
+    requires switches { opened.switch.board ≡ J.switches }
+    requires told { (told : J.told) → IsToldOf ⟦<CopyConst as Kept>⟧.analysis 2 opened.engine (J.version told) (J.first told) }
 {
     let service: Served<J> = Service::new(rt.alloc(), opened);
     assert!(rt; work_on(rt, &service, workers, keys, &Open { ahead }) == Ok(()));
@@ -90,6 +91,7 @@ fn workers_and_a_writer_solve_and_store(rt: HostRuntime) -> Result<(), Fail> {
 /// are pending.
 fn reopened<J: Accord, R: Wait + Clock + Abort + AllocGlobal>(rt: &R, opened: OpenedStore) -> Store
     requires board { arc_value opened.board ≡ J.board }
+    requires switches { opened.switch.board ≡ J.switches }
     requires untold { J.told → ⊥ }
 {
     let service: Served<J> = Service::new(rt.alloc(), opened);
@@ -108,6 +110,7 @@ fn expect_two_at_once<
     R: Threads + Wait + Clock + Sync + Abort + AllocGlobal,
 >(rt: &R, opened: OpenedStore)
     requires board { arc_value opened.board ≡ J.board }
+    requires switches { opened.switch.board ≡ J.switches }
     requires untold { J.told → ⊥ }
 {
     let service: Served<J> = Service::new(rt.alloc(), opened);
@@ -132,6 +135,7 @@ fn expect_crossing<J: Accord + Send + Sync, R: Threads + Wait + Clock + Sync + A
     opened: OpenedStore,
 )
     requires board { arc_value opened.board ≡ J.board }
+    requires switches { opened.switch.board ≡ J.switches }
     requires untold { J.told → ⊥ }
 {
     let service: Served<J> = Service::new(rt.alloc(), opened);
@@ -156,6 +160,7 @@ fn expect_limits<J: Accord + Send + Sync, R: Threads + Wait + Clock + Sync + Abo
     opened: OpenedStore,
 )
     requires board { arc_value opened.board ≡ J.board }
+    requires switches { opened.switch.board ≡ J.switches }
     requires untold { J.told → ⊥ }
 {
     let service: Served<J> = Service::new(rt.alloc(), opened);
@@ -178,6 +183,7 @@ fn workers_have_a_limit(rt: HostRuntime) -> Result<(), Fail> {
 /// checkpoint of the two records in the second round.
 fn expect_checkpoint<J: Accord, R: Wait + Clock + Abort + AllocGlobal>(rt: &R, opened: OpenedStore)
     requires board { arc_value opened.board ≡ J.board }
+    requires switches { opened.switch.board ≡ J.switches }
     requires untold { J.told → ⊥ }
 {
     let service: Served<J> = Service::with_checkpoints(rt.alloc(), opened, 2);
@@ -201,6 +207,7 @@ fn a_committer_makes_checkpoints(rt: HostRuntime) -> Result<(), Fail> {
 /// another does all.
 fn expect_no_part<J: Accord, R: Wait + Clock + Abort + AllocGlobal>(rt: &R, opened: OpenedStore)
     requires board { arc_value opened.board ≡ J.board }
+    requires switches { opened.switch.board ≡ J.switches }
     requires untold { J.told → ⊥ }
 {
     let service: Served<J> = Service::new(rt.alloc(), opened);
@@ -221,6 +228,7 @@ fn a_hand_that_is_stopped_gives_its_claim_back(rt: HostRuntime) -> Result<(), Fa
 /// both pending.
 fn expect_one_part<J: Accord, R: Wait + Clock + Abort + AllocGlobal>(rt: &R, opened: OpenedStore)
     requires board { arc_value opened.board ≡ J.board }
+    requires switches { opened.switch.board ≡ J.switches }
     requires untold { J.told → ⊥ }
 {
     let service: Served<J> = Service::new(rt.alloc(), opened);

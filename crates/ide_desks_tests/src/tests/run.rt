@@ -177,6 +177,7 @@ fn run<J: Accord, R: Abort + AllocGlobal>(
     mut client: ClientSeat<SealedRecord>,
 ) -> (usize, (MemDisk, MemDisk))
     requires board { arc_value opened.board ≡ J.board }
+    requires switches { opened.switch.board ≡ J.switches }
     requires client { client.board ≡ J.board }
     requires untold { J.told → ⊥ }
 {
@@ -202,6 +203,7 @@ fn fail<J: Accord, R: Abort + AllocGlobal>(
     mut client: ClientSeat<SealedRecord>,
 )
     requires board { arc_value opened.board ≡ J.board }
+    requires switches { opened.switch.board ≡ J.switches }
     requires client { client.board ≡ J.board }
     requires untold { J.told → ⊥ }
 {

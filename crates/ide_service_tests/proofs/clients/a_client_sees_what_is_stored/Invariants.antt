@@ -3,4 +3,10 @@ use Rattle.std.specs.Arc.{arc_value}
 use Rattle.ide_service_tests.proofs.clients.a_client_sees_what_is_stored.Given as goal
 
 abbrev pub ghosts-expect_seen : goal.ghosts-expect_seen
-ghosts-expect_seen g a = record { board = arc_value a.opened.board; told = ⊥; first = λ _. [] }
+ghosts-expect_seen g a = record {
+  board = arc_value a.opened.board;
+  switches = a.opened.switch.board;
+  told = ⊥;
+  first = λ _. [];
+  version = λ no. absurd no;
+}

@@ -3,4 +3,10 @@ use Rattle.std.specs.Arc.{arc_value}
 use Rattle.ide_service_tests.proofs.clients.a_gate_stops_a_committer_between_two_records.Given as goal
 
 abbrev pub ghosts-expect_one_stored : goal.ghosts-expect_one_stored
-ghosts-expect_one_stored g a = record { board = arc_value a.opened.board; told = ⊥; first = λ _. [] }
+ghosts-expect_one_stored g a = record {
+  board = arc_value a.opened.board;
+  switches = a.opened.switch.board;
+  told = ⊥;
+  first = λ _. [];
+  version = λ no. absurd no;
+}

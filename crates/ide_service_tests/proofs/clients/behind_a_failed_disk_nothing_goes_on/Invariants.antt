@@ -3,4 +3,10 @@ use Rattle.std.specs.Arc.{arc_value}
 use Rattle.ide_service_tests.proofs.clients.behind_a_failed_disk_nothing_goes_on.Given as goal
 
 abbrev pub ghosts-expect_failed : goal.ghosts-expect_failed
-ghosts-expect_failed g a = record { board = arc_value a.opened.board; told = ⊥; first = λ _. [] }
+ghosts-expect_failed g a = record {
+  board = arc_value a.opened.board;
+  switches = a.opened.switch.board;
+  told = ⊥;
+  first = λ _. [];
+  version = λ no. absurd no;
+}

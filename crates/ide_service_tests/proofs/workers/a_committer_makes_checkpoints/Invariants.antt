@@ -3,4 +3,10 @@ use Rattle.std.specs.Arc.{arc_value}
 use Rattle.ide_service_tests.proofs.workers.a_committer_makes_checkpoints.Given as goal
 
 abbrev pub ghosts-expect_checkpoint : goal.ghosts-expect_checkpoint
-ghosts-expect_checkpoint g a = record { board = arc_value a.opened.board; told = ⊥; first = λ _. [] }
+ghosts-expect_checkpoint g a = record {
+  board = arc_value a.opened.board;
+  switches = a.opened.switch.board;
+  told = ⊥;
+  first = λ _. [];
+  version = λ no. absurd no;
+}

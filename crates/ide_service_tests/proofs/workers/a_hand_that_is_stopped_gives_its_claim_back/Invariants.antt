@@ -3,4 +3,10 @@ use Rattle.std.specs.Arc.{arc_value}
 use Rattle.ide_service_tests.proofs.workers.a_hand_that_is_stopped_gives_its_claim_back.Given as goal
 
 abbrev pub ghosts-expect_no_part : goal.ghosts-expect_no_part
-ghosts-expect_no_part g a = record { board = arc_value a.opened.board; told = ⊥; first = λ _. [] }
+ghosts-expect_no_part g a = record {
+  board = arc_value a.opened.board;
+  switches = a.opened.switch.board;
+  told = ⊥;
+  first = λ _. [];
+  version = λ no. absurd no;
+}

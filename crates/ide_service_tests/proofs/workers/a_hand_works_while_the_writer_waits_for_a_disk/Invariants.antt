@@ -3,4 +3,10 @@ use Rattle.std.specs.Arc.{arc_value}
 use Rattle.ide_service_tests.proofs.workers.a_hand_works_while_the_writer_waits_for_a_disk.Given as goal
 
 abbrev pub ghosts-expect_crossing : goal.ghosts-expect_crossing
-ghosts-expect_crossing g a = record { board = arc_value a.opened.board; told = ⊥; first = λ _. [] }
+ghosts-expect_crossing g a = record {
+  board = arc_value a.opened.board;
+  switches = a.opened.switch.board;
+  told = ⊥;
+  first = λ _. [];
+  version = λ no. absurd no;
+}

@@ -3,7 +3,19 @@ use Rattle.std.specs.Arc.{arc_value}
 use Rattle.ide_service_tests.proofs.workers.two_hands_work_at_once.Given as goal
 
 abbrev pub ghosts-expect_two_at_once : goal.ghosts-expect_two_at_once
-ghosts-expect_two_at_once g a = record { board = arc_value a.opened.board; told = ⊥; first = λ _. [] }
+ghosts-expect_two_at_once g a = record {
+  board = arc_value a.opened.board;
+  switches = a.opened.switch.board;
+  told = ⊥;
+  first = λ _. [];
+  version = λ no. absurd no;
+}
 
 abbrev pub ghosts-reopened : goal.ghosts-reopened
-ghosts-reopened g a = record { board = arc_value a.opened.board; told = ⊥; first = λ _. [] }
+ghosts-reopened g a = record {
+  board = arc_value a.opened.board;
+  switches = a.opened.switch.board;
+  told = ⊥;
+  first = λ _. [];
+  version = λ no. absurd no;
+}

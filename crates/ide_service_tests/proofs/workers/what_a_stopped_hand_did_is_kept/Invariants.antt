@@ -3,4 +3,10 @@ use Rattle.std.specs.Arc.{arc_value}
 use Rattle.ide_service_tests.proofs.workers.what_a_stopped_hand_did_is_kept.Given as goal
 
 abbrev pub ghosts-expect_one_part : goal.ghosts-expect_one_part
-ghosts-expect_one_part g a = record { board = arc_value a.opened.board; told = ⊥; first = λ _. [] }
+ghosts-expect_one_part g a = record {
+  board = arc_value a.opened.board;
+  switches = a.opened.switch.board;
+  told = ⊥;
+  first = λ _. [];
+  version = λ no. absurd no;
+}

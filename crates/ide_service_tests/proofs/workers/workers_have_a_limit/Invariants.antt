@@ -3,4 +3,10 @@ use Rattle.std.specs.Arc.{arc_value}
 use Rattle.ide_service_tests.proofs.workers.workers_have_a_limit.Given as goal
 
 abbrev pub ghosts-expect_limits : goal.ghosts-expect_limits
-ghosts-expect_limits g a = record { board = arc_value a.opened.board; told = ⊥; first = λ _. [] }
+ghosts-expect_limits g a = record {
+  board = arc_value a.opened.board;
+  switches = a.opened.switch.board;
+  told = ⊥;
+  first = λ _. [];
+  version = λ no. absurd no;
+}

@@ -8,8 +8,9 @@ invariant_of-self g c =
     let rest = call.ensures.rest in
     record {
       named = old.named;
+      switched = old.switched;
       counts = still_counted old.half call.new.self old.seat rest old.counts;
       kept = still_kept _ _ old.half call.new.self old.seat rest
-          (λ handed. claimed _ _ handed old.half call.new.self call.result c.args.hand call.ensures.task call.ensures.idle call.ensures.quiet rest call.ensures.unchanged)
+          (λ v handed. claimed _ _ v handed old.half call.new.self call.result c.args.hand call.ensures.task call.ensures.idle call.ensures.quiet rest call.ensures.unchanged)
           old.kept;
     }

@@ -13,6 +13,7 @@ invariant_of-self g c =
     let by = Some c.args.client.now.number in
     record {
       named = (old.named.0, ap (λ s. s.board) c.note_last.ensures.seat ∙ old.named.1);
+      switched = old.switched;
       counts = one_counted old.half new old.seat seat old.counts loads.entry _ by loads.seals c.note_last.ensures.seat;
       kept = one_kept _ _ old.half new old.seat seat old.counts c.in-Ok.ensures.working loads.entry _ by loads.seals c.note_last.ensures.seat
           (λ place. Loads _ (old.half.version, loads.entry)) (λ place. tt) loads.act old.kept;
@@ -24,11 +25,12 @@ invariant_of-self-in-Err-1 g c =
     let same = c.in-Err.ensures.unchanged in
     record {
       named = old.named;
+      switched = old.switched;
       counts = still_counted old.half c.load.new.self old.seat same.rest old.counts;
-      kept = still_kept _ _ old.half c.load.new.self old.seat same.rest (λ handed. stayed _ _ handed old.half c.load.new.self same) old.kept;
+      kept = still_kept _ _ old.half c.load.new.self old.seat same.rest (λ v handed. stayed _ _ v handed old.half c.load.new.self same) old.kept;
     }
 
 pub returns-in-Ok-clause-command : goal.returns-in-Ok-clause-command
 returns-in-Ok-clause-command g c told =
     let old = c.args.self.now in
-    ∥∥₁_map (old.kept told) (λ desk. load_spelled _ _ _ old.seat _ old.half c.load.new.self _ desk c.in-Ok.ensures.working c.in-Ok.ensures.loads)
+    ∥∥₁_map (old.kept told) (λ desk. load_spelled _ _ _ _ old.seat _ old.half c.load.new.self _ desk c.in-Ok.ensures.working c.in-Ok.ensures.loads)

@@ -8,8 +8,9 @@ invariant_of-self g c =
     let rest = call.ensures.rest in
     record {
       named = old.named;
+      switched = old.switched;
       counts = still_counted old.half call.new.self old.seat rest old.counts;
       kept = still_kept _ _ old.half call.new.self old.seat rest
-          (λ handed. parted _ _ handed old.half call.new.self call.result c.args.hand _ _ call.ensures.part call.ensures.no_part rest call.ensures.unchanged)
+          (λ v handed. parted _ _ v handed old.half call.new.self call.result c.args.hand _ _ call.ensures.part call.ensures.no_part rest call.ensures.unchanged)
           old.kept;
     }

@@ -8,8 +8,9 @@ invariant_of-self g c =
     let rest = call.ensures.rest in
     record {
       named = old.named;
+      switched = old.switched;
       counts = still_counted old.half call.new.self old.seat rest old.counts;
       kept = still_kept _ _ old.half call.new.self old.seat rest
-          (λ handed. released _ _ handed old.half call.new.self call.result c.args.hand call.ensures.gives call.ensures.unchanged)
+          (λ v handed. released _ _ v handed old.half call.new.self call.result c.args.hand call.ensures.gives call.ensures.unchanged)
           old.kept;
     }

@@ -28,6 +28,7 @@ invariant_of-self g c =
     let some = sealed_first old.half new begins.first begins.entry _ begins.sealed begins.number_is more in
     record {
       named = (old.named.0, ap (λ s. s.board) c.note_last_two.ensures.seat ∙ old.named.1);
+      switched = old.switched;
       counts = root_counted old.half new old.seat seat old.counts begins.first begins.entry by begins.sealed (λ none. absurd (some none)) (λ _. c.note_last_two.ensures.seat);
       kept = root_kept _ _ old.half new old.seat seat old.counts c.in-Ok.ensures.working begins.first begins.entry by begins.waits
           (λ none. absurd (some none)) (λ _. c.note_last_two.ensures.seat) (λ place. Roots _ (option_map (λ batch. (old.half.version, batch)) begins.first) (old.half.version, begins.entry)) (λ place. tt) begins.act old.kept;
@@ -47,6 +48,7 @@ invariant_of-self-in-Ok g c =
     let none = sealed_alone old.half new begins.first begins.entry _ begins.sealed begins.number_is few in
     record {
       named = (old.named.0, ap (λ s. s.board) c.note_last.ensures.seat ∙ old.named.1);
+      switched = old.switched;
       counts = root_counted old.half new old.seat seat old.counts begins.first begins.entry by begins.sealed (λ _. c.note_last.ensures.seat) (λ some. absurd (none some));
       kept = root_kept _ _ old.half new old.seat seat old.counts c.in-Ok.ensures.working begins.first begins.entry by begins.waits
           (λ _. c.note_last.ensures.seat) (λ some. absurd (none some)) (λ place. Roots _ (option_map (λ batch. (old.half.version, batch)) begins.first) (old.half.version, begins.entry)) (λ place. tt) begins.act old.kept;
@@ -58,17 +60,18 @@ invariant_of-self-in-Err-1 g c =
     let same = c.in-Err.ensures.unchanged in
     record {
       named = old.named;
+      switched = old.switched;
       counts = still_counted old.half c.root.new.self old.seat same.rest old.counts;
-      kept = still_kept _ _ old.half c.root.new.self old.seat same.rest (λ handed. stayed _ _ handed old.half c.root.new.self same) old.kept;
+      kept = still_kept _ _ old.half c.root.new.self old.seat same.rest (λ v handed. stayed _ _ v handed old.half c.root.new.self same) old.kept;
     }
 
 -- ---- the record is that of the root
 pub returns-then-ticket-before-clause-command : goal.returns-then-ticket-before-clause-command
 returns-then-ticket-before-clause-command g c told =
     let old = c.args.self.now in
-    ∥∥₁_map (old.kept told) (λ desk. root_spelled _ _ _ old.seat _ old.half c.root.new.self _ desk c.in-Ok.ensures.working c.in-Ok.ensures.begins)
+    ∥∥₁_map (old.kept told) (λ desk. root_spelled _ _ _ _ old.seat _ old.half c.root.new.self _ desk c.in-Ok.ensures.working c.in-Ok.ensures.begins)
 
 pub returns-else-ticket-before-clause-command : goal.returns-else-ticket-before-clause-command
 returns-else-ticket-before-clause-command g c told =
     let old = c.args.self.now in
-    ∥∥₁_map (old.kept told) (λ desk. root_spelled _ _ _ old.seat _ old.half c.root.new.self _ desk c.in-Ok.ensures.working c.in-Ok.ensures.begins)
+    ∥∥₁_map (old.kept told) (λ desk. root_spelled _ _ _ _ old.seat _ old.half c.root.new.self _ desk c.in-Ok.ensures.working c.in-Ok.ensures.begins)

@@ -25,6 +25,7 @@ invariant_of-self-in-Ok g c =
     let seals = subst (λ o. IfSome o (λ ticket. SealsBatch (kept g) old.half new ticket.number)) c.in-Some.is c.in-Ok.ensures.seals in
     record {
       named = (old.named.0, ap (λ s. s.board) c.seal_shown.ensures ∙ old.named.1);
+      switched = old.switched;
       counts = one_counted old.half new old.seat c.seal_shown.new.table old.counts seals.entry _ None seals.seals c.seal_shown.ensures;
       kept = one_kept _ _ old.half new old.seat c.seal_shown.new.table old.counts c.in-Ok.ensures.working seals.entry _ None seals.seals c.seal_shown.ensures
           (λ place. Batches (old.half.version, seals.entry)) (λ place. tt) seals.act old.kept;
@@ -36,8 +37,9 @@ invariant_of-self g c =
     let finds = c.in-Ok.ensures.nothing (ap (λ o. Ok o) c.in_default.is) in
     record {
       named = old.named;
+      switched = old.switched;
       counts = still_counted old.half c.seal.new.self old.seat finds.rest old.counts;
-      kept = still_kept _ _ old.half c.seal.new.self old.seat finds.rest (λ handed. found_nothing _ _ handed old.half c.seal.new.self finds) old.kept;
+      kept = still_kept _ _ old.half c.seal.new.self old.seat finds.rest (λ v handed. found_nothing _ _ v handed old.half c.seal.new.self finds) old.kept;
     }
 
 pub invariant_of-self-in-Err-1 : goal.invariant_of-self-in-Err-1
@@ -46,6 +48,7 @@ invariant_of-self-in-Err-1 g c =
     let same = c.in-Err.ensures.unchanged in
     record {
       named = old.named;
+      switched = old.switched;
       counts = still_counted old.half c.seal.new.self old.seat same.rest old.counts;
-      kept = still_kept _ _ old.half c.seal.new.self old.seat same.rest (λ handed. stayed _ _ handed old.half c.seal.new.self same) old.kept;
+      kept = still_kept _ _ old.half c.seal.new.self old.seat same.rest (λ v handed. stayed _ _ v handed old.half c.seal.new.self same) old.kept;
     }

@@ -6,5 +6,5 @@ pub returns-clause-kept : goal.returns-clause-kept
 returns-clause-kept g c told left leaves =
     let old = c.args.self.now in
     ∥∥₁_elim (old.kept told) ∥∥₁_prop (λ desk.
-    keeps_own _ _ c.two_disks_are_a_store.ensures.keep (g.J.Accord.first told) old.half old.seat old.failed c.args.client.now old.counts.beginning desk
+    keeps_own _ _ _ c.two_disks_are_a_store.ensures.keep (g.J.Accord.first told) old.half old.seat old.failed c.args.client.now old.counts.beginning desk
     c.confirm.ensures.own left leaves)

@@ -8,6 +8,7 @@ use Rattle.ide_store.specs.Table.{Analysis}
 use Rattle.ide_wire.specs.declared.refused.Refused.{Refused}
 use Rattle.ide_desks.specs.Desks.{CountsTaken, IsWriterDesk}
 use Rattle.ide_desks.specs.Stepping.{IsStepRefusal, failed_before, fails}
+use Rattle.ide_desks.specs.Switching.{version_after}
 use Rattle.ide_desks.proofs.Steps.{desk_calls, desk_crashes, desk_fails, desk_refused, desk_rests, desk_stores, desk_waits}
 use Rattle.ide_desks.proofs.writer.WriterDesk.disk_step.Given.{Over}
 use Rattle.ide_desks.proofs.writer.WriterDesk.disk_step.Goals as goal
@@ -40,14 +41,15 @@ invariant_of-self g c =
     let result = c.in-Ok-true.is ∙ ap (λ b. Ok b) c.in-Ok-true.field-0-test in
     record {
       named = (old.named.0, ap (λ s. s.board) c.publish.ensures ∙ old.named.1);
+      switched = old.switched;
       counts = subst (λ w. CountsTaken w old.taken) (sym c.publish.ensures) (record {
         count = taken;
         within = omega (arith, long, room);
         beginning = ap (λ n. take n old.seat.taken) (sym long);
       });
       kept = λ told. ∥∥₁_map (old.kept told) (λ desk.
-          subst (λ w. IsWriterDesk (kept g) g.P.Problem.TAG (g.J.Accord.first told) c.disk_step.new.self w old.failed) (sym c.publish.ensures)
-          (desk_stores (kept g) g.P.Problem.TAG c.two_disks_are_a_store.ensures.keep (g.J.Accord.first told) old.half c.disk_step.new.self old.seat old.failed
+          subst (λ w. IsWriterDesk (kept g) g.P.Problem.TAG (version_after (g.J.Accord.version told) old.switch.seat.taken) (g.J.Accord.first told) c.disk_step.new.self w old.failed) (sym c.publish.ensures)
+          (desk_stores (kept g) g.P.Problem.TAG (version_after (g.J.Accord.version told) old.switch.seat.taken) c.two_disks_are_a_store.ensures.keep (g.J.Accord.first told) old.half c.disk_step.new.self old.seat old.failed
           c.if-self.false desk c.disk_step.ensures.honest
           (subst (λ (r : Result Bool Refused). AreHonest old.half.journal → StepsOver old.half c.disk_step.new.self r) result c.disk_step.ensures.steps)
           (omega (arith, more, before, after)) room));
@@ -57,7 +59,7 @@ pub returns-then-is_one_more-clause-crashes : goal.returns-then-is_one_more-clau
 returns-then-is_one_more-clause-crashes g c told going left here there =
     let old = c.args.self.now in
     ∥∥₁_elim (old.kept told) ∥∥₁_prop (λ desk.
-    desk_crashes (kept g) g.P.Problem.TAG c.two_disks_are_a_store.ensures.keep (g.J.Accord.first told) old.half c.disk_step.new.self old.seat old.failed
+    desk_crashes (kept g) g.P.Problem.TAG (version_after (g.J.Accord.version told) old.switch.seat.taken) c.two_disks_are_a_store.ensures.keep (g.J.Accord.first told) old.half c.disk_step.new.self old.seat old.failed
     c.if-self.false desk c.disk_step.ensures.honest c.disk_step.ensures.any_moment left here there)
 
 -- ---- a call was made that stored none
@@ -71,9 +73,10 @@ invariant_of-self-else-is_one_more g c =
     let result = c.in-Ok-true.is ∙ ap (λ b. Ok b) c.in-Ok-true.field-0-test in
     record {
       named = old.named;
+      switched = old.switched;
       counts = old.counts;
       kept = λ told. ∥∥₁_map (old.kept told) (λ desk.
-          desk_calls (kept g) g.P.Problem.TAG c.two_disks_are_a_store.ensures.keep (g.J.Accord.first told) old.half c.disk_step.new.self old.seat old.failed
+          desk_calls (kept g) g.P.Problem.TAG (version_after (g.J.Accord.version told) old.switch.seat.taken) c.two_disks_are_a_store.ensures.keep (g.J.Accord.first told) old.half c.disk_step.new.self old.seat old.failed
           c.if-self.false desk c.disk_step.ensures.honest
           (subst (λ (r : Result Bool Refused). AreHonest old.half.journal → StepsOver old.half c.disk_step.new.self r) result c.disk_step.ensures.steps)
           (λ both. let more = both.0 in let less = both.1 in
@@ -84,7 +87,7 @@ pub returns-else-is_one_more-clause-crashes : goal.returns-else-is_one_more-clau
 returns-else-is_one_more-clause-crashes g c told going left here there =
     let old = c.args.self.now in
     ∥∥₁_elim (old.kept told) ∥∥₁_prop (λ desk.
-    desk_crashes (kept g) g.P.Problem.TAG c.two_disks_are_a_store.ensures.keep (g.J.Accord.first told) old.half c.disk_step.new.self old.seat old.failed
+    desk_crashes (kept g) g.P.Problem.TAG (version_after (g.J.Accord.version told) old.switch.seat.taken) c.two_disks_are_a_store.ensures.keep (g.J.Accord.first told) old.half c.disk_step.new.self old.seat old.failed
     c.if-self.false desk c.disk_step.ensures.honest c.disk_step.ensures.any_moment left here there)
 
 -- ---- there was none to make
@@ -94,9 +97,10 @@ invariant_of-self-in-Ok-false g c =
     let result = c.in-Ok-false.is ∙ ap (λ b. Ok b) c.in-Ok-false.field-0-test in
     record {
       named = old.named;
+      switched = old.switched;
       counts = old.counts;
       kept = λ told. ∥∥₁_map (old.kept told) (λ desk.
-          (desk_rests (kept g) g.P.Problem.TAG c.two_disks_are_a_store.ensures.keep (g.J.Accord.first told) old.half c.disk_step.new.self old.seat old.failed
+          (desk_rests (kept g) g.P.Problem.TAG (version_after (g.J.Accord.version told) old.switch.seat.taken) c.two_disks_are_a_store.ensures.keep (g.J.Accord.first told) old.half c.disk_step.new.self old.seat old.failed
           c.if-self.false desk c.disk_step.ensures.honest
           (subst (λ (r : Result Bool Refused). AreHonest old.half.journal → StepsOver old.half c.disk_step.new.self r) result c.disk_step.ensures.steps)).1);
     }
@@ -106,7 +110,7 @@ returns-in-Ok-false-clause-all g c told rests =
     let old = c.args.self.now in
     let result = c.in-Ok-false.is ∙ ap (λ b. Ok b) c.in-Ok-false.field-0-test in
     ∥∥₁_elim (old.kept told) (Prim.hlevel props) (λ desk.
-    (desk_rests (kept g) g.P.Problem.TAG c.two_disks_are_a_store.ensures.keep (g.J.Accord.first told) old.half c.disk_step.new.self old.seat old.failed
+    (desk_rests (kept g) g.P.Problem.TAG (version_after (g.J.Accord.version told) old.switch.seat.taken) c.two_disks_are_a_store.ensures.keep (g.J.Accord.first told) old.half c.disk_step.new.self old.seat old.failed
     c.if-self.false desk c.disk_step.ensures.honest
     (subst (λ (r : Result Bool Refused). AreHonest old.half.journal → StepsOver old.half c.disk_step.new.self r) result c.disk_step.ensures.steps)).0)
 
@@ -114,7 +118,7 @@ pub returns-in-Ok-false-clause-crashes : goal.returns-in-Ok-false-clause-crashes
 returns-in-Ok-false-clause-crashes g c told going left here there =
     let old = c.args.self.now in
     ∥∥₁_elim (old.kept told) ∥∥₁_prop (λ desk.
-    desk_crashes (kept g) g.P.Problem.TAG c.two_disks_are_a_store.ensures.keep (g.J.Accord.first told) old.half c.disk_step.new.self old.seat old.failed
+    desk_crashes (kept g) g.P.Problem.TAG (version_after (g.J.Accord.version told) old.switch.seat.taken) c.two_disks_are_a_store.ensures.keep (g.J.Accord.first told) old.half c.disk_step.new.self old.seat old.failed
     c.if-self.false desk c.disk_step.ensures.honest c.disk_step.ensures.any_moment left here there)
 
 -- ---- it was refused
@@ -124,9 +128,10 @@ invariant_of-self-then-is_fault g c =
     let result = c.in-Err.is ∙ ap (λ e. Err e) (c.if-is_fault.ensures.0 refl) in
     record {
       named = old.named;
+      switched = old.switched;
       counts = old.counts;
       kept = λ told. ∥∥₁_map (old.kept told) (λ desk.
-          desk_fails (kept g) g.P.Problem.TAG c.two_disks_are_a_store.ensures.keep (g.J.Accord.first told) old.half c.disk_step.new.self old.seat old.failed
+          desk_fails (kept g) g.P.Problem.TAG (version_after (g.J.Accord.version told) old.switch.seat.taken) c.two_disks_are_a_store.ensures.keep (g.J.Accord.first told) old.half c.disk_step.new.self old.seat old.failed
           c.if-self.false desk c.disk_step.ensures.honest
           (subst (λ (r : Result Bool Refused). AreHonest old.half.journal → StepsOver old.half c.disk_step.new.self r) result c.disk_step.ensures.steps));
     }
@@ -135,7 +140,7 @@ pub returns-then-is_fault-clause-crashes : goal.returns-then-is_fault-clause-cra
 returns-then-is_fault-clause-crashes g c told going left here there =
     let old = c.args.self.now in
     ∥∥₁_elim (old.kept told) ∥∥₁_prop (λ desk.
-    desk_crashes (kept g) g.P.Problem.TAG c.two_disks_are_a_store.ensures.keep (g.J.Accord.first told) old.half c.disk_step.new.self old.seat old.failed
+    desk_crashes (kept g) g.P.Problem.TAG (version_after (g.J.Accord.version told) old.switch.seat.taken) c.two_disks_are_a_store.ensures.keep (g.J.Accord.first told) old.half c.disk_step.new.self old.seat old.failed
     c.if-self.false desk c.disk_step.ensures.honest c.disk_step.ensures.any_moment left here there)
 
 pub invariant_of-self-else-is_fault : goal.invariant_of-self-else-is_fault
@@ -143,9 +148,10 @@ invariant_of-self-else-is_fault g c =
     let old = c.args.self.now in
     record {
       named = old.named;
+      switched = old.switched;
       counts = old.counts;
       kept = λ told. ∥∥₁_map (old.kept told) (λ desk.
-          desk_waits (kept g) g.P.Problem.TAG c.two_disks_are_a_store.ensures.keep (g.J.Accord.first told) old.half c.disk_step.new.self old.seat old.failed
+          desk_waits (kept g) g.P.Problem.TAG (version_after (g.J.Accord.version told) old.switch.seat.taken) c.two_disks_are_a_store.ensures.keep (g.J.Accord.first told) old.half c.disk_step.new.self old.seat old.failed
           c.if-self.false desk c.disk_step.ensures.honest c.in-Err.refused (λ is. let no = c.if-is_fault.ensures.1 is in cc (no))
           (subst (λ (r : Result Bool Refused). AreHonest old.half.journal → StepsOver old.half c.disk_step.new.self r) c.in-Err.is c.disk_step.ensures.steps));
     }
@@ -154,7 +160,7 @@ pub returns-else-is_fault-clause-crashes : goal.returns-else-is_fault-clause-cra
 returns-else-is_fault-clause-crashes g c told going left here there =
     let old = c.args.self.now in
     ∥∥₁_elim (old.kept told) ∥∥₁_prop (λ desk.
-    desk_crashes (kept g) g.P.Problem.TAG c.two_disks_are_a_store.ensures.keep (g.J.Accord.first told) old.half c.disk_step.new.self old.seat old.failed
+    desk_crashes (kept g) g.P.Problem.TAG (version_after (g.J.Accord.version told) old.switch.seat.taken) c.two_disks_are_a_store.ensures.keep (g.J.Accord.first told) old.half c.disk_step.new.self old.seat old.failed
     c.if-self.false desk c.disk_step.ensures.honest c.disk_step.ensures.any_moment left here there)
 
 -- ---- and for one of these reasons
@@ -169,6 +175,6 @@ pub returns-else-is_fault-clause-refused : goal.returns-else-is_fault-clause-ref
 returns-else-is_fault-clause-refused g c told =
     let old = c.args.self.now in
     ∥∥₁_map (old.kept told) (λ desk.
-    desk_refused (kept g) g.P.Problem.TAG c.two_disks_are_a_store.ensures.keep (g.J.Accord.first told) old.half c.disk_step.new.self old.seat old.failed
+    desk_refused (kept g) g.P.Problem.TAG (version_after (g.J.Accord.version told) old.switch.seat.taken) c.two_disks_are_a_store.ensures.keep (g.J.Accord.first told) old.half c.disk_step.new.self old.seat old.failed
     c.if-self.false desk c.disk_step.ensures.honest c.in-Err.refused (λ is. let no = c.if-is_fault.ensures.1 is in cc (no))
     (subst (λ (r : Result Bool Refused). AreHonest old.half.journal → StepsOver old.half c.disk_step.new.self r) c.in-Err.is c.disk_step.ensures.steps))

@@ -1,4 +1,4 @@
-use Rattle.ide_desks.specs.Desks.{last_entry}
+use Rattle.ide_desks.specs.Desks.{last_sealed}
 use Rattle.ide_desks.specs.Orders.{SpellsLoad}
 use Rattle.ide_store.specs.Table.{Analysis}
 use Rattle.ide_text.specs.Program.{value_of}
@@ -23,7 +23,7 @@ pub returns-in-Ok-clause-ordered : goal.returns-in-Ok-clause-ordered
 returns-in-Ok-clause-ordered g c =
     let program = c.in-Ok.program in
     ordered_by g.J.Accord.told (SpellsLoad (kept g) (value_of program)) (SpellsText (kept g) c.args.text.now) c.load.result c.args.client.now c.load.new.client
-    (last_entry c.load.new.self.half.waiting) (λ entry loads. record { program = program; parsed = c.in-Ok.ensures.parsed; loads = loads })
+    (last_sealed c.load.new.self.half) (λ entry loads. record { program = program; parsed = c.in-Ok.ensures.parsed; loads = loads })
     c.load.ensures.noted c.load.ensures.command
 
 pub returns-in-Ok-clause-refused : goal.returns-in-Ok-clause-refused
