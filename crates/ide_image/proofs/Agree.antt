@@ -1,5 +1,5 @@
 -- Each step keeps what the parts of an image agree on.
-use Rattle.std.proofs.Common.{◌≡◌, ℕ, zero, suc, ◌+◌, ◌≤◌, ◌++◌, refl, sym, ap, subst, ◌∙◌, arith, List, [], ◌∷◌, length, Option, None, Some, Bool, true, false, cond, ⊎_elim}
+use Rattle.std.proofs.Common.{◌≡◌, ℕ, zero, suc, ◌+◌, ◌≤◌, ◌++◌, refl, sym, ap, subst, ◌∙◌, arith, List, [], ◌∷◌, length, map, Option, None, Some, Bool, true, false, cond, ⊎_elim}
 use Rattle.std.specs.Prelude.{◌||◌, nat_eq, unwrap_or}
 use Rattle.std.specs.List.{IsDistinct, list_any}
 use Rattle.std.specs.Map.{keys_of, lookup}
@@ -9,12 +9,12 @@ use Rattle.ide_wire.specs.declared.key.Key.{Key}
 use Rattle.ide_wire.specs.Key.{same_key, same_key_exact, same_key_refl, same_key_symm}
 use Rattle.ide_image.specs.Tables.{Table, behind, place_in, with_entry}
 use Rattle.ide_pages.specs.Pages.{KeepsCells, cell_of}
-use Rattle.ide_image.proofs.Places.{distinct-put, put-last}
+use Rattle.ide_image.proofs.Places.{distinct-put, put-last, stays-put}
 use Rattle.ide_image.specs.declared.claim.Claim.{Claim}
 use Rattle.ide_image.specs.Worklist.{AreHeld, claim_in, is_claim_of, marked, put_hand, with_done}
 use Rattle.ide_image.proofs.Held.{IsOf, claimed_at, held_claimed, held_same}
 use Rattle.ide_image.specs.declared.entry.Entry.{Entry}
-use Rattle.ide_image.specs.ChangeLog.{ChangeLog, noted_at}
+use Rattle.ide_image.specs.ChangeLog.{AreSlotsOf, ChangeLog, noted_at}
 use Rattle.ide_image.specs.KeyedImage.{AreParts, Covers, SameParts, marked_at, held_by_slot, image_by, keys_where, pending_by_slot}
 use Rattle.ide_image.specs.Indexed.{Indexed, IsSpot, place_of_key}
 use Rattle.ide_image.specs.Notes.{noted, with_note}
@@ -127,6 +127,18 @@ any-at q [] h is = absurd (cc (is))
 any-at q (x ∷ xs) zero is = ap (λ b. b || list_any (is_claim_of q) xs) is
 any-at q (x ∷ xs) (suc h) is = ap (λ b. is_claim_of q x || b) (any-at q xs h is) ∙ or-true (is_claim_of q x)
 
+-- where keys have entries they stand there once one is put in
+slots-put : {F : Type 0} (key : Key) (es : List (Key × F)) (f : F) (notes : List (Key × Entry F)) (slots : List ℕ)
+    → map (λ note. place_in note.0 es) notes ≡ map suc slots → map (λ note. place_in note.0 (with_entry es key f)) notes ≡ map suc slots
+slots-put key es f [] slots is = is
+slots-put key es f (n ∷ ns) [] is = absurd (cc (is))
+slots-put key es f (n ∷ ns) (s ∷ ss) is =
+    let here : place_in n.0 es ≡ suc s = cc (is) in
+    let rest : map (λ note. place_in note.0 es) ns ≡ map suc ss = cc (is) in
+    let first = stays-put key es n.0 f s here in
+    let others = slots-put key es f ns ss rest in
+    λ i. first i ∷ others i
+
 module _ {F T : Type 0} where
   -- the parts grew, and read as they did
   pub whole-same : (indexed after : Indexed F) (marks marks_after : SlotMarks) (claims : List (Option (Claim T))) (changes changes_after : ChangeLog F)
@@ -150,6 +162,7 @@ module _ {F T : Type 0} where
             at-same (noted_at changes) (noted_at changes_after) (place_of_key after key) same.noted
             ∙ ap (λ es. marked_at (noted_at changes) (place_in key es)) entries ∙ w.listed key ∙ ap (λ list. is_some (noted list key)) (sym same.list);
         once = subst (λ list. IsDistinct same_key (keys_of (unwrap_or list []))) (sym same.list) w.once;
+        slotted = (λ i. map (λ (note : Key × Entry F). place_in note.0 (entries i)) (unwrap_or (same.list i) [])) ∙ w.slotted ∙ ap (map suc) (sym same.slots);
       }
 
   -- an entry is put in
@@ -172,13 +185,15 @@ module _ {F T : Type 0} where
             (λ q pends. at (pending_at marks.list) w.covered q ∙ pends) (λ h c there. (c, there, refl)) w.held;
         listed = λ q. at (noted_at changes) w.unnoted q ∙ w.listed q;
         once = w.once;
+        slotted = ap (λ xs. map (λ (note : Key × Entry F). place_in note.0 xs) (unwrap_or changes.list [])) is ∙ slots-put key es f (unwrap_or changes.list []) changes.slots w.slotted;
       }
 
   -- the key's entry of before is noted
   pub whole-noted : (indexed : Indexed F) (marks : SlotMarks) (claims : List (Option (Claim T))) (changes after : ChangeLog F) (key : Key) (entry : Entry F) (index : ℕ)
       → index + 1 ≡ place_of_key indexed key → SetsMark index (is_some changes.list) (noted_at changes) (noted_at after) → after.list ≡ with_note changes.list key entry
+      → (AreSlotsOf (place_of_key indexed) changes → AreSlotsOf (place_of_key indexed) after)
       → AreParts indexed marks claims changes → AreParts indexed marks claims after
-  whole-noted indexed marks claims changes after key entry index stands sets notes w = record {
+  whole-noted indexed marks claims changes after key entry index stands sets notes slots w = record {
     distinct = w.distinct;
     covered = w.covered;
     unnoted = covers-set key indexed.table.entries index (is_some changes.list) (noted_at changes) (noted_at after) stands sets w.unnoted;
@@ -190,6 +205,7 @@ module _ {F T : Type 0} where
         ∙ ap (λ b. cond (same_key key q) (is_some changes.list) b) (w.listed q)
         ∙ sym (ap (λ list. is_some (noted list q)) notes ∙ noted-with changes.list key q entry);
     once = subst (λ list. IsDistinct same_key (keys_of (unwrap_or list []))) (sym notes) (once-with changes.list key entry w.once);
+    slotted = slots w.slotted;
   }
 
   -- the key is pending
@@ -209,6 +225,7 @@ module _ {F T : Type 0} where
             (λ h c is. (c, is, refl)) w.held;
         listed = w.listed;
         once = w.once;
+        slotted = w.slotted;
       }
     where
       kept : (own b : Bool) → b ≡ true → cond own true b ≡ true
@@ -237,6 +254,7 @@ module _ {F T : Type 0} where
         };
         listed = w.listed;
         once = w.once;
+        slotted = w.slotted;
       }
     where
       other : (h : ℕ) (c : Claim T) → claim_in claims h ≡ Some c → same_key key c.key ≡ false
@@ -261,6 +279,7 @@ module _ {F T : Type 0} where
     held = held_same (pending_by_slot indexed marks) (pending_by_slot indexed marks) (λ h. claim_in claims h) (λ h. claim_in after h) (λ q is. is) of w.held;
     listed = w.listed;
     once = w.once;
+    slotted = w.slotted;
   }
 
   -- the hand's claim is gone, and its key is pending or not
@@ -278,6 +297,7 @@ module _ {F T : Type 0} where
     held = kept;
     listed = w.listed;
     once = w.once;
+    slotted = w.slotted;
   }
     where
       held : (q : Key) → held_by_slot indexed after q ≡ cond (same_key c.key q) false (held_by_slot indexed marks q)
@@ -328,6 +348,7 @@ module _ {F T : Type 0} where
         (held_claimed (pending_by_slot indexed marks) (λ h. claim_in claims h) (λ h. claim_in more h) hand c pends others takes w.held);
     listed = w.listed;
     once = w.once;
+    slotted = w.slotted;
   }
     where
       held : (q : Key) → held_by_slot indexed after q ≡ cond (same_key c.key q) true (held_by_slot indexed marks q)
@@ -419,6 +440,7 @@ module _ {F : Type 0} where
     pending = λ n. refl;
     held = λ n. refl;
     list = refl;
+    slots = refl;
     noted = λ n. refl;
   }
 
@@ -429,6 +451,7 @@ module _ {F : Type 0} where
     pending = λ k. next.pending k ∙ first.pending k;
     held = λ k. next.held k ∙ first.held k;
     list = next.list ∙ first.list;
+    slots = next.slots ∙ first.slots;
     noted = λ k. next.noted k ∙ first.noted k;
   }
 
@@ -448,11 +471,11 @@ at-none mark (suc n) none = none n
 module _ {F T : Type 0} where
   -- parts that hold nothing agree
   pub whole-new : (indexed : Indexed F) (marks : SlotMarks) (claims : List (Option (Claim T))) (changes : ChangeLog F)
-      → indexed.table.entries ≡ [] → marks.list ≡ [] → claims ≡ [] → unwrap_or changes.list [] ≡ []
+      → indexed.table.entries ≡ [] → marks.list ≡ [] → claims ≡ [] → unwrap_or changes.list [] ≡ [] → changes.slots ≡ []
       → ((key : Key) → is_some (noted changes.list key) ≡ false) → ((n : ℕ) → noted_at changes n ≡ false)
       → AreParts indexed marks claims changes
   unfolding IsDistinct
-  whole-new indexed marks claims changes entries unmarked none empty absent unnoted =
+  whole-new indexed marks claims changes entries unmarked none empty slotless absent unnoted =
       let pending : (n : ℕ) → pending_at marks.list n ≡ false = λ n. ap (λ ms. pending_at ms n) unmarked in
       let free : (key : Key) → held_by_slot indexed marks key ≡ false = λ key. ap (λ es. marked_at (held_at marks.list) (place_in key es)) entries in
       let no_claim : (h : ℕ) → claim_in claims h ≡ None = λ h. ap (λ cs. claim_in cs h) none in
@@ -468,13 +491,14 @@ module _ {F T : Type 0} where
         };
         listed = λ key. ap (λ es. marked_at (noted_at changes) (place_in key es)) entries ∙ sym (absent key);
         once = subst (λ xs. IsDistinct same_key (keys_of xs)) (sym empty) tt;
+        slotted = ap (λ xs. map (λ (note : Key × Entry F). place_of_key indexed note.0) xs) empty ∙ sym (ap (map suc) slotless);
       }
 
   -- another list of notes is begun
   pub whole-anew : (indexed : Indexed F) (marks : SlotMarks) (claims : List (Option (Claim T))) (changes after : ChangeLog F)
-      → after.list ≡ Some [] → ((n : ℕ) → noted_at after n ≡ false) → AreParts indexed marks claims changes → AreParts indexed marks claims after
+      → after.list ≡ Some [] → after.slots ≡ [] → ((n : ℕ) → noted_at after n ≡ false) → AreParts indexed marks claims changes → AreParts indexed marks claims after
   unfolding IsDistinct
-  whole-anew indexed marks claims changes after empty unnoted w = record {
+  whole-anew indexed marks claims changes after empty slotless unnoted w = record {
     distinct = w.distinct;
     covered = w.covered;
     unnoted = λ n more. unnoted n;
@@ -483,6 +507,7 @@ module _ {F T : Type 0} where
     held = w.held;
     listed = λ key. at-none (noted_at after) (place_of_key indexed key) unnoted ∙ sym (ap (λ list. is_some (noted list key)) empty);
     once = subst (λ list. IsDistinct same_key (keys_of (unwrap_or list []))) (sym empty) tt;
+    slotted = ap (λ list. map (λ (note : Key × Entry F). place_of_key indexed note.0) (unwrap_or list [])) empty ∙ sym (ap (map suc) slotless);
   }
 
   -- places that hold no claim are as good as none

@@ -4,6 +4,7 @@ pub mod Defaults
 pub mod Falls
 pub mod Held
 pub mod Keys
+pub mod Left
 pub mod Marked
 pub mod Places
 pub mod Rest
@@ -11,3 +12,4 @@ pub mod Rows
 pub mod Sets
 pub mod Spots
 pub mod Stack
+pub mod Stamps

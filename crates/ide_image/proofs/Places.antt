@@ -126,6 +126,14 @@ module _ {F : Type 0} (key : Key) where
       first true is = ap (λ b. cond b 1 (behind (place_in q es))) is
       first false is = refl
 
+  -- a key that has an entry stands where it stood
+  pub stays-put : (es : List (Key × F)) (q : Key) (f : F) (n : ℕ) → place_in q es ≡ suc n → place_in q (with_entry es key f) ≡ suc n
+  stays-put es q f n is = place-put es q f ∙ at (same_key key q) refl
+    where
+      at : (own : Bool) → same_key key q ≡ own → cond own (place_then (place_in key es) (length es)) (place_in q es) ≡ suc n
+      at true same = ap (λ k. place_then (place_in k es) (length es)) (same_key_exact key q same) ∙ ap (λ p. place_then p (length es)) is
+      at false other = is
+
   -- entries of distinct keys stay so
   apart-put : (x : Key) (es : List (Key × F)) (f : F) → AllByRecursion (λ y. same_key x y ≡ false) (keys_of es) → same_key x key ≡ false
       → AllByRecursion (λ y. same_key x y ≡ false) (keys_of (with_entry es key f))

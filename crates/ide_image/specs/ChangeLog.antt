@@ -1,22 +1,23 @@
--- What contracts say of notes with a mark at each slot: which slots' keys are noted.
-use Rattle.std.specs.Prelude.{◌≡◌, ℕ, ◌-◌, ◌<◌, ◌≤◌, Bool, true, List, Option, Some, None, length, nat_eq, slice_index, vec_capacity, vec_len}
+-- What contracts say of notes with a mark at each slot: which slots' keys are noted, and the slots of the noted keys.
+use Rattle.std.specs.Prelude.{◌≡◌, ℕ, ◌-◌, ◌<◌, ◌≤◌, suc, Bool, true, List, [], Option, Some, None, length, map, min, nat_eq, slice_index, unwrap_or, vec_capacity, vec_len}
 use Rattle.std.specs.Global.{Vec}
 use Rattle.std.specs.Option.{is_some}
 use Rattle.ide_wire.specs.declared.key.Key.{Key}
 use Rattle.ide_image.specs.declared.entry.Entry.{Entry}
 
--- what is noted, if changes are; the number of the list that a slot was last noted in, that of the list as it is, and for how
--- many notes more there is room
+-- what is noted, if changes are, with the slot of each note; the number of the list that a slot was last noted in, that of the
+-- list as it is, and for how many notes more there is room
 pub record ChangeLog (F : Type 0) : Type 0 where
   pub list : Option (List (Key × Entry F))
+  pub slots : List ℕ
   pub stamps : List ℕ
   pub epoch : ℕ
   pub room : ℕ
 
--- how many notes more there is room for
-abbrev pub note_room : {X : Type 0} → Option (Vec X) → ℕ
-note_room None = 0
-note_room (Some list) = vec_capacity list - vec_len list
+-- how many notes more there is room for, each with its slot
+abbrev pub note_room : {X Y : Type 0} → Option (Vec X) → Vec Y → ℕ
+note_room None slots = 0
+note_room (Some list) slots = min (vec_capacity list - vec_len list) (vec_capacity slots - vec_len slots)
 
 -- the list, if there is one
 abbrev pub list_of : {X : Type 0} → Option (Vec X) → Option (List X)
@@ -27,6 +28,10 @@ module _ {F : Type 0} where
   -- whether the slot's key is noted
   abbrev pub noted_at : ChangeLog F → ℕ → Bool
   noted_at changes n = nat_eq (slice_index changes.stamps n) changes.epoch
+
+  -- the slots are those of the noted keys, where this is each key's place
+  abbrev pub AreSlotsOf : (Key → ℕ) → ChangeLog F → Type 0
+  AreSlotsOf place changes = map (λ note. place note.0) (unwrap_or changes.list []) ≡ map suc changes.slots
 
   -- where changes are noted, there is room for so many notes more, of the first slots
   pub record MayNote (count slots : ℕ) (changes : ChangeLog F) : Type 0 where

@@ -9,7 +9,7 @@ use Rattle.ide_wire.specs.Key.{same_key}
 use Rattle.ide_wire.specs.declared.key.Key.{Key}
 use Rattle.ide_image.specs.Worklist.{AreHeld, Pile, claim_in, is_claim_of, is_pending}
 use Rattle.ide_image.specs.declared.claim.Claim.{Claim}
-use Rattle.ide_image.specs.ChangeLog.{ChangeLog, MayNote, noted_at}
+use Rattle.ide_image.specs.ChangeLog.{AreSlotsOf, ChangeLog, MayNote, noted_at}
 use Rattle.ide_image.specs.Indexed.{Indexed, MayTake, place_of_key}
 use Rattle.ide_image.specs.Notes.{entry_at, noted}
 use Rattle.ide_image.specs.Queue.{SlotMarks, SameMarks, SetsMark, held_at, pending_at}
@@ -84,6 +84,7 @@ module _ {F : Type 0} where
     pub pending : SameMarks (pending_at marks.list) (pending_at marks_after.list)
     pub held : SameMarks (held_at marks.list) (held_at marks_after.list)
     pub list : changes_after.list ≡ changes.list
+    pub slots : changes_after.slots ≡ changes.slots
     pub noted : SameMarks (noted_at changes) (noted_at changes_after)
 
 module _ {F T : Type 0} where
@@ -96,7 +97,8 @@ module _ {F T : Type 0} where
   }
 
   -- the parts agree: slots behind the last entry have no marks, those that are marked as claimed are those of claims, each claim is of
-  -- a pending key and no two are of one key, and the marks of noted slots are those of the notes, which have each key once
+  -- a pending key and no two are of one key, the marks of noted slots are those of the notes, which have each key
+  -- once, and each note has its key's slot
   pub record AreParts (indexed : Indexed F) (marks : SlotMarks) (claims : List (Option (Claim T))) (changes : ChangeLog F) : Type 0 where
     pub distinct : IsDistinct same_key (keys_of indexed.table.entries)
     pub covered : Covers (length indexed.table.entries) (pending_at marks.list)
@@ -106,3 +108,4 @@ module _ {F T : Type 0} where
     pub held : AreHeld (pending_by_slot indexed marks) (λ h. claim_in claims h)
     pub listed : (key : Key) → marked_at (noted_at changes) (place_of_key indexed key) ≡ is_some (noted changes.list key)
     pub once : IsDistinct same_key (keys_of (unwrap_or changes.list []))
+    pub slotted : AreSlotsOf (place_of_key indexed) changes

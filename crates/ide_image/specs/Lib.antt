@@ -1,6 +1,7 @@
 pub mod ChangeLog
 pub mod Indexed
 pub mod KeyedImage
+pub mod Left
 pub mod Notes
 pub mod Queue
 pub mod Spent

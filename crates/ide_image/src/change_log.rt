@@ -1,7 +1,7 @@
 //! Notes of what changed, with a mark at each slot whose key is noted.
 ghost use Rattle.std.specs.Prelude.{◌≡◌, ℕ, ◌+◌, ◌<◌, ◌≤◌, ◌^◌, [], None, Some, false, true, length, slice_index, OnOk, IsOk, option_map};
 ghost use Rattle.std.specs.Option.{is_some, option_copied};
-ghost use Rattle.ide_image.specs.ChangeLog.{AreStamps, MayNote, list_of, noted_at};
+ghost use Rattle.ide_image.specs.ChangeLog.{AreSlotsOf, AreStamps, MayNote, list_of, noted_at};
 ghost use Rattle.ide_image.specs.Notes.{noted, noted_count, with_note};
 ghost use Rattle.ide_image.specs.Queue.{SameMarks, SetsMark};
 
@@ -16,6 +16,8 @@ use std::mem;
 #[derive(Drop)]
 pub(crate) struct ChangeLog<F: Drop> {
     list: Option<Vec<(Key, Entry<F>)>>,
+    /// The slot of each note's key.
+    slots: Vec<u32>,
     /// For each slot the number of the list that its key was last noted in: 0 for none.
     stamps: Vec<u32>,
     /// The number of the list.
@@ -27,7 +29,7 @@ impl<F: Drop> Model for ChangeLog<F> {
 
     ghost Value = { ChangeLog F };
 
-    ghost view = { λ c. record { list = list_of c.list; stamps = c.stamps.items; epoch = c.epoch; room = note_room c.list } };
+    ghost view = { λ c. record { list = list_of c.list; slots = c.slots.items; stamps = c.stamps.items; epoch = c.epoch; room = note_room c.list c.slots } };
 
     ghost invariant = { λ c. AreStamps c.stamps.items c.epoch };
 }
@@ -36,10 +38,12 @@ impl<F: Copy + Drop> ChangeLog<F> {
     /// Changes that nobody asked for. It allocates nothing.
     pub(crate) fn new(alloc: Global) -> Self
         ensures list { result.list ≡ None }
+        ensures slots { result.slots ≡ [] }
         ensures marks { (n : ℕ) → noted_at result n ≡ false }
     {
         ChangeLog {
             list: None,
+            slots: Vec::new(alloc),
             stamps: Vec::new(alloc),
             epoch: 1,
         }
@@ -62,6 +66,13 @@ impl<F: Copy + Drop> ChangeLog<F> {
         }
     }
 
+    /// The slot of each note's key, in the order of the notes.
+    pub(crate) fn slots(&self) -> &[u32]
+        ensures { result.now ≡ self.now.slots }
+    {
+        &self.slots
+    }
+
     /// Whether the slot's key is noted.
     pub(crate) fn is_noted(&self, slot: usize) -> bool
         ensures { result ≡ noted_at self.now slot }
@@ -72,12 +83,14 @@ impl<F: Copy + Drop> ChangeLog<F> {
     /// Makes room for so many notes more, of keys at the first slots, where changes are noted.
     pub(crate) fn make_room(&mut self, additional: usize, slots: usize) -> Result<(), AllocError>
         ensures list { self.new.list ≡ self.old.list }
+        ensures slots { self.new.slots ≡ self.old.slots }
         ensures marks { SameMarks (noted_at self.old) (noted_at self.new) }
         ensures room { OnOk result (MayNote additional slots self.new) }
         ensures nobody { self.old.list ≡ None → IsOk result }
     {
         if let Some(list) = &mut self.list {
             list.reserve(additional)?;
+            self.slots.reserve(additional)?;
             grow(&mut self.stamps, slots)?;
         }
         Ok(())
@@ -88,7 +101,9 @@ impl<F: Copy + Drop> ChangeLog<F> {
     pub(crate) fn note(&mut self, slot: usize, key: Key, before: Entry<F>)
         requires room { MayNote 1 (slot + 1) self.old }
         requires mark { noted_at self.old slot ≡ is_some (noted self.old.list key) }
+        requires few { slot < 2 ^ 32 }
         ensures list { self.new.list ≡ with_note self.old.list key before }
+        ensures slots { (place : Key → ℕ) → place key ≡ slot + 1 → AreSlotsOf place self.old → AreSlotsOf place self.new }
         ensures marks { SetsMark slot (is_some self.old.list) (noted_at self.old) (noted_at self.new) }
         ensures room { (n s : ℕ) → MayNote (n + 1) s self.old → MayNote n s self.new }
     {
@@ -96,6 +111,7 @@ impl<F: Copy + Drop> ChangeLog<F> {
         if let Some(list) = &mut self.list {
             if !is_noted {
                 list.push_reserved((key, before));
+                self.slots.push_reserved(slot as u32);
                 self.stamps[slot] = self.epoch;
             }
         }
@@ -105,20 +121,36 @@ impl<F: Copy + Drop> ChangeLog<F> {
     pub(crate) fn take(&mut self, alloc: Global) -> Option<Vec<(Key, Entry<F>)>>
         ensures taken { list_of result ≡ self.old.list }
         ensures list { self.new.list ≡ Some [] }
+        ensures slots { self.new.slots ≡ [] }
         ensures marks { (n : ℕ) → noted_at self.new n ≡ false }
     {
+        self.slots.clear();
         begin_list(&mut self.stamps, &mut self.epoch);
         mem::replace(&mut self.list, Some(Vec::new(alloc)))
     }
 
-    /// Forgets what is noted. Changes are noted from now on where they were.
-    pub(crate) fn clear(&mut self, alloc: Global)
-        ensures list { self.new.list ≡ option_map (λ _. []) self.old.list }
+    /// Forgets what is noted. From now on changes are, and no key is noted yet. The room for notes stays.
+    pub(crate) fn begin(&mut self, alloc: Global)
+        ensures list { self.new.list ≡ Some [] }
+        ensures slots { self.new.slots ≡ [] }
         ensures marks { (n : ℕ) → noted_at self.new n ≡ false }
     {
-        begin_list(&mut self.stamps, &mut self.epoch);
-        if self.list.is_some() {
+        self.clear();
+        if self.list.is_none() {
             self.list = Some(Vec::new(alloc));
+        }
+    }
+
+    /// Forgets what is noted. Changes are noted from now on where they were. The room for notes stays.
+    pub(crate) fn clear(&mut self)
+        ensures list { self.new.list ≡ option_map (λ _. []) self.old.list }
+        ensures slots { self.new.slots ≡ [] }
+        ensures marks { (n : ℕ) → noted_at self.new n ≡ false }
+    {
+        self.slots.clear();
+        begin_list(&mut self.stamps, &mut self.epoch);
+        if let Some(list) = &mut self.list {
+            list.clear();
         }
     }
 }

@@ -1,5 +1,5 @@
 //! What an image has at each key.
-ghost use Rattle.std.specs.Prelude.{◌≡◌, ◌≢◌, ℕ, ◌+◌, ◌<◌, ◌≤◌, ◌^◌, ◌&&◌, ◌||◌, ◌↔◌, [], None, Some, Ok, Err, true, false, filter, length, nat_eq, not, unwrap_or, if◌then◌else◌, IsOk, IsSome, IsTrue, IfOk, IfSome, IfNone, OnOk, OnErr, IsOkUnless};
+ghost use Rattle.std.specs.Prelude.{◌≡◌, ◌≢◌, ℕ, ◌+◌, ◌<◌, ◌≤◌, ◌^◌, ◌&&◌, ◌||◌, ◌↔◌, [], None, Some, Ok, Err, true, false, filter, length, nat_eq, not, slice_get, unwrap_or, if◌then◌else◌, IsOk, IsSome, IsTrue, IfOk, IfSome, IfNone, OnOk, OnErr, IsOkUnless};
 ghost use Rattle.std.specs.List.{IsDistinct, list_any};
 ghost use Rattle.std.specs.Map.{keys_of};
 ghost use Rattle.std.specs.Option.{is_some, option_copied, option_map};
@@ -12,6 +12,7 @@ ghost use Rattle.ide_wire.specs.KeyOrder.{key_cmp};
 ghost use Rattle.ide_image.specs.declared.claim.Claim.{Claim};
 ghost use Rattle.ide_image.specs.Worklist.{PutsClaim, IsFree, IsWorklist, begun, claim_at, ends, ends_key, is_claimed, is_pending, marked, with_done};
 ghost use Rattle.ide_image.specs.KeyedImage.{CountsPending, entry_now, marked_all};
+ghost use Rattle.ide_image.specs.Left.{left_item, left_items};
 ghost use Rattle.ide_image.specs.Notes.{NotesAll, ended_key, entry_at, noted, noted_count, with_change, with_note};
 
 use crate::change::Change;
@@ -168,18 +169,36 @@ impl<F: EdgeFn, T: Drop> KeyedImage<F, T> {
         Some(entry.0)
     }
 
-    /// The keys that are noted to have changed, each with the entry that it had when changes were last
-    /// asked for, in the order of the first changes: none where nobody asked.
-    pub fn notes(&self) -> Option<&[(Key, Entry<F>)]>
-        ensures notes { option_copied result ≡ self.now.changes }
+    /// The noted keys that are present and have another entry now, each with its function and whether it
+    /// is pending, in the order of the notes: none where nobody asked. It takes no look-up.
+    pub fn changed_items(&self, alloc: Global) -> Result<Vec<(Key, F, bool)>, Refused>
+        ensures items { IfOk result (λ items. items.items ≡ left_items F.eq self.now) }
         ensures once { IsDistinct same_key (keys_of (unwrap_or self.now.changes [])) }
+        ensures refused { IsOkUnless result NoMemory }
     {
-        self.changes.notes()
+        let count = self.changed_count();
+        let mut items = Vec::with_capacity(alloc, count)?;
+        for index in 0..count {
+            if let Some(item) = self.left_at(index) {
+                items.push_reserved(item);
+            }
+        }
+        Ok(items)
+    }
+
+    /// What is left of the note at an index: nothing behind the last one.
+    fn left_at(&self, index: usize) -> Option<(Key, F, bool)>
+        ensures { (note : Key × Entry F) → slice_get (unwrap_or self.now.changes []) index ≡ Some note → result ≡ left_item F.eq self.now note }
+    {
+        let (key, before) = *self.changes.notes()?.get(index)?;
+        let slot = *self.changes.slots().get(index)?;
+        parts::left_at(&self.indexed, &self.queue, slot, key, before)
     }
 
     /// How many keys are noted to have changed.
     pub fn changed_count(&self) -> usize
-        ensures { result ≡ noted_count self.now.changes }
+        ensures count { result ≡ noted_count self.now.changes }
+        ensures once { IsDistinct same_key (keys_of (unwrap_or self.now.changes [])) }
     {
         match self.changes.notes() {
             Some(notes) => notes.len(),
@@ -428,6 +447,16 @@ impl<F: EdgeFn, T: Drop> KeyedImage<F, T> {
         }
     }
 
+    /// Forgets what is noted. From now on changes are noted, and no key is noted yet. It takes constant
+    /// time, and no memory.
+    pub fn note_anew(&mut self, alloc: Global)
+        ensures changes { self.new.changes ≡ Some [] }
+        ensures table { self.new.table ≡ self.old.table }
+        ensures pile { self.new.pile ≡ self.old.pile }
+    {
+        self.changes.begin(alloc);
+    }
+
     /// Takes all keys, all claims and all notes away. Changes are noted from then on where they were. It
     /// takes no memory.
     pub fn clear(&mut self, alloc: Global)
@@ -439,7 +468,7 @@ impl<F: EdgeFn, T: Drop> KeyedImage<F, T> {
         self.indexed = Indexed::new(alloc);
         self.queue.clear();
         self.claims.clear();
-        self.changes.clear(alloc);
+        self.changes.clear();
     }
 
     /// The present keys with their functions, copied.

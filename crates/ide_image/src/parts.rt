@@ -1,5 +1,5 @@
 //! Steps of the parts that an image is made of, after which they agree again.
-ghost use Rattle.std.specs.Prelude.{◌≡◌, ℕ, ◌+◌, ◌||◌, None, false, true, length, IsOk, OnOk, OnErr, IsOkUnless};
+ghost use Rattle.std.specs.Prelude.{◌≡◌, ℕ, ◌+◌, ◌||◌, None, Some, false, true, length, IsOk, OnOk, OnErr, IsOkUnless};
 ghost use Rattle.std.specs.List.{list_any};
 ghost use Rattle.std.specs.Map.{keys_of};
 ghost use Rattle.std.specs.Option.{is_some};
@@ -9,9 +9,10 @@ ghost use Rattle.ide_wire.specs.declared.key.Key.{Key};
 ghost use Rattle.ide_wire.specs.declared.refused.Refused.TheVariants.{NoMemory};
 ghost use Rattle.ide_wire.specs.Key.{same_key};
 ghost use Rattle.ide_image.specs.Worklist.{claim_in, is_claim_of, marked};
-ghost use Rattle.ide_image.specs.ChangeLog.{MayNote, noted_at};
+ghost use Rattle.ide_image.specs.ChangeLog.{AreSlotsOf, MayNote, noted_at};
 ghost use Rattle.ide_image.specs.KeyedImage.{AddsKeys, AreParts, Covers, HasRoomFor, SameParts, marked_at, entry_by, marked_all, pending_by_slot, SetsAt};
 ghost use Rattle.ide_image.specs.Indexed.{IsSpot, MayTake, place_of_key};
+ghost use Rattle.ide_image.specs.Left.{is_left, left_of};
 ghost use Rattle.ide_image.specs.Notes.{NotesAll, noted, with_note};
 ghost use Rattle.ide_image.specs.Queue.{SetsMark, held_at, one_if, pending_at, pending_count};
 
@@ -36,6 +37,36 @@ pub(crate) fn is_noted_at<F: EdgeFn>(changes: &ChangeLog<F>, place: u32) -> bool
     ensures { result ≡ marked_at (noted_at changes.now) place }
 {
     place != 0 && changes.is_noted(place as usize - 1)
+}
+
+/// The key of a slot with its function and whether it is pending, where its entry is another one than before.
+pub(crate) fn left_at<F: EdgeFn>(
+    indexed: &Indexed<F>,
+    queue: &Queue,
+    slot: u32,
+    key: Key,
+    before: Entry<F>,
+) -> Option<(Key, F, bool)>
+    requires slot { place_of_key indexed.now key ≡ slot + 1 }
+    ensures { result ≡ left_of F.eq key (found indexed.now.table key) (pending_by_slot indexed.now queue.now key) before }
+{
+    let (_, now) = indexed.entry_at(slot as usize)?;
+    let pending = queue.is_pending(slot as usize);
+    if is_left(now, pending, before) {
+        Some((key, now, pending))
+    } else {
+        None
+    }
+}
+
+/// Whether a function and a mark make another entry than before.
+fn is_left<F: EdgeFn>(now: F, pending: bool, before: Entry<F>) -> bool
+    ensures { result ≡ is_left F.eq (Some now) before.function pending before.pending }
+{
+    match before.function {
+        Some(then) => now != then || pending != before.pending,
+        None => true,
+    }
 }
 
 /// Makes room for so many keys more, that are pending and noted.
@@ -72,6 +103,7 @@ pub(crate) fn end_slot<F: EdgeFn>(
     ensures held { OnOk result (SetsAt (place_of_key indexed.now key) false (held_at queue.old.list) (held_at queue.new.list)) }
     ensures count { OnOk result (pending_count queue.new.list + 1 ≡ pending_count queue.old.list) }
     ensures list { OnOk result (changes.new.list ≡ with_note changes.old.list key (entry_by indexed.now queue.old key)) }
+    ensures slots { OnOk result (AreSlotsOf (place_of_key indexed.now) changes.old → AreSlotsOf (place_of_key indexed.now) changes.new) }
     ensures marks { OnOk result (SetsAt (place_of_key indexed.now key) (is_some changes.old.list) (noted_at changes.old) (noted_at changes.new)) }
     ensures err { OnErr result (SameParts indexed.now indexed.now queue.old queue.new changes.old changes.new) }
     ensures nobody { changes.old.list ≡ None → IsOk result }
@@ -106,6 +138,7 @@ pub(crate) fn put_noted<F: EdgeFn>(
     ensures entries { indexed.new.table.entries ≡ with_entry indexed.old.table.entries key function }
     ensures slot { result + 1 ≡ place_of_key indexed.new key }
     ensures list { changes.new.list ≡ with_note changes.old.list key (entry_by indexed.old queue.now key) }
+    ensures slots { AreSlotsOf (place_of_key indexed.new) changes.old → AreSlotsOf (place_of_key indexed.new) changes.new }
     ensures marks { SetsMark result (is_some changes.old.list) (noted_at changes.old) (noted_at changes.new) }
     ensures cells { KeepsCells indexed.old.places indexed.new.places }
     ensures taken { (n : ℕ) → MayTake (n + 1) indexed.old → MayTake n indexed.new }

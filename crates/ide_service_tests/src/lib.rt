@@ -6,8 +6,6 @@
 #[cfg(test)]
 mod clients;
 #[cfg(test)]
-mod fills;
-#[cfg(test)]
 mod gates;
 #[cfg(test)]
 mod hands;

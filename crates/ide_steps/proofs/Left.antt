@@ -1,33 +1,45 @@
 -- The noted keys that have another entry now are the keys that changed.
-use Rattle.std.proofs.Common.{inl, inr, ◌≡◌, ◌≢◌, ◌≤◌, refl, sym, ap, subst, ◌∙◌, arith, List, [], ◌∷◌, Option, None, Some, Bool, true, false, cond, map, not, ◌||◌, length}
+use Rattle.std.proofs.Common.{inl, inr, ◌≡◌, ◌≢◌, ◌+◌, ◌≤◌, refl, sym, ap, subst, ◌∙◌, arith, List, [], ◌∷◌, Option, None, Some, Bool, true, false, cond, map, not, ◌||◌, length}
 use Rattle.std.specs.Prelude.{filter, unwrap_or}
 use Rattle.std.specs.Bool.{beq}
 use Rattle.std.specs.Cmp.{booleans_Decides}
-use Rattle.std.specs.List.{Contains, IsDistinct}
-use Rattle.std.specs.List.Sorted.{IsPermutation, IsSorted, IsStrictlySortedBy}
+use Rattle.std.specs.List.{Contains, IsDistinct, cons_option, filter_map}
+use Rattle.std.specs.List.Sorted.{IsPermutation, IsSorted, IsSortedByKey, IsStrictlySortedBy}
+use Rattle.std.specs.Ordering.{is_lt}
 use Rattle.std.specs.Map.{keys_of, lookup}
 use Rattle.std.specs.Option.{is_some}
-use Rattle.std.proofs.lemmas.List.{length-map}
-use Rattle.std.proofs.lemmas.List.Sorted.{Contains-permutation, IsPermutation-sym, length_permutation}
+use Rattle.std.proofs.lemmas.List.{get_or-map, length-map}
+use Rattle.std.proofs.lemmas.List.Sorted.{Contains-permutation, IsPermutation-map, IsPermutation-sym, length_permutation}
 use Rattle.std.proofs.lemmas.Map.Keys.{IsDistinct-IsPermutation}
 use Rattle.std.proofs.lemmas.Map.Made.{IsDistinct-keys_filter}
 use Rattle.std.proofs.lemmas.Map.Views.{Contains-from_lookup, lookup-from_Contains}
 use Rattle.ide_lattice.specs.Algebra.{EdgeAlgebra}
 use Rattle.ide_image.proofs.Keys.{strictly}
+use Rattle.ide_image.proofs.Left.{count-notes}
 use Rattle.ide_image.specs.Tables.{found, function_at, or_top}
 use Rattle.ide_theory.specs.Member.{IsIn, first, later}
 use Rattle.ide_theory.specs.Members.{contains-in, first-or, in-contains, in-map, not-in-empty, of-map}
 use Rattle.ide_wire.specs.Key.{same_key, same_key_exact, same_key_laws, same_key_symm}
 use Rattle.ide_wire.specs.KeyOrder.{key_cmp}
 use Rattle.ide_wire.specs.declared.key.Key.{Key}
-use Rattle.ide_image.specs.Worklist.{is_pending}
+use Rattle.ide_image.specs.Worklist.{Pile, is_pending}
 use Rattle.ide_image.specs.Notes.{noted_count}
 use Rattle.ide_steps.specs.Changed.{standing_entry, entry_then}
 use Rattle.ide_steps.specs.Core.{CoreData}
-use Rattle.ide_steps.specs.Items.{AreChangedItems, is_left, is_left_of, item_of, left_keys}
+use Rattle.ide_image.specs.KeyedImage.{KeyedImageData}
+use Rattle.ide_image.specs.Left.{is_left, left_item, left_items, left_of}
+use Rattle.ide_steps.specs.Items.{AreChangedItems, item_of}
 use Rattle.ide_image.specs.declared.entry.Entry.{Entry}
 use Rattle.ide_steps.proofs.Listed.{keys-of-items}
 use Rattle.ide_steps.proofs.Room.{in-filter}
+
+-- whether the note is of a present key that has another entry now
+abbrev is_left_of : {F : Type 0} → (F → F → Bool) → CoreData F → Key × Entry F → Bool
+is_left_of same core note = is_left same (found core.table note.0) note.1.function (is_pending core.pile note.0) note.1.pending
+
+-- the keys of such notes, in the order of the notes
+abbrev pub left_keys : {F : Type 0} → (F → F → Bool) → CoreData F → List (Key × Entry F) → List Key
+left_keys same core notes = map (λ note. note.0) (filter (is_left_of same core) notes)
 
 -- what a filter leaves is of the list, and passes
 of-filter : {T : Type 0} (test : T → Bool) {x : T} (xs : List T) → IsIn x (filter test xs) → IsIn x xs × (test x ≡ true)
@@ -41,11 +53,6 @@ of-filter test {x} (y ∷ xs) is = by (of-filter test xs) (test y) refl is
       | inl same ↦ (subst (λ u. IsIn u (y ∷ xs)) (sym same) first, ap test same ∙ kept)
       | inr after ↦ (let rest = behind after in (later rest.0, rest.1))
     ]
-
--- where nobody asked for changes, no key is noted twice
-pub none-twice : {F : Type 0} (changes : Option (List (Key × Entry F))) → changes ≡ None → IsDistinct same_key (keys_of (unwrap_or changes []))
-unfolding IsDistinct
-none-twice {F} changes is = subst (λ (notes : Option (List (Key × Entry F))). IsDistinct same_key (keys_of (unwrap_or notes []))) (sym is) tt
 
 module _ {F : Type 0} (same : F → F → Bool) (exact : (f g : F) → same f g ≡ true → f ≡ g) (alike : (f : F) → same f f ≡ true) where
   -- what is left of a note is a present key with another entry
@@ -159,25 +166,87 @@ module _ {F : Type 0} (same : F → F → Bool) (exact : (f g : F) → same f g 
           apart : IsDistinct same_key sorted
           apart = IsDistinct-IsPermutation same_key same_key_symm left sorted moved (IsDistinct-keys_filter same_key test (unwrap_or core.changes []) once)
 
-    filter-few : {T : Type 0} (p : T → Bool) (xs : List T) → length (filter p xs) ≤ length xs
-    filter-few p [] = omega arith
-    filter-few p (x ∷ xs) = by (p x) (filter-few p xs)
-      where
-        by : (b : Bool) → length (filter p xs) ≤ length xs → length (cond b (x ∷ filter p xs) (filter p xs)) ≤ length (x ∷ xs)
-        by true rest = omega (arith, rest)
-        by false rest = omega (arith, rest)
+module _ {F L : Type 0} (same : F → F → Bool) (B : EdgeAlgebra F L) (core : CoreData F) where
+  -- the image of the core
+  abbrev image_of : {T : Type 0} → (pile : Pile T) → KeyedImageData F T
+  image_of pile = record { table = core.table; pile = pile; changes = core.changes }
 
-    count-is : (changes : Option (List (Key × Entry F))) → noted_count changes ≡ length (unwrap_or changes [])
-    count-is None = refl
-    count-is (Some list) = refl
+  -- what is left of notes are the items of the keys that are
+  abbrev passed : Key × Entry F → List (Key × Entry F) → Bool → List (Key × Entry F)
+  passed note rest b = cond b (note ∷ rest) rest
 
-    -- no more are left than noted
-    pub left-few : (sorted : List Key) (items : List (Key × F × Bool)) → IsPermutation (left_keys same core (unwrap_or core.changes [])) sorted
-        → items ≡ map (item_of B core) sorted → length items ≤ noted_count core.changes
-    left-few sorted items moved is =
-        let mapped = ap length is ∙ length-map sorted (item_of B core) in
-        let long = length_permutation (left_keys same core (unwrap_or core.changes [])) sorted moved in
-        let keys = length-map (filter test (unwrap_or core.changes [])) (λ (x : Key × Entry F). x.0) in
-        let few = filter-few test (unwrap_or core.changes []) in
-        let count = count-is core.changes in
-        omega (arith, mapped, long, keys, few, count)
+  left-one : (note : Key × Entry F) (rest : List (Key × Entry F)) (items : List (Key × F × Bool)) (o : Option F) → found core.table note.0 ≡ o
+      → items ≡ map (item_of B core) (map (λ (n : Key × Entry F). n.0) rest)
+      → cons_option (left_of same note.0 o (is_pending core.pile note.0) note.1) items
+      ≡ map (item_of B core) (map (λ (n : Key × Entry F). n.0) (passed note rest (is_left same o note.1.function (is_pending core.pile note.0) note.1.pending)))
+  left-one note rest items None is behind = behind
+  left-one note rest items (Some f) is behind = by (is_left same (Some f) note.1.function (is_pending core.pile note.0) note.1.pending)
+    where
+      own : (note.0, f, is_pending core.pile note.0) ≡ item_of B core note.0
+      own = ap (λ o. (note.0, or_top B o, is_pending core.pile note.0)) (sym is)
+
+      by : (b : Bool) → cons_option (cond b (Some (note.0, f, is_pending core.pile note.0)) None) items
+          ≡ map (item_of B core) (map (λ (n : Key × Entry F). n.0) (passed note rest b))
+      by true = λ i. own i ∷ behind i
+      by false = behind
+
+  left-listed : (notes : List (Key × Entry F))
+      → filter_map (left_item same (image_of core.pile)) notes ≡ map (item_of B core) (left_keys same core notes)
+  left-listed [] = refl
+  left-listed (note ∷ notes) =
+      left-one note (filter (is_left_of same core) notes) (filter_map (left_item same (image_of core.pile)) notes) (found core.table note.0) refl (left-listed notes)
+
+  -- items of keys are those of their keys, in whatever order
+  of-keys : (items : List (Key × F × Bool)) → ((item : Key × F × Bool) → IsIn item items → item ≡ item_of B core item.0)
+      → items ≡ map (item_of B core) (map (λ item. item.0) items)
+  of-keys [] each = refl
+  of-keys (item ∷ items) each =
+      let own = each item first in
+      let rest = of-keys items (λ x there. each x (later there)) in
+      λ i. own i ∷ rest i
+
+  moved-keys : (keys : List Key) (sorted : List (Key × F × Bool)) → IsPermutation (map (item_of B core) keys) sorted
+      → sorted ≡ map (item_of B core) (map (λ item. item.0) sorted)
+  moved-keys keys sorted moved = of-keys sorted (λ item there.
+      let back : Contains (map (item_of B core) keys) item =
+      Contains-permutation sorted (map (item_of B core) keys) item (IsPermutation-sym (map (item_of B core) keys) sorted moved) (contains-in there) in
+      let at : (u : Key) × IsIn u keys × (item_of B core u ≡ item) = of-map (item_of B core) keys (in-contains (map (item_of B core) keys) item back) in
+      sym at.2 ∙ ap (item_of B core) (ap (λ (x : Key × F × Bool). x.0) at.2))
+
+  sorted-keys : (items : List (Key × F × Bool)) → IsSortedByKey (λ item. item.0) key_cmp items → IsSorted key_cmp (map (λ item. item.0) items)
+  sorted-keys items ascends k d from less =
+      let long = length-map items (λ (item : Key × F × Bool). item.0) in
+      let e : Key × F × Bool = (d, B.all_top, false) in
+      let here = get_or-map (λ (item : Key × F × Bool). item.0) items k e d (omega (arith, less, long)) in
+      let next = get_or-map (λ (item : Key × F × Bool). item.0) items (k + 1) e d (omega (arith, less, long)) in
+      (λ i. is_lt (key_cmp (next i) (here i))) ∙ ascends k e from (omega (arith, less, long))
+
+  -- what is left of the notes, sorted by key, is what changed
+  pub changed-in-order : (exact : (f g : F) → same f g ≡ true → f ≡ g) (alike : (f : F) → same f f ≡ true) (items sorted : List (Key × F × Bool))
+      → IsDistinct same_key (keys_of (unwrap_or core.changes [])) → items ≡ left_items same (image_of core.pile) → IsPermutation items sorted
+      → IsSortedByKey (λ item. item.0) key_cmp sorted → AreChangedItems core sorted
+  changed-in-order exact alike items sorted once is moved ascends =
+      let keys = left_keys same core (unwrap_or core.changes []) in
+      let listed : items ≡ map (item_of B core) keys = is ∙ left-listed (unwrap_or core.changes []) in
+      let moves : IsPermutation (map (item_of B core) keys) sorted = subst (λ xs. IsPermutation xs sorted) listed moved in
+      let in_order = map (λ (item : Key × F × Bool). item.0) sorted in
+      let keyed : IsPermutation keys in_order =
+      subst (λ ks. IsPermutation ks in_order) (keys-of-items B core keys) (IsPermutation-map (λ (item : Key × F × Bool). item.0) (map (item_of B core) keys) sorted moves) in
+      are-changed same exact alike B core in_order once keyed sorted (sorted-keys sorted ascends) (moved-keys keys sorted moves)
+
+-- no more are left than noted
+passed-few : {X Y : Type 0} (f : X → Option Y) (xs : List X) → length (filter_map f xs) ≤ length xs
+passed-few f [] = omega arith
+passed-few f (x ∷ xs) = by (f x) (passed-few f xs)
+  where
+    by : (o : Option _) → length (filter_map f xs) ≤ length xs → length (cons_option o (filter_map f xs)) ≤ length (x ∷ xs)
+    by None rest = omega (arith, rest)
+    by (Some y) rest = omega (arith, rest)
+
+pub few-left : {F T : Type 0} (same : F → F → Bool) (image : KeyedImageData F T) (items sorted : List (Key × F × Bool)) → items ≡ left_items same image
+    → IsPermutation items sorted → length sorted ≤ noted_count image.changes
+few-left same image items sorted is moved =
+    let long = length_permutation items sorted moved in
+    let few = passed-few (left_item same image) (unwrap_or image.changes []) in
+    let count = count-notes image.changes in
+    omega (arith, long, ap length is, few, count)

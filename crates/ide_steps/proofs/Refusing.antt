@@ -1,6 +1,6 @@
 -- Why a hand's work does not go on, and why a name is no root.
-use Rattle.std.proofs.Common.{◌≡◌, ◌≢◌, ℕ, ◌<◌, List, length, refl, sym, subst, true, Result, Ok, Err, Option, None, Some}
-use Rattle.std.specs.Prelude.{IfErr, IsOkUnless, IsSome, OnErr, slice_get}
+use Rattle.std.proofs.Common.{◌≡◌, ◌≢◌, ℕ, ◌<◌, List, length, refl, sym, subst, arith, true, Result, Ok, Err, Option, None, Some}
+use Rattle.std.specs.Prelude.{IfErr, IsOk, IsOkUnless, IsSome, OnErr, slice_get}
 use Rattle.std.specs.Option.{is_some}
 use Rattle.std.proofs.lemmas.Option.{slice_get_within}
 use Rattle.ide_lattice.specs.Algebra.{EdgeAlgebra}
@@ -10,7 +10,7 @@ use Rattle.ide_wire.specs.declared.refused.Refused.{Refused}
 use Rattle.ide_wire.specs.declared.refused.Refused.TheVariants.{NoMemory}
 use Rattle.ide_graph.specs.Supergraph.{Supergraph}
 use Rattle.ide_steps.specs.Core.{CoreData}
-use Rattle.ide_steps.specs.PartRefusal.{IsPartRefusal, memory}
+use Rattle.ide_steps.specs.PartRefusal.{IsFinishRefusal, IsPartRefusal, memory, wanting}
 use Rattle.ide_steps.specs.Refusal.{IsNoRoot, RootFault, already, fault, parameters, unnamed}
 use Rattle.ide_steps.specs.Steps.{IsCurrent}
 
@@ -30,6 +30,14 @@ at-err (Err e) p = p
 pub some-unless : {X : Type 0} (o : Option X) → (o ≡ None → ⊥) → IsSome o
 some-unless None some = absurd (some (λ i. None))
 some-unless (Some x) some = refl
+
+-- where all parts of the hand's work are done, its end wants memory for a note where it is refused
+pub wants-note : {T F L : Type 0} (B : EdgeAlgebra F L) (targets : Targets F) (core : CoreData F) (hand : ℕ) (work : WorkData F) (r : Result T Refused)
+    → IsCurrent B targets core hand work → work.done ≡ length work.parts → IsOkUnless r NoMemory → (core.changes ≡ None → IsOk r)
+    → IfErr r (IsFinishRefusal B targets core hand work)
+wants-note B targets core hand work (Ok x) own over is nobody = tt
+wants-note B targets core hand work (Err e) own over is nobody =
+    subst (IsFinishRefusal B targets core hand work) (sym is) (wanting own (omega (arith, over)) (some-unless core.changes (λ none. cc (nobody none))))
 
 -- what is read from a list stands in it
 pub read-within : {X : Type 0} (xs : List X) (k : ℕ) (read : Option X) → read ≡ slice_get xs k → is_some read ≡ true → k < length xs

@@ -1,21 +1,21 @@
 //! The image as a list, and an image made from one.
-ghost use Rattle.std.specs.Prelude.{◌≡◌, ◌<◌, ◌≤◌, ℕ, ◌↔◌, [], Some, false, true, length, slice_get, unwrap_or, IfErr, IfOk, IsTrue, OnErr, OnOk, map};
-ghost use Rattle.std.specs.List.{IsDistinct};
-ghost use Rattle.std.specs.Map.{keys_of};
+ghost use Rattle.std.specs.Prelude.{◌≡◌, ◌<◌, ◌≤◌, ℕ, ◌↔◌, Some, false, true, length, slice_get, Bool, IfErr, IfOk, IsTrue, OnErr, OnOk, map};
+ghost use Rattle.std.specs.List.Sorted.{IsPermutation, IsSortedByKey};
 ghost use Rattle.std.specs.Option.{IsSomeAnd};
 ghost use Rattle.ide_image.specs.Tables.{Sets};
 ghost use Rattle.ide_theory.specs.Within.{is_some_call};
-ghost use Rattle.ide_wire.specs.Key.{same_key};
+ghost use Rattle.ide_wire.specs.KeyOrder.{key_cmp};
+ghost use Rattle.ide_wire.specs.declared.key.Key.{Key};
 ghost use Rattle.ide_image.specs.Worklist.{claim_at, IsFree};
 ghost use Rattle.ide_image.specs.Notes.{noted_count};
 ghost use Rattle.ide_steps.specs.Changed.{Notes, Remembers};
 ghost use Rattle.ide_steps.specs.Core.{IsSameProblem, IsUnchanged};
-ghost use Rattle.ide_steps.specs.Items.{AreChangedItems, AreItems, IsKeyOf, SetsPending, is_left_of, item_of, left_keys};
+ghost use Rattle.ide_steps.specs.Items.{AreChangedItems, AreItems, IsKeyOf, SetsPending, item_of};
 
 use crate::loaded::is_call;
 use crate::machine::Core;
 use ide_graph::Graph;
-use ide_image::Entry;
+use ide_lattice::EdgeFn;
 use ide_problem::Problem;
 use ide_wire::{Fact, Key, Node, Refused};
 use std::alloc::AllocError;
@@ -43,36 +43,9 @@ impl<P: Problem> Core<P> {
         ensures few { IfOk result (λ items. length items.items ≤ noted_count self.now.changes) }
         ensures refused { IfErr result (λ e. e ≡ Refused.NoMemory) }
     {
-        let mut keys = self.left_keys()?;
-        keys.sort_unstable();
-        let items = self.items_of(&keys)?;
+        let mut items = self.image.changed_items(self.alloc)?;
+        sort_items(&mut items);
         Ok(items)
-    }
-
-    /// The keys of the notes that are present and whose entry is not the noted one.
-    fn left_keys(&self) -> Result<Vec<Key>, AllocError>
-        ensures keys { IfOk result (λ keys. keys.items ≡ left_keys P.F.eq self.now (unwrap_or self.now.changes [])) }
-        ensures once { IsDistinct same_key (keys_of (unwrap_or self.now.changes [])) }
-    {
-        match self.image.notes() {
-            Some(notes) => notes
-                .iter()
-                .filter(|note| self.is_left(note.0, &note.1))
-                .map(|note| note.0)
-                .collect(self.alloc),
-            None => Ok(Vec::new(self.alloc)),
-        }
-    }
-
-    /// Whether the key is present, and its entry is not that one.
-    fn is_left(&self, key: Key, before: &Entry<P::F>) -> bool
-        ensures { result ≡ is_left_of P.F.eq self.now (key, before.now) }
-    {
-        match (self.image.get(key), before.function) {
-            (Some(now), Some(then)) => now != then || self.is_pending(key) != before.pending,
-            (Some(_), None) => true,
-            (None, _) => false,
-        }
     }
 
     /// The items of the keys.
@@ -120,6 +93,14 @@ impl<P: Problem> Core<P> {
         self.image.set(key, function, pending)?;
         Ok(())
     }
+}
+
+/// Puts items in the order of their keys.
+fn sort_items<F: EdgeFn>(items: &mut Vec<(Key, F, bool)>)
+    ensures same { IsPermutation items.old.items items.new.items }
+    ensures sorted { IsSortedByKey (λ (item : Key × F × Bool). item.0) key_cmp items.new.items }
+{
+    items.sort_unstable_by_key(|item| item.0);
 }
 
 /// Whether the key stands at a node of the graph, a summary at a call node, and its facts are facts

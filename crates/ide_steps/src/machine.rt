@@ -175,6 +175,15 @@ impl<P: Problem> Core<P> {
         self.image.take_changes(self.alloc)
     }
 
+    /// Forgets what is noted. From now on changes are noted, and no key is noted yet. It takes constant
+    /// time, and no memory: what room there is for notes stays.
+    pub fn note_anew(&mut self)
+        ensures anew { (key : Key) → entry_then self.new key ≡ standing_entry self.new key }
+        ensures stays { self.new ≡ record self.old { changes = Some [] } }
+    {
+        self.image.note_anew(self.alloc);
+    }
+
     /// How many keys are noted to have changed.
     pub fn changed_count(&self) -> usize
         ensures { result ≡ noted_count self.now.changes }

@@ -15,7 +15,6 @@ use Rattle.ide_steps.specs.Core.{CoreData, IsSameProblem, IsUnchanged}
 use Rattle.ide_steps.proofs.Free.{free-without}
 use Rattle.ide_steps.specs.Drain.{AreOthersFree, ForTask, HasLess, HasNoMore, TakesOut, potential}
 use Rattle.ide_steps.specs.DrainRefusal.{MayDrain}
-use Rattle.ide_steps.specs.PartRefusal.{IsFinishRefusal, left as part_left, other as other_work, wanting}
 use Rattle.ide_steps.specs.Room.{IsWholeCore}
 use Rattle.ide_steps.specs.State.{claim_of}
 use Rattle.ide_steps.specs.Steps.{EndsDone, FindsNone, GivesBack, IsCurrent, LowersPart, SkipsPart, progress_at}
@@ -313,14 +312,6 @@ stop_names a now _ memory_is_wanting = inl refl
 stop_names a now _ (full_batch_stays full (no_number_left last)) = inr refl
 stop_names a now _ (full_batch_stays full (not_spelled item there improper)) = inr refl
 stop_names a now _ (full_batch_stays full wants_memory) = inl refl
-
--- a claim with no part left ends, but for want of memory
-pub end_wants : {T F L : Type 0} (r : Result T Refused) (B : EdgeAlgebra F L) (targets : Targets F) (core : CoreData F) (work : WorkData F)
-    → IsCurrent B targets core 0 work → work.done ≡ length work.parts → IfErr r (IsFinishRefusal B targets core 0 work) → IsOkUnless r NoMemory
-end_wants (Ok x) B targets core work own over why = tt
-end_wants (Err _) B targets core work own over (other_work stale) = absurd (stale own.claim)
-end_wants (Err _) B targets core work own over (part_left claim more) = absurd (omega (arith, over, more))
-end_wants (Err _) B targets core work own over (wanting current over_too noting) = refl
 
 -- a refusal for want of memory stops it
 pub only_memory : {T F L : Type 0} (a : Analysis F L) (r : Result T Refused) (now : TableData F) → IsOkUnless r NoMemory → IfErr r (IsWorkStop a now)

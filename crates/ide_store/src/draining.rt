@@ -196,7 +196,7 @@ impl<P: Problem> TableHalf<P> {
         ensures refused { IsOkUnless result Refused.NoMemory }
     {
         calls_are_acts::<P>();
-        self.core.finish(DRAINING, work)
+        self.core.own_finish(DRAINING, work)
     }
 
     /// Seals what changed, where as many keys are noted as a batch may have.

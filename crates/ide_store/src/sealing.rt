@@ -92,7 +92,7 @@ impl<P: Problem> TableHalf<P> {
         let raw = self.root_record(name)?;
         self.outbox.reserve(2)?;
         self.core.root(name)?;
-        let _ = self.core.take_changes();
+        self.core.note_anew();
         Ok(self.outbox.push_behind(first, raw))
     }
 
@@ -108,11 +108,11 @@ impl<P: Problem> TableHalf<P> {
         calls_are_acts::<P>();
         cores_are_whole(&self.core);
         let Some(batch) = self.batch()? else {
-            let _ = self.core.take_changes();
+            self.core.note_anew();
             return Ok(None);
         };
         self.outbox.reserve(1)?;
-        let _ = self.core.take_changes();
+        self.core.note_anew();
         Ok(Some(self.outbox.push(batch)))
     }
 

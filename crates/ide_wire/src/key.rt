@@ -26,6 +26,7 @@ pub enum Key {
 
 impl Key {
     ghost use Rattle.ide_wire.specs.Key.{node_of};
+    ghost use Rattle.ide_wire.specs.KeyOrder.{HasFacts, key_kind, key_number};
 
     /// The node that the key stands at: of a summary its call node.
     pub fn node(self) -> Node
@@ -36,6 +37,29 @@ impl Key {
             Key::Summary(call, _, _) => call,
         }
     }
+
+    /// 0 of a jump, 1 of a summary.
+    fn kind(self) -> u8
+        ensures { result ≡ key_kind self }
+    {
+        match self {
+            Key::Jump(_, _, _) => 0,
+            Key::Summary(_, _, _) => 1,
+        }
+    }
+
+    /// The node and the facts in one number, the node's bits the highest: keys of one kind compare as
+    /// these do, by one comparison, where field by field takes up to three, each a branch.
+    fn number(self) -> u64
+        ensures number { result ≡ key_number self }
+        ensures facts { HasFacts self }
+    {
+        let (node, first, second) = match self {
+            Key::Jump(node, first, second) => (node, first, second),
+            Key::Summary(call, first, second) => (call, first, second),
+        };
+        u64::from(node) * 0x1_0000_0000 + u64::from(first) * 0x1_0000 + u64::from(second)
+    }
 }
 
 impl Ord for Key {
@@ -43,20 +67,9 @@ impl Ord for Key {
 
     ghost cmp = { key_cmp };
 
-    // The first numbers that differ decide. `then` would compare the later ones too.
     fn cmp(&self, other: &Key) -> Ordering {
-        match (*self, *other) {
-            (Key::Jump(_, _, _), Key::Summary(_, _, _)) => Ordering::Less,
-            (Key::Summary(_, _, _), Key::Jump(_, _, _)) => Ordering::Greater,
-            (Key::Jump(n, a, b), Key::Jump(m, c, d))
-            | (Key::Summary(n, a, b), Key::Summary(m, c, d)) => match n.cmp(&m) {
-                Ordering::Equal => match a.cmp(&c) {
-                    Ordering::Equal => b.cmp(&d),
-                    order => order,
-                },
-                order => order,
-            },
-        }
+        let numbers = self.number().cmp(&other.number());
+        self.kind().cmp(&other.kind()).then(numbers)
     }
 
     ghost total = { key_cmp_total };

@@ -24,7 +24,7 @@ mark_held-requires g c =
     let after = c.put_noted-slot.new.indexed in
     let put = whole-put c.args.indexed.now after c.args.queue.now c.args.claims.now.items c.args.changes.now c.args.key c.args.function c.put_noted-slot.ensures.entries c.requires.whole in
     let noted = whole-noted after c.args.queue.now c.args.claims.now.items c.args.changes.now c.put_noted-slot.new.changes c.args.key _ c.put_noted-slot.result
-    c.put_noted-slot.ensures.slot c.put_noted-slot.ensures.marks c.put_noted-slot.ensures.list put in
+    c.put_noted-slot.ensures.slot c.put_noted-slot.ensures.marks c.put_noted-slot.ensures.list c.put_noted-slot.ensures.slots put in
     let pushed = whole-pushed after c.args.queue.now c.push.new.self c.args.claims.now.items c.put_noted-slot.new.changes c.args.key c.put_noted-slot.result
     c.put_noted-slot.ensures.slot c.push.ensures.pending c.push.ensures.held noted in
     let here = at-index (held_at c.push.new.self.list) (place_of_key after c.args.key) c.put_noted-slot.result c.put_noted-slot.ensures.slot in
@@ -39,7 +39,7 @@ returns-clause-whole g c =
     let after = c.put_noted-slot.new.indexed in
     let put = whole-put c.args.indexed.now after c.args.queue.now c.args.claims.now.items c.args.changes.now c.args.key c.args.function c.put_noted-slot.ensures.entries c.requires.whole in
     let noted = whole-noted after c.args.queue.now c.args.claims.now.items c.args.changes.now c.put_noted-slot.new.changes c.args.key _ c.put_noted-slot.result
-    c.put_noted-slot.ensures.slot c.put_noted-slot.ensures.marks c.put_noted-slot.ensures.list put in
+    c.put_noted-slot.ensures.slot c.put_noted-slot.ensures.marks c.put_noted-slot.ensures.list c.put_noted-slot.ensures.slots put in
     let pushed = whole-pushed after c.args.queue.now c.push.new.self c.args.claims.now.items c.put_noted-slot.new.changes c.args.key c.put_noted-slot.result
     c.put_noted-slot.ensures.slot c.push.ensures.pending c.push.ensures.held noted in
     whole-claims after c.push.new.self c.args.claims.now.items c.mark_held.new.claims.items c.put_noted-slot.new.changes

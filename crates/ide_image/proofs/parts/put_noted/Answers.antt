@@ -15,6 +15,12 @@ note-requires-clause-room g c =
       stamped = λ is. let stamped = notes.stamped is in omega (arith, few, stamped);
     }
 
+pub note-requires-clause-few : goal.note-requires-clause-few
+note-requires-clause-few g c =
+    let few = slot-few c.args.key c.args.indexed.now.table.entries c.args.function c.put-slot.result c.put-slot.ensures.index in
+    let all = c.requires.room.entries.few in
+    omega (arith, few, all)
+
 pub note-requires-clause-mark : goal.note-requires-clause-mark
 note-requires-clause-mark g c =
     let es = c.args.indexed.now.table.entries in

@@ -69,7 +69,7 @@ invariant_of-self-2 g c =
     (λ q. pends q ∙ ap (λ k. not (same_key k q) && pending_by_slot inside.indexed inside.queue q) (sym claim.2)) c.self.invariant.held)
     c.self.invariant in
     let whole = whole-noted inside.indexed after left inside.changes c.end_slot.new.changes key _ slot stands
-    (c.in_ok-end_slot.ensures.marks slot stands) c.in_ok-end_slot.ensures.list gone in
+    (c.in_ok-end_slot.ensures.marks slot stands) c.in_ok-end_slot.ensures.list c.in_ok-end_slot.ensures.slots gone in
     whole
 
 pub returns-clause-pending : goal.returns-clause-pending
@@ -96,7 +96,7 @@ returns-clause-pending g c =
     (λ q. pends q ∙ ap (λ k. not (same_key k q) && pending_by_slot inside.indexed inside.queue q) (sym claim.2)) c.self.invariant.held)
     c.self.invariant in
     let whole = whole-noted inside.indexed after left inside.changes c.end_slot.new.changes key _ slot stands
-    (c.in_ok-end_slot.ensures.marks slot stands) c.in_ok-end_slot.ensures.list gone in
+    (c.in_ok-end_slot.ensures.marks slot stands) c.in_ok-end_slot.ensures.list c.in_ok-end_slot.ensures.slots gone in
     rw (← c.self.view_is)
     (λ q.
     is-pending inside.indexed after left c.end_slot.new.changes whole q ∙ pends q
@@ -127,7 +127,7 @@ returns-clause-count g c =
     (λ q. pends q ∙ ap (λ k. not (same_key k q) && pending_by_slot inside.indexed inside.queue q) (sym claim.2)) c.self.invariant.held)
     c.self.invariant in
     let whole = whole-noted inside.indexed after left inside.changes c.end_slot.new.changes key _ slot stands
-    (c.in_ok-end_slot.ensures.marks slot stands) c.in_ok-end_slot.ensures.list gone in
+    (c.in_ok-end_slot.ensures.marks slot stands) c.in_ok-end_slot.ensures.list c.in_ok-end_slot.ensures.slots gone in
     let first = pending-long inside.indexed inside.queue inside.claims.items inside.changes c.self.invariant in
     let last = pending-long inside.indexed after left c.end_slot.new.changes whole in
     let one : one_if (ends_key (claim_in inside.claims.items hand)) ≡ 1 = ap one_if (ended-out (claim_in inside.claims.items hand) key ended) in

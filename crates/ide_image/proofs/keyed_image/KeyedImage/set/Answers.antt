@@ -58,7 +58,7 @@ set_pending-requires-clause-free g c =
     let slot = c.put_noted-slot.result in
     let put = whole-put c.make_room.new.indexed after c.make_room.new.queue inside.claims.items c.make_room.new.changes c.args.key c.args.f c.put_noted-slot.ensures.entries whole in
     let noted = whole-noted after c.make_room.new.queue inside.claims.items c.make_room.new.changes c.put_noted-slot.new.changes c.args.key _ slot
-    c.put_noted-slot.ensures.slot c.put_noted-slot.ensures.marks c.put_noted-slot.ensures.list put in
+    c.put_noted-slot.ensures.slot c.put_noted-slot.ensures.marks c.put_noted-slot.ensures.list c.put_noted-slot.ensures.slots put in
     let free = unclaimed-free after c.make_room.new.queue inside.claims.items c.put_noted-slot.new.changes noted c.args.key (rw (← c.self.view_is) at c.requires.unclaimed) in
     sym (at-index (held_at c.make_room.new.queue.list) (place_of_key after c.args.key) slot c.put_noted-slot.ensures.slot) ∙ free
 
@@ -72,7 +72,7 @@ invariant_of-self-2 g c =
     let slot = c.put_noted-slot.result in
     let put = whole-put c.make_room.new.indexed after c.make_room.new.queue inside.claims.items c.make_room.new.changes c.args.key c.args.f c.put_noted-slot.ensures.entries whole in
     let noted = whole-noted after c.make_room.new.queue inside.claims.items c.make_room.new.changes c.put_noted-slot.new.changes c.args.key _ slot
-    c.put_noted-slot.ensures.slot c.put_noted-slot.ensures.marks c.put_noted-slot.ensures.list put in
+    c.put_noted-slot.ensures.slot c.put_noted-slot.ensures.marks c.put_noted-slot.ensures.list c.put_noted-slot.ensures.slots put in
     let free = unclaimed-free after c.make_room.new.queue inside.claims.items c.put_noted-slot.new.changes noted c.args.key (rw (← c.self.view_is) at c.requires.unclaimed) in
     whole-settled after c.make_room.new.queue c.set_pending.new.self inside.claims.items c.put_noted-slot.new.changes c.args.key slot c.args.pending
     c.put_noted-slot.ensures.slot free c.set_pending.ensures.pending c.set_pending.ensures.held noted
@@ -119,7 +119,7 @@ returns-clause-pending g c =
     let slot = c.put_noted-slot.result in
     let put = whole-put c.make_room.new.indexed after c.make_room.new.queue inside.claims.items c.make_room.new.changes c.args.key c.args.f c.put_noted-slot.ensures.entries whole in
     let noted = whole-noted after c.make_room.new.queue inside.claims.items c.make_room.new.changes c.put_noted-slot.new.changes c.args.key _ slot
-    c.put_noted-slot.ensures.slot c.put_noted-slot.ensures.marks c.put_noted-slot.ensures.list put in
+    c.put_noted-slot.ensures.slot c.put_noted-slot.ensures.marks c.put_noted-slot.ensures.list c.put_noted-slot.ensures.slots put in
     let free = unclaimed-free after c.make_room.new.queue inside.claims.items c.put_noted-slot.new.changes noted c.args.key (rw (← c.self.view_is) at c.requires.unclaimed) in
     let last = whole-settled after c.make_room.new.queue c.set_pending.new.self inside.claims.items c.put_noted-slot.new.changes c.args.key slot c.args.pending
     c.put_noted-slot.ensures.slot free c.set_pending.ensures.pending c.set_pending.ensures.held noted in

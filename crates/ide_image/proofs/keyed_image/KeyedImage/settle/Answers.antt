@@ -36,7 +36,7 @@ invariant_of-self-2 g c =
     let settled = whole-settled inside.indexed inside.queue after inside.claims.items inside.changes key slot false stands free
     (c.in_ok-end_slot.ensures.pending slot stands) same c.self.invariant in
     whole-noted inside.indexed after inside.claims.items inside.changes c.end_slot.new.changes key _ slot stands
-    (c.in_ok-end_slot.ensures.marks slot stands) c.in_ok-end_slot.ensures.list settled
+    (c.in_ok-end_slot.ensures.marks slot stands) c.in_ok-end_slot.ensures.list c.in_ok-end_slot.ensures.slots settled
 
 pub returns-clause-pending : goal.returns-clause-pending
 returns-clause-pending g c =

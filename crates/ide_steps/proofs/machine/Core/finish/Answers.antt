@@ -1,36 +1,8 @@
-use Rattle.std.proofs.Common.{◌≡◌, [], None, drop, length, ap, ◌∙◌, arith, rules, refl}
-use Rattle.std.proofs.lemmas.List.{drop_all}
-use Rattle.ide_tasks.specs.Parts.{owed}
-use Rattle.ide_image.specs.Worklist.{claim_at}
-use Rattle.ide_steps.proofs.States.{claim-of-work, handed-on}
+use Rattle.std.proofs.Common.{◌≡◌, length, rules, refl}
 use Rattle.ide_steps.proofs.Noted.{remembers-same}
-use Rattle.std.proofs.lemmas.Result.{err_from_is_err_and}
-use Rattle.ide_wire.specs.declared.refused.Refused.TheVariants.{NoMemory}
-use Rattle.ide_steps.specs.PartRefusal.{IsFinishRefusal, left, other, wanting}
-use Rattle.ide_steps.proofs.Refusing.{read-within, some-unless}
+use Rattle.ide_steps.specs.PartRefusal.{left, other}
+use Rattle.ide_steps.proofs.Refusing.{read-within, wants-note}
 use Rattle.ide_steps.proofs.machine.Core.finish.Goals as goal
-
--- the claim's task is the work's, of which no part is left
-pub returns-clause-finished : goal.returns-clause-finished
-returns-clause-finished g c =
-    let B = g.P.F.EdgeFn.edge in
-    let targets = g.P.Problem.targets in
-    let work = c.args.work.now in
-    let there = claim-of-work work (claim_at c.args.self.now.pile c.args.hand) (c.is_current.ensures.current.0 c.if-not-is_current.false) in
-    let task = there.2 in
-    let done = there.3 in
-    let all = ap length c.next.ensures.owed in
-    let over : work.done ≡ length work.parts = search rules in
-    let none : drop work.done (owed B targets work.task) ≡ [] = drop_all work.done (owed B targets work.task) (omega (arith, over, all)) in (
-      there.0,
-      there.1,
-      ap (λ n. drop n (owed B targets there.0.task)) done ∙ (ap (λ task. drop work.done (owed B targets task)) task ∙ none),
-      c.in_ok-end_claim.ensures.finished there.0 there.1,
-    )
-
-pub returns-clause-current : goal.returns-clause-current
-returns-clause-current g c =
-    record { claim = c.is_current.ensures.current.0 c.if-not-is_current.false; parts = c.is_current.ensures.owed c.if-not-is_current.false }
 
 pub returns-then-not-is_current-clause-refused : goal.returns-then-not-is_current-clause-refused
 returns-then-not-is_current-clause-refused g c = other (λ is. let yes = c.is_current.ensures.current.1 is in cc (yes, c.if-not-is_current.true))
@@ -39,18 +11,15 @@ pub returns-then-is_some-clause-refused : goal.returns-then-is_some-clause-refus
 returns-then-is_some-clause-refused g c =
     left (c.is_current.ensures.current.0 c.if-not-is_current.false) (read-within c.args.work.now.parts c.args.work.now.done c.next.result c.next.ensures.next (search rules))
 
-pub returns-in_err-end_claim-clause-refused : goal.returns-in_err-end_claim-clause-refused
-returns-in_err-end_claim-clause-refused g c =
-    let p = err_from_is_err_and c.from_residual.result c.from_residual.ensures.1 in
-    let done : c.args.work.now.done ≡ length c.args.work.now.parts = search rules in
-    let unless : c.args.self.now.changes ≡ None → ⊥ = search rules in
-    handed-on (IsFinishRefusal g.P.F.EdgeFn.edge g.P.Problem.targets c.args.self.now c.args.hand c.args.work.now) c.from_residual.result NoMemory p.0 p.1
-    (p.2 ∙ c.in_err-end_claim.ensures.refused)
-    (wanting (record { claim = c.is_current.ensures.current.0 c.if-not-is_current.false; parts = c.is_current.ensures.owed c.if-not-is_current.false })
-    (omega (arith, done)) (some-unless c.args.self.now.changes unless))
-
 pub returns-then-not-is_current-clause-remembers : goal.returns-then-not-is_current-clause-remembers
 returns-then-not-is_current-clause-remembers g c = remembers-same _ _ refl refl refl
 
 pub returns-then-is_some-clause-remembers : goal.returns-then-is_some-clause-remembers
 returns-then-is_some-clause-remembers g c = remembers-same _ _ refl refl refl
+
+pub returns-clause-refused : goal.returns-clause-refused
+returns-clause-refused g c =
+    let over : c.args.work.now.done ≡ length c.args.work.now.parts = search rules in
+    wants-note g.P.F.EdgeFn.edge g.P.Problem.targets c.args.self.now c.args.hand c.args.work.now c.own_finish.result
+    (record { claim = c.is_current.ensures.current.0 c.if-not-is_current.false; parts = c.is_current.ensures.owed c.if-not-is_current.false })
+    over c.own_finish.ensures.refused c.own_finish.ensures.nobody

@@ -56,8 +56,8 @@ invariant_of-self-2 g c =
     let same = c.in_ok-reserve.ensures.sealed in
     let waits = c.push_behind.ensures.waiting ∙ ap (λ items. entries_of items ++ behind_first first raw) c.in_ok-reserve.ensures.waiting in
     let few = behind_few first raw in
-    sealed_keeps c.self.inside.core c.take_changes.new.self c.self.inside.outbox.sealed c.push_behind.new.self.sealed _ (behind_first first raw) _ c.self.invariant
-    (ap (λ core. core.changes) c.take_changes.ensures.stays) (first_proper _ c.args.self.now first raw c.in_ok-first.ensures.spells c.in_ok-raw.ensures.spells.proper)
+    sealed_keeps c.self.inside.core c.note_anew.new.self c.self.inside.outbox.sealed c.push_behind.new.self.sealed _ (behind_first first raw) _ c.self.invariant
+    (ap (λ core. core.changes) c.note_anew.ensures.stays) (first_proper _ c.args.self.now first raw c.in_ok-first.ensures.spells c.in_ok-raw.ensures.spells.proper)
     waits (omega (arith, more, same)) (omega (arith, more, same, few, room))
 
 pub returns-clause-begins : goal.returns-clause-begins
@@ -70,7 +70,7 @@ returns-clause-begins g c =
     let waits = c.push_behind.ensures.waiting ∙ ap (λ items. entries_of items ++ behind_first first raw) c.in_ok-reserve.ensures.waiting in
     rw (← c.self.view_is)
     (begins_root _ c.calls_are_acts.ensures _ _ c.cores_are_whole.ensures c.args.self.now c.self.view_is c.args.name.now first raw c.root.new.self c.push_behind.result.number
-    c.in_ok-first.ensures.spells c.in_ok-raw.ensures.spells (omega (arith, room)) c.in_ok-root.ensures.begun c.take_changes.ensures.stays
+    c.in_ok-first.ensures.spells c.in_ok-raw.ensures.spells (omega (arith, room)) c.in_ok-root.ensures.begun c.note_anew.ensures.stays
     (record { version = refl; failed = refl; waiting = waits; sealed = more ∙ ap (λ n. n + length (behind_first first raw)) same }) c.push_behind.ensures.ticket)
 
 pub returns-clause-few : goal.returns-clause-few

@@ -16,7 +16,7 @@ pub returns-in_default-clause-nothing : goal.returns-in_default-clause-nothing
 returns-in_default-clause-nothing g c =
     rw (← c.self.view_is)
     (λ _. seals_nothing _ c.calls_are_acts.ensures _ _ c.cores_are_whole.ensures c.args.self.now c.self.view_is c.in_ok-batch.field-0 c.in_default.is
-    c.in_ok-batch.ensures.spells (record { version = refl; sealed = refl; waiting = refl; failed = refl }) c.take_changes.ensures.stays)
+    c.in_ok-batch.ensures.spells (record { version = refl; sealed = refl; waiting = refl; failed = refl }) c.note_anew.ensures.stays)
 
 pub returns-in_err-reserve-clause-refused : goal.returns-in_err-reserve-clause-refused
 returns-in_err-reserve-clause-refused g c =
@@ -30,8 +30,8 @@ invariant_of-self-2 g c =
     let one = c.push.ensures.sealed in
     let same = c.in_ok-reserve.ensures.sealed in
     let spelled = spelled_batch _ c.args.self.now c.in_ok-batch.field-0 c.in-Some.batch c.in-Some.is c.in_ok-batch.ensures.spells in
-    sealed_keeps c.self.inside.core c.take_changes-2.new.self c.self.inside.outbox.sealed c.push.new.self.sealed _ _ _ c.self.invariant
-    (ap (λ core. core.changes) c.take_changes-2.ensures.stays) (one_proper (entry_of c.in-Some.batch) spelled.spells.proper)
+    sealed_keeps c.self.inside.core c.note_anew-2.new.self c.self.inside.outbox.sealed c.push.new.self.sealed _ _ _ c.self.invariant
+    (ap (λ core. core.changes) c.note_anew-2.ensures.stays) (one_proper (entry_of c.in-Some.batch) spelled.spells.proper)
     (waits_one c.self.inside.outbox.waiting.items c.push.new.self.waiting.items c.in-Some.batch (c.push.ensures.waiting ∙ ap (λ items. items ++ c.in-Some.batch ∷ []) c.in_ok-reserve.ensures.waiting))
     (omega (arith, one, same)) (omega (arith, one, same, room, sealed))
 
@@ -48,7 +48,7 @@ returns-clause-seals g c =
       waiting = waits_one c.self.inside.outbox.waiting.items c.push.new.self.waiting.items c.in-Some.batch (c.push.ensures.waiting ∙ ap (λ items. items ++ c.in-Some.batch ∷ []) c.in_ok-reserve.ensures.waiting);
       sealed = c.push.ensures.sealed ∙ ap (λ n. n + 1) c.in_ok-reserve.ensures.sealed;
     })
-    c.take_changes-2.ensures.stays (c.push.ensures.ticket ∙ c.in_ok-reserve.ensures.sealed))
+    c.note_anew-2.ensures.stays (c.push.ensures.ticket ∙ c.in_ok-reserve.ensures.sealed))
 
 pub returns-clause-few : goal.returns-clause-few
 returns-clause-few g c =
