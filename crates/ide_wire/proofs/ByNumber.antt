@@ -2,7 +2,8 @@
 use Rattle.std.proofs.Common.{◌≡◌, refl, arith}
 use Rattle.std.proofs.lemmas.Bool.Decides.{nat_tests}
 use Rattle.std.specs.Ordering.{nat_cmp, ordering_then}
-use Rattle.ide_wire.specs.KeyOrder.{HasFacts, key_cmp, key_kind, key_number}
+use Rattle.ide_wire.specs.KeyNumber.{HasFacts, key_kind, key_number}
+use Rattle.ide_wire.specs.KeyOrder.{key_cmp}
 use Rattle.ide_wire.specs.declared.key.Key.{Key}
 use Rattle.ide_wire.specs.declared.key.Key.TheVariants.{Jump, Summary}
 

@@ -1,5 +1,5 @@
 -- The order of keys: each jump before each summary, then by node, then by the first fact, then by the second.
-use Rattle.std.specs.Prelude.{◌≡◌, ℕ, ◌+◌, ◌*◌, ◌<◌}
+use Rattle.std.specs.Prelude.{◌≡◌, ℕ}
 use Rattle.std.specs.Cmp.{IsTotalOrder, IsPartialOrder, po}
 use Rattle.std.specs.Cmp.Rules.{comparing}
 use Rattle.std.specs.Ordering.{nat_cmp, on, then_cmp, as_partial_cmp, ordering_then, ordering_reverse, is_eq}
@@ -23,29 +23,21 @@ key_cmp (Summary n a b) (Jump m c d) = Greater
 key_cmp (Summary n a b) (Summary m c d) = numbers_cmp n a b m c d
 
 -- the same order as one field after the other is compared, of which the first is the kind
-abbrev pub key_kind : Key → ℕ
-key_kind (Jump n a b) = 0
-key_kind (Summary n a b) = 1
+abbrev kind_of : Key → ℕ
+kind_of (Jump n a b) = 0
+kind_of (Summary n a b) = 1
 
-abbrev pub first_of : Key → ℕ
+abbrev first_of : Key → ℕ
 first_of (Jump n a b) = a
 first_of (Summary n a b) = a
 
-abbrev pub second_of : Key → ℕ
+abbrev second_of : Key → ℕ
 second_of (Jump n a b) = b
 second_of (Summary n a b) = b
 
--- the node and the facts in one number, the node's bits the highest
-abbrev pub key_number : Key → ℕ
-key_number key = node_of key * 4294967296 + first_of key * 65536 + second_of key
-
--- the facts are numbers of 16 bits
-abbrev pub HasFacts : Key → Type 0
-HasFacts key = (first_of key < 65536) × (second_of key < 65536)
-
 abbrev fields_cmp : Key → Key → Ordering
 fields_cmp =
-    then_cmp (on key_kind nat_cmp) (then_cmp (on node_of nat_cmp) (then_cmp (on first_of nat_cmp) (on second_of nat_cmp)))
+    then_cmp (on kind_of nat_cmp) (then_cmp (on node_of nat_cmp) (then_cmp (on first_of nat_cmp) (on second_of nat_cmp)))
 
 fields_cmp_total : IsTotalOrder fields_cmp
 fields_cmp_total = search (comparing, rules)

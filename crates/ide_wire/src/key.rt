@@ -26,7 +26,7 @@ pub enum Key {
 
 impl Key {
     ghost use Rattle.ide_wire.specs.Key.{node_of};
-    ghost use Rattle.ide_wire.specs.KeyOrder.{HasFacts, key_kind, key_number};
+    ghost use Rattle.ide_wire.specs.KeyNumber.{HasFacts, key_kind, key_number};
 
     /// The node that the key stands at: of a summary its call node.
     pub fn node(self) -> Node
