@@ -5,7 +5,7 @@ use Rattle.ide_instances.specs.ConstValue.{const_algebra, shown_value as shown_c
 use Rattle.ide_instances.specs.Received.{copy_targets, shift_targets, uninit_targets}
 use Rattle.ide_instances.specs.UninitFn.{uninit_edge}
 use Rattle.ide_instances.specs.UninitValue.{uninit_algebra, shown_value}
-use Rattle.ide_service.specs.Solve.{IsSolution}
+use Rattle.ide_solver.specs.Solve.{IsSolution}
 use Rattle.ide_words.specs.declared.words.Instance.{Instance}
 use Rattle.ide_words.specs.declared.words.Instance.TheVariants.{Uninit, Copy, Shift}
 

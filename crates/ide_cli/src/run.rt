@@ -13,7 +13,7 @@ use crate::stores::{SECOND, adopt, create, obey};
 use clap::error::ErrorKind;
 use ide_commands::check;
 use ide_instances::{CopyConst, ShiftConst, Uninit};
-use ide_service::solve_shared;
+use ide_solver::solve_shared;
 use ide_wire::Refused;
 use ide_words::{Instance, Words, read_words};
 use std::convert::AsStr;

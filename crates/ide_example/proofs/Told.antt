@@ -1,7 +1,7 @@
 -- An answer tells the best origin, as the solver's values are best.
 use Rattle.std.proofs.Common.{◌≡◌, ℕ, ◌<◌, Bool, List, [], ◌∷◌, refl, ap, sym, subst, ◌∙◌}
 use Rattle.ide_graph.specs.Supergraph.{Supergraph, IsFoundAt}
-use Rattle.ide_service.specs.Solve.{AreSolved}
+use Rattle.ide_solver.specs.Solve.{AreSolved}
 use Rattle.ide_theory.specs.Best.{IsBest}
 use Rattle.ide_theory.specs.Graphs.{frame_at, roots_at}
 use Rattle.ide_values.specs.Values.{ValuesData, value_there}

@@ -4,7 +4,7 @@ ghost use Rattle.ide_example.specs.Asked.{IsAnswer};
 
 use crate::inputs::Inputs;
 use crate::origin::Origin;
-use ide_service::values_of;
+use ide_solver::values_of;
 use ide_wire::Refused;
 use std::alloc::Global;
 

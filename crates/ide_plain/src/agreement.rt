@@ -5,7 +5,7 @@ ghost use Rattle.ide_plain.specs.Agreement.{AreSame, IsSameAt};
 use crate::walks::values_of_paths;
 use ide_graph::Graph;
 use ide_problem::Problem;
-use ide_service::values_of;
+use ide_solver::values_of;
 use ide_values::Values;
 use ide_wire::{Fact, Node, Refused};
 use std::alloc::Global;

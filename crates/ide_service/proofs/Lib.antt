@@ -1,10 +1,5 @@
 pub mod Loops
-pub mod Begun
 pub mod Counted
-pub mod Refused
-pub mod Results
 pub mod Served
-pub mod Solved
-pub mod Started
 pub mod Published
 pub mod Clients

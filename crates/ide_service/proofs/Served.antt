@@ -42,7 +42,7 @@ use Rattle.ide_values.specs.Frozen.{AreBestOf}
 use Rattle.ide_values.specs.Values.{ValuesData}
 use Rattle.ide_wire.specs.declared.key.Key.{Key}
 use Rattle.ide_wire.specs.declared.refused.Refused.{Refused}
-use Rattle.ide_service.proofs.Results.{if-ok}
+use Rattle.ide_solver.proofs.Results.{if-ok}
 use Rattle.ide_service.specs.Served.{AreAnswersOfRun, AreAnswersOver, ValuesOfRunsAreBest}
 
 module _ {v : ProgramValue} (by : GraphBy v) (names : List (List ℕ)) (roots : List ℕ)

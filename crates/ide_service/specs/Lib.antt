@@ -1,10 +1,6 @@
-pub mod Begun
 pub mod Clients
 pub mod Parts
-pub mod Refusal
 pub mod Refusing
 pub mod Served
-pub mod Solve
 pub mod Spans
-pub mod Started
 pub mod Storing

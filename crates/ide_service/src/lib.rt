@@ -1,10 +1,5 @@
-//! The solver as a service: from the bytes of a text to the bytes of its answers, and what is so of every
-//! run that a store keeps ([`every_run`]).
-//!
-//! ```text
-//! let mut out = Vec::new(alloc);
-//! solve::<CopyConst>(alloc, b"proc main\nvar x\nx = 5\nend\n", &[b"main"], &mut out)?;
-//! ```
+//! A run in a store that several hands and clients share ([`Service`]): how hands work on it, what it
+//! answers, and what is so of every run that a store keeps ([`every_run`]).
 #![tactic(auto)]
 
 mod answers;
@@ -18,7 +13,6 @@ mod progress;
 mod runs;
 mod service;
 mod sharing;
-mod solver;
 mod storing;
 mod together;
 
@@ -28,6 +22,5 @@ pub use hands::{Ended, Gate, Hands, Open, Point, hand_loop};
 pub use progress::Progress;
 pub use runs::{every_run, every_run_on_two_disks, values_of_runs_are_best};
 pub use service::Service;
-pub use solver::{solve, solve_shared, values_of, values_shared};
 pub use storing::store_all;
 pub use together::{Crew, Team, work_together};

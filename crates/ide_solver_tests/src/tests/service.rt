@@ -4,7 +4,7 @@ use ide_graph::Graph;
 use ide_instances::{ConstValue, CopyConst, Reach, Uninit};
 use ide_lattice::Lattice;
 use ide_problem::Problem;
-use ide_service::{solve, values_of};
+use ide_solver::{solve, values_of};
 use ide_text::{Program, parse};
 use ide_values::Values;
 use ide_wire::{Fact, Node, Refused};

@@ -2,7 +2,7 @@
 use super::generated;
 use ide_instances::{CopyConst, ShiftConst, Uninit};
 use ide_problem::Problem;
-use ide_service::{solve, solve_shared};
+use ide_solver::{solve, solve_shared};
 use ide_wire::Refused;
 use ide_worked::{
     ADDS_IN_CALLEE, BRANCH, CALLEES, COPIES, EMPTY, INPUTS, LOOP, PASSES_GLOBAL, RECURSION,

@@ -3,7 +3,7 @@ use Rattle.std.proofs.lemmas.Result.{IfErr-weaker, err_from_is_err_and}
 use Rattle.std.specs.Option.{is_some}
 use Rattle.ide_steps.specs.Room.{IsWholeCore}
 use Rattle.ide_service.specs.Served.{IsAnswerRefusal, no_values, not_frozen}
-use Rattle.ide_service.proofs.Results.{refused-on}
+use Rattle.ide_solver.proofs.Results.{refused-on}
 use Rattle.ide_service.proofs.Served.{answers_over}
 use Rattle.ide_store.specs.Table.{Analysis}
 use Rattle.ide_service.proofs.answers.values_of_table.Given.{Over}

@@ -12,7 +12,7 @@ use Rattle.ide_theory.specs.Sites.{HaveEdgesOf}
 use Rattle.ide_image.specs.Worklist.{IsFree}
 use Rattle.ide_steps.specs.Core.{CoreData}
 use Rattle.ide_steps.specs.State.{state_of}
-use Rattle.ide_service.specs.Solve.{AreRootNames}
+use Rattle.ide_solver.specs.Solve.{AreRootNames}
 
 -- the sites fit together, each procedure's start is its own, and entry facts are facts
 pub record IsInOrder (graph : Supergraph) : Type 0 where

@@ -1,6 +1,6 @@
 use Rattle.std.proofs.Common.{map, take}
-use Rattle.ide_service.specs.Begun.{AreBegun}
-use Rattle.ide_service.proofs.solver.begin_roots.Given as goal
+use Rattle.ide_solver.specs.Begun.{AreBegun}
+use Rattle.ide_solver.proofs.solver.begin_roots.Given as goal
 
 -- the roots of the names that were gone over are begun
 abbrev pub invariant-loop-name : goal.invariant-loop-name

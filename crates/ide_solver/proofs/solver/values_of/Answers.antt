@@ -1,7 +1,7 @@
 use Rattle.std.proofs.Common.{map}
-use Rattle.ide_service.proofs.Refused.{wants-memory}
-use Rattle.ide_service.proofs.Results.{if-ok}
-use Rattle.ide_service.proofs.solver.values_of.Goals as goal
+use Rattle.ide_solver.proofs.Refused.{wants-memory}
+use Rattle.ide_solver.proofs.Results.{if-ok}
+use Rattle.ide_solver.proofs.solver.values_of.Goals as goal
 
 pub returns-clause-solved : goal.returns-clause-solved
 returns-clause-solved g c =

@@ -2,11 +2,11 @@ use Rattle.std.proofs.Common.{map, subst, sym}
 use Rattle.std.proofs.lemmas.Result.{err_from_is_err_and}
 use Rattle.ide_graph.specs.Joined.{start_at}
 use Rattle.ide_theory.specs.Sites.{edges_of}
-use Rattle.ide_service.specs.Refusal.{IsSolveRefusal, memory}
-use Rattle.ide_service.proofs.Refused.{of-text, roots-refused}
-use Rattle.ide_service.proofs.Results.{refused-on}
-use Rattle.ide_service.proofs.Started.{Laws, started}
-use Rattle.ide_service.proofs.solver.started.Goals as goal
+use Rattle.ide_solver.specs.Refusal.{IsSolveRefusal, memory}
+use Rattle.ide_solver.proofs.Refused.{of-text, roots-refused}
+use Rattle.ide_solver.proofs.Results.{refused-on}
+use Rattle.ide_solver.proofs.Started.{Laws, started}
+use Rattle.ide_solver.proofs.solver.started.Goals as goal
 
 pub returns-clause-started : goal.returns-clause-started
 returns-clause-started g c =

@@ -2,9 +2,9 @@ use Rattle.std.proofs.Common.{map, refl, subst, sym}
 use Rattle.std.proofs.lemmas.Result.{IfErr-weaker}
 use Rattle.ide_values.specs.Dump.{dump_of}
 use Rattle.ide_values.specs.Values.{value_there}
-use Rattle.ide_service.specs.Refusal.{IsSharedRefusal, memory, not_solved}
-use Rattle.ide_service.proofs.Results.{on-ok}
-use Rattle.ide_service.proofs.solver.solve_shared.Goals as goal
+use Rattle.ide_solver.specs.Refusal.{IsSharedRefusal, memory, not_solved}
+use Rattle.ide_solver.proofs.Results.{on-ok}
+use Rattle.ide_solver.proofs.solver.solve_shared.Goals as goal
 
 pub returns-clause-solution : goal.returns-clause-solution
 returns-clause-solution g c =

@@ -17,9 +17,9 @@ use Rattle.ide_wire.specs.declared.key.Key.TheVariants.{Jump}
 use Rattle.ide_steps.specs.Core.{CoreData}
 use Rattle.ide_steps.specs.Rooted.{IsBegun}
 use Rattle.ide_steps.specs.State.{state_of}
-use Rattle.ide_service.specs.Begun.{AreBegun, IsInOrder}
+use Rattle.ide_solver.specs.Begun.{AreBegun, IsInOrder}
 use Rattle.ide_steps.specs.Refusal.{IsRootName}
-use Rattle.ide_service.specs.Solve.{AreRootNames, none, then}
+use Rattle.ide_solver.specs.Solve.{AreRootNames, none, then}
 
 -- one name more
 names-more : (graph : Supergraph) {roots mid : List ℕ} {names : List (List ℕ)} (name : List ℕ) (root : ℕ) → AreRootNames graph roots names mid

@@ -1,9 +1,9 @@
 use Rattle.std.proofs.Common.{map, refl}
 use Rattle.ide_values.specs.Dump.{dump_of}
 use Rattle.ide_values.specs.Values.{value_there}
-use Rattle.ide_service.proofs.Refused.{wants-memory}
-use Rattle.ide_service.proofs.Results.{on-ok}
-use Rattle.ide_service.proofs.solver.solve.Goals as goal
+use Rattle.ide_solver.proofs.Refused.{wants-memory}
+use Rattle.ide_solver.proofs.Results.{on-ok}
+use Rattle.ide_solver.proofs.solver.solve.Goals as goal
 
 pub returns-clause-solution : goal.returns-clause-solution
 returns-clause-solution g c =

@@ -25,9 +25,9 @@ use Rattle.ide_theory.specs.State.{nothing_done}
 use Rattle.ide_theory.specs.Theorem.{GraphsAreSupergraphs}
 use Rattle.ide_steps.specs.Core.{CoreData}
 use Rattle.ide_steps.specs.State.{state_of}
-use Rattle.ide_service.specs.Begun.{AreBegun, IsInOrder}
-use Rattle.ide_service.specs.Solve.{AreRootNames}
-use Rattle.ide_service.specs.Started.{IsPrepared}
+use Rattle.ide_solver.specs.Begun.{AreBegun, IsInOrder}
+use Rattle.ide_solver.specs.Solve.{AreRootNames}
+use Rattle.ide_solver.specs.Started.{IsPrepared}
 
 -- the laws of programs' graphs and of runs that are called on
 pub record Laws {F L : Type 0} (A : LatticeAlgebra L) (B : EdgeAlgebra F L) (targets : Targets F) : Type 0 where

@@ -2,12 +2,12 @@ use Rattle.std.proofs.Common.{suc, ◌∷◌, drop, map, take, sym, subst}
 use Rattle.std.proofs.lemmas.Result.{err_from_is_err_and}
 use Rattle.ide_graph.specs.Joined.{start_at}
 use Rattle.ide_theory.specs.Sites.{edges_of}
-use Rattle.ide_service.specs.Begun.{AreBegun}
-use Rattle.ide_service.specs.Refusal.{IsRootsRefusal}
-use Rattle.ide_service.proofs.Begun.{begun-more, begun-none, names-with}
-use Rattle.ide_service.proofs.Refused.{names-around, refused-later, root-refused}
-use Rattle.ide_service.proofs.Results.{refused-on}
-use Rattle.ide_service.proofs.solver.begin_roots.Goals as goal
+use Rattle.ide_solver.specs.Begun.{AreBegun}
+use Rattle.ide_solver.specs.Refusal.{IsRootsRefusal}
+use Rattle.ide_solver.proofs.Begun.{begun-more, begun-none, names-with}
+use Rattle.ide_solver.proofs.Refused.{names-around, refused-later, root-refused}
+use Rattle.ide_solver.proofs.Results.{refused-on}
+use Rattle.ide_solver.proofs.solver.begin_roots.Goals as goal
 
 pub loop-name-init : goal.loop-name-init
 loop-name-init g c = begun-none g.P.L.Lattice.algebra g.P.F.EdgeFn.edge g.P.Problem.targets c.args.core.now

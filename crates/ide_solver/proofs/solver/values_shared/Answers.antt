@@ -1,9 +1,9 @@
 use Rattle.std.proofs.Common.{map, arith, rules}
 use Rattle.std.proofs.lemmas.Result.{IfErr-weaker, err_from_is_err_and}
-use Rattle.ide_service.specs.Refusal.{IsSharedRefusal, not_shared, not_solved}
-use Rattle.ide_service.proofs.Refused.{not_workers}
-use Rattle.ide_service.proofs.Results.{refused-on, if-ok}
-use Rattle.ide_service.proofs.solver.values_shared.Goals as goal
+use Rattle.ide_solver.specs.Refusal.{IsSharedRefusal, not_shared, not_solved}
+use Rattle.ide_solver.proofs.Refused.{not_workers}
+use Rattle.ide_solver.proofs.Results.{refused-on, if-ok}
+use Rattle.ide_solver.proofs.solver.values_shared.Goals as goal
 
 pub returns-then-workers-eq0-clause-refused : goal.returns-then-workers-eq0-clause-refused
 returns-then-workers-eq0-clause-refused g c =

@@ -1,9 +1,9 @@
 //! Solving a text in memory, with one hand. The values may be filled by several workers.
 ghost use Rattle.std.specs.Prelude.{◌≡◌, IfErr, IfOk, OnErr, OnOk, map};
-ghost use Rattle.ide_service.specs.Begun.{AreBegun};
-ghost use Rattle.ide_service.specs.Refusal.{IsRootsRefusal, IsSharedRefusal, IsSolveRefusal};
-ghost use Rattle.ide_service.specs.Solve.{AppendsSolution, AreSolved, LeadsToSolved};
-ghost use Rattle.ide_service.specs.Started.{IsPreparedFor};
+ghost use Rattle.ide_solver.specs.Begun.{AreBegun};
+ghost use Rattle.ide_solver.specs.Refusal.{IsRootsRefusal, IsSharedRefusal, IsSolveRefusal};
+ghost use Rattle.ide_solver.specs.Solve.{AppendsSolution, AreSolved, LeadsToSolved};
+ghost use Rattle.ide_solver.specs.Started.{IsPreparedFor};
 ghost use Rattle.ide_values.specs.Refusal.{AreWorkers};
 
 use ide_graph::{

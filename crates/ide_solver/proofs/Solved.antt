@@ -23,8 +23,8 @@ use Rattle.ide_steps.specs.Going.{GoesOn}
 use Rattle.ide_steps.specs.State.{state_of}
 use Rattle.ide_values.specs.Best.{AreBest, AreOf, TablesRest}
 use Rattle.ide_values.specs.Values.{ValuesData, value_there}
-use Rattle.ide_service.specs.Solve.{AreRootNames, AreSolved}
-use Rattle.ide_service.specs.Started.{IsPrepared}
+use Rattle.ide_solver.specs.Solve.{AreRootNames, AreSolved}
+use Rattle.ide_solver.specs.Started.{IsPrepared}
 
 module _ {F L : Type 0} (A : LatticeAlgebra L) (B : EdgeAlgebra F L) (targets : Targets F)
     (goes_on : (graph : Supergraph) (all : HaveEdgesOf graph.facts graph.sites) → AreJoined graph.sites (start_at graph) → DoRunsGoOn (frame_at A B targets graph all))

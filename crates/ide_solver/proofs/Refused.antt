@@ -20,10 +20,10 @@ use Rattle.ide_text.specs.declared.program.Program.{Program}
 use Rattle.ide_wire.specs.declared.refused.Refused.{Refused}
 use Rattle.ide_wire.specs.declared.refused.Refused.TheVariants.{Limit, NoMemory, Text}
 use Rattle.ide_values.specs.Refusal.{IsValuesRefusal, no_worker, too_many}
-use Rattle.ide_service.specs.Begun.{AreBegun}
-use Rattle.ide_service.specs.Refusal.{FirstRootFault, IsRootsRefusal, IsSolveRefusal, fault, here, later, memory, no_memory, no_program, no_root, root}
-use Rattle.ide_service.specs.Solve.{AreRootNames, none, then}
-use Rattle.ide_service.specs.Started.{IsPrepared}
+use Rattle.ide_solver.specs.Begun.{AreBegun}
+use Rattle.ide_solver.specs.Refusal.{FirstRootFault, IsRootsRefusal, IsSolveRefusal, fault, here, later, memory, no_memory, no_program, no_root, root}
+use Rattle.ide_solver.specs.Solve.{AreRootNames, none, then}
+use Rattle.ide_solver.specs.Started.{IsPrepared}
 
 -- the text's refusal is one of the text and names
 pub of-text : (text : List ℕ) (names : List (List ℕ)) (refused : Refused) → IsRefusalOf text refused → IsSolveRefusal text names refused

@@ -2,11 +2,11 @@ use Rattle.std.proofs.Common.{Some, map, ap, subst, sym, ◌∙◌}
 use Rattle.std.proofs.lemmas.Result.{err_from_is_err_and}
 use Rattle.ide_graph.specs.Joined.{start_at}
 use Rattle.ide_theory.specs.Sites.{edges_of}
-use Rattle.ide_service.specs.Refusal.{IsSolveRefusal, memory}
-use Rattle.ide_service.proofs.Refused.{close-refused, drain-refused}
-use Rattle.ide_service.proofs.Results.{refused-on}
-use Rattle.ide_service.proofs.Solved.{solved}
-use Rattle.ide_service.proofs.solver.closed_of.Goals as goal
+use Rattle.ide_solver.specs.Refusal.{IsSolveRefusal, memory}
+use Rattle.ide_solver.proofs.Refused.{close-refused, drain-refused}
+use Rattle.ide_solver.proofs.Results.{refused-on}
+use Rattle.ide_solver.proofs.Solved.{solved}
+use Rattle.ide_solver.proofs.solver.closed_of.Goals as goal
 
 pub returns-in-Ok-clause-leads : goal.returns-in-Ok-clause-leads
 returns-in-Ok-clause-leads g c = λ values program graph roots best.

@@ -14,7 +14,7 @@ use Rattle.ide_image.specs.Worklist.{IsFree}
 use Rattle.ide_steps.specs.Core.{CoreData}
 use Rattle.ide_steps.specs.Going.{IsFit}
 use Rattle.ide_steps.specs.State.{state_of}
-use Rattle.ide_service.specs.Solve.{AreRootNames}
+use Rattle.ide_solver.specs.Solve.{AreRootNames}
 
 module _ {F L : Type 0} (A : LatticeAlgebra L) (B : EdgeAlgebra F L) (targets : Targets F) where
   -- the core has the program that the text spells, with its graph, and the procedures of the names as its

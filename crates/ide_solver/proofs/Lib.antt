@@ -1,0 +1,5 @@
+pub mod Begun
+pub mod Refused
+pub mod Results
+pub mod Solved
+pub mod Started

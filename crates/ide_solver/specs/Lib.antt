@@ -1,0 +1,4 @@
+pub mod Begun
+pub mod Refusal
+pub mod Solve
+pub mod Started

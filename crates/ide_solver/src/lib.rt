@@ -1,0 +1,11 @@
+//! The solver: from the bytes of a text to the bytes of its answers.
+//!
+//! ```text
+//! let mut out = Vec::new(alloc);
+//! solve::<CopyConst>(alloc, b"proc main\nvar x\nx = 5\nend\n", &[b"main"], &mut out)?;
+//! ```
+#![tactic(auto)]
+
+mod solver;
+
+pub use solver::{solve, solve_shared, values_of, values_shared};
