@@ -2,16 +2,13 @@
 ghost use Rattle.std.specs.Prelude.{◌≡◌};
 ghost use Rattle.std.specs.Arc.{arc_value};
 
-use crate::gates::Counting;
-use crate::services::{
-    Client, OpenedStore, Served, given, open, opened_failing, opened_for_client, opened_for_two,
-    opened_new,
-};
+use crate::services::{Served, given};
 use ide_desks::Accord;
 use ide_disk::{Leave, MemDisk};
 use ide_instances::CopyConst;
+use ide_memory_stores::{Client, OpenedStore, open, opened_failing, opened_for_two, opened_new};
 use ide_problem::Problem;
-use ide_service::{Ended, Open, Point, Service};
+use ide_service::{Ended, Open, Service};
 use ide_slot_journal::SlotJournal;
 use ide_slots::NumberedRecord;
 use ide_wire::Refused;
@@ -121,33 +118,6 @@ fn expect_refused<J: Accord, R: Wait + Clock + Abort + AllocGlobal>(
 fn a_client_is_refused_as_a_store_refuses(rt: HostRuntime) -> Result<(), Fail> {
     let (opened, client) = given(&rt, opened_new(rt.alloc()));
     expect_refused::<Brand, HostRuntime>(&rt, opened, client);
-    Ok(())
-}
-
-/// Asserts that a committer that its gate stops before a record has stored those before it.
-fn expect_one_stored<J: Accord, R: Wait + Clock + Abort + AllocGlobal>(
-    rt: &R,
-    opened: OpenedStore,
-    mut client: Client,
-)
-    requires board { arc_value opened.board ≡ J.board }
-    requires switches { opened.switch.board ≡ J.switches }
-    requires client { client.board ≡ J.board }
-    requires untold { J.told → ⊥ }
-{
-    let service: Served<J> = Service::new(rt.alloc(), opened);
-    let none = Counting::new(Point::BeforeSync, 0);
-    assert!(rt; service.commit(rt, &none) == Ok(Ended::Stopped));
-    assert!(rt; service.acked(&mut client) == 0);
-    let one = Counting::new(Point::Stored, 0);
-    assert!(rt; service.commit(rt, &one) == Ok(Ended::Stopped));
-    assert!(rt; service.acked(&mut client) == 1);
-}
-
-#[test]
-fn a_gate_stops_a_committer_between_two_records(rt: HostRuntime) -> Result<(), Fail> {
-    let (opened, client) = given(&rt, opened_for_client(rt.alloc(), NUMBER));
-    expect_one_stored::<Brand, HostRuntime>(&rt, opened, client);
     Ok(())
 }
 

@@ -1,4 +1,4 @@
-//! Tests of hands, gates and services: a store that several hands work on at once.
+//! Tests of services: clients who order commands, and a committer.
 //!
 //! They stand apart from `ide_service`, since a crate that has tests is proved twice.
 #![tactic(auto)]
@@ -6,10 +6,6 @@
 #[cfg(test)]
 mod clients;
 #[cfg(test)]
-mod gates;
-#[cfg(test)]
-mod hands;
+mod committers;
 #[cfg(test)]
 mod services;
-#[cfg(test)]
-mod workers;

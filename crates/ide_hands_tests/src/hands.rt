@@ -3,9 +3,10 @@ ghost use Rattle.std.specs.Prelude.{◌≡◌};
 ghost use Rattle.std.specs.Arc.{arc_value};
 
 use crate::gates::Counting;
-use crate::services::{OpenedStore, Served, Store, begun, given, opened};
+use crate::services::{Served, given};
 use ide_desks::Accord;
 use ide_instances::CopyConst;
+use ide_memory_stores::{OpenedStore, Store, begun, opened};
 use ide_service::{Ended, Gate, Hands, Open, Point, Service, Span, hand_loop};
 use ide_slot_store::SlotEngine;
 use ide_steps::Claimed;

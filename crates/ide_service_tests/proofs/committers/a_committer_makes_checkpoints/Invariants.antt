@@ -1,9 +1,9 @@
 use Rattle.std.proofs.Common.{[]}
 use Rattle.std.specs.Arc.{arc_value}
-use Rattle.ide_service_tests.proofs.workers.what_a_stopped_hand_did_is_kept.Given as goal
+use Rattle.ide_service_tests.proofs.committers.a_committer_makes_checkpoints.Given as goal
 
-abbrev pub ghosts-expect_one_part : goal.ghosts-expect_one_part
-ghosts-expect_one_part g a = record {
+abbrev pub ghosts-expect_checkpoint : goal.ghosts-expect_checkpoint
+ghosts-expect_checkpoint g a = record {
   board = arc_value a.opened.board;
   switches = a.opened.switch.board;
   told = ⊥;

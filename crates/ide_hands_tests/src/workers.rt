@@ -4,9 +4,10 @@ ghost use Rattle.std.specs.Arc.{arc_value};
 ghost use Rattle.ide_desks.specs.Opened.{IsToldOf};
 
 use crate::gates::{Counting, Crossing, Holding};
-use crate::services::{OpenedStore, Served, Store, given, open, opened, value_at, with_board};
+use crate::services::{Served, given, value_at};
 use ide_desks::Accord;
 use ide_instances::{ConstValue, CopyConst};
+use ide_memory_stores::{OpenedStore, Store, open, opened, with_board};
 use ide_service::{Crew, Ended, Gate, Open, Point, Service, work_together};
 use ide_store::Kept;
 use ide_wire::Refused;
@@ -176,75 +177,5 @@ fn expect_limits<J: Accord + Send + Sync, R: Threads + Wait + Clock + Sync + Abo
 fn workers_have_a_limit(rt: HostRuntime) -> Result<(), Fail> {
     let opened = given(&rt, opened(rt.alloc(), NUMBER));
     expect_limits::<Brand, HostRuntime>(&rt, opened);
-    Ok(())
-}
-
-/// Asserts that a committer which was told that the hands have ended comes to its end three times, with a
-/// checkpoint of the two records in the second round.
-fn expect_checkpoint<J: Accord, R: Wait + Clock + Abort + AllocGlobal>(rt: &R, opened: OpenedStore)
-    requires board { arc_value opened.board ≡ J.board }
-    requires switches { opened.switch.board ≡ J.switches }
-    requires untold { J.told → ⊥ }
-{
-    let service: Served<J> = Service::with_checkpoints(rt.alloc(), opened, 2);
-    service.raise_stop();
-    for _ in 0..3 {
-        assert!(rt; service.commit(rt, &Open { ahead: 0 }) == Ok(Ended::Quiet));
-    }
-    let engine = service.into_engine();
-    assert!(rt; engine.generation() == 1 && engine.writer.base() == 2 && engine.acked() == 2);
-}
-
-// A committer makes a checkpoint where enough records are stored past the last one.
-#[test]
-fn a_committer_makes_checkpoints(rt: HostRuntime) -> Result<(), Fail> {
-    let opened = given(&rt, opened(rt.alloc(), NUMBER));
-    expect_checkpoint::<Brand, HostRuntime>(&rt, opened);
-    Ok(())
-}
-
-/// Asserts that a hand that is stopped behind its claim, of which nothing was done, leaves nothing to seal, and that
-/// another does all.
-fn expect_no_part<J: Accord, R: Wait + Clock + Abort + AllocGlobal>(rt: &R, opened: OpenedStore)
-    requires board { arc_value opened.board ≡ J.board }
-    requires switches { opened.switch.board ≡ J.switches }
-    requires untold { J.told → ⊥ }
-{
-    let service: Served<J> = Service::new(rt.alloc(), opened);
-    let claimed = Counting::new(Point::Claimed, 0);
-    assert!(rt; service.work(rt, 0, &claimed) == Ok(Ended::Stopped));
-    assert!(rt; given(rt, service.seal(rt)).is_none());
-    assert!(rt; service.work(rt, 1, &Open { ahead: 0 }) == Ok(Ended::Quiet));
-}
-
-#[test]
-fn a_hand_that_is_stopped_gives_its_claim_back(rt: HostRuntime) -> Result<(), Fail> {
-    let opened = given(&rt, opened(rt.alloc(), NUMBER));
-    expect_no_part::<Brand, HostRuntime>(&rt, opened);
-    Ok(())
-}
-
-/// Asserts that what a hand did before it was stopped behind its first part is record 2, and found again: two keys,
-/// both pending.
-fn expect_one_part<J: Accord, R: Wait + Clock + Abort + AllocGlobal>(rt: &R, opened: OpenedStore)
-    requires board { arc_value opened.board ≡ J.board }
-    requires switches { opened.switch.board ≡ J.switches }
-    requires untold { J.told → ⊥ }
-{
-    let service: Served<J> = Service::new(rt.alloc(), opened);
-    let parted = Counting::new(Point::Parted, 0);
-    assert!(rt; service.work(rt, 0, &parted) == Ok(Ended::Stopped));
-    let sealed = given(rt, service.seal(rt));
-    assert!(rt; sealed.is_some_and(|ticket| ticket.number == 2));
-    service.raise_stop();
-    assert!(rt; service.commit(rt, &Open { ahead: 0 }) == Ok(Ended::Quiet));
-    let again = given(rt, open(rt.alloc(), service.into_disks()));
-    assert!(rt; again.table.core().key_count() == 2 && again.table.core().pending_count() == 2);
-}
-
-#[test]
-fn what_a_stopped_hand_did_is_kept(rt: HostRuntime) -> Result<(), Fail> {
-    let opened = given(&rt, opened(rt.alloc(), NUMBER));
-    expect_one_part::<Brand, HostRuntime>(&rt, opened);
     Ok(())
 }

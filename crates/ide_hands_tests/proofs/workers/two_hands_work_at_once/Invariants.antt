@@ -1,6 +1,6 @@
 use Rattle.std.proofs.Common.{[]}
 use Rattle.std.specs.Arc.{arc_value}
-use Rattle.ide_service_tests.proofs.workers.two_hands_work_at_once.Given as goal
+use Rattle.ide_hands_tests.proofs.workers.two_hands_work_at_once.Given as goal
 
 abbrev pub ghosts-expect_two_at_once : goal.ghosts-expect_two_at_once
 ghosts-expect_two_at_once g a = record {
