@@ -12,7 +12,7 @@ use Rattle.ide_wire.specs.declared.refused.Refused.{Refused}
 use Rattle.ide_wire.specs.declared.refused.Refused.TheVariants as refusals
 use Rattle.ide_slot_journal.specs.Fillers.{HasMovedOn}
 use Rattle.ide_slot_journal.specs.Moments.{LeavesInCall, LeavesOnlyTwo}
-use Rattle.ide_slot_journal.specs.Stands.{HasFaulted, StandsOn, disks_of, filling_of, sides_of, slot_writer}
+use Rattle.ide_slot_journal.specs.Stands.{AreHonest, HasFaulted, StandsOn, disks_of, filling_of, sides_of, slot_writer}
 use Rattle.ide_slot_journal.specs.declared.journal.SlotJournal.{SlotJournal}
 use Rattle.ide_slot_journal.specs.declared.stage.FillStage.TheVariants as fills
 
@@ -45,6 +45,10 @@ abbrev pub LeavesInCheckpoint : {D : Type 0} {G : Ghosts D} → (old new : SlotJ
 LeavesInCheckpoint {G = G} old new = (slot : Slot) (next : Option Entry) (other : Slot) → StandsOn slot next other old
     → LeavesOnlyTwo G (sides_of old) (sides_of new)
     (LeavesInCall (disks_of old) (CrashesInCheckpoint (filling_writer other old) (disks_of old)))
+
+-- so it is where both disks are honest
+abbrev pub MayLeaveInCheckpoint : {D : Type 0} {G : Ghosts D} → (old new : SlotJournal D G) → Type 0
+MayLeaveInCheckpoint old new = AreHonest old → LeavesInCheckpoint old new
 
 -- no call of a checkpoint changes these
 pub record KeepsNext {D : Type 0} {G : Ghosts D} (old new : SlotJournal D G) : Type 0 where

@@ -1,5 +1,5 @@
 -- What an opening of two disks gives.
-use Rattle.std.specs.Prelude.{◌≡◌, ◌⊎◌, ℕ, Bool, List, [], ◌∷◌, ◌++◌, None, Result, Ok, Err, length}
+use Rattle.std.specs.Prelude.{◌≡◌, ◌⊎◌, ℕ, Bool, List, [], ◌∷◌, ◌++◌, None, Result, Ok, Err, IfOk, length}
 use Rattle.std.specs.Global.{Vec}
 use Rattle.ide_disk.specs.Disk.{DiskState, settled}
 use Rattle.ide_disk.specs.OneCall.{FailsOnce}
@@ -17,6 +17,7 @@ use Rattle.ide_slots.specs.declared.side.Side.{Side}
 use Rattle.ide_wire.specs.declared.refused.Refused.{Refused}
 use Rattle.ide_wire.specs.declared.refused.Refused.TheVariants as refusals
 use Rattle.ide_slot_journal.specs.Moments.{LeavesOnlyTwo}
+use Rattle.ide_slot_journal.specs.Opening.{IsAllSynced, RefusesRead, now_of}
 use Rattle.ide_slot_journal.specs.Stands.{StandsOn, disks_of, sides_of, slot_writer}
 use Rattle.ide_slot_journal.specs.declared.journal.SlotJournal.{SlotJournal}
 use Rattle.ide_slot_journal.specs.declared.stage.FillStage.TheVariants.{Rests}
@@ -33,6 +34,10 @@ states_of G a b = record { a = G.state a; b = G.state b }
 abbrev pub sides_left : {D R : Type 0} {G : Ghosts D} → Result (SlotJournal D G × R) (Refused × D × D) → Sides D
 sides_left (Ok pair) = sides_of pair.0
 sides_left (Err all) = record { a = all.1; b = all.2 }
+
+-- the one of them on that side
+abbrev pub disk_left : {D R : Type 0} {G : Ghosts D} → Side → Result (SlotJournal D G × R) (Refused × D × D) → D
+disk_left {R = R} {G = G} side result = on side (sides_left {R = R} {G = G} result)
 
 -- the slot that the disk held is all that the current disk has, and the journal is that of its writer
 pub record ResumesSlot {D : Type 0} {G : Ghosts D} (current : D) (journal : SlotJournal D G) (found : List NumberedRecord)
@@ -51,6 +56,11 @@ pub record ResumesSlot {D : Type 0} {G : Ghosts D} (current : D) (journal : Slot
   pub tag : journal.tag ≡ slot.head.tag
   pub count : journal.count ≡ slot_count slot
 
+-- so it is where the disk is honest, and all that a read gives is on it
+abbrev pub Resumes : {D E : Type 0} {G : Ghosts D} → (current : D) → Result (SlotJournal D G × Vec NumberedRecord) E → Type 0
+Resumes {G = G} current result = G.honest current → IsAllSynced G current
+    → IfOk result (λ pair. ResumesSlot current pair.0 pair.1.items)
+
 -- there is no next record and no checkpoint; the other disk was not touched
 pub record IsFresh {D : Type 0} {G : Ghosts D} (side : Side) (closed : Bool) (other : D) (journal : SlotJournal D G) : Type 0 where
   pub side_is : journal.side ≡ side
@@ -63,7 +73,7 @@ pub record IsFresh {D : Type 0} {G : Ghosts D} (side : Side) (closed : Bool) (ot
 -- no call of the current disk failed at Ok, and one did where the refusal is the disk's
 abbrev pub FailsOnlyIn : {D R : Type 0} {G : Ghosts D} → Side → D → Result (SlotJournal D G × R) (Refused × D × D) → Type 0
 FailsOnlyIn {G = G} side current (Ok pair) = G.failures pair.0.current ≡ G.failures current
-FailsOnlyIn {R = R} {G = G} side current (Err all) = all.0 ≡ refusals.Disk → FailsOnce G current (on side (sides_left {R = R} {G = G} (Err all)))
+FailsOnlyIn {R = R} {G = G} side current (Err all) = all.0 ≡ refusals.Disk → FailsOnce G current (disk_left {R = R} {G = G} side (Err all))
 
 -- an opening took the current slot, which has that tag, and these are its records; where it is shown, the journal stands on it
 pub record OpensOn {D : Type 0} {G : Ghosts D} (tag : ℕ) (disks : Sides DiskState) (journal : SlotJournal D G)
@@ -87,6 +97,14 @@ settled_both left = record { a = settled left.a; b = settled left.b }
 abbrev pub StopsAnywhere : {D : Type 0} → Ghosts D → D → D → Sides D → Type 0
 StopsAnywhere G a b after = LeavesOnlyTwo G (disk_sides a b) after (λ left. StopsTwo (states_of G a b) (settled_both left))
 
+-- so it is where both are honest
+abbrev pub MayStop : {D : Type 0} → Ghosts D → (a b : D) → (after : Sides D) → Type 0
+MayStop G a b after = G.honest a → G.honest b → StopsAnywhere G a b after
+
+-- an opening stopped, with the disks that come back
+abbrev pub StopsBoth : {D : Type 0} → Ghosts D → (a b : D) → Refused × D × D → Type 0
+StopsBoth G a b all = StopsTwo (states_of G a b) (states_of G all.1 all.2)
+
 -- why no store is opened: a call of a disk failed, no slot is current with that tag, or the current one is not read
 pub data IsOpeningRefusal (tag : ℕ) (left : Sides (List ℕ)) : Refused → Type 0 where
   opening_device : IsOpeningRefusal tag left refusals.Disk
@@ -94,8 +112,20 @@ pub data IsOpeningRefusal (tag : ℕ) (left : Sides (List ℕ)) : Refused → Ty
   opening_slot : (side : Side) (told : SlotHead) {refused : Refused} → IsCurrent side told left → IsSlotRefusal told (on side left) refused
       → IsOpeningRefusal tag left refused
 
+-- such is the refusal beside which the disks come back
+abbrev pub RefusesBoth : {D : Type 0} → Ghosts D → (tag : ℕ) (a b : D) → Refused × D × D → Type 0
+RefusesBoth G tag a b all = IsOpeningRefusal tag (now_of G a b) all.0
+
+-- and of one of them alone
+abbrev pub RefusesOne : {D : Type 0} → Ghosts D → (current : D) → Refused × D × D → Type 0
+RefusesOne G current all = RefusesRead (G.state current).now all.0
+
+-- a call of one of the disks failed, where the refusal is the disk's
+abbrev pub FailsOneDisk : {D : Type 0} → Ghosts D → (a b : D) → Refused × D × D → Type 0
+FailsOneDisk G a b all = all.0 ≡ refusals.Disk → FailsOnce G a all.1 ⊎ FailsOnce G b all.2
+
 -- no call of a disk failed at Ok, and one of one of them did where the refusal is the disk's
 abbrev pub CountsFailures : {D R : Type 0} {G : Ghosts D} → (a b : D) → Result (SlotJournal D G × R) (Refused × D × D) → Type 0
 CountsFailures {R = R} {G = G} a b (Ok pair) =
     let after = sides_of pair.0 in (G.failures after.a ≡ G.failures a) × (G.failures after.b ≡ G.failures b)
-CountsFailures {R = R} {G = G} a b (Err all) = all.0 ≡ refusals.Disk → FailsOnce G a all.1 ⊎ FailsOnce G b all.2
+CountsFailures {R = R} {G = G} a b (Err all) = FailsOneDisk G a b all

@@ -1,11 +1,12 @@
 -- The bytes of a checkpoint.
-use Rattle.std.specs.Prelude.{◌≡◌, ℕ, ◌<◌, ◌≤◌, All, Bool, List, [], ◌++◌, length, map}
+use Rattle.std.specs.Prelude.{◌≡◌, ℕ, ◌<◌, ◌≤◌, All, Bool, List, [], ◌∷◌, ◌++◌, length, map}
 use Rattle.std.specs.Global.{Vec}
+use Rattle.std.specs.declared.collections.VecDeque.{VecDeque}
 use Rattle.ide_journal.specs.Format.{Entry, head_of}
 use Rattle.ide_journal.specs.Lists.{entries_of}
 use Rattle.ide_journal.specs.declared.record.RawRecord.{RawRecord}
 use Rattle.ide_journal.specs.declared.version.Version.TheVariants.{Two}
-use Rattle.ide_slots.specs.Filling.{chunks}
+use Rattle.ide_slots.specs.Filling.{chunks, with_gate}
 use Rattle.ide_slots.specs.Records.{all_numbered}
 use Rattle.ide_slots.specs.Slot.{AreCommands, IsPartEntry, NumberedEntry, Slot, SlotHead, numbered_from, slot_header}
 use Rattle.ide_slots.specs.declared.record.NumberedRecord.{NumberedRecord}
@@ -19,9 +20,21 @@ bytes_of todo = map (λ (chunk : Vec ℕ). chunk.items) todo
 abbrev pub HasMore : List (List ℕ) → (old new : List (Vec ℕ)) → Type 0
 HasMore more old new = bytes_of new ≡ bytes_of old ++ more
 
+-- a record is, with that gate behind it
+abbrev pub SpellsOne : {A : Type 0} → (gate : ℕ) → NumberedEntry → (old new : VecDeque (Vec ℕ) A) → Type 0
+SpellsOne gate entry old new = HasMore (with_gate gate entry ∷ []) old.items new.items
+
+-- records are, each with an open gate behind it
+abbrev pub SpellsOpen : {A : Type 0} → List NumberedEntry → (old new : VecDeque (Vec ℕ) A) → Type 0
+SpellsOpen records old new = HasMore (map (with_gate 1) records) old.items new.items
+
 -- parts are numbered from 0 on
 abbrev pub numbered_parts : List RawRecord → List NumberedEntry
 numbered_parts parts = numbered_from 0 (entries_of parts)
+
+-- these commands and parts are spelled, with an open gate behind each but the last
+abbrev pub SpellsAll : {A : Type 0} → List NumberedRecord → List RawRecord → VecDeque (Vec ℕ) A → Type 0
+SpellsAll commands parts todo = bytes_of todo.items ≡ chunks (all_numbered commands ++ numbered_parts parts)
 
 -- the body of a record is within the limit
 abbrev pub HasShortBody : RawRecord → Type 0
@@ -58,5 +71,5 @@ pub record IsSpelledFrom (told : SlotHead) (closed : Bool) (commands : List Numb
   pub generation : filler.generation ≡ told.generation
   pub base : filler.base ≡ told.base
   pub page : filler.page.items ≡ slot_header told
-  pub todo : bytes_of filler.todo.items ≡ chunks (all_numbered commands ++ numbered_from 0 (entries_of parts))
+  pub todo : SpellsAll commands parts filler.todo
   pub at : filler.at ≡ 4097

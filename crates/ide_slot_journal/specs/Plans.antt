@@ -6,18 +6,24 @@ use Rattle.ide_journal.specs.Lists.{entries_of}
 use Rattle.ide_journal.specs.declared.record.RawRecord.{RawRecord}
 use Rattle.ide_slots.specs.Records.{all_numbered}
 use Rattle.ide_slots.specs.Slot.{Slot}
+use Rattle.ide_slots.specs.Two.{IsUpTo}
 use Rattle.ide_slots.specs.TwoCalls.{PlansCheckpoint}
 use Rattle.ide_slots.specs.declared.record.NumberedRecord.{NumberedRecord}
 use Rattle.ide_wire.specs.declared.refused.Refused.{Refused}
 use Rattle.ide_wire.specs.declared.refused.Refused.TheVariants as refusals
 use Rattle.ide_slot_journal.specs.Planning.{checkpoint_slot}
-use Rattle.ide_slot_journal.specs.Stands.{HasFaulted, StandsOn, slot_writer}
+use Rattle.ide_slot_journal.specs.Stages.{stage_of}
+use Rattle.ide_slot_journal.specs.Stands.{HasFaulted, StandsOn, records_stored, slot_writer}
 use Rattle.ide_slot_journal.specs.declared.journal.SlotJournal.{SlotJournal}
 
 -- the slot of a checkpoint with that base, and these commands and parts
 abbrev pub planned_slot : {D : Type 0} {G : Ghosts D} → SlotJournal D G → (base : ℕ) → List NumberedRecord → List RawRecord → Slot
 planned_slot journal base commands parts =
     checkpoint_slot journal.tag (journal.generation + 1) base (all_numbered commands) (entries_of parts)
+
+-- so many of its records a checkpoint may stand for: all that are stored, where none is under way, or more
+abbrev pub MayHaveBase : {D : Type 0} {G : Ghosts D} → SlotJournal D G → (base : ℕ) → Type 0
+MayHaveBase journal base = IsUpTo (records_stored journal) base (stage_of journal.stage)
 
 -- wherever the journal stands, a checkpoint with that slot is planned
 pub record PlansOn {D : Type 0} {G : Ghosts D} (planned : Slot) (old new : SlotJournal D G) (slot : Slot) (any : Slot)
@@ -28,6 +34,10 @@ pub record PlansOn {D : Type 0} {G : Ghosts D} (planned : Slot) (old new : SlotJ
 abbrev pub Plans : {D : Type 0} {G : Ghosts D} → (planned : Slot) (old new : SlotJournal D G) → Type 0
 Plans planned old new = (slot : Slot) (next : Option Entry) (any : Slot) → StandsOn slot next any old
     → PlansOn planned old new slot any next
+
+-- with the slot of these
+abbrev pub PlansFrom : {D : Type 0} {G : Ghosts D} → (base : ℕ) → List NumberedRecord → List RawRecord → (old new : SlotJournal D G) → Type 0
+PlansFrom base commands parts old new = Plans (planned_slot old base commands parts) old new
 
 -- no plan changes these
 pub record KeepsSides {D : Type 0} {G : Ghosts D} (old new : SlotJournal D G) : Type 0 where

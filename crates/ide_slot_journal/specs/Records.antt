@@ -11,7 +11,7 @@ use Rattle.ide_wire.specs.declared.refused.Refused.{Refused}
 use Rattle.ide_wire.specs.declared.refused.Refused.TheVariants as refusals
 use Rattle.ide_slot_journal.specs.Moments.{LeavesInCall, LeavesOnlyTwo}
 use Rattle.ide_slot_journal.specs.Stages.{once_stored, once_written, phase_from, record_stage}
-use Rattle.ide_slot_journal.specs.Stands.{HasFaulted, StandsOn, disks_of, sides_of, slot_writer}
+use Rattle.ide_slot_journal.specs.Stands.{AreHonest, HasFaulted, StandsOn, disks_of, sides_of, slot_writer}
 use Rattle.ide_slot_journal.specs.declared.journal.SlotJournal.{SlotJournal}
 
 -- no call for a record changes these
@@ -43,6 +43,10 @@ pub record KeepsRecord {D : Type 0} {G : Ghosts D} (old new : SlotJournal D G) :
   pub next : new.next ≡ old.next
   pub stage : new.stage ≡ old.stage
   pub tail : new.tail ≡ old.tail
+
+-- both together: nothing is changed
+abbrev pub IsSameJournal : {D : Type 0} {G : Ghosts D} → (old new : SlotJournal D G) → Type 0
+IsSameJournal old new = KeepsRecord old new × KeepsOther old new
 
 -- a record is the next one, and no disk is touched
 pub record TouchesNoDisk {D : Type 0} {G : Ghosts D} (old new : SlotJournal D G) : Type 0 where
@@ -78,6 +82,10 @@ abbrev pub LeavesInRecord : {D : Type 0} {G : Ghosts D} → (old new : SlotJourn
 LeavesInRecord {G = G} old new = (slot : Slot) (entry : Entry) (other : Slot) → StandsOn slot (Some entry) other old
     → LeavesOnlyTwo G (sides_of old) (sides_of new)
     (LeavesInCall (disks_of old) (CrashesInRecord slot entry (slot_writer other old) (disks_of old)))
+
+-- so it is where both disks are honest
+abbrev pub MayLeaveInRecord : {D : Type 0} {G : Ghosts D} → (old new : SlotJournal D G) → Type 0
+MayLeaveInRecord old new = AreHonest old → LeavesInRecord old new
 
 -- why a record does not go on: its disk call failed, or one had failed before
 pub data IsRecordRefusal {D : Type 0} {G : Ghosts D} (old new : SlotJournal D G) : Refused → Type 0 where

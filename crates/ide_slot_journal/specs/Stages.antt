@@ -8,6 +8,7 @@ use Rattle.ide_slots.specs.DiskCalls.{Cuts, DiskCall, Syncs, Writes}
 use Rattle.ide_slots.specs.Filling.{Closes, Filling, Fills, Heads, Lasts, OpensGate, Settles, Trims}
 use Rattle.ide_slots.specs.Slot.{Slot}
 use Rattle.ide_slots.specs.Two.{Checkpoint, NotBegun, Planned, UnderWay}
+use Rattle.ide_slots.specs.TwoCalls.{record_call}
 use Rattle.ide_slot_journal.specs.declared.stage.FillStage.{FillStage}
 use Rattle.ide_slot_journal.specs.declared.stage.FillStage.TheVariants as fills
 use Rattle.ide_slot_journal.specs.declared.stage.RecordStage.{RecordStage}
@@ -30,6 +31,10 @@ phase_from records.Written = phases.BodySynced
 phase_from records.BodySynced = phases.GateWritten
 phase_from records.GateWritten = phases.Stored
 phase_from records.Failed = phases.Stored
+
+-- that call, with the gate and what stands behind it
+abbrev pub stage_call : RecordStage → (gate : ℕ) → (tail : List ℕ) → DiskCall
+stage_call stage gate tail = record_call (phase_from stage) gate tail
 
 -- the stage behind a phase
 abbrev pub record_stage : Phase → RecordStage

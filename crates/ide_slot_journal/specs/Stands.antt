@@ -1,7 +1,8 @@
 -- How a journal stands on its two disks.
-use Rattle.std.specs.Prelude.{◌≡◌, ◌≢◌, ℕ, ◌+◌, Bool, List, Option, Some, None, length, map}
+use Rattle.std.specs.Prelude.{◌≡◌, ◌≢◌, ℕ, ◌+◌, ◌≤◌, Bool, List, Option, Some, None, Result, length, map}
 use Rattle.std.specs.Global.{Vec}
 use Rattle.ide_disk.specs.Disk.{DiskState}
+use Rattle.ide_disk.specs.OneCall.{MakesCall}
 use Rattle.ide_disk.specs.declared.disk.Disk.{Ghosts}
 use Rattle.ide_journal.specs.Bytes.{EndsAt}
 use Rattle.ide_journal.specs.Format.{Entry}
@@ -15,7 +16,7 @@ use Rattle.ide_slot_journal.specs.declared.filler.Filler.{Filler}
 use Rattle.ide_slot_journal.specs.declared.journal.SlotJournal.{SlotJournal}
 use Rattle.ide_slot_journal.specs.declared.stage.FillStage.{FillStage}
 use Rattle.ide_slot_journal.specs.declared.stage.FillStage.TheVariants as fills
-use Rattle.ide_slot_journal.specs.declared.stage.RecordStage.TheVariants.{Failed, Idle}
+use Rattle.ide_slot_journal.specs.declared.stage.RecordStage.TheVariants.{Failed, Idle, Waits}
 
 -- what is still to be written behind the first page
 abbrev pub todo_of : Filler → List (List ℕ)
@@ -106,6 +107,14 @@ HasNoNext journal = journal.stage ≡ Idle
 -- a disk call failed
 abbrev pub HasFaulted : {D : Type 0} {G : Ghosts D} → SlotJournal D G → Type 0
 HasFaulted journal = journal.stage ≡ Failed
+
+-- a disk call is made, if none failed before
+abbrev pub CallsIfNoFault : {D T E : Type 0} {G : Ghosts D} → SlotJournal D G → Result T E → (old new : D) → Type 0
+CallsIfNoFault {G = G} journal result old new = (HasFaulted journal → ⊥) → MakesCall G result old new
+
+-- the next record, where nothing of it is written, fits behind the gate on its disk
+abbrev pub HasRoomToWrite : {D : Type 0} {G : Ghosts D} → SlotJournal D G → Type 0
+HasRoomToWrite {G = G} journal = journal.stage ≡ Waits → journal.gate + 1 + length journal.tail.items ≤ G.size journal.current
 
 -- a checkpoint is planned, or makes its calls
 abbrev pub IsCheckpointing : {D : Type 0} {G : Ghosts D} → SlotJournal D G → Type 0

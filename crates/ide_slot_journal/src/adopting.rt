@@ -1,10 +1,9 @@
 //! A closed slot beside a store that stands on one disk.
 ghost use Rattle.std.specs.Prelude.{◌≡◌, ◌↔◌, ◌<◌, length, IfErr, IfOk, IsTrue, OnErr, OnOk};
-ghost use Rattle.ide_journal.specs.Format.{head_of};
 ghost use Rattle.ide_journal.specs.Moments.{OnlyLooks};
 ghost use Rattle.ide_journal.specs.Refusals.{CountsFaults};
-ghost use Rattle.ide_slot_journal.specs.Adopting.{HasCheckpoint, IsCheckpointFront, IsClosingRefusal};
-ghost use Rattle.ide_slots.specs.Two.{first_disk};
+ghost use Rattle.ide_slot_journal.specs.Adopting.{HasCheckpoint, HasClosedSlot, IsCheckpointFront, IsClosingRefusal, TellsCheckpoint};
+ghost use Rattle.ide_slot_journal.specs.OneDisk.{FailsNoCall};
 
 use crate::calls::rewrite;
 use crate::opening::front_of;
@@ -30,7 +29,7 @@ fn is_checkpoint_front(front: &[u8; 4097]) -> bool
 
 /// Whether the disk begins with a checkpoint.
 fn has_checkpoint<D: Disk>(disk: &mut D) -> Result<bool, Refused>
-    ensures has { D.honest disk.old → IfOk result (λ has. IsTrue has ↔ HasCheckpoint (D.state disk.old).now) }
+    ensures has { D.honest disk.old → IfOk result (TellsCheckpoint D.Disk disk.old) }
     ensures same { OnlyLooks D.Disk disk.old disk.new }
     ensures failures { CountsFaults D.Disk result disk.old disk.new }
     ensures refused { IfErr result (λ refused. refused ≡ Refused.Disk) }
@@ -52,10 +51,10 @@ fn has_checkpoint<D: Disk>(disk: &mut D) -> Result<bool, Refused>
 #[tactic(auto, using(crate::specs::Adopting::closing_memory, crate::specs::Adopting::closing_already, crate::specs::Adopting::closing_device))]
 pub fn put_closed<D: Disk>(alloc: Global, disk: &mut D, tag: u8) -> Result<(), Refused>
     requires { 0 < tag }
-    ensures closed { D.honest disk.old → OnOk result (D.state disk.new ≡ first_disk (head_of Version.Two tag)) }
+    ensures closed { D.honest disk.old → OnOk result (HasClosedSlot D.Disk tag disk.new) }
     ensures none { D.honest disk.old → OnOk result (HasCheckpoint (D.state disk.old).now → ⊥) }
     ensures honest { D.honest disk.old → D.honest disk.new }
-    ensures failures { OnOk result (D.failures disk.new ≡ D.failures disk.old) }
+    ensures failures { OnOk result (FailsNoCall D.Disk disk.old disk.new) }
     ensures refused { IfErr result (IsClosingRefusal D.Disk disk.old disk.new) }
 {
     match has_checkpoint(disk) {

@@ -1,11 +1,9 @@
 //! A list of records on two disks.
 ghost use Rattle.std.specs.Prelude.{◌≡◌, ◌↔◌, ◌+◌, ◌<◌, ◌≤◌, length, IsTrue, OnOk, OnErr, IfOk, IfErr, Err, Ok};
-ghost use Rattle.ide_journal.specs.Format.{IsEntry, head_of};
+ghost use Rattle.ide_journal.specs.Format.{IsEntry};
 ghost use Rattle.ide_slots.specs.Records.{all_numbered};
-ghost use Rattle.ide_slots.specs.Two.{IsUpTo};
-ghost use Rattle.ide_slots.specs.TwoCalls.{StopsTwo, record_call};
 ghost use Rattle.ide_slot_journal.specs.OneDisk.{MakesDiskCall};
-ghost use Rattle.ide_slot_journal.specs.Stages.{first_place, phase_from, stage_of};
+ghost use Rattle.ide_slot_journal.specs.Stages.{first_place, stage_call};
 
 use crate::calls::{rewrite, sync, write};
 use crate::filler::Filler;
@@ -58,19 +56,18 @@ pub struct SlotJournal<D: Disk> {
 }
 
 impl<D: Disk> SlotJournal<D> {
-    ghost use Rattle.ide_disk.specs.OneCall.{MakesCall};
     ghost use Rattle.ide_journal.specs.Lists.{entries_of, entry_of};
     ghost use Rattle.ide_journal.specs.Phases.{stage_after};
-    ghost use Rattle.ide_slot_journal.specs.Checkpoints.{FillsOrTurns, IsCheckpointRefusal, KeepsNext, LeavesInCheckpoint, MakesCheckpointStep, TurnsOver, called_disk, still_disk};
+    ghost use Rattle.ide_slot_journal.specs.Checkpoints.{FillsOrTurns, IsCheckpointRefusal, KeepsNext, MakesCheckpointStep, MayLeaveInCheckpoint, TurnsOver, called_disk, still_disk};
     ghost use Rattle.ide_slot_journal.specs.Fillers.{next_place};
-    ghost use Rattle.ide_slot_journal.specs.Making.{FailsNever, IsMakingRefusal, StandsEmpty};
-    ghost use Rattle.ide_slot_journal.specs.Opened.{CountsFailures, FailsOnlyIn, IsFresh, IsOpeningRefusal, OpensBoth, ResumesSlot, StopsAnywhere, sides_left, states_of};
-    ghost use Rattle.ide_slot_journal.specs.Opening.{IsAllSynced, LeavesCut, RefusesRead, StopsOne, now_of};
-    ghost use Rattle.ide_slots.specs.Sides.{off, on};
+    ghost use Rattle.ide_slot_journal.specs.Making.{ComeBackHonest, FailsNever, IsMakingRefusal, StandsNew};
+    ghost use Rattle.ide_slot_journal.specs.Opened.{CountsFailures, FailsOnlyIn, IsFresh, MayStop, OpensBoth, RefusesBoth, RefusesOne, Resumes, StopsBoth, disk_left, sides_left};
+    ghost use Rattle.ide_slot_journal.specs.Opening.{OnlyCuts, StopsIfRefused};
+    ghost use Rattle.ide_slots.specs.Sides.{off};
     ghost use Rattle.ide_slot_journal.specs.Planning.{MakeUpCheckpoint};
-    ghost use Rattle.ide_slot_journal.specs.Plans.{IsPlanRefusal, KeepsSides, Plans, planned_slot};
-    ghost use Rattle.ide_slot_journal.specs.Records.{TouchesNoDisk, IsRecordRefusal, KeepsOther, KeepsRecord, LeavesInRecord, MakesRecordStep, PutsNext, PutsNone, ReachesPhase};
-    ghost use Rattle.ide_slot_journal.specs.Stands.{AreHonest, HasFaulted, IsCheckpointing, IsFilling, HasNoNext, IsTurn, pair_of, sides_of, records_stored};
+    ghost use Rattle.ide_slot_journal.specs.Plans.{IsPlanRefusal, KeepsSides, MayHaveBase, PlansFrom};
+    ghost use Rattle.ide_slot_journal.specs.Records.{TouchesNoDisk, IsRecordRefusal, IsSameJournal, KeepsOther, KeepsRecord, MakesRecordStep, MayLeaveInRecord, PutsNext, PutsNone, ReachesPhase};
+    ghost use Rattle.ide_slot_journal.specs.Stands.{AreHonest, CallsIfNoFault, HasFaulted, HasRoomToWrite, IsCheckpointing, IsFilling, HasNoNext, IsTurn, pair_of, sides_of, records_stored};
 
     /// Makes a store with no record on the disks A and B, whatever they held: both slots are of generation
     /// 0 and closed, and A is current.
@@ -79,14 +76,14 @@ impl<D: Disk> SlotJournal<D> {
     #[tactic(auto, using(crate::specs::Making::making_memory, crate::specs::Making::making_first, crate::specs::Making::making_second))]
     pub fn create(alloc: Global, mut a: D, mut b: D, tag: u8) -> Result<Self, (Refused, D, D)>
         requires { 0 < tag }
-        ensures stands { D.honest a → D.honest b → IfOk result (StandsEmpty (head_of Version.Two tag)) }
+        ensures stands { D.honest a → D.honest b → IfOk result (StandsNew tag) }
         ensures honest { D.honest a → D.honest b → IfOk result AreHonest }
         ensures idle { IfOk result HasNoNext }
         ensures rests { IfOk result (λ journal. journal.filler.stage ≡ FillStage.Rests) }
         ensures failures { IfOk result (λ journal. FailsNever D.Disk a b journal) }
 
         // The disks come back, as they were where memory was refused, and else one of them with one failure more.
-        ensures back { D.honest a → D.honest b → IfErr result (λ all. D.honest all.1 × D.honest all.2) }
+        ensures back { ComeBackHonest D.Disk a b result }
         ensures refused { IfErr result (λ all. IsMakingRefusal D.Disk a b all.1 all.2 all.0) }
     {
         let page = match spell_first(alloc, Version::Two, tag) {
@@ -137,12 +134,12 @@ impl<D: Disk> SlotJournal<D> {
         ensures second_honest { D.honest a → D.honest b → D.honest (sides_left result).b }
 
         // What a crash at any moment leaves of both is something that an opening may have stopped with.
-        ensures any_moment { D.honest a → D.honest b → StopsAnywhere D.Disk a b (sides_left result) }
+        ensures any_moment { MayStop D.Disk a b (sides_left result) }
 
         // One that is refused has stopped.
-        ensures stops { D.honest a → D.honest b → IfErr result (λ all. StopsTwo (states_of D.Disk a b) (states_of D.Disk all.1 all.2)) }
+        ensures stops { D.honest a → D.honest b → IfErr result (StopsBoth D.Disk a b) }
         ensures failures { CountsFailures a b result }
-        ensures refused { D.honest a → D.honest b → IfErr result (λ all. IsOpeningRefusal tag (now_of D.Disk a b) all.0) }
+        ensures refused { D.honest a → D.honest b → IfErr result (RefusesBoth D.Disk tag a b) }
     {
         match choose(&mut a, &mut b, tag) {
             Ok((Side::First, closed)) => Self::resume(alloc, Side::First, a, b, closed),
@@ -160,14 +157,14 @@ impl<D: Disk> SlotJournal<D> {
         closed: bool,
     ) -> Result<(Self, Vec<NumberedRecord>), (Refused, D, D)>
         requires { 4097 ≤ D.size other }
-        ensures resumes { D.honest current → IsAllSynced D.Disk current → IfOk result (λ pair. ResumesSlot current pair.0 pair.1.items) }
+        ensures resumes { Resumes current result }
         ensures fresh { IfOk result (λ pair. IsFresh side closed other pair.0) }
         ensures other { off side (sides_left result) ≡ other }
-        ensures honest { D.honest current → D.honest (on side (sides_left result)) }
-        ensures any_moment { D.honest current → IsAllSynced D.Disk current → LeavesCut D.Disk current (on side (sides_left result)) }
-        ensures stops { D.honest current → IsAllSynced D.Disk current → OnErr result (StopsOne (D.state current) (D.state (on side (sides_left result)))) }
+        ensures honest { D.honest current → D.honest (disk_left side result) }
+        ensures any_moment { OnlyCuts D.Disk current (disk_left side result) }
+        ensures stops { StopsIfRefused D.Disk result current (disk_left side result) }
         ensures failures { FailsOnlyIn side current result }
-        ensures refused { D.honest current → IfErr result (λ all. RefusesRead (D.state current).now all.0) }
+        ensures refused { D.honest current → IfErr result (RefusesOne D.Disk current) }
     {
         match recover(alloc, &mut current) {
             Ok(slot) => {
@@ -314,10 +311,10 @@ impl<D: Disk> SlotJournal<D> {
         requires busy { HasNoNext self.old → ⊥ }
         requires turn { IsTurn self.old }
         ensures steps { AreHonest self.old → MakesRecordStep self.old self.new result }
-        ensures any_moment { AreHonest self.old → LeavesInRecord self.old self.new }
+        ensures any_moment { MayLeaveInRecord self.old self.new }
         ensures honest { AreHonest self.old → AreHonest self.new }
         ensures phase { IfOk result (λ phase. ReachesPhase phase self.old self.new) }
-        ensures call { (HasFaulted self.old → ⊥) → MakesCall D.Disk result self.old.current self.new.current }
+        ensures call { CallsIfNoFault self.old result self.old.current self.new.current }
         ensures other { KeepsOther self.old self.new }
         ensures failed { HasFaulted self.old ↔ (result ≡ Err Refused.Failed) }
         ensures same { HasFaulted self.old → KeepsRecord self.old self.new }
@@ -350,9 +347,9 @@ impl<D: Disk> SlotJournal<D> {
     ) -> Result<(), Refused>
         requires none { IsCheckpointing self.old → ⊥ }
         requires generation { self.old.generation < 4294967295 }
-        requires up_to { IsUpTo (records_stored self.old) base (stage_of self.old.stage) }
+        requires up_to { MayHaveBase self.old base }
         requires proper { MakeUpCheckpoint base (all_numbered commands.now) (entries_of parts.now) }
-        ensures planned { OnOk result (Plans (planned_slot self.old base commands.now parts.now) self.old self.new) }
+        ensures planned { OnOk result (PlansFrom base commands.now parts.now self.old self.new) }
         ensures waits { OnOk result (self.new.filler.stage ≡ FillStage.Waits) }
         ensures none { OnErr result (self.new.filler ≡ self.old.filler) }
         ensures record { KeepsRecord self.old self.new }
@@ -383,14 +380,14 @@ impl<D: Disk> SlotJournal<D> {
     pub fn advance_checkpoint(&mut self) -> Result<bool, Refused>
         requires turn { IsFilling self.old }
         ensures steps { AreHonest self.old → MakesCheckpointStep self.old self.new result }
-        ensures any_moment { AreHonest self.old → LeavesInCheckpoint self.old self.new }
+        ensures any_moment { MayLeaveInCheckpoint self.old self.new }
         ensures honest { AreHonest self.old → AreHonest self.new }
         ensures moves { IfOk result (FillsOrTurns self.old self.new) }
-        ensures call { (HasFaulted self.old → ⊥) → MakesCall D.Disk result self.old.other (called_disk self.new result) }
+        ensures call { CallsIfNoFault self.old result self.old.other (called_disk self.new result) }
         ensures still { still_disk self.new result ≡ self.old.current }
         ensures next { KeepsNext self.old self.new }
         ensures failed { HasFaulted self.old ↔ (result ≡ Err Refused.Failed) }
-        ensures same { HasFaulted self.old → KeepsRecord self.old self.new × KeepsOther self.old self.new }
+        ensures same { HasFaulted self.old → IsSameJournal self.old self.new }
         ensures refused { IfErr result (IsCheckpointRefusal self.old self.new) }
     {
         if self.stage == RecordStage::Failed {
@@ -446,7 +443,7 @@ impl<D: Disk> SlotJournal<D> {
     fn reach_phase(&mut self) -> Phase
         requires busy { HasNoNext self.old → ⊥ }
         requires whole { HasFaulted self.old → ⊥ }
-        requires room { self.old.stage ≡ RecordStage.Waits → self.old.gate + 1 + length self.old.tail.items ≤ D.size self.old.current }
+        requires room { HasRoomToWrite self.old }
         ensures phase { ReachesPhase result self.old self.new }
         ensures current { self.new.current ≡ self.old.current }
         ensures other { KeepsOther self.old self.new }
@@ -486,7 +483,7 @@ fn call_record<D: Disk>(
     requires inside { gate < D.size disk.old }
     requires busy { stage ≡ RecordStage.Idle → ⊥ }
     requires whole { stage ≡ RecordStage.Failed → ⊥ }
-    ensures call { MakesDiskCall D.Disk (record_call (phase_from stage) gate tail.now) result disk.old disk.new }
+    ensures call { MakesDiskCall D.Disk (stage_call stage gate tail.now) result disk.old disk.new }
     ensures grows { D.size disk.old ≤ D.size disk.new }
     ensures room { stage ≡ RecordStage.Waits → OnOk result (gate + 1 + length tail.now ≤ D.size disk.new) }
 {

@@ -1,13 +1,13 @@
 //! What an opening does to the disks.
-ghost use Rattle.std.specs.Prelude.{◌≡◌, ◌⊎◌, ◌+◌, ◌<◌, ◌≤◌, length, take, OnOk, OnErr, IfOk, IfErr, IfNone, IfSome};
-ghost use Rattle.ide_disk.specs.Disk.{CrashLeaves, settled};
+ghost use Rattle.std.specs.Prelude.{◌≡◌, ◌⊎◌, ◌+◌, ◌<◌, ◌≤◌, length, OnOk, IfOk, IfErr, IfNone, IfSome};
+ghost use Rattle.ide_disk.specs.Disk.{CrashLeaves};
 ghost use Rattle.ide_disk.specs.Time.{failures_after};
 ghost use Rattle.ide_journal.specs.Moments.{LeavesNoMore, OnlyLooks};
-ghost use Rattle.ide_journal.specs.Opening.{CutsBehind, LeavesFront};
+ghost use Rattle.ide_journal.specs.Opening.{LeavesFront};
 ghost use Rattle.ide_journal.specs.Refusals.{CountsFaults, RunsOn};
 ghost use Rattle.ide_slots.specs.Loading.{slot_of};
 ghost use Rattle.ide_slots.specs.Slot.{slot_count};
-ghost use Rattle.ide_slot_journal.specs.Opening.{CountsFaultsOfTwo, IsAllSynced, IsChoosingRefusal, IsChosenWith, IsLookRefusal, IsReadFrom, IsRecoveredSlot, IsWholeSlot, LeavesCut, RefusesRead, StopsOne, now_of};
+ghost use Rattle.ide_slot_journal.specs.Opening.{ChoosesSide, CountsFaultsOfTwo, CutsDisk, HasBytes, HasFront, IsLookRefusal, IsReadFrom, IsWholeSlot, OnlyCuts, RecoversSlot, RefusesRead, RefusesSide, StopsIfRefused, SyncsAll};
 
 use ide_disk::{DeviceFault, Disk};
 use ide_slots::{LoadedSlot, Side, choose_slot, read_head, read_slot};
@@ -16,7 +16,7 @@ use std::alloc::Global;
 
 // The first page of the file on the disk, and its first gate: none where the file is shorter.
 pub(crate) fn front_of<D: Disk>(disk: &mut D) -> Result<Option<[u8; 4097]>, Refused>
-    ensures front { D.honest disk.old → IfOk result (λ it. IfSome it (λ front. front ≡ take 4097 (D.state disk.old).now)) }
+    ensures front { D.honest disk.old → IfOk result (λ it. IfSome it (HasFront D.Disk disk.old)) }
     ensures long { IfOk result (λ it. IfSome it (λ _. 4097 ≤ D.size disk.old)) }
     ensures short { IfOk result (λ it. IfNone it (D.size disk.old ≤ 4096)) }
     ensures same { OnlyLooks D.Disk disk.old disk.new }
@@ -40,7 +40,7 @@ pub(crate) fn front_of<D: Disk>(disk: &mut D) -> Result<Option<[u8; 4097]>, Refu
 // The same, where the file is long enough for a slot.
 #[tactic(auto, using(crate::specs::Opening::look_device, crate::specs::Opening::look_short))]
 pub(crate) fn read_front<D: Disk>(disk: &mut D) -> Result<[u8; 4097], Refused>
-    ensures front { D.honest disk.old → IfOk result (λ front. front ≡ take 4097 (D.state disk.old).now) }
+    ensures front { D.honest disk.old → IfOk result (HasFront D.Disk disk.old) }
     ensures long { OnOk result (4097 ≤ D.size disk.old) }
     ensures same { OnlyLooks D.Disk disk.old disk.new }
     ensures failures { CountsFaults D.Disk result disk.old disk.new }
@@ -56,9 +56,9 @@ pub(crate) fn read_front<D: Disk>(disk: &mut D) -> Result<[u8; 4097], Refused>
 // The same, once what a read gives is on the disk.
 #[tactic(auto, using(crate::specs::Opening::look_device))]
 fn look<D: Disk>(disk: &mut D) -> Result<[u8; 4097], Refused>
-    ensures front { D.honest disk.old → IfOk result (λ front. front ≡ take 4097 (D.state disk.old).now) }
+    ensures front { D.honest disk.old → IfOk result (HasFront D.Disk disk.old) }
     ensures long { OnOk result (4097 ≤ D.size disk.new) }
-    ensures synced { D.honest disk.old → OnOk result (D.state disk.new ≡ settled (D.state disk.old).now) }
+    ensures synced { D.honest disk.old → OnOk result (SyncsAll D.Disk disk.old disk.new) }
     ensures runs { RunsOn D.Disk result disk.old disk.new (CrashLeaves (D.state disk.old)) }
     ensures refused { D.honest disk.old → IfErr result (IsLookRefusal (D.state disk.old).now) }
 {
@@ -72,17 +72,17 @@ fn look<D: Disk>(disk: &mut D) -> Result<[u8; 4097], Refused>
 /// the other is closed. What a read gives of either is on the disk then.
 #[tactic(auto, using(crate::specs::Opening::choosing_device, crate::specs::Opening::choosing_slot))]
 pub(crate) fn choose<D: Disk>(a: &mut D, b: &mut D, tag: u8) -> Result<(Side, bool), Refused>
-    ensures chosen { D.honest a.old → D.honest b.old → IfOk result (λ pair. IsChosenWith tag (now_of D.Disk a.old b.old) pair.0 pair.1) }
+    ensures chosen { ChoosesSide D.Disk tag result a.old b.old }
     ensures first_long { OnOk result (4097 ≤ D.size a.new) }
     ensures second_long { OnOk result (4097 ≤ D.size b.new) }
-    ensures first_synced { D.honest a.old → OnOk result (D.state a.new ≡ settled (D.state a.old).now) }
-    ensures second_synced { D.honest b.old → OnOk result (D.state b.new ≡ settled (D.state b.old).now) }
+    ensures first_synced { D.honest a.old → OnOk result (SyncsAll D.Disk a.old a.new) }
+    ensures second_synced { D.honest b.old → OnOk result (SyncsAll D.Disk b.old b.new) }
     ensures first_honest { D.honest a.old → D.honest a.new }
     ensures second_honest { D.honest b.old → D.honest b.new }
     ensures first_moments { D.honest a.old → LeavesNoMore D.Disk a.old a.new }
     ensures second_moments { D.honest b.old → LeavesNoMore D.Disk b.old b.new }
     ensures failures { CountsFaultsOfTwo D.Disk result a.old b.old a.new b.new }
-    ensures refused { D.honest a.old → D.honest b.old → IfErr result (IsChoosingRefusal tag (now_of D.Disk a.old b.old)) }
+    ensures refused { RefusesSide D.Disk tag result a.old b.old }
 {
     let first = match look(a) {
         Ok(first) => first,
@@ -104,7 +104,7 @@ pub(crate) fn choose<D: Disk>(a: &mut D, b: &mut D, tag: u8) -> Result<(Side, bo
 
 // All bytes of the disk.
 fn read_all<D: Disk>(alloc: Global, disk: &mut D) -> Result<Vec<u8>, Refused>
-    ensures bytes { D.honest disk.old → IfOk result (λ bytes. bytes.items ≡ (D.state disk.old).now) }
+    ensures bytes { D.honest disk.old → IfOk result (HasBytes D.Disk disk.old) }
     ensures length { IfOk result (λ bytes. length bytes.items ≡ D.size disk.old) }
     ensures same { OnlyLooks D.Disk disk.old disk.new }
     ensures failures { CountsFaults D.Disk result disk.old disk.new }
@@ -148,10 +148,10 @@ fn load<D: Disk>(alloc: Global, disk: &mut D) -> Result<LoadedSlot, Refused>
 pub(crate) fn recover<D: Disk>(alloc: Global, disk: &mut D) -> Result<LoadedSlot, Refused>
     ensures whole { IfOk result IsWholeSlot }
     ensures inside { IfOk result (λ slot. slot.gate < D.size disk.new) }
-    ensures recovered { D.honest disk.old → IsAllSynced D.Disk disk.old → IfOk result (IsRecoveredSlot D.Disk disk.old disk.new) }
+    ensures recovered { RecoversSlot D.Disk result disk.old disk.new }
     ensures honest { D.honest disk.old → D.honest disk.new }
-    ensures any_moment { D.honest disk.old → IsAllSynced D.Disk disk.old → LeavesCut D.Disk disk.old disk.new }
-    ensures stops { D.honest disk.old → IsAllSynced D.Disk disk.old → OnErr result (StopsOne (D.state disk.old) (D.state disk.new)) }
+    ensures any_moment { OnlyCuts D.Disk disk.old disk.new }
+    ensures stops { StopsIfRefused D.Disk result disk.old disk.new }
     ensures failures { CountsFaults D.Disk result disk.old disk.new }
     ensures refused { D.honest disk.old → IfErr result (RefusesRead (D.state disk.old).now) }
 {
@@ -169,7 +169,7 @@ pub(crate) fn recover<D: Disk>(alloc: Global, disk: &mut D) -> Result<LoadedSlot
 fn repair<D: Disk>(disk: &mut D, gate: u64) -> Result<(), DeviceFault>
     requires { gate < D.size disk.old }
     ensures size { OnOk result (gate < D.size disk.new) }
-    ensures bytes { D.honest disk.old → OnOk result (CutsBehind gate (D.state disk.old) (D.state disk.new)) }
+    ensures bytes { D.honest disk.old → OnOk result (CutsDisk D.Disk gate disk.old disk.new) }
     ensures honest { D.honest disk.old → D.honest disk.new }
     ensures any_moment { D.honest disk.old → LeavesFront D.Disk gate disk.old disk.new }
     ensures failures { D.failures disk.new ≡ failures_after result (D.failures disk.old) }

@@ -1,10 +1,9 @@
 //! The bytes of a checkpoint.
-ghost use Rattle.std.specs.Prelude.{◌≡◌, ◌<◌, ◌≤◌, [], ◌∷◌, ◌++◌, length, map, OnOk, IfOk, IfErr};
+ghost use Rattle.std.specs.Prelude.{◌≡◌, ◌<◌, ◌≤◌, length, OnOk, IfOk, IfErr};
 ghost use Rattle.std.specs.List.{All};
 ghost use Rattle.ide_journal.specs.Lists.{entry_of};
-ghost use Rattle.ide_slots.specs.Filling.{chunks, with_gate};
 ghost use Rattle.ide_slots.specs.Records.{all_numbered};
-ghost use Rattle.ide_slot_journal.specs.Planning.{HasMore, HasShortBody, HasShortRecord, IsSpelledFrom, bytes_of, numbered_parts};
+ghost use Rattle.ide_slot_journal.specs.Planning.{HasShortBody, HasShortRecord, IsSpelledFrom, SpellsAll, SpellsOne, SpellsOpen, numbered_parts};
 
 use crate::filler::Filler;
 use crate::spelling::spell;
@@ -24,7 +23,7 @@ fn push_record(
     gate: u8,
 ) -> Result<(), Refused>
     requires { HasShortBody raw.now }
-    ensures spelled { OnOk result (HasMore (with_gate gate (number, entry_of raw.now) ∷ []) todo.old.items todo.new.items) }
+    ensures spelled { OnOk result (SpellsOne gate (number, entry_of raw.now) todo.old todo.new) }
     ensures refused { IfErr result (λ refused. refused ≡ Refused.NoMemory) }
 {
     let mut chunk = Vec::new(alloc);
@@ -40,7 +39,7 @@ fn push_commands(
     commands: &[NumberedRecord],
 ) -> Result<(), Refused>
     requires { All HasShortRecord commands.now }
-    ensures spelled { OnOk result (HasMore (map (with_gate 1) (all_numbered commands.now)) todo.old.items todo.new.items) }
+    ensures spelled { OnOk result (SpellsOpen (all_numbered commands.now) todo.old todo.new) }
     ensures refused { IfErr result (λ refused. refused ≡ Refused.NoMemory) }
 {
     for command in commands {
@@ -56,7 +55,7 @@ fn push_parts(
     parts: &[RawRecord],
 ) -> Result<(), Refused>
     requires { All HasShortBody parts.now }
-    ensures spelled { OnOk result (HasMore (map (with_gate 1) (numbered_parts parts.now)) todo.old.items todo.new.items) }
+    ensures spelled { OnOk result (SpellsOpen (numbered_parts parts.now) todo.old todo.new) }
     ensures refused { IfErr result (λ refused. refused ≡ Refused.NoMemory) }
 {
     for (number, part) in parts.iter().enumerate() {
@@ -75,7 +74,7 @@ pub(crate) fn spell_records(
     requires some { 0 < length commands.now }
     requires commands { All HasShortRecord commands.now }
     requires parts { All HasShortBody parts.now }
-    ensures spelled { IfOk result (λ todo. bytes_of todo.items ≡ chunks (all_numbered commands.now ++ numbered_parts parts.now)) }
+    ensures spelled { IfOk result (SpellsAll commands.now parts.now) }
     ensures refused { IfErr result (λ refused. refused ≡ Refused.NoMemory) }
 {
     let mut todo = VecDeque::new(alloc);

@@ -1,7 +1,6 @@
 //! The tag of a store on two disks, which tells its analysis.
-ghost use Rattle.std.specs.Prelude.{IfErr, IfOk};
 ghost use Rattle.ide_journal.specs.Moments.{OnlyLooks};
-ghost use Rattle.ide_slot_journal.specs.Opening.{CountsFaultsOfTwo, IsCurrentTag, IsTagRefusal, now_of};
+ghost use Rattle.ide_slot_journal.specs.Opening.{CountsFaultsOfTwo, RefusesTag, TellsTag};
 
 use crate::opening::read_front;
 use ide_disk::Disk;
@@ -14,11 +13,11 @@ use ide_wire::Refused;
 /// Refusals: `Disk`, where a call of a disk failed; `NotAStore`, where no slot is current.
 #[tactic(auto, using(crate::specs::Opening::tag_device))]
 pub fn current_tag<D: Disk>(a: &mut D, b: &mut D) -> Result<u8, Refused>
-    ensures tag { D.honest a.old → D.honest b.old → IfOk result (IsCurrentTag (now_of D.Disk a.old b.old)) }
+    ensures tag { TellsTag D.Disk result a.old b.old }
     ensures first_same { OnlyLooks D.Disk a.old a.new }
     ensures second_same { OnlyLooks D.Disk b.old b.new }
     ensures failures { CountsFaultsOfTwo D.Disk result a.old b.old a.new b.new }
-    ensures refused { D.honest a.old → D.honest b.old → IfErr result (IsTagRefusal (now_of D.Disk a.old b.old)) }
+    ensures refused { RefusesTag D.Disk result a.old b.old }
 {
     let first = match read_front(a) {
         Ok(first) => first,
