@@ -70,6 +70,14 @@ module _ {F L : Type 0} (a : Analysis F L) (tag : ℕ) where
   AsksOver table new_table old new result = (w : SlotWorld a tag) → IsReached a (OnTwoDisks tag) w
       → AreAtWork a tag w table old → ComesTo w new_table new old result
 
+-- so it is of what the one engine has on its disks, and the other sealed
+abbrev pub IsWorthAsking : {P D L F : Type 0} {G : Ghosts D} → (old new : SlotEngine P D L F G) → Type 0
+IsWorthAsking old new = IsWorthACheckpoint old.writer.journal new.table.sealed
+
+-- while one is under way, asking for another answers false, and changes nothing
+abbrev pub AsksInVain : {P D L F : Type 0} {G : Ghosts D} → Result Bool Refused → (old new : SlotEngine P D L F G) → Type 0
+AsksInVain result old new = old.table.failed ≡ false → IsCheckpointing old.writer.journal → (result ≡ Ok false) × (new ≡ old)
+
 -- no disk is called
 abbrev pub CallsNoDisk : {P D L F : Type 0} {G : Ghosts D} → (old new : SlotEngine P D L F G) → Type 0
 CallsNoDisk old new = sides_of new.writer.journal ≡ sides_of old.writer.journal

@@ -28,6 +28,10 @@ module _ {F L : Type 0} (a : Analysis F L) {D : Type 0} {G : Ghosts D} where
 abbrev pub spelling_anew : {F : Type 0} → TableData F → TableData F
 spelling_anew table = record table { version = Two }
 
+-- and nothing else of it changes
+abbrev pub ChangesVersion : {F : Type 0} → (old new : TableData F) → Type 0
+ChangesVersion old new = new ≡ record old { version = new.version }
+
 module _ {F L : Type 0} (a : Analysis F L) {D : Type 0} (G : Ghosts D) where
   -- then a checkpoint begins, in each world on which the halves are at work, and they are at work on the world after that
   abbrev pub CheckpointsBegin : Type 0

@@ -1,6 +1,7 @@
 -- The commands that a writer keeps, the room that it has for one more, and a checkpoint of them and of those that wait.
-use Rattle.std.specs.Prelude.{◌≡◌, ◌<◌, ◌+◌, ◌++◌, ℕ, List, [], length, vec_capacity, vec_len}
+use Rattle.std.specs.Prelude.{◌≡◌, ◌<◌, ◌+◌, ◌++◌, ℕ, Bool, true, List, [], Result, Ok, filter, length, vec_capacity, vec_len}
 use Rattle.std.specs.Global.{Vec}
+use Rattle.std.specs.declared.collections.VecDeque.{VecDeque}
 use Rattle.ide_disk.specs.declared.disk.Disk.{Ghosts}
 use Rattle.ide_journal.specs.Format.{Entry}
 use Rattle.ide_journal.specs.Lists.{entries_of}
@@ -13,7 +14,15 @@ use Rattle.ide_slots.specs.Slot.{AreCommands, NumberedEntry, Slot}
 use Rattle.ide_slots.specs.declared.record.NumberedRecord.{NumberedRecord}
 use Rattle.ide_wire.specs.declared.refused.Refused.{Refused}
 use Rattle.ide_wire.specs.declared.refused.Refused.TheVariants.{Failed, Limit, NoMemory}
-use Rattle.ide_store.specs.TwoDisks.{commands_from}
+use Rattle.ide_store.specs.TwoDisks.{commands_from, is_command}
+
+-- these are the commands among records that a slot has
+abbrev pub AreCommandsAmong : (found : List NumberedRecord) → Vec NumberedRecord → Type 0
+AreCommandsAmong found commands = all_numbered commands.items ≡ filter is_command (all_numbered found)
+
+-- those among records that are numbered from the one on are kept behind the others
+abbrev pub AddsCommands : (from : ℕ) → List RawRecord → (old new : Vec NumberedRecord) → Type 0
+AddsCommands from added old new = all_numbered new.items ≡ all_numbered old.items ++ commands_from from (entries_of added)
 
 -- the next record is one of so many that wait, it has a number, and there is room for it among the commands
 pub record HasRoom {D : Type 0} {G : Ghosts D} (journal : SlotJournal D G) (waiting : ℕ) (commands : Vec NumberedRecord)
@@ -63,3 +72,13 @@ module _ {D : Type 0} {G : Ghosts D} where
     -- why none is planned
     abbrev pub IsPlanWithRefusal : Refused → Type 0
     IsPlanWithRefusal refused = IsPlanOverRefusal base_with commands_with old refused
+
+  -- ---- of the commands that a writer keeps, and of those among the records that wait with it
+  module _ {A : Type 0} (commands : Vec NumberedRecord) (waiting : VecDeque RawRecord A) where
+    -- where the answer is true, one is planned, with these parts
+    abbrev pub PlansKept : {E : Type 0} → Result Bool E → List RawRecord → (old new : SlotJournal D G) → Type 0
+    PlansKept result parts old new = result ≡ Ok true → PlansWith commands.items waiting.items old (entries_of parts) new
+
+    -- and this is why none is
+    abbrev pub RefusesKept : SlotJournal D G → Refused → Type 0
+    RefusesKept old refused = IsPlanWithRefusal commands.items waiting.items old refused

@@ -14,9 +14,9 @@ use Rattle.ide_slots.specs.Slot.{Slot}
 use Rattle.ide_slots.specs.Two.{SlotWriter}
 use Rattle.ide_slots.specs.declared.record.NumberedRecord.{NumberedRecord}
 use Rattle.ide_wire.specs.declared.refused.Refused.{Refused}
-use Rattle.ide_wire.specs.declared.refused.Refused.TheVariants.{Disk, NoMemory}
+use Rattle.ide_wire.specs.declared.refused.Refused.TheVariants.{Disk, Failed, NoMemory}
 use Rattle.ide_store.specs.Hands.{Happens, ProgramEvent}
-use Rattle.ide_store.specs.Opening.{IsOpenStop}
+use Rattle.ide_store.specs.Opening.{HaveFold, IsOpenStop}
 use Rattle.ide_store.specs.Places.{OnTwoDisks}
 use Rattle.ide_store.specs.Table.{Analysis, IsReached, MayDo, MayDoAll, StoreAct, StoreWorld, TableData, WorksOn, after_act, after_acts, new_store, store_at}
 use Rattle.ide_store.specs.Versioned.{VersionedEntry}
@@ -134,6 +134,14 @@ abbrev pub engine_sides_after : {P D L F : Type 0} {G : Ghosts D} → Result (Sl
 engine_sides_after (Ok engine) = sides_of engine.writer.journal
 engine_sides_after (Err all) = record { a = all.1; b = all.2 }
 
+-- both its disks are honest
+abbrev pub HasHonestDisks : {P D L F : Type 0} {G : Ghosts D} → SlotEngine P D L F G → Type 0
+HasHonestDisks engine = AreHonest engine.writer.journal
+
+-- once a call of a disk failed, each call is refused, and changes nothing
+abbrev pub StaysFailed : {P D L F T : Type 0} {G : Ghosts D} → Result T Refused → (old new : SlotEngine P D L F G) → Type 0
+StaysFailed result old new = old.table.failed ≡ true → (result ≡ Err Failed) × (new ≡ old)
+
 module _ {F L : Type 0} (a : Analysis F L) {P D E : Type 0} {G : Ghosts D} where
   -- over honest disks, an engine that was made is at work on a new store
   abbrev pub MakesEngine : ℕ → (first second : D) → Result (SlotEngine P D L F G) E → Type 0
@@ -173,13 +181,22 @@ pub data IsTableStop {F L : Type 0} (a : Analysis F L) {D : Type 0} {G : Ghosts 
       → IsTableStop a writer given refused
   no_room : IsTableStop a writer given NoMemory
 
+-- why there is none over those of its slot, each part as the batch of its items
+abbrev pub RefusesTable : {F L : Type 0} → Analysis F L → {D : Type 0} {G : Ghosts D} → SlotWriterHalf D G → (found : List NumberedRecord)
+    → Refused → Type 0
+RefusesTable a writer found refused = IsTableStop a writer (batches_of found) refused
+
+-- which give an image back
+abbrev pub HasFoldOf : {F L : Type 0} → Analysis F L → {D : Type 0} {G : Ghosts D} → SlotWriterHalf D G → (found : List NumberedRecord) → Type 0
+HasFoldOf a writer found = HaveFold a writer.journal.version (batches_of found)
+
 -- why a store is not opened: for the journal's reason; or it was opened, and there is no half that works
 pub data IsEngineStop {F L : Type 0} (a : Analysis F L) {D : Type 0} (G : Ghosts D) (tag : ℕ) (first second after_first after_second : D)
     : Refused → Type 0 where
   no_journal : {refused : Refused} → IsOpeningRefusal tag (now_of G first second) refused
       → IsEngineStop a G tag first second after_first after_second refused
   no_table : {refused : Refused} (writer : SlotWriterHalf D G) (found : List NumberedRecord) → OpensStore tag first second writer found
-      → pair_of (sides_of writer.journal) ≡ (after_first, after_second) → IsTableStop a writer (batches_of found) refused
+      → pair_of (sides_of writer.journal) ≡ (after_first, after_second) → RefusesTable a writer found refused
       → IsEngineStop a G tag first second after_first after_second refused
 
 -- over honest disks, each refusal of an opening has such a cause

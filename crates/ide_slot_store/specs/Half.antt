@@ -1,14 +1,16 @@
 -- What the writing half of a store on two disks does to the records that were sealed.
 use Rattle.std.specs.Prelude.{◌≡◌, ◌⊎◌, ℕ, ◌+◌, ◌<◌, Bool, true, false, List, [], ◌∷◌, ◌++◌, Result, Ok, Err, drop, filter, length, map, take}
+use Rattle.std.specs.Global.{Vec}
 use Rattle.ide_disk.specs.Disk.{DiskState}
 use Rattle.ide_disk.specs.OneCall.{FailsOnce}
 use Rattle.ide_disk.specs.declared.disk.Disk.{Ghosts}
 use Rattle.ide_journal.specs.Format.{Entry, head_of}
 use Rattle.ide_journal.specs.Lists.{entry_of}
+use Rattle.ide_journal.specs.declared.record.RawRecord.{RawRecord}
 use Rattle.ide_journal.specs.declared.version.Version.TheVariants.{Two}
 use Rattle.ide_slot_journal.specs.Moments.{LeavesOnlyTwo}
 use Rattle.ide_slot_journal.specs.Opened.{OpensOn, states_of}
-use Rattle.ide_slot_journal.specs.Plans.{Plans}
+use Rattle.ide_slot_journal.specs.Plans.{Plans, PlansFrom, planned_slot}
 use Rattle.ide_slot_journal.specs.Stands.{HasFaulted, IsCheckpointing, IsFilling, disks_of, sides_of, slot_writer}
 use Rattle.ide_slot_journal.specs.declared.journal.SlotJournal.{SlotJournal}
 use Rattle.ide_slots.specs.Records.{all_numbered}
@@ -18,8 +20,11 @@ use Rattle.ide_slots.specs.Two.{LeavesTwo, SlotWriter, reads_two}
 use Rattle.ide_slots.specs.declared.record.NumberedRecord.{NumberedRecord}
 use Rattle.ide_wire.specs.declared.refused.Refused.{Refused}
 use Rattle.ide_wire.specs.declared.refused.Refused.TheVariants.{Disk, Failed, Limit, NoMemory}
+use Rattle.ide_store.specs.Handing.{HandsAll, HandsTo}
+use Rattle.ide_store.specs.Table.{TableData}
 use Rattle.ide_store.specs.TwoDisks.{AreSpelledUpTo, FailsTwo, commands_of, is_command, sealing_version}
 use Rattle.ide_store.specs.Versioned.{VersionedEntry, plain}
+use Rattle.ide_slot_store.specs.Commands.{AreCommandsAmong}
 use Rattle.ide_slot_store.specs.Writing.{BeginsFirst, DidCall, DidFail, DidStore, StandsBehind}
 use Rattle.ide_slot_store.specs.declared.writer.SlotWriterHalf.{SlotWriterHalf}
 
@@ -41,6 +46,14 @@ FailsNone {G = G} old new =
 -- one did, of the current disk or of the other
 abbrev pub FailsOne : {D : Type 0} {G : Ghosts D} → (old new : SlotJournal D G) → Type 0
 FailsOne {G = G} old new = FailsOnce G old.current new.current ⊎ FailsOnce G old.other new.other
+
+-- so it is where the refusal is the disk's
+abbrev pub TellsFault : {D T : Type 0} {G : Ghosts D} → Result T Refused → (old new : SlotJournal D G) → Type 0
+TellsFault result old new = result ≡ Err Disk → FailsOne old new
+
+-- once a disk call failed, that stays so, and a record counts as under way
+abbrev pub StaysFaulted : {D E : Type 0} {G : Ghosts D} → Result Bool E → (old new : SlotJournal D G) → Type 0
+StaysFaulted result old new = HasFaulted old → (result ≡ Ok true) × HasFaulted new
 
 -- what a crash at some moment of a step leaves: at once, what one before the step may leave; or behind a failure, what one may
 -- leave behind a call of the step that failed, as a call counts that a crash ends, and which a checkpoint that waits begins first
@@ -70,9 +83,13 @@ module _ {D : Type 0} {G : Ghosts D} where
     pub writes : Shows opens.slot (reads_two (states_of G a b)) → (other : Slot) (records : List VersionedEntry)
         → length records ≡ slot_count opens.slot → commands_of records ≡ filter is_command (all_numbered found)
         → Writes opens.slot other records (length records) half
-    pub commands : all_numbered half.commands.items ≡ filter is_command (all_numbered found)
+    pub commands : AreCommandsAmong found half.commands
     pub rests : IsCheckpointing half.journal → ⊥
     pub none : half.waiting.items ≡ []
+
+  -- of the pair that an opening gives
+  abbrev pub OpensHalf : (tag : ℕ) (a b : D) → SlotWriterHalf D G × Vec NumberedRecord → Type 0
+  OpensHalf tag a b pair = OpensStore tag a b pair.0 pair.1.items
 
   -- the disks after an opening, in the half or beside the refusal
   abbrev pub half_sides_after : {R : Type 0} → Result (SlotWriterHalf D G × R) (Refused × D × D) → Sides D
@@ -152,6 +169,21 @@ module _ {D : Type 0} {G : Ghosts D} where
   abbrev pub PlansWriting : Slot → (old new : SlotWriterHalf D G) → Type 0
   PlansWriting planned old new = (slot other : Slot) (records : List VersionedEntry) (stored : ℕ) → Writes slot other records stored old
       → AreSpelledUpTo planned.base old.journal.version planned.head.version records stored → Writes slot planned records stored new
+
+  -- with the slot of that base, and of these commands and parts
+  abbrev pub WritesGiven : (base : ℕ) → List NumberedRecord → List RawRecord → (old new : SlotWriterHalf D G) → Type 0
+  WritesGiven base commands parts old new = PlansWriting (planned_slot old.journal base commands parts) old new
+
+  -- which its journal plans
+  abbrev pub PlansGiven : (base : ℕ) → List NumberedRecord → List RawRecord → (old new : SlotWriterHalf D G) → Type 0
+  PlansGiven base commands parts old new = PlansFrom base commands parts old.journal new.journal
+
+  -- it takes over what waits with the half that works, where none waits with itself; and all of it, behind what waits
+  abbrev pub TakesFrom : {F : Type 0} → (table new_table : TableData F) → (old new : SlotWriterHalf D G) → Type 0
+  TakesFrom table new_table old new = HandsTo table new_table old.waiting.items new.waiting.items
+
+  abbrev pub TakesAllFrom : {F : Type 0} → (table new_table : TableData F) → (old new : SlotWriterHalf D G) → Type 0
+  TakesAllFrom table new_table old new = HandsAll table new_table old.waiting.items new.waiting.items
 
   -- all records are stored
   abbrev pub HasStoredAll : SlotWriterHalf D G → Type 0

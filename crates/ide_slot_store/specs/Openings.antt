@@ -4,10 +4,10 @@ use Rattle.ide_disk.specs.declared.disk.Disk.{Ghosts}
 use Rattle.ide_slot_journal.specs.Opened.{states_of}
 use Rattle.ide_slot_journal.specs.Stands.{records_stored}
 use Rattle.ide_slots.specs.declared.record.NumberedRecord.{NumberedRecord}
-use Rattle.ide_store.specs.Opening.{GoesOnFrom, HaveFold}
+use Rattle.ide_store.specs.Opening.{GoesOnFrom}
 use Rattle.ide_store.specs.Table.{Analysis, TableData}
 use Rattle.ide_slot_store.specs.Batches.{batches_of}
-use Rattle.ide_slot_store.specs.Engine.{AreOpened}
+use Rattle.ide_slot_store.specs.Engine.{AreOpened, HasFoldOf}
 use Rattle.ide_slot_store.specs.Half.{OpensStore}
 use Rattle.ide_slot_store.specs.declared.writer.SlotWriterHalf.{SlotWriterHalf}
 
@@ -15,6 +15,6 @@ use Rattle.ide_slot_store.specs.declared.writer.SlotWriterHalf.{SlotWriterHalf}
 -- at work
 abbrev pub SlotHalvesOpen : {F L : Type 0} → Analysis F L → {D : Type 0} → Ghosts D → Type 0
 SlotHalvesOpen {F} a {D} G = (tag : ℕ) (first second : D) (writer : SlotWriterHalf D G) (found : List NumberedRecord) (table : TableData F)
-    → OpensStore tag first second writer found → HaveFold a writer.journal.version (batches_of found) → GoesOnFrom a (batches_of found) table
+    → OpensStore tag first second writer found → HasFoldOf a writer found → GoesOnFrom a (batches_of found) table
     → table.version ≡ writer.journal.version → table.sealed ≡ records_stored writer.journal
     → AreOpened a tag (states_of G first second) table writer

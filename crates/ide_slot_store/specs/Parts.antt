@@ -1,12 +1,15 @@
 -- An image in parts, as a checkpoint writes it, and why such parts make one.
-use Rattle.std.specs.Prelude.{◌≡◌, ◌<◌, ◌≤◌, false, List, [], ◌∷◌, None, Some, drop, length, map, take}
+use Rattle.std.specs.Prelude.{◌≡◌, ◌<◌, ◌≤◌, ℕ, Bool, false, List, [], ◌∷◌, None, Some, drop, length, map, take}
+use Rattle.std.specs.Global.{Vec}
 use Rattle.std.specs.List.{Contains}
 use Rattle.ide_batch.specs.Applied.{HasImage}
 use Rattle.ide_batch.specs.Bodies.{AreSpelled}
 use Rattle.ide_batch.specs.Fold.{ProgramImage, image_entry}
-use Rattle.ide_batch.specs.Items.{Functions, Item, is_proper_item}
+use Rattle.ide_batch.specs.Items.{Functions, Item, functions_by, is_proper_item}
 use Rattle.ide_image.specs.Tables.{found}
 use Rattle.ide_journal.specs.Format.{Entry}
+use Rattle.ide_journal.specs.Lists.{entries_of, entry_of}
+use Rattle.ide_journal.specs.declared.record.RawRecord.{RawRecord}
 use Rattle.ide_journal.specs.declared.version.Version.TheVariants.{Two}
 use Rattle.ide_slots.specs.Slot.{IsPartEntry}
 use Rattle.ide_steps.specs.Items.{AreItems}
@@ -37,6 +40,19 @@ module _ {F : Type 0} (forms : Functions F) where
     one_not_spelled : (item : Item F) → Contains items item → is_proper_item forms item ≡ false → IsSpellStop items Limit
     wants_memory : IsSpellStop items NoMemory
 
+module _ {F : Type 0} (proper : F → Bool) (form : F → List ℕ) (same : F → F → Bool) (top : F) (items : List (Item F)) where
+  -- with these tests and forms of functions: a record that is such a part
+  abbrev pub IsRawPart : RawRecord → Type 0
+  IsRawPart part = IsImagePart (functions_by proper form same top) items (entry_of part)
+
+  -- records that are such parts, one behind the other
+  abbrev pub AreInRawParts : Vec RawRecord → Type 0
+  AreInRawParts parts = AreInParts (functions_by proper form same top) items (entries_of parts.items)
+
+  -- and why there are none
+  abbrev pub IsSpellRefusal : Refused → Type 0
+  IsSpellRefusal refused = IsSpellStop (functions_by proper form same top) items refused
+
 module _ {F L : Type 0} (a : Analysis F L) where
   -- the image of the half's core in parts: its present keys, which ascend through all of them; and no more parts than a
   -- checkpoint may have
@@ -45,6 +61,10 @@ module _ {F L : Type 0} (a : Analysis F L) where
     pub are : AreItems table.core items
     pub in_parts : AreInParts (forms_of a) items parts
     pub few : length parts ≤ 4294967295
+
+  -- as records that a writer takes
+  abbrev pub AreRawParts : TableData F → Vec RawRecord → Type 0
+  AreRawParts table parts = AreImageParts table (entries_of parts.items)
 
   -- why an image is not given in parts: no record spells the function of a present key; or there are more keys than the
   -- parts of a checkpoint have room for, 65,536 in each of 4,294,967,295; or memory is wanting

@@ -7,6 +7,7 @@ use Rattle.ide_store.specs.Table.{Analysis, IsReached, TableData}
 use Rattle.ide_store.specs.Versioned.{VersionedEntry}
 use Rattle.ide_store.specs.World.{Sealed}
 use Rattle.ide_slot_store.specs.Engine.{AreAtWork, SlotWorld}
+use Rattle.ide_slot_store.specs.declared.engine.SlotEngine.{SlotEngine}
 use Rattle.ide_slot_store.specs.declared.writer.SlotWriterHalf.{SlotWriterHalf}
 
 module _ {F L : Type 0} (a : Analysis F L) {D : Type 0} {G : Ghosts D} where
@@ -29,3 +30,7 @@ module _ {F L : Type 0} (a : Analysis F L) {D : Type 0} {G : Ghosts D} where
   StoreAll table new_table old new = AreHonest old.journal → (tag : ℕ) (w : SlotWorld a tag) → IsReached a (OnTwoDisks tag) w
       → AreAtWork a tag w table old
       → (then : AreWorking tag w.world.sealed new_table new) × (then.world.world.stored ≡ length w.world.sealed)
+
+-- of an engine
+abbrev pub StoresEngine : {F L : Type 0} → Analysis F L → {P D : Type 0} {G : Ghosts D} → (old new : SlotEngine P D L F G) → Type 0
+StoresEngine a old new = StoreAll a old.table new.table old.writer new.writer

@@ -12,6 +12,7 @@ use std::alloc::Global;
 impl<P: Problem, D: Disk> SlotEngine<P, D> {
     ghost use Rattle.ide_disk.specs.OneCall.{FailsOnce};
     ghost use Rattle.ide_slot_journal.specs.Adopting.{HasCheckpoint};
+    ghost use Rattle.ide_slot_journal.specs.OneDisk.{FailsNoCall};
     ghost use Rattle.ide_slot_store.specs.Adopting.{AdoptsEngine, RefusesAdopting};
     ghost use Rattle.ide_slot_store.specs.Engine.{engine_sides_after};
 
@@ -28,8 +29,8 @@ impl<P: Problem, D: Disk> SlotEngine<P, D> {
         ensures first_honest { D.honest a → D.honest b → D.honest (engine_sides_after result).a }
         ensures second_honest { D.honest a → D.honest b → D.honest (engine_sides_after result).b }
         ensures refused { RefusesAdopting ⟦<P as Kept>⟧.analysis P.TAG a b result }
-        ensures first_failures { OnOk result (D.failures (engine_sides_after result).a ≡ D.failures a) }
-        ensures second_failures { OnOk result (D.failures (engine_sides_after result).b ≡ D.failures b) }
+        ensures first_failures { OnOk result (FailsNoCall D.Disk a (engine_sides_after result).a) }
+        ensures second_failures { OnOk result (FailsNoCall D.Disk b (engine_sides_after result).b) }
     {
         match put_closed(alloc, &mut b, P::TAG) {
             Ok(()) => SlotEngine::open(alloc, a, b),

@@ -1,5 +1,5 @@
 //! A checkpoint of all that is sealed, which the engine is asked for.
-ghost use Rattle.std.specs.Prelude.{◌≡◌, ◌↔◌, ◌<◌, [], false, true, Err, Ok, Some, IfErr, IsTrue, OnErr, OnOk};
+ghost use Rattle.std.specs.Prelude.{◌≡◌, ◌↔◌, ◌<◌, [], true, Ok, Some, IfErr, IsTrue, OnErr, OnOk};
 ghost use Rattle.ide_journal.specs.declared.version.Version.TheVariants.{Two};
 
 use crate::engine::SlotEngine;
@@ -14,7 +14,9 @@ use std::alloc::Global;
 
 impl<P: Problem, D: Disk> SlotEngine<P, D> {
     ghost use Rattle.ide_slot_journal.specs.Stands.{IsCheckpointing};
-    ghost use Rattle.ide_slot_store.specs.Asking.{AsksEngine, CallsNoDisk, IsCheckpointStop, IsImageStop, IsSealAllStop, IsWorthACheckpoint, PlansEngine, SealsEngine};
+    ghost use Rattle.ide_slot_store.specs.Asking.{AsksEngine, AsksInVain, CallsNoDisk, IsCheckpointStop, IsImageStop, IsSealAllStop, IsWorthAsking, PlansEngine, SealsEngine};
+    ghost use Rattle.ide_slot_store.specs.Checkpoint.{ChangesVersion};
+    ghost use Rattle.ide_slot_store.specs.Engine.{StaysFailed};
 
     /// Seals what changed, and begins a checkpoint of all that is sealed, by the image as it stands: once the
     /// records below it are stored, [`SlotEngine::disk_step`] makes its calls. Meanwhile the store goes on,
@@ -29,11 +31,11 @@ impl<P: Problem, D: Disk> SlotEngine<P, D> {
     /// [`TableHalf::seal`]: ide_store::TableHalf::seal
     pub fn checkpoint(&mut self, alloc: Global) -> Result<bool, Refused>
         ensures asks { AsksEngine ⟦<P as Kept>⟧.analysis self.old self.new result }
-        ensures new { result ≡ Ok true → IsWorthACheckpoint self.old.writer.journal self.new.table.sealed }
+        ensures new { result ≡ Ok true → IsWorthAsking self.old self.new }
         ensures version { result ≡ Ok true → self.new.table.version ≡ Two }
         ensures disks { CallsNoDisk self.old self.new }
-        ensures failed { self.old.table.failed ≡ true → (result ≡ Err Refused.Failed) × (self.new ≡ self.old) }
-        ensures waits { self.old.table.failed ≡ false → IsCheckpointing self.old.writer.journal → (result ≡ Ok false) × (self.new ≡ self.old) }
+        ensures failed { StaysFailed result self.old self.new }
+        ensures waits { AsksInVain result self.old self.new }
         ensures refused { IfErr result (IsCheckpointStop ⟦<P as Kept>⟧.analysis self.old self.new) }
     {
         if self.table.is_stopped() {
@@ -57,7 +59,7 @@ impl<P: Problem, D: Disk> SlotEngine<P, D> {
     /// Whether a checkpoint would change what the disks hold: a sealed record stands at or past the base of
     /// the current slot, or that is of the first version.
     fn is_worth_a_checkpoint(&self) -> bool
-        ensures { IsTrue result ↔ IsWorthACheckpoint self.now.writer.journal self.now.table.sealed }
+        ensures { IsTrue result ↔ IsWorthAsking self.now self.now }
     {
         self.table.sealed() > u64::from(self.writer.base())
             || matches!(self.writer.version(), Version::One)
@@ -85,7 +87,7 @@ impl<P: Problem, D: Disk> SlotEngine<P, D> {
         requires handed { self.old.table.waiting ≡ [] }
         requires still { self.old.table.core.changes ≡ Some [] }
         ensures plans { PlansEngine ⟦<P as Kept>⟧.analysis self.old self.new result }
-        ensures table { self.new.table ≡ record self.old.table { version = self.new.table.version } }
+        ensures table { ChangesVersion self.old.table self.new.table }
         ensures version { result ≡ Ok true → self.new.table.version ≡ Two }
         ensures unchanged { OnErr result (self.new.table ≡ self.old.table) }
         ensures disks { CallsNoDisk self.old self.new }

@@ -1,9 +1,9 @@
 //! The commands among records, under their numbers.
-ghost use Rattle.std.specs.Prelude.{◌≡◌, ◌↔◌, ◌<◌, ◌≤◌, ◌+◌, ◌&&◌, ◌++◌, ℕ, drop, filter, length, nat_le, take, vec_capacity, vec_len, IfErr, IfOk, IsTrue, OnOk};
+ghost use Rattle.std.specs.Prelude.{◌≡◌, ◌↔◌, ◌<◌, ◌≤◌, ◌+◌, ◌&&◌, ℕ, drop, length, nat_le, take, vec_capacity, vec_len, IfErr, IfOk, IsTrue, OnOk};
 ghost use Rattle.ide_slots.specs.Slot.{AreCommands, IsCommandEntry};
-ghost use Rattle.ide_journal.specs.Lists.{entries_of, entry_of};
+ghost use Rattle.ide_journal.specs.Lists.{entry_of};
 ghost use Rattle.ide_slots.specs.Records.{all_numbered, numbered};
-ghost use Rattle.ide_store.specs.TwoDisks.{commands_from, is_command};
+ghost use Rattle.ide_slot_store.specs.Commands.{AddsCommands, AreCommandsAmong};
 
 use ide_journal::RawRecord;
 use ide_slots::NumberedRecord;
@@ -42,7 +42,7 @@ pub(crate) fn commands_among(
     alloc: Global,
     found: &[NumberedRecord],
 ) -> Result<Vec<NumberedRecord>, Refused>
-    ensures commands { IfOk result (λ commands. all_numbered commands.items ≡ filter is_command (all_numbered found.now)) }
+    ensures commands { IfOk result (AreCommandsAmong found.now) }
     ensures refused { IfErr result (λ e. e ≡ Refused.NoMemory) }
 {
     let mut commands = Vec::new(alloc);
@@ -62,7 +62,7 @@ pub(crate) fn keep_oldest(
 )
     requires { vec_len commands.old < vec_capacity commands.old }
     ensures waiting { waiting.new.items ≡ drop 1 waiting.old.items }
-    ensures commands { all_numbered commands.new.items ≡ all_numbered commands.old.items ++ commands_from number (entries_of (take 1 waiting.old.items)) }
+    ensures commands { AddsCommands number (take 1 waiting.old.items) commands.old commands.new }
 {
     let Some(raw) = waiting.pop_front() else {
         return;
@@ -83,7 +83,7 @@ pub(crate) fn add_waiting(
     from: u32,
 ) -> Result<(), Refused>
     requires { from + length waiting.now.items ≤ 4294967295 }
-    ensures added { OnOk result (all_numbered commands.new.items ≡ all_numbered commands.old.items ++ commands_from from (entries_of waiting.now.items)) }
+    ensures added { OnOk result (AddsCommands from waiting.now.items commands.old commands.new) }
     ensures stay { take (length commands.old.items) commands.new.items ≡ commands.old.items }
     ensures room { vec_capacity commands.old ≤ vec_capacity commands.new }
     ensures refused { IfErr result (λ e. e ≡ Refused.NoMemory) }

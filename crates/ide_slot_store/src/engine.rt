@@ -1,9 +1,9 @@
 //! A store on two disks that works and writes: a core whose steps are kept on the current disk.
-ghost use Rattle.std.specs.Prelude.{◌≡◌, ◌⊎◌, ◌↔◌, false, true, Err, Ok, IfErr, IfOk, IsTrue, OnOk};
+ghost use Rattle.std.specs.Prelude.{◌≡◌, ◌↔◌, false, true, Err, Ok, IfErr, IfOk, IsTrue, OnOk};
 ghost use Rattle.ide_slot_journal.specs.Stands.{records_stored};
 ghost use Rattle.ide_slot_store.specs.Batches.{batches_of};
-ghost use Rattle.ide_slot_store.specs.Engine.{IsTableStop};
-ghost use Rattle.ide_store.specs.Opening.{GoesOnFrom, HaveFold};
+ghost use Rattle.ide_slot_store.specs.Engine.{HasFoldOf, RefusesTable};
+ghost use Rattle.ide_store.specs.Opening.{GoesOnFrom};
 
 use crate::batches::as_batches;
 use crate::laws::{slot_halves_open, slot_journals_write_stores};
@@ -27,19 +27,20 @@ pub struct SlotEngine<P: Problem, D: Disk> {
 }
 
 impl<P: Problem, D: Disk> SlotEngine<P, D> {
-    ghost use Rattle.ide_disk.specs.OneCall.{FailsOnce};
-    ghost use Rattle.ide_slot_journal.specs.Making.{IsMakingRefusal};
-    ghost use Rattle.ide_slot_journal.specs.Stands.{AreHonest, IsFilling, pair_of, sides_of};
-    ghost use Rattle.ide_slot_store.specs.Engine.{CrashesEngine, CrashesEngineOpening, MakesEngine, OpensEngine, RefusesEngine, StepsEngine, StopsEngineOpening, engine_sides_after};
-    ghost use Rattle.ide_slot_store.specs.Half.{FailsNone, FailsOne};
+    ghost use Rattle.ide_slot_journal.specs.Making.{ComeBackHonest, IsMakingRefusal};
+    ghost use Rattle.ide_slot_journal.specs.OneDisk.{FailsNoCall};
+    ghost use Rattle.ide_slot_journal.specs.Opened.{FailsOneDisk};
+    ghost use Rattle.ide_slot_journal.specs.Stands.{IsFilling, pair_of, sides_of};
+    ghost use Rattle.ide_slot_store.specs.Engine.{CrashesEngine, CrashesEngineOpening, HasHonestDisks, MakesEngine, OpensEngine, RefusesEngine, StaysFailed, StepsEngine, StopsEngineOpening, engine_sides_after};
+    ghost use Rattle.ide_slot_store.specs.Half.{FailsNone, TellsFault};
 
     /// Makes a store with no program and no record on the disks A and B, whatever they held.
     ///
     /// Refusals: those of [`SlotWriterHalf::create`]; the disks come back.
     pub fn create(alloc: Global, a: D, b: D) -> Result<Self, (Refused, D, D)>
         ensures made { MakesEngine ⟦<P as Kept>⟧.analysis P.TAG a b result }
-        ensures honest { D.honest a → D.honest b → IfOk result (λ engine. AreHonest engine.writer.journal) }
-        ensures back { D.honest a → D.honest b → IfErr result (λ all. D.honest all.1 × D.honest all.2) }
+        ensures honest { D.honest a → D.honest b → IfOk result HasHonestDisks }
+        ensures back { ComeBackHonest D.Disk a b result }
         ensures refused { IfErr result (λ all. IsMakingRefusal D.Disk a b all.1 all.2 all.0) }
     {
         slot_journals_write_stores::<P, D>();
@@ -67,9 +68,9 @@ impl<P: Problem, D: Disk> SlotEngine<P, D> {
         ensures refused { RefusesEngine ⟦<P as Kept>⟧.analysis P.TAG a b result }
 
         // `Disk` is answered where a call of one of the disks failed, and at Ok none did.
-        ensures fault { IfErr result (λ all. all.0 ≡ Refused.Disk → FailsOnce D.Disk a all.1 ⊎ FailsOnce D.Disk b all.2) }
-        ensures first_failures { OnOk result (D.failures (engine_sides_after result).a ≡ D.failures a) }
-        ensures second_failures { OnOk result (D.failures (engine_sides_after result).b ≡ D.failures b) }
+        ensures fault { IfErr result (FailsOneDisk D.Disk a b) }
+        ensures first_failures { OnOk result (FailsNoCall D.Disk a (engine_sides_after result).a) }
+        ensures second_failures { OnOk result (FailsNoCall D.Disk b (engine_sides_after result).b) }
     {
         slot_halves_open::<P, D>();
         match SlotWriterHalf::open(alloc, a, b, P::TAG) {
@@ -92,7 +93,7 @@ impl<P: Problem, D: Disk> SlotEngine<P, D> {
     /// is refused; `NoMemory`, before the first call for a record.
     pub fn disk_step(&mut self) -> Result<bool, Refused>
         ensures steps { StepsEngine ⟦<P as Kept>⟧.analysis self.old self.new result }
-        ensures honest { AreHonest self.old.writer.journal → AreHonest self.new.writer.journal }
+        ensures honest { HasHonestDisks self.old → HasHonestDisks self.new }
 
         // Where there was no call to make, it is no checkpoint's turn either.
         ensures rests { result ≡ Ok false → IsFilling self.new.writer.journal → ⊥ }
@@ -104,8 +105,8 @@ impl<P: Problem, D: Disk> SlotEngine<P, D> {
         // `Disk` is answered where a call of a disk failed, and at Ok none did. From then on nothing is
         // done.
         ensures failures { OnOk result (FailsNone self.old.writer.journal self.new.writer.journal) }
-        ensures fault { result ≡ Err Refused.Disk → FailsOne self.old.writer.journal self.new.writer.journal }
-        ensures failed { self.old.table.failed ≡ true → (result ≡ Err Refused.Failed) × (self.new ≡ self.old) }
+        ensures fault { TellsFault result self.old.writer.journal self.new.writer.journal }
+        ensures failed { StaysFailed result self.old self.new }
         ensures fails { result ≡ Err Refused.Disk → self.new.table.failed ≡ true }
     {
         if self.table.is_stopped() {
@@ -160,10 +161,10 @@ fn table_over<P: Problem, D: Disk>(
     writer: &SlotWriterHalf<D>,
 ) -> Result<TableHalf<P>, Refused>
     ensures opened { IfOk result (GoesOnFrom ⟦<P as Kept>⟧.analysis (batches_of found.items)) }
-    ensures folds { OnOk result (HaveFold ⟦<P as Kept>⟧.analysis writer.now.journal.version (batches_of found.items)) }
+    ensures folds { OnOk result (HasFoldOf ⟦<P as Kept>⟧.analysis writer.now found.items) }
     ensures version { IfOk result (λ table. table.version ≡ writer.now.journal.version) }
     ensures sealed { IfOk result (λ table. table.sealed ≡ records_stored writer.now.journal) }
-    ensures refused { IfErr result (IsTableStop ⟦<P as Kept>⟧.analysis writer.now (batches_of found.items)) }
+    ensures refused { IfErr result (RefusesTable ⟦<P as Kept>⟧.analysis writer.now found.items) }
 {
     let records = as_batches(alloc, found)?;
     TableHalf::open(alloc, records.as_slice(), writer.version(), writer.stored())

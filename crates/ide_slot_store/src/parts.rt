@@ -1,9 +1,7 @@
 //! The image in parts, of which a checkpoint is made.
 ghost use Rattle.std.specs.Prelude.{◌≤◌, length, map, IfErr, IfOk};
 ghost use Rattle.std.specs.List.Sorted.{IsStrictlySortedBy};
-ghost use Rattle.ide_batch.specs.Items.{functions_by};
-ghost use Rattle.ide_journal.specs.Lists.{entries_of, entry_of};
-ghost use Rattle.ide_slot_store.specs.Parts.{AreImageParts, AreInParts, CommandsStayBelow, ImagePartsMakeCheckpoints, IsImagePart, IsPartsStop, IsSpellStop, PartsLeadUp};
+ghost use Rattle.ide_slot_store.specs.Parts.{AreInRawParts, AreRawParts, CommandsStayBelow, ImagePartsMakeCheckpoints, IsPartsStop, IsRawPart, IsSpellRefusal, PartsLeadUp};
 ghost use Rattle.ide_wire.specs.KeyOrder.{key_cmp};
 
 use ide_batch::{MOST, Record, may_be_spelled, to_raw};
@@ -29,7 +27,7 @@ pub fn image_parts<P: Problem>(
     alloc: Global,
     table: &TableHalf<P>,
 ) -> Result<Vec<RawRecord>, Refused>
-    ensures parts { IfOk result (λ parts. AreImageParts ⟦<P as Kept>⟧.analysis table.now (entries_of parts.items)) }
+    ensures parts { IfOk result (AreRawParts ⟦<P as Kept>⟧.analysis table.now) }
     ensures refused { IfErr result (IsPartsStop ⟦<P as Kept>⟧.analysis table.now) }
 {
     let items = table.core().items()?;
@@ -42,8 +40,8 @@ pub fn image_parts<P: Problem>(
 /// The items in parts.
 fn parts_of<F: EdgeFn>(alloc: Global, items: &[(Key, F, bool)]) -> Result<Vec<RawRecord>, Refused>
     requires { IsStrictlySortedBy key_cmp (map (λ item. item.0) items.now) }
-    ensures parts { IfOk result (λ parts. AreInParts (functions_by F.proper F.form F.eq F.edge.all_top) items.now (entries_of parts.items)) }
-    ensures refused { IfErr result (IsSpellStop (functions_by F.proper F.form F.eq F.edge.all_top) items.now) }
+    ensures parts { IfOk result (AreInRawParts F.proper F.form F.eq F.edge.all_top items.now) }
+    ensures refused { IfErr result (IsSpellRefusal F.proper F.form F.eq F.edge.all_top items.now) }
 {
     let mut parts = Vec::new(alloc);
     for chunk in items.chunks(MOST) {
@@ -57,8 +55,8 @@ fn part_of<F: EdgeFn>(alloc: Global, items: &[(Key, F, bool)]) -> Result<RawReco
     requires some { 1 ≤ length items.now }
     requires few { length items.now ≤ 65536 }
     requires ascending { IsStrictlySortedBy key_cmp (map (λ item. item.0) items.now) }
-    ensures part { IfOk result (λ part. IsImagePart (functions_by F.proper F.form F.eq F.edge.all_top) items.now (entry_of part)) }
-    ensures refused { IfErr result (IsSpellStop (functions_by F.proper F.form F.eq F.edge.all_top) items.now) }
+    ensures part { IfOk result (IsRawPart F.proper F.form F.eq F.edge.all_top items.now) }
+    ensures refused { IfErr result (IsSpellRefusal F.proper F.form F.eq F.edge.all_top items.now) }
 {
     let change = Record::Batch(Vec::from_slice(alloc, items)?);
     if !may_be_spelled(&change) {

@@ -6,7 +6,7 @@ ghost use Rattle.ide_slot_journal.specs.Plans.{KeepsSides};
 ghost use Rattle.ide_slot_journal.specs.Records.{KeepsRecord};
 ghost use Rattle.ide_slot_journal.specs.Stands.{IsCheckpointing};
 ghost use Rattle.ide_slots.specs.Slot.{IsPartEntry};
-ghost use Rattle.ide_slot_store.specs.Commands.{HasNone, HasRoomForNext, IsPlanWithRefusal, PlansWith};
+ghost use Rattle.ide_slot_store.specs.Commands.{HasNone, HasRoomForNext, PlansKept, RefusesKept};
 
 use crate::commands::{add_waiting, are_fit};
 use ide_disk::Disk;
@@ -48,14 +48,14 @@ pub(crate) fn plan_over<D: Disk>(
     requires parts { All IsPartEntry (entries_of parts.now) }
     requires few { length parts.now ≤ 4294967295 }
     requires room { HasRoomForNext journal.old (length waiting.now.items) commands.old }
-    ensures planned { result ≡ Ok true → PlansWith commands.old.items waiting.now.items journal.old (entries_of parts.now) journal.new }
+    ensures planned { PlansKept commands.old waiting.now result parts.now journal.old journal.new }
     ensures none { result ≡ Ok false → HasNone commands.old.items waiting.now.items journal.old }
     ensures unplanned { (result ≡ Ok true → ⊥) → journal.new.filler ≡ journal.old.filler }
     ensures record { KeepsRecord journal.old journal.new }
     ensures sides { KeepsSides journal.old journal.new }
     ensures stay { take (length commands.old.items) commands.new.items ≡ commands.old.items }
     ensures capacity { vec_capacity commands.old ≤ vec_capacity commands.new }
-    ensures refused { IfErr result (IsPlanWithRefusal commands.old.items waiting.now.items journal.old) }
+    ensures refused { IfErr result (RefusesKept commands.old waiting.now journal.old) }
 {
     let stored = journal.count();
     let Some(base) = base_over(stored, waiting.len()) else {

@@ -6,9 +6,6 @@ ghost use Rattle.ide_journal.specs.Format.{IsEntry};
 ghost use Rattle.ide_journal.specs.Lists.{entries_of, entry_of};
 ghost use Rattle.ide_slots.specs.Records.{all_numbered};
 ghost use Rattle.ide_slots.specs.Slot.{IsPartEntry};
-ghost use Rattle.ide_slots.specs.Two.{IsUpTo};
-ghost use Rattle.ide_slots.specs.TwoCalls.{StopsTwo};
-ghost use Rattle.ide_slot_journal.specs.Stages.{stage_of};
 ghost use Rattle.ide_slot_store.specs.Commands.{HasRoomForNext};
 
 use crate::commands::{commands_among, keep_oldest};
@@ -36,18 +33,16 @@ pub struct SlotWriterHalf<D: Disk> {
 }
 
 impl<D: Disk> SlotWriterHalf<D> {
-    ghost use Rattle.ide_disk.specs.OneCall.{FailsOnce};
-    ghost use Rattle.ide_slot_journal.specs.Checkpoints.{LeavesInCheckpoint};
-    ghost use Rattle.ide_slot_journal.specs.Making.{FailsNever, IsMakingRefusal};
-    ghost use Rattle.ide_slot_journal.specs.Opened.{IsOpeningRefusal, StopsAnywhere, states_of};
-    ghost use Rattle.ide_slot_journal.specs.Opening.{now_of};
+    ghost use Rattle.ide_slot_journal.specs.Checkpoints.{MayLeaveInCheckpoint};
+    ghost use Rattle.ide_slot_journal.specs.Making.{ComeBackHonest, FailsNever, IsMakingRefusal};
+    ghost use Rattle.ide_slot_journal.specs.OneDisk.{FailsNoCall};
+    ghost use Rattle.ide_slot_journal.specs.Opened.{FailsOneDisk, MayStop, RefusesBoth, StopsBoth};
     ghost use Rattle.ide_slot_journal.specs.Planning.{MakeUpCheckpoint};
-    ghost use Rattle.ide_slot_journal.specs.Plans.{IsPlanRefusal, Plans, planned_slot};
-    ghost use Rattle.ide_slot_journal.specs.Records.{LeavesInRecord};
+    ghost use Rattle.ide_slot_journal.specs.Plans.{IsPlanRefusal, MayHaveBase};
+    ghost use Rattle.ide_slot_journal.specs.Records.{MayLeaveInRecord};
     ghost use Rattle.ide_slot_journal.specs.Stands.{AreHonest, HasFaulted, HasNoNext, IsCheckpointing, IsFilling, IsTurn, pair_of, records_stored, sides_of};
-    ghost use Rattle.ide_store.specs.Handing.{HandsAll, HandsTo};
     ghost use Rattle.ide_store.specs.Table.{IsSameTable};
-    ghost use Rattle.ide_slot_store.specs.Half.{CallsOver, CrashesStep, FailsNone, FailsOne, HasNoCommand, HasStoredAll, IsBeginRefusal, IsNewHalf, IsPlanAllRefusal, IsQuiet, IsSameHalf, KeepsWriting, OpensStore, PlansAllOver, PlansWriting, Seals, StepsOver, half_sides_after};
+    ghost use Rattle.ide_slot_store.specs.Half.{CallsOver, CrashesStep, FailsNone, HasNoCommand, HasStoredAll, IsBeginRefusal, IsNewHalf, IsPlanAllRefusal, IsQuiet, IsSameHalf, KeepsWriting, OpensHalf, PlansAllOver, PlansGiven, Seals, StaysFaulted, StepsOver, TakesAllFrom, TakesFrom, TellsFault, WritesGiven, half_sides_after};
 
     /// Makes a store with no record on the disks A and B, whatever they held.
     ///
@@ -57,7 +52,7 @@ impl<D: Disk> SlotWriterHalf<D> {
         ensures made { D.honest a → D.honest b → IfOk result (IsNewHalf tag) }
         ensures honest { D.honest a → D.honest b → IfOk result (λ half. AreHonest half.journal) }
         ensures failures { IfOk result (λ half. FailsNever D.Disk a b half.journal) }
-        ensures back { D.honest a → D.honest b → IfErr result (λ all. D.honest all.1 × D.honest all.2) }
+        ensures back { ComeBackHonest D.Disk a b result }
         ensures refused { IfErr result (λ all. IsMakingRefusal D.Disk a b all.1 all.2 all.0) }
     {
         match SlotJournal::create(alloc, a, b, tag) {
@@ -81,21 +76,21 @@ impl<D: Disk> SlotWriterHalf<D> {
         b: D,
         tag: u8,
     ) -> Result<(Self, Vec<NumberedRecord>), (Refused, D, D)>
-        ensures opened { D.honest a → D.honest b → IfOk result (λ pair. OpensStore tag a b pair.0 pair.1.items) }
+        ensures opened { D.honest a → D.honest b → IfOk result (OpensHalf tag a b) }
         ensures first_honest { D.honest a → D.honest b → D.honest (half_sides_after result).a }
         ensures second_honest { D.honest a → D.honest b → D.honest (half_sides_after result).b }
 
         // What a crash at any moment leaves of both is something that an opening may have stopped with.
-        ensures any_moment { D.honest a → D.honest b → StopsAnywhere D.Disk a b (half_sides_after result) }
+        ensures any_moment { MayStop D.Disk a b (half_sides_after result) }
 
         // One that is refused has stopped.
-        ensures stops { D.honest a → D.honest b → IfErr result (λ all. StopsTwo (states_of D.Disk a b) (states_of D.Disk all.1 all.2)) }
+        ensures stops { D.honest a → D.honest b → IfErr result (StopsBoth D.Disk a b) }
 
         // `Disk` is answered where a call of one of the disks failed, and at Ok none did.
-        ensures fault { IfErr result (λ all. all.0 ≡ Refused.Disk → FailsOnce D.Disk a all.1 ⊎ FailsOnce D.Disk b all.2) }
-        ensures first_failures { OnOk result (D.failures (half_sides_after result).a ≡ D.failures a) }
-        ensures second_failures { OnOk result (D.failures (half_sides_after result).b ≡ D.failures b) }
-        ensures refused { D.honest a → D.honest b → IfErr result (λ all. IsOpeningRefusal tag (now_of D.Disk a b) all.0) }
+        ensures fault { IfErr result (FailsOneDisk D.Disk a b) }
+        ensures first_failures { OnOk result (FailsNoCall D.Disk a (half_sides_after result).a) }
+        ensures second_failures { OnOk result (FailsNoCall D.Disk b (half_sides_after result).b) }
+        ensures refused { D.honest a → D.honest b → IfErr result (RefusesBoth D.Disk tag a b) }
     {
         match SlotJournal::open(alloc, a, b, tag) {
             Ok((journal, records)) => match commands_among(alloc, records.as_slice()) {
@@ -180,10 +175,10 @@ impl<D: Disk> SlotWriterHalf<D> {
     ) -> Result<(), Refused>
         requires none { IsCheckpointing self.old.journal → ⊥ }
         requires generation { self.old.journal.generation < 4294967295 }
-        requires up_to { IsUpTo (records_stored self.old.journal) base (stage_of self.old.journal.stage) }
+        requires up_to { MayHaveBase self.old.journal base }
         requires proper { MakeUpCheckpoint base (all_numbered commands.now) (entries_of parts.now) }
-        ensures planned { OnOk result (Plans (planned_slot self.old.journal base commands.now parts.now) self.old.journal self.new.journal) }
-        ensures writes { OnOk result (PlansWriting (planned_slot self.old.journal base commands.now parts.now) self.old self.new) }
+        ensures planned { OnOk result (PlansGiven base commands.now parts.now self.old self.new) }
+        ensures writes { OnOk result (WritesGiven base commands.now parts.now self.old self.new) }
         ensures disks { sides_of self.new.journal ≡ sides_of self.old.journal }
         ensures unchanged { OnErr result (KeepsWriting self.old self.new) }
         ensures quiet { OnErr result (IsQuiet self.old.journal self.new.journal) }
@@ -234,7 +229,7 @@ impl<D: Disk> SlotWriterHalf<D> {
         // that failed may.
         ensures any_moment { AreHonest self.old.journal → CrashesStep self.old self.new }
         ensures failures { OnOk result (FailsNone self.old.journal self.new.journal) }
-        ensures fault { result ≡ Err Refused.Disk → FailsOne self.old.journal self.new.journal }
+        ensures fault { TellsFault result self.old.journal self.new.journal }
         ensures failed { HasFaulted self.old.journal → result ≡ Err Refused.Failed }
     {
         if self.journal.is_checkpoints_turn() {
@@ -257,7 +252,7 @@ impl<D: Disk> SlotWriterHalf<D> {
         ensures busy { result ≡ Ok true → (HasNoNext self.new.journal → ⊥) }
         ensures rests { result ≡ Ok false → HasStoredAll self.old }
         ensures same { result ≡ Ok false → IsSameHalf self.old self.new }
-        ensures failed { HasFaulted self.old.journal → (result ≡ Ok true) × HasFaulted self.new.journal }
+        ensures failed { StaysFaulted result self.old.journal self.new.journal }
         ensures refused { IfErr result (IsBeginRefusal self.old) }
     {
         if !self.journal.is_idle() {
@@ -286,9 +281,9 @@ impl<D: Disk> SlotWriterHalf<D> {
         ensures calls { AreHonest self.old.journal → CallsOver self.old self.new result }
         ensures made { result ≡ Ok false → ⊥ }
         ensures honest { AreHonest self.old.journal → AreHonest self.new.journal }
-        ensures any_moment { AreHonest self.old.journal → LeavesInRecord self.old.journal self.new.journal }
+        ensures any_moment { MayLeaveInRecord self.old.journal self.new.journal }
         ensures failures { OnOk result (FailsNone self.old.journal self.new.journal) }
-        ensures fault { result ≡ Err Refused.Disk → FailsOne self.old.journal self.new.journal }
+        ensures fault { TellsFault result self.old.journal self.new.journal }
         ensures failed { HasFaulted self.old.journal → result ≡ Err Refused.Failed }
     {
         let number = self.journal.count();
@@ -309,9 +304,9 @@ impl<D: Disk> SlotWriterHalf<D> {
         ensures calls { AreHonest self.old.journal → CallsOver self.old self.new result }
         ensures made { result ≡ Ok false → ⊥ }
         ensures honest { AreHonest self.old.journal → AreHonest self.new.journal }
-        ensures any_moment { AreHonest self.old.journal → LeavesInCheckpoint self.old.journal self.new.journal }
+        ensures any_moment { MayLeaveInCheckpoint self.old.journal self.new.journal }
         ensures failures { OnOk result (FailsNone self.old.journal self.new.journal) }
-        ensures fault { result ≡ Err Refused.Disk → FailsOne self.old.journal self.new.journal }
+        ensures fault { TellsFault result self.old.journal self.new.journal }
         ensures failed { HasFaulted self.old.journal → result ≡ Err Refused.Failed }
     {
         match self.journal.advance_checkpoint() {
@@ -323,7 +318,7 @@ impl<D: Disk> SlotWriterHalf<D> {
     /// Takes over the sealed records that wait with the half that works, where none waits here. It takes
     /// no memory.
     pub fn take_from<P: Problem>(&mut self, table: &mut TableHalf<P>)
-        ensures hands { HandsTo table.old table.new self.old.waiting.items self.new.waiting.items }
+        ensures hands { TakesFrom table.old table.new self.old self.new }
         ensures journal { self.new.journal ≡ self.old.journal }
         ensures commands { self.new.commands.items ≡ self.old.commands.items }
         ensures proper { All IsEntry (entries_of self.new.waiting.items) }
@@ -336,7 +331,7 @@ impl<D: Disk> SlotWriterHalf<D> {
     ///
     /// Refusal: `NoMemory`, and none is taken over.
     pub fn take_all_from<P: Problem>(&mut self, table: &mut TableHalf<P>) -> Result<(), Refused>
-        ensures hands { OnOk result (HandsAll table.old table.new self.old.waiting.items self.new.waiting.items) }
+        ensures hands { OnOk result (TakesAllFrom table.old table.new self.old self.new) }
         ensures journal { self.new.journal ≡ self.old.journal }
         ensures commands { self.new.commands.items ≡ self.old.commands.items }
         ensures proper { All IsEntry (entries_of self.new.waiting.items) }
