@@ -1,5 +1,5 @@
 -- What the desks do that are lent for a checkpoint.
-use Rattle.std.specs.Prelude.{◌≡◌, ◌++◌, Bool, true, List, [], ◌∷◌, None, length}
+use Rattle.std.specs.Prelude.{◌≡◌, ◌++◌, Bool, true, List, [], ◌∷◌, None}
 use Rattle.ide_board.specs.Records.{Marked, TableView, WriterView}
 use Rattle.ide_disk.specs.declared.disk.Disk.{Ghosts}
 use Rattle.ide_journal.specs.declared.version.Version.TheVariants.{Two}
@@ -11,6 +11,7 @@ use Rattle.ide_slot_store.specs.declared.writer.SlotWriterHalf.{SlotWriterHalf}
 use Rattle.ide_store.specs.Table.{Analysis, TableData}
 use Rattle.ide_store.specs.TableCalls.{IsSealStop}
 use Rattle.ide_store.specs.Versioned.{VersionedEntry}
+use Rattle.ide_desks.specs.Desks.{IsAllStored}
 use Rattle.ide_wire.specs.declared.refused.Refused.{Refused}
 use Rattle.ide_wire.specs.declared.refused.Refused.TheVariants.{Failed, Limit}
 
@@ -32,7 +33,7 @@ module _ {F : Type 0} {D : Type 0} {G : Ghosts D} where
   -- no command among the records
   pub data FindsNoCheckpoint (old : SlotWriterHalf D G) (writer : WriterView VersionedEntry) (table : TableData F) : Type 0 where
     under_way : IsCheckpointing old.journal → FindsNoCheckpoint old writer table
-    some_wait : ¬ (length writer.stored ≡ length writer.taken) → FindsNoCheckpoint old writer table
+    some_wait : ¬ (IsAllStored writer) → FindsNoCheckpoint old writer table
     nothing_new : ¬ (IsWorthACheckpoint old.journal table.sealed) → FindsNoCheckpoint old writer table
     no_command : (mid : SlotWriterHalf D G) → mid.journal ≡ old.journal → HasNoCommand mid → FindsNoCheckpoint old writer table
 

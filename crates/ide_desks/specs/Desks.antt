@@ -1,13 +1,13 @@
 -- What lies under the two locks of a service: under each a half of the store, and a seat of one board.
-use Rattle.std.specs.Prelude.{◌≡◌, ℕ, ◌+◌, ◌≤◌, Bool, false, List, [], ◌∷◌, Option, None, Some, length, replicate, take}
-use Rattle.ide_board.specs.Records.{TableView, WriterView, with_sealed, with_stored}
+use Rattle.std.specs.Prelude.{◌≡◌, ℕ, ◌+◌, ◌++◌, ◌≤◌, Bool, false, List, [], ◌∷◌, Option, None, Some, Result, IfOk, IfSome, OnOk, length, replicate, take}
+use Rattle.ide_board.specs.Records.{AreStoredBelow, ClientView, TableView, WriterView, with_own, with_sealed, with_stored}
 use Rattle.ide_desks.specs.declared.writer.Stepped.{Stepped}
 use Rattle.ide_desks.specs.declared.writer.Stepped.TheVariants.{Called, Rested, Stored}
 use Rattle.ide_desks.specs.Keeping.{KeepsWriting, WorksOnRun, handed_of, records_in, unknown, waiting_of}
 use Rattle.ide_disk.specs.declared.disk.Disk.{Ghosts}
 use Rattle.ide_journal.specs.Format.{Entry}
 use Rattle.ide_journal.specs.declared.version.Version.{Version}
-use Rattle.ide_slot_journal.specs.Stands.{AreHonest}
+use Rattle.ide_slot_journal.specs.Stands.{AreHonest, IsCheckpointing}
 use Rattle.ide_slot_store.specs.declared.writer.SlotWriterHalf.{SlotWriterHalf}
 use Rattle.ide_store.specs.Table.{Analysis, TableData}
 use Rattle.ide_store.specs.Versioned.{VersionedEntry, in_version}
@@ -48,6 +48,20 @@ pub data IsMarked {F : Type 0} (seat after : TableView VersionedEntry) (table : 
   alone : after ≡ with_last seat table (Some client) → IsMarked seat after table client
   behind_changes : after ≡ with_last_two seat table (Some client) → IsMarked seat after table client
 
+-- so a root leaves the seat; and a load, for the client alone; and what changed, if anything did, for none
+abbrev pub MarksRoot : {F T E : Type 0} → Result T E → ClientView VersionedEntry → (seat after : TableView VersionedEntry) → TableData F → Type 0
+MarksRoot result client seat after table = OnOk result (IsMarked seat after table client.number)
+
+abbrev pub MarksLoad : {F T E : Type 0} → Result T E → ClientView VersionedEntry → (seat after : TableView VersionedEntry) → TableData F → Type 0
+MarksLoad result client seat after table = OnOk result (after ≡ with_last seat table (Some client.number))
+
+abbrev pub MarksNone : {F T E : Type 0} → Result (Option T) E → (seat after : TableView VersionedEntry) → TableData F → Type 0
+MarksNone result seat after table = IfOk result (λ sealed. IfSome sealed (λ _. after ≡ with_last seat table None))
+
+-- the table's seat after so many more records were sealed, of which it does not know what they are
+abbrev pub with_unknown : TableView VersionedEntry → (count : ℕ) → TableView VersionedEntry
+with_unknown seat count = record seat { sealed = seat.sealed ++ replicate count unknown }
+
 -- the seat of the table knows all that the half sealed
 pub record CountsSealed {F : Type 0} (table : TableData F) (seat : TableView VersionedEntry) : Type 0 where
   pub count : table.sealed ≡ length seat.sealed
@@ -80,6 +94,26 @@ abbrev pub seat_after : Stepped → WriterView VersionedEntry → WriterView Ver
 seat_after Rested seat = seat
 seat_after Called seat = seat
 seat_after Stored seat = with_stored seat (length seat.stored + 1)
+
+-- what such a step publishes
+abbrev pub PublishesStep : (old new : WriterView VersionedEntry) → Stepped → Type 0
+PublishesStep old new stepped = new ≡ seat_after stepped old
+
+-- all that was taken over is stored
+abbrev pub IsAllStored : WriterView VersionedEntry → Type 0
+IsAllStored seat = length seat.stored ≡ length seat.taken
+
+-- then more may be, where no call of a disk failed
+abbrev pub MayTakeOver : (failed : Bool) → WriterView VersionedEntry → Type 0
+MayTakeOver failed seat = (failed ≡ false) × IsAllStored seat
+
+-- and no checkpoint is under way: there is no call to make
+abbrev pub HasNoCallLeft : {D : Type 0} {G : Ghosts D} → WriterView VersionedEntry → SlotWriterHalf D G → Type 0
+HasNoCallLeft seat half = (seat.stored ≡ seat.taken) × (IsCheckpointing half.journal → ⊥)
+
+-- each of the client's own records below the number that it has seen is stored
+abbrev pub HasOwnStored : WriterView VersionedEntry → ClientView VersionedEntry → Type 0
+HasOwnStored seat client = AreStoredBelow client.seen seat.stored client.number client.own
 
 -- all that is sealed is handed over: the writer's seat has taken it
 pub record HandsOver (old new : TableView VersionedEntry) (before after : WriterView VersionedEntry) : Type 0 where

@@ -3,6 +3,7 @@ pub mod Keeping
 pub mod Opened
 pub mod Apart
 pub mod Asking
+pub mod Calls
 pub mod Orders
 pub mod Stepping
 pub mod Switching

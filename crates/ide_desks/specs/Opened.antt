@@ -32,6 +32,10 @@ pub record IsNewSwitch (switch : TableSwitch) (writer : WriterSwitch) : Type 0 w
   pub sealed : switch.seat.sealed ≡ []
   pub taken : writer.seat.taken ≡ []
 
+-- both desks know the same of it
+abbrev pub AreAgreed : TableSwitch → WriterSwitch → Type 0
+AreAgreed switch writer = writer.seat.taken ≡ switch.seat.sealed
+
 -- the engine is on a run, on honest disks, it seals records in that version, and these are the records that its writer was handed
 pub record IsToldOf {P D L F : Type 0} {G : Ghosts D} (a : Analysis F L) (tag : ℕ) (engine : SlotEngine P D L F G)
     (version : Version) (first : List VersionedEntry) : Type 0 where

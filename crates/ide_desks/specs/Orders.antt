@@ -3,12 +3,14 @@ use Rattle.std.specs.Prelude.{◌≡◌, ◌≤◌, ℕ, List, [], ◌∷◌}
 use Rattle.ide_batch.specs.Bodies.{IsEntryOf}
 use Rattle.ide_batch.specs.Records as records
 use Rattle.ide_board.specs.Records.{ClientView, with_own}
-use Rattle.ide_store.specs.Table.{Analysis, forms_of}
+use Rattle.ide_store.specs.Table.{Analysis, TableData, forms_of}
 use Rattle.ide_store.specs.Versioned.{VersionedEntry}
+use Rattle.ide_store.specs.declared.outbox.Ticket.{Ticket}
 use Rattle.ide_text.specs.Parsed.{IsParsed}
 use Rattle.ide_text.specs.Program.{value_of}
 use Rattle.ide_text.specs.Value.{ProgramValue}
 use Rattle.ide_text.specs.declared.program.Program.{Program}
+use Rattle.ide_desks.specs.Desks.{last_sealed}
 
 module _ {F L : Type 0} (a : Analysis F L) where
   -- the record is a load of a text of the program, in its version
@@ -27,3 +29,7 @@ module _ {F L : Type 0} (a : Analysis F L) where
 pub record NotesOrder (old new : ClientView VersionedEntry) (number : ℕ) (r : VersionedEntry) : Type 0 where
   pub noted : new ≡ with_own old ((number, r) ∷ [])
   pub later : old.seen ≤ number
+
+-- the last that waits, under the number that is answered
+abbrev pub NotesLast : {F : Type 0} → (old new : ClientView VersionedEntry) → TableData F → Ticket → Type 0
+NotesLast old new table ticket = NotesOrder old new ticket.number (last_sealed table)

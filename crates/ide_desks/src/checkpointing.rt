@@ -1,9 +1,11 @@
 //! A checkpoint of all that is sealed, for which both desks are lent.
 ghost use Rattle.std.specs.Prelude.{◌≡◌, ◌↔◌, ◌<◌, [], false, true, length, Err, Ok, Some, IfErr, IsTrue, OnErr, OnOk};
 ghost use Rattle.ide_desks.specs.Asking.{BeginsCheckpoint, FindsNoCheckpoint, IsAskStop, IsPlanStop, SealsForNone};
+ghost use Rattle.ide_desks.specs.Opened.{AreAgreed};
 ghost use Rattle.ide_journal.specs.declared.version.Version.TheVariants.{Two};
 ghost use Rattle.ide_slot_journal.specs.Stands.{IsCheckpointing, sides_of};
 ghost use Rattle.ide_slot_store.specs.Asking.{IsWorthACheckpoint};
+ghost use Rattle.ide_slot_store.specs.Checkpoint.{ChangesVersion};
 ghost use Rattle.ide_slot_store.specs.Half.{HasNoCommand};
 
 use crate::accord::Accord;
@@ -72,10 +74,10 @@ impl<P: Problem, J: Accord> TableDesk<P, J> {
         requires still { self.old.half.core.changes ≡ Some [] }
         requires handed { self.old.seat.handed ≡ length self.old.seat.sealed }
         requires taken { writer.old.seat.taken ≡ self.old.seat.sealed }
-        requires agreed { writer.old.switch.seat.taken ≡ self.old.switch.seat.sealed }
+        requires agreed { AreAgreed self.old.switch writer.old.switch }
         ensures version { result ≡ Ok true → self.new.half.version ≡ Two }
         ensures none { result ≡ Ok false → HasNoCommand writer.old.half }
-        ensures half { self.new.half ≡ record self.old.half { version = self.new.half.version } }
+        ensures half { ChangesVersion self.old.half self.new.half }
         ensures unchanged { OnErr result (self.new.half ≡ self.old.half) }
         ensures seats { (self.new.seat ≡ self.old.seat) × (writer.new.seat ≡ writer.old.seat) }
         ensures disks { sides_of writer.new.half.journal ≡ sides_of writer.old.half.journal }

@@ -1,8 +1,9 @@
 //! A new board over an engine, with the seats of both desks at it.
-ghost use Rattle.std.specs.Prelude.{◌≡◌, ◌+◌, ◌<◌, ◌≤◌, ◌⊎◌, ◌++◌, length, replicate, Err, IfErr, IfOk, OnOk};
+ghost use Rattle.std.specs.Prelude.{◌≡◌, ◌+◌, ◌<◌, ◌≤◌, length, Err, IfErr, IfOk, OnOk};
 ghost use Rattle.std.specs.Arc.{arc_value};
 ghost use Rattle.ide_board.specs.Records.{new_clients};
-ghost use Rattle.ide_desks.specs.Keeping.{unknown};
+ghost use Rattle.ide_desks.specs.Desks.{with_unknown};
+ghost use Rattle.ide_desks.specs.Calls.{IsBoardRefusal};
 ghost use Rattle.ide_desks.specs.Opened.{AreNewSeats, IsNewSwitch, IsToldOf, StaysOnRun};
 ghost use Rattle.ide_slot_journal.specs.Stands.{records_stored};
 
@@ -81,7 +82,7 @@ impl<P: Problem, D: Disk> Opened<P, D> {
         ensures clients { IfOk result (λ all. all.1.items ≡ new_clients (arc_value all.0.board) (records_stored engine.writer.journal) clients) }
         ensures run { IfOk result (λ all. StaysOnRun ⟦<P as Kept>⟧.analysis P.TAG engine all.0.engine) }
         ensures journal { IfOk result (λ all. all.0.engine.writer.journal ≡ engine.writer.journal) }
-        ensures refused { IfErr result (λ all. (all.0 ≡ Refused.Limit) ⊎ (all.0 ≡ Refused.NoMemory)) }
+        ensures refused { IfErr result (λ all. IsBoardRefusal all.0) }
         ensures limit { 64 < clients → IfErr result (λ all. all.0 ≡ Refused.Limit) }
     {
         match seats_of(alloc, &mut engine, clients) {
@@ -157,7 +158,7 @@ fn seats_of<P: Problem, D: Disk>(
     ensures clients { IfOk result (λ s. s.clients.items ≡ new_clients (arc_value s.board) (records_stored engine.old.writer.journal) clients) }
     ensures journal { engine.new.writer.journal ≡ engine.old.writer.journal }
     ensures run { OnOk result (StaysOnRun ⟦<P as Kept>⟧.analysis P.TAG engine.old engine.new) }
-    ensures refused { IfErr result (λ e. (e ≡ Refused.Limit) ⊎ (e ≡ Refused.NoMemory)) }
+    ensures refused { IfErr result IsBoardRefusal }
     ensures limit { 64 < clients → result ≡ Err Refused.Limit }
 {
     let stored = engine.writer.stored();
@@ -203,7 +204,7 @@ fn new_switch(alloc: Global) -> Result<(TableSwitch, WriterSwitch), Refused>
 fn seal_unknown(board: &Board<SealedRecord>, table: &mut TableSeat<SealedRecord>, count: u64)
     requires board { table.old.board ≡ board.now }
     requires room { length table.old.sealed + count ≤ 4294967295 }
-    ensures { table.new ≡ record table.old { sealed = table.old.sealed ++ replicate count unknown } }
+    ensures { table.new ≡ with_unknown table.old count }
 {
     for _ in 0..count {
         board.seal_shown::<Unknown, Unknown>(table, &Unknown, None);

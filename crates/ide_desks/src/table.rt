@@ -1,23 +1,19 @@
 //! What lies under the table's lock: the half of a store that works, and the table's seat of the board.
-ghost use Rattle.std.specs.Prelude.{◌≡◌, ◌+◌, ◌<◌, ◌≤◌, ◌∷◌, [], None, Some, length, false, true, Ok, IfErr, IfOk, IfSome, OnErr, OnOk};
+ghost use Rattle.std.specs.Prelude.{◌≡◌, ◌+◌, ◌<◌, ◌≤◌, ◌∷◌, [], None, Some, length, false, true, Ok, IfErr, IfOk, OnErr, OnOk};
 ghost use Rattle.std.specs.Arc.{arc_value};
+ghost use Rattle.ide_desks.specs.Desks.{CountsSealed, IsTableDesk, MarksLoad, MarksNone, MarksRoot, last_sealed, with_last, with_last_two};
 ghost use Rattle.ide_board.specs.Records.{with_own};
-ghost use Rattle.ide_desks.specs.Desks.{CountsSealed, IsMarked, IsTableDesk, last_sealed, with_last, with_last_two};
 ghost use Rattle.ide_desks.specs.Switching.{version_after};
-ghost use Rattle.ide_desks.specs.Orders.{NotesOrder, SpellsLoad, SpellsRoot};
-ghost use Rattle.ide_steps.specs.ClaimRefusal.{IsClaimRefusal};
+ghost use Rattle.ide_desks.specs.Orders.{NotesLast, SpellsLoad, SpellsRoot};
+ghost use Rattle.ide_desks.specs.Calls.{BarsClaim, BarsFinish, BarsFreeze, BarsPart, BarsRoot, BarsSeal, FindsNoPart, HasItsGraph, LeavesWork, Remains, SealsChanges};
 ghost use Rattle.ide_steps.specs.Claiming.{FindsIdle, FindsQuiet, IfTask};
-ghost use Rattle.ide_steps.specs.CloseRefusal.{IsFreezeRefusal};
 ghost use Rattle.ide_steps.specs.Drain.{HasDonePart};
-ghost use Rattle.ide_steps.specs.Frozen.{graph_in, program_in};
-ghost use Rattle.ide_steps.specs.Room.{IsGraphSaid};
-ghost use Rattle.ide_steps.specs.Steps.{FindsNone};
 ghost use Rattle.ide_image.specs.Worklist.{claim_at};
 ghost use Rattle.ide_store.specs.Acting.{BeginsAnew};
 ghost use Rattle.ide_store.specs.Freezing.{IsImageOver};
 ghost use Rattle.ide_store.specs.Runs.{IsImageOfRun};
 ghost use Rattle.ide_store.specs.Table.{IsSameTable, KeepsRest};
-ghost use Rattle.ide_store.specs.TableCalls.{BeginsRoot, DoesPart, EndsClaim, FindsNothing, GivesClaimBack, IsFinishStop, IsLoadStop, IsPartStop, IsRefusal, IsRootStop, IsSealStop, IsStaleClaim, LoadsProgram, SealsBatch, TakesTask};
+ghost use Rattle.ide_store.specs.TableCalls.{BeginsRoot, DoesPart, EndsClaim, FindsNothing, GivesClaimBack, IsLoadStop, IsRefusal, IsStaleClaim, LoadsProgram, TakesTask};
 ghost use Rattle.ide_text.specs.Program.{value_of};
 
 use crate::accord::Accord;
@@ -107,7 +103,7 @@ impl<P: Problem, J: Accord> TableDesk<P, J> {
         ensures quiet { result ≡ Ok Claimed.Quiet → FindsQuiet self.old.half.core self.new.half.core }
         ensures rest { KeepsRest self.old.half self.new.half }
         ensures seat { self.new.seat ≡ self.old.seat }
-        ensures refused { IfErr result (IsRefusal self.old.half (IsClaimRefusal self.old.half.core hand)) }
+        ensures refused { IfErr result (BarsClaim self.old.half hand) }
         ensures unchanged { OnErr result (IsSameTable self.old.half self.new.half) }
     {
         self.half.claim(hand)
@@ -116,11 +112,11 @@ impl<P: Problem, J: Accord> TableDesk<P, J> {
     /// Does the next part of the hand's work: see [`TableHalf::part`].
     pub fn part(&mut self, hand: usize, work: &mut Work<P>) -> Result<Parted, Refused>
         ensures part { HasDonePart result → DoesPart ⟦<P as Kept>⟧.analysis hand self.old.half self.new.half work.old work.new }
-        ensures no_part { result ≡ Ok Parted.NoPart → FindsNone self.old.half.core self.new.half.core work.old work.new }
+        ensures no_part { FindsNoPart result self.old.half self.new.half work.old work.new }
         ensures rest { KeepsRest self.old.half self.new.half }
         ensures seat { self.new.seat ≡ self.old.seat }
-        ensures refused { IfErr result (IsRefusal self.old.half (IsPartStop P.F.edge P.targets self.old.half.core hand work.old)) }
-        ensures unchanged { OnErr result (IsSameTable self.old.half self.new.half × (work.new ≡ work.old)) }
+        ensures refused { IfErr result (BarsPart P.F.edge P.targets self.old.half hand work.old) }
+        ensures unchanged { LeavesWork result self.old.half self.new.half work.old work.new }
     {
         self.half.part(hand, work)
     }
@@ -131,7 +127,7 @@ impl<P: Problem, J: Accord> TableDesk<P, J> {
         ensures free { OnOk result (claim_at self.new.half.core.pile hand ≡ None) }
         ensures rest { KeepsRest self.old.half self.new.half }
         ensures seat { self.new.seat ≡ self.old.seat }
-        ensures refused { IfErr result (IsRefusal self.old.half (IsFinishStop P.F.edge P.targets self.old.half.core hand work.now)) }
+        ensures refused { IfErr result (BarsFinish P.F.edge P.targets self.old.half hand work.now) }
         ensures unchanged { OnErr result (IsSameTable self.old.half self.new.half) }
     {
         self.half.finish(hand, work)
@@ -154,8 +150,8 @@ impl<P: Problem, J: Accord> TableDesk<P, J> {
     pub fn freeze(&self) -> Result<Closed<P>, Refused>
         ensures image { IfOk result (IsImageOver ⟦<P as Kept>⟧.analysis self.now.half) }
         ensures run { J.told → IfOk result (λ closed. ∥ IsImageOfRun ⟦<P as Kept>⟧.analysis closed ∥₁) }
-        ensures graph { J.told → IfOk result (λ closed. ∥ IsGraphSaid (Some (program_in closed)) (graph_in closed) ∥₁) }
-        ensures refused { IfErr result (IsRefusal self.now.half (IsFreezeRefusal self.now.half.core)) }
+        ensures graph { J.told → IfOk result (λ closed. ∥ HasItsGraph closed ∥₁) }
+        ensures refused { IfErr result (BarsFreeze self.now.half) }
     {
         cores_are_whole(self.half.core());
         self.half.freeze()
@@ -171,12 +167,12 @@ impl<P: Problem, J: Accord> TableDesk<P, J> {
 
     /// Seals what changed since the last record, if anything did, for no client: see [`TableHalf::seal`].
     pub fn seal(&mut self) -> Result<Option<Ticket>, Refused>
-        ensures seals { IfOk result (λ sealed. IfSome sealed (λ ticket. SealsBatch ⟦<P as Kept>⟧.analysis self.old.half self.new.half ticket.number)) }
-        ensures marked { IfOk result (λ sealed. IfSome sealed (λ _. self.new.seat ≡ with_last self.old.seat self.new.half None)) }
+        ensures seals { SealsChanges ⟦<P as Kept>⟧.analysis result self.old.half self.new.half }
+        ensures marked { MarksNone result self.old.seat self.new.seat self.new.half }
         ensures nothing { result ≡ Ok None → FindsNothing ⟦<P as Kept>⟧.analysis self.old.half self.new.half × (self.new.seat ≡ self.old.seat) }
         ensures anew { OnOk result (BeginsAnew self.old.half.core self.new.half.core) }
-        ensures refused { IfErr result (IsRefusal self.old.half (IsSealStop ⟦<P as Kept>⟧.analysis self.old.half)) }
-        ensures unchanged { OnErr result (IsSameTable self.old.half self.new.half × (self.new.seat ≡ self.old.seat)) }
+        ensures refused { IfErr result (BarsSeal ⟦<P as Kept>⟧.analysis self.old.half) }
+        ensures unchanged { Remains result self.old.half self.new.half self.old.seat self.new.seat }
     {
         match self.half.seal() {
             Ok(sealed) => {
@@ -199,11 +195,11 @@ impl<P: Problem, J: Accord> TableDesk<P, J> {
     ) -> Result<Ticket, Refused>
         requires { client.old.board ≡ J.board }
         ensures loads { IfOk result (λ ticket. LoadsProgram ⟦<P as Kept>⟧.analysis (value_of program) self.old.half self.new.half ticket.number) }
-        ensures marked { OnOk result (self.new.seat ≡ with_last self.old.seat self.new.half (Some client.old.number)) }
-        ensures noted { IfOk result (λ ticket. NotesOrder client.old client.new ticket.number (last_sealed self.new.half)) }
+        ensures marked { MarksLoad result client.old self.old.seat self.new.seat self.new.half }
+        ensures noted { IfOk result (NotesLast client.old client.new self.new.half) }
         ensures command { J.told → IfOk result (λ _. ∥ SpellsLoad ⟦<P as Kept>⟧.analysis (value_of program) (last_sealed self.new.half) ∥₁) }
         ensures refused { IfErr result (IsRefusal self.old.half (IsLoadStop self.old.half)) }
-        ensures unchanged { OnErr result (IsSameTable self.old.half self.new.half × (self.new.seat ≡ self.old.seat)) }
+        ensures unchanged { Remains result self.old.half self.new.half self.old.seat self.new.seat }
         ensures not_noted { OnErr result (client.new ≡ client.old) }
     {
         match self.half.load(program) {
@@ -224,11 +220,11 @@ impl<P: Problem, J: Accord> TableDesk<P, J> {
     ) -> Result<Ticket, Refused>
         requires { client.old.board ≡ J.board }
         ensures begins { IfOk result (λ ticket. BeginsRoot ⟦<P as Kept>⟧.analysis name.now self.old.half self.new.half ticket.number) }
-        ensures marked { OnOk result (IsMarked self.old.seat self.new.seat self.new.half client.old.number) }
-        ensures noted { IfOk result (λ ticket. NotesOrder client.old client.new ticket.number (last_sealed self.new.half)) }
+        ensures marked { MarksRoot result client.old self.old.seat self.new.seat self.new.half }
+        ensures noted { IfOk result (NotesLast client.old client.new self.new.half) }
         ensures command { J.told → IfOk result (λ _. ∥ SpellsRoot ⟦<P as Kept>⟧.analysis name.now (last_sealed self.new.half) ∥₁) }
-        ensures refused { IfErr result (IsRefusal self.old.half (IsRootStop ⟦<P as Kept>⟧.analysis self.old.half name.now)) }
-        ensures unchanged { OnErr result (IsSameTable self.old.half self.new.half × (self.new.seat ≡ self.old.seat)) }
+        ensures refused { IfErr result (BarsRoot ⟦<P as Kept>⟧.analysis self.old.half name.now) }
+        ensures unchanged { Remains result self.old.half self.new.half self.old.seat self.new.seat }
         ensures not_noted { OnErr result (client.new ≡ client.old) }
     {
         let before = self.half.sealed();

@@ -1,12 +1,11 @@
 //! What lies under the writer's lock: the half of a store that writes, and the writer's seat of the board.
-ghost use Rattle.std.specs.Prelude.{◌≡◌, ◌↔◌, ◌⊎◌, ◌<◌, ◌-◌, true, false, length, Err, Ok, IfErr, IfOk, IsTrue, OnErr, OnOk};
+ghost use Rattle.std.specs.Prelude.{◌≡◌, ◌↔◌, ◌<◌, ◌-◌, false, Ok, IfErr, IfOk, IsTrue, OnErr, OnOk};
 ghost use Rattle.std.specs.Arc.{arc_value};
-ghost use Rattle.ide_board.specs.Records.{AreStoredBelow};
-ghost use Rattle.ide_desks.specs.Desks.{CountsTaken, IsWriterDesk, seat_after};
+ghost use Rattle.ide_desks.specs.Desks.{CountsTaken, HasNoCallLeft, HasOwnStored, IsAllStored, IsWriterDesk, PublishesStep};
 ghost use Rattle.ide_desks.specs.Keeping.{KeepsOwn, LeavesTaken};
-ghost use Rattle.ide_desks.specs.Stepping.{IsStepRefusal};
+ghost use Rattle.ide_desks.specs.Stepping.{IsStepRefusal, NotesFault, RefusesOnceFailed};
 ghost use Rattle.ide_desks.specs.Switching.{version_after};
-ghost use Rattle.ide_slot_journal.specs.Stands.{IsCheckpointing, IsFilling, pair_of, records_stored, sides_of};
+ghost use Rattle.ide_slot_journal.specs.Stands.{IsFilling, pair_of, records_stored, sides_of};
 
 use crate::accord::Accord;
 use crate::switch::WriterSwitch;
@@ -51,7 +50,7 @@ pub struct WriterDesk<P: Kept, D: Disk, J: Accord> {
 }
 
 impl<P: Problem, D: Disk, J: Accord> WriterDesk<P, D, J> {
-    ghost use Rattle.ide_slot_store.specs.Half.{FailsNone, FailsOne};
+    ghost use Rattle.ide_slot_store.specs.Half.{FailsNone, TellsFault};
 
     /// The desk over a half, of whose disks no call failed, beside its seat.
     pub(crate) fn over(
@@ -94,7 +93,7 @@ impl<P: Problem, D: Disk, J: Accord> WriterDesk<P, D, J> {
 
     /// Whether all that was taken over is stored, and no checkpoint is under way: there is no call to make.
     pub fn is_stored(&self) -> bool
-        ensures { IsTrue result ↔ (self.now.seat.stored ≡ self.now.seat.taken) × (IsCheckpointing self.now.half.journal → ⊥) }
+        ensures { IsTrue result ↔ HasNoCallLeft self.now.seat self.now.half }
     {
         self.seat.stored() == self.taken && !self.half.is_checkpointing()
     }
@@ -114,9 +113,9 @@ impl<P: Problem, D: Disk, J: Accord> WriterDesk<P, D, J> {
     /// Refusals: `Failed`, where a call failed before; `Disk`, where this one did; `NoMemory`, before the
     /// first call for a record.
     pub fn disk_step(&mut self) -> Result<Stepped, Refused>
-        ensures published { IfOk result (λ stepped. self.new.seat ≡ seat_after stepped self.old.seat) }
+        ensures published { IfOk result (PublishesStep self.old.seat self.new.seat) }
         ensures unpublished { OnErr result (self.new.seat ≡ self.old.seat) }
-        ensures all { J.told → result ≡ Ok Stepped.Rested → length self.old.seat.stored ≡ length self.old.seat.taken }
+        ensures all { J.told → result ≡ Ok Stepped.Rested → IsAllStored self.old.seat }
         ensures rests { result ≡ Ok Stepped.Rested → IsFilling self.new.half.journal → ⊥ }
 
         // Whatever a crash at any moment of the call leaves holds the stored records, and perhaps some behind them.
@@ -125,9 +124,9 @@ impl<P: Problem, D: Disk, J: Accord> WriterDesk<P, D, J> {
 
         // `Disk` is answered where a call of a disk failed, and at Ok none did. From then on nothing is done.
         ensures failures { OnOk result (FailsNone self.old.half.journal self.new.half.journal) }
-        ensures fault { result ≡ Err Refused.Disk → FailsOne self.old.half.journal self.new.half.journal }
-        ensures failed { self.old.failed ≡ true → (result ≡ Err Refused.Failed) × (self.new.half ≡ self.old.half) }
-        ensures fails { (self.new.failed ≡ true) ↔ ((self.old.failed ≡ true) ⊎ (result ≡ Err Refused.Disk)) }
+        ensures fault { TellsFault result self.old.half.journal self.new.half.journal }
+        ensures failed { RefusesOnceFailed result self.old.failed self.old.half self.new.half }
+        ensures fails { NotesFault result self.old.failed self.new.failed }
         ensures refused { J.told → IfErr result (λ why. ∥ IsStepRefusal why ∥₁) }
     {
         two_disks_are_a_store::<P>();
@@ -162,7 +161,7 @@ impl<P: Problem, D: Disk, J: Accord> WriterDesk<P, D, J> {
         ensures client { client.new ≡ client.old }
         ensures half { self.new.half ≡ self.old.half }
         ensures seat { self.new.seat ≡ self.old.seat }
-        ensures own { let c = client.old in AreStoredBelow c.seen self.new.seat.stored c.number c.own }
+        ensures own { HasOwnStored self.new.seat client.old }
         ensures kept { J.told → KeepsOwn ⟦<P as Kept>⟧.analysis P.TAG client.old self.new.half }
     {
         two_disks_are_a_store::<P>();
