@@ -164,9 +164,21 @@ impl<F: EdgeFn, T: Drop> KeyedImage<F, T> {
         ensures free { IfSome result (λ key. (h : ℕ) (claim : Claim T) → claim_at self.now.pile h ≡ Some claim → claim.key ≢ key) }
         ensures none { IfNone result ((q : Key) → is_pending self.now.pile q ≡ true → is_claimed self.now.pile q ≡ true) }
     {
+        let entry = self.unclaimed_entry()?;
+        Some(entry.0)
+    }
+
+    /// The key of [`KeyedImage::unclaimed`], with its function. No look-up.
+    pub fn unclaimed_entry(&self) -> Option<(Key, F)>
+        ensures pending { IfSome result (λ entry. is_pending self.now.pile entry.0 ≡ true) }
+        ensures unclaimed { IfSome result (λ entry. is_claimed self.now.pile entry.0 ≡ false) }
+        ensures free { IfSome result (λ entry. (h : ℕ) (claim : Claim T) → claim_at self.now.pile h ≡ Some claim → claim.key ≢ entry.0) }
+        ensures function { IfSome result (λ entry. found self.now.table entry.0 ≡ Some entry.1) }
+        ensures none { IfNone result ((q : Key) → is_pending self.now.pile q ≡ true → is_claimed self.now.pile q ≡ true) }
+    {
         let slot = self.queue.top()?;
         let entry = self.indexed.entry_at(slot as usize)?;
-        Some(entry.0)
+        Some(entry)
     }
 
     /// The noted keys that are present and have another entry now, each with its function and whether it

@@ -1,10 +1,11 @@
 -- Keys and their pages, and the place at which a list has what passes a test.
-use Rattle.std.proofs.Common.{◌≡◌, ℕ, zero, suc, ◌+◌, ◌*◌, ◌/◌, ◌%◌, ◌<◌, refl, sym, ap, ◌∙◌, arith, List, [], ◌∷◌, ◌++◌, length, get_or, Some, None, Bool, true, false, cond, ◌||◌}
-use Rattle.std.specs.Prelude.{position}
+use Rattle.std.proofs.Common.{◌≡◌, ℕ, zero, suc, ◌+◌, ◌*◌, ◌/◌, ◌%◌, ◌<◌, refl, sym, ap, subst, ◌∙◌, arith, List, [], ◌∷◌, ◌++◌, length, get_or, Some, None, Bool, true, false, cond, ◌||◌}
+use Rattle.std.specs.Prelude.{position, slice_get}
 use Rattle.std.specs.List.{IsDistinct, list_any, position_from}
 use Rattle.std.proofs.lemmas.Bool.{or_parts}
 use Rattle.std.proofs.lemmas.Iterator.Adapters.{position_from-zero}
 use Rattle.std.proofs.lemmas.Map.Keys.{IsDistinct-tail, apart_from_distinct}
+use Rattle.std.proofs.lemmas.Option.{get_or_from_slice_get, slice_get_within}
 use Rattle.ide_wire.specs.declared.key.Key.{Key}
 use Rattle.ide_wire.specs.declared.key.Key.TheVariants.{Jump, Summary}
 use Rattle.ide_wire.specs.Key.{same_key, same_key_refl, same_key_symm, node_of}
@@ -84,3 +85,8 @@ pub position-at : (keys : List Key) (k : ℕ) (d : Key) → IsDistinct same_key 
 position-at keys k d apart l =
     let same : 0 + k ≡ k = omega arith in
     position_from-zero (same_key (get_or keys k d)) keys ∙ from-at 0 keys k d apart l ∙ ap Some same
+
+-- a key that stands at an index is found there
+pub found-at : (keys : List Key) (k : ℕ) (key : Key) → IsDistinct same_key keys → slice_get keys k ≡ Some key → position (same_key key) keys ≡ Some k
+found-at keys k key apart is =
+    subst (λ q. position (same_key q) keys ≡ Some k) (get_or_from_slice_get keys k key key is) (position-at keys k key apart (slice_get_within keys k key is))

@@ -23,6 +23,9 @@ pub struct Pages {
     cells: Vec<u32>,
     places: BTreeSet<Key>,
     count: usize,
+    /// The index of the page that was asked for last: keys that follow each other along a procedure
+    /// are on one page, which is found again with no look-up.
+    last: usize,
 }
 
 impl Model for Pages {
@@ -44,6 +47,7 @@ impl Pages {
             cells: Vec::new(alloc),
             places: BTreeSet::new(alloc),
             count: 0,
+            last: 0,
         }
     }
 
@@ -56,25 +60,29 @@ impl Pages {
         self.count
     }
 
-    /// The key's number. One look-up.
+    /// The key's number. One look-up at most: none where room was made last for a key of its page.
     pub fn number(&self, key: Key) -> u32
         ensures { result ≡ number_at self.now key }
     {
-        rows::number_on(
+        let cell = rows::cell_near(
             &self.pages,
             &self.cells,
+            self.last,
             keys::offset_of(key),
             keys::page_of(key),
-        )
+        );
+        rows::number_of(&self.cells, cell)
     }
 
-    /// The key's cell, if there is its page. One look-up.
+    /// The key's cell, if there is its page. One look-up at most: none where room was made last for a
+    /// key of its page.
     pub fn cell(&self, key: Key) -> Option<usize>
         ensures { result ≡ cell_of self.now key }
     {
-        rows::cell_on(
+        rows::cell_near(
             &self.pages,
             &self.cells,
+            self.last,
             keys::offset_of(key),
             keys::page_of(key),
         )
@@ -118,7 +126,7 @@ impl Pages {
     }
 
     /// The key's cell, for which a page of 64 zeros is made where there is none. `NoMemory` leaves
-    /// the map as it was. Where there is the page it takes one look-up, and no memory.
+    /// the map as it was. Where there is the page it takes one look-up at most, and no memory.
     pub fn make_room(&mut self, key: Key) -> Result<usize, Refused>
         ensures cell { IfOk result (λ cell. cell_of self.new key ≡ Some cell) }
         ensures there { IfSome (cell_of self.old key) (λ cell. result ≡ Ok cell) }
@@ -129,13 +137,15 @@ impl Pages {
     {
         let page = keys::page_of(key);
         let offset = keys::offset_of(key);
-        if let Some(cell) = rows::cell_on(&self.pages, &self.cells, offset, page) {
+        if let Some(cell) = rows::cell_near(&self.pages, &self.cells, self.last, offset, page) {
+            self.last = cell / 64;
             return Ok(cell);
         }
         self.cells.reserve(64)?;
         self.pages.reserve(1)?;
         add_place(&mut self.places, page)?;
         let index = add_page(&mut self.pages, &mut self.cells, page);
+        self.last = index;
         Ok(64 * index + offset)
     }
 
@@ -197,6 +207,7 @@ impl Pages {
             cells,
             places,
             count: self.count,
+            last: self.last,
         })
     }
 }

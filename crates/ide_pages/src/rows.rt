@@ -1,10 +1,11 @@
 //! The cells of pages, one page or a row of pages at a time.
-ghost use Rattle.std.specs.Prelude.{◌≡◌, ℕ, ◌*◌, ◌<◌, ◌≤◌, ◌^◌, length, slice_index_or, IfOk, IfSome, IfNone};
+ghost use Rattle.std.specs.Prelude.{◌≡◌, ℕ, ◌*◌, ◌<◌, ◌≤◌, ◌^◌, Some, true, length, slice_get, slice_index_or, IfOk, IfSome, IfNone};
+ghost use Rattle.std.specs.List.{IsDistinct};
 ghost use Rattle.std.specs.BTreeMap.Range.{IsLeBy};
 ghost use Rattle.std.specs.List.Sorted.{IsStrictlySortedBy};
-ghost use Rattle.ide_wire.specs.Key.{node_of};
+ghost use Rattle.ide_wire.specs.Key.{node_of, same_key};
 ghost use Rattle.ide_wire.specs.KeyOrder.{key_cmp};
-ghost use Rattle.ide_pages.specs.Pages.{cell_on, key_at, number_on, page_at, page_of, partner_of, row_of};
+ghost use Rattle.ide_pages.specs.Pages.{cell_number, cell_on, key_at, number_on, page_at, page_of, partner_of, row_of};
 
 use crate::keys;
 use ide_wire::{Fact, Key};
@@ -26,6 +27,36 @@ pub(crate) fn cell_on(
 {
     let index = pages.get_index_of(&page)?;
     Some(64 * index + offset)
+}
+
+// The same, with no look-up where the page is the one at `last`.
+pub(crate) fn cell_near(
+    pages: &IndexSet<Key>,
+    cells: &[u32],
+    last: usize,
+    offset: usize,
+    page: Key,
+) -> Option<usize>
+    requires paged { length cells.now ≡ 64 * length pages.now.keys }
+    requires distinct { IsDistinct same_key pages.now.keys }
+    requires within { offset < 64 }
+    ensures cell { result ≡ cell_on pages.now.keys offset page }
+    ensures there { IfSome result (λ cell. cell < length cells.now) }
+{
+    if is_page_at(pages, last, page) {
+        return Some(64 * last + offset);
+    }
+    cell_on(pages, cells, offset, page)
+}
+
+// Whether the page is the one at the index.
+fn is_page_at(pages: &IndexSet<Key>, index: usize, page: Key) -> bool
+    ensures { result ≡ true → slice_get pages.now.keys index ≡ Some page }
+{
+    match pages.get_index(index) {
+        Some(there) => *there == page,
+        None => false,
+    }
 }
 
 // The key of the cell, or `None` behind the last cell. No look-up.
@@ -55,8 +86,15 @@ pub(crate) fn number_on(pages: &IndexSet<Key>, cells: &[u32], offset: usize, pag
     requires within { offset < 64 }
     ensures { result ≡ number_on pages.now.keys cells.now offset page }
 {
-    match cell_on(pages, cells, offset, page) {
-        Some(cell) => cells[cell],
+    number_of(cells, cell_on(pages, cells, offset, page))
+}
+
+// The number in the cell, or 0 where there is none.
+pub(crate) fn number_of(cells: &[u32], cell: Option<usize>) -> u32
+    ensures { result ≡ cell_number cells.now cell }
+{
+    match cell {
+        Some(cell) => number_in(cells, cell),
         None => 0,
     }
 }

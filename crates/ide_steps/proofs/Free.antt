@@ -21,6 +21,10 @@ module _ {T : Type 0} where
   none-of key (claim ∷ claims) free =
       (λ i. is_claim_of key (free 0 i) || list_any (is_claim_of key) claims) ∙ none-of key claims (λ h. free (suc h))
 
+  -- then no hand has claimed the key
+  pub none-claimed : (pile : Pile T) → IsFree pile → (key : Key) → is_claimed pile key ≡ false
+  none-claimed pile free key = none-of key pile.claims free
+
   -- not every pending key is claimed
   pub some-unclaimed : (pile : Pile T) → IsFree pile → pile.pending ≢ [] → ((q : Key) → is_pending pile q ≡ true → is_claimed pile q ≡ true) → ⊥
   some-unclaimed pile free waits claimed = among pile.pending refl
@@ -31,6 +35,14 @@ module _ {T : Type 0} where
           let is : true ≡ false = sym (claimed key (ap (list_any (same_key key)) some ∙ first-waits key keys)) ∙ none-of key pile.claims free in
           let no : ⊥ = cc (is) in
           no
+
+  -- none is pending, then
+  pub quiet-free : (pile : Pile T) → IsFree pile → ((q : Key) → is_pending pile q ≡ true → is_claimed pile q ≡ true) → pile.pending ≡ []
+  quiet-free pile free claimed = among pile.pending refl
+    where
+      among : (keys : List Key) → pile.pending ≡ keys → pile.pending ≡ []
+      among [] none = none
+      among (key ∷ keys) some = absurd (some-unclaimed pile free (λ none. let no : [] ≡ key ∷ keys = sym none ∙ some in cc (no)) claimed)
 
   -- a hand that ends its claim leaves none, where no other hand has one
   pub free-without : (pile : Pile T) → claim_at pile 0 ≡ None → ((h : ℕ) → nat_eq 0 h ≡ false → claim_at pile h ≡ None) → IsFree pile

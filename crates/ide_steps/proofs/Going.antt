@@ -31,7 +31,7 @@ use Rattle.ide_steps.specs.State.{state_of, claim_of}
 use Rattle.ide_steps.specs.Steps.{IsCurrent, IsLowered, IsOneMore, IsSkipped, IsTaken, progress_at}
 
 -- what is left from a place on begins with what stands there
-drop-at : {X : Type 0} (xs : List X) (i : ℕ) (x : X) → slice_get xs i ≡ Some x → drop i xs ≡ x ∷ drop (suc i) xs
+pub drop-at : {X : Type 0} (xs : List X) (i : ℕ) (x : X) → slice_get xs i ≡ Some x → drop i xs ≡ x ∷ drop (suc i) xs
 drop-at [] i x at = let no : None ≡ Some x = at in cc
 drop-at (y ∷ xs) zero x at = ap (λ z. z ∷ xs) (same_Some y x at)
 drop-at (y ∷ xs) (suc i) x at = drop-at xs i x at

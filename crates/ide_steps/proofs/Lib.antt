@@ -2,6 +2,7 @@ pub mod Potential
 pub mod Partners
 pub mod Room
 pub mod Rooted
+pub mod Running
 pub mod States
 pub mod Owing
 pub mod Bounded

@@ -4,7 +4,6 @@ use Rattle.std.specs.Option.{is_some}
 use Rattle.ide_lattice.specs.Algebra.{LatticeAlgebra, EdgeAlgebra}
 use Rattle.ide_problem.specs.Flow.{Targets}
 use Rattle.ide_image.specs.Spent.{spent}
-use Rattle.ide_tasks.specs.Work.{WorkData}
 use Rattle.ide_tasks.specs.Task.{TaskData}
 use Rattle.ide_image.specs.Worklist.{Pile, claim_at, ends_key}
 use Rattle.ide_image.specs.declared.claim.Claim.{Claim}
@@ -12,7 +11,6 @@ use Rattle.ide_steps.specs.declared.part.Parted.{Parted}
 use Rattle.ide_steps.specs.declared.part.Parted.TheVariants.{Lowered, Same, NoPart}
 use Rattle.ide_steps.specs.Core.{CoreData}
 use Rattle.ide_steps.specs.Going.{GoesOnByHand}
-use Rattle.ide_steps.specs.Steps.{IsCurrent}
 
 -- a claim whose key was lowered leaves the key pending at its end
 abbrev pub left_by : {T : Type 0} → Option (Claim T) → ℕ
@@ -96,8 +94,3 @@ module _ {F L : Type 0} (A : LatticeAlgebra L) (B : EdgeAlgebra F L) (targets : 
   -- so many tasks were claimed and are paid for, told up to the largest number of 64 bits
   abbrev pub Drains : (old new : CoreData F) → ℕ → Type 0
   Drains old new tasks = (claims : ℕ) × (tasks ≡ min claims (2 ^ 64 - 1)) × GoesOnPaid claims old new
-
-  -- the parts of the work of hand 0 are steps, where it is its claim, and a finished claim is paid for
-  abbrev pub RunsWork : {T E : Type 0} → Result T E → WorkData F → (old new : CoreData F) → Type 0
-  RunsWork result work old new =
-      (lowerings : ℕ) × (IsCurrent B targets old 0 work → GoesOnByHand A B targets 0 0 lowerings 0 old new) × OnOk result (ArePaid B 1 lowerings old new)

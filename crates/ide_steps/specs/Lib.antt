@@ -9,6 +9,7 @@ pub mod DrainRefusal
 pub mod Frozen
 pub mod Room
 pub mod Rooted
+pub mod Running
 pub mod State
 pub mod Calls
 pub mod Drain

@@ -1,22 +1,27 @@
 //! All steps that are left, by one hand.
-ghost use Rattle.std.specs.Prelude.{◌≡◌, ◌-◌, ◌<◌, ◌⊎◌, [], true, false, Ok, Some, None, IfErr, IfOk, OnErr, OnOk, IsOkUnless};
+ghost use Rattle.std.specs.Prelude.{◌≡◌, ◌⊎◌, ◌||◌, [], true, false, Ok, Some, None, IfErr, IfOk, OnErr, OnOk, IsOkUnless};
+ghost use Rattle.ide_wire.specs.Key.{same_key};
 ghost use Rattle.ide_steps.specs.Changed.{Remembers};
 ghost use Rattle.ide_steps.specs.Claiming.{FindsQuiet, FindsTask, KeepsAllBut};
-ghost use Rattle.ide_steps.specs.Core.{is_loaded, AreInside, IsUnchanged};
+ghost use Rattle.ide_steps.specs.Core.{is_loaded, AllStandIn, AreInside, IsSameProblem, IsUnchanged, StandsIn};
 ghost use Rattle.ide_steps.specs.DrainRefusal.{IsDrainRefusal, IsNoDrain, MayDrain};
-ghost use Rattle.ide_steps.specs.Drain.{AreOthersFree, ClaimsTask, Drains, ForTask, HasLess, RunsTask, RunsWork, StayOthersFree};
+ghost use Rattle.ide_steps.specs.Drain.{AreOthersFree, ClaimsTask, Drains, ForTask, GoesOnPaid, HasLess, RunsTask};
 ghost use Rattle.ide_steps.specs.Going.{GoesOn};
 ghost use Rattle.ide_steps.specs.Room.{AreTasksFew};
+ghost use Rattle.ide_steps.specs.Running.{DoesAll, DoesSome, IsTakenOut, ListsParts, OwesParts};
 ghost use Rattle.ide_steps.specs.Steps.{progress_at};
-ghost use Rattle.ide_image.specs.Worklist.{claim_at, ends_key, IsFree};
+ghost use Rattle.ide_image.specs.Tables.{found};
+ghost use Rattle.ide_image.specs.Worklist.{claim_at, ends_key, is_pending, IsFree};
 
-use crate::claim::Claimed;
+use crate::claim::{Claimed, partners_of};
 use crate::laws::{calls_are_steps, cores_are_whole, images_have_room};
+use crate::loaded::Loaded;
 use crate::machine::Core;
-use crate::part::Parted;
+use ide_image::{Change, KeyedImage};
 use ide_problem::Problem;
-use ide_tasks::{Task, Work};
-use ide_wire::Refused;
+use ide_tasks::{PartList, Task};
+use ide_wire::{Key, Refused};
+use std::alloc::Global;
 
 /// The hand that drains.
 const DRAINING: usize = 0;
@@ -46,9 +51,6 @@ impl<P: Problem> Core<P> {
         let drained = self.run_all();
         images_have_room::<P>();
         cores_are_whole(self);
-        if drained.is_err() {
-            let _ = self.release(DRAINING);
-        }
         drained
     }
 
@@ -71,48 +73,120 @@ impl<P: Problem> Core<P> {
         Ok(())
     }
 
-    /// Runs tasks until none is left, and counts them, up to the largest number of 64 bits.
+    /// Runs keys until none is pending, and counts them, up to the largest number of 64 bits.
     fn run_all(&mut self) -> Result<u64, Refused>
         requires loaded { is_loaded self.old ≡ true }
         requires free { IsFree self.old.pile }
         ensures refused { IsOkUnless result Refused.NoMemory }
         ensures quiet { OnOk result (self.new.pile.pending ≡ []) }
-        ensures free { OnOk result (IsFree self.new.pile) }
-        ensures others { AreOthersFree 0 self.new.pile }
+        ensures free { IsFree self.new.pile }
         ensures claims { IfOk result (Drains P.L.algebra P.F.edge P.targets self.old self.new) }
         ensures goes { GoesOn P.L.algebra P.F.edge P.targets 0 self.old self.new }
         ensures remembers { Remembers self.old self.new }
     {
+        let mut parts = PartList::new(self.alloc);
         let mut tasks = 0_u64;
-        while self.run_next()? {
+        while self.run_next(&mut parts)? {
             tasks = tasks.saturating_add(1);
         }
         Ok(tasks)
     }
 
-    /// Claims and finishes one task; false where no key is pending.
-    fn run_next(&mut self) -> Result<bool, Refused>
+    /// Runs the key that is next; false where no key is pending. The list's room is used again.
+    fn run_next(&mut self, parts: &mut PartList<P>) -> Result<bool, Refused>
         requires loaded { is_loaded self.old ≡ true }
         requires free { IsFree self.old.pile }
         ensures refused { IsOkUnless result Refused.NoMemory }
         ensures quiet { result ≡ Ok false → self.new.pile.pending ≡ [] }
         ensures falls { result ≡ Ok true → HasLess P.F.edge self.old self.new }
-        ensures free { OnOk result (IsFree self.new.pile) }
-        ensures others { AreOthersFree 0 self.new.pile }
+        ensures free { IsFree self.new.pile }
         ensures claims { IfOk result (RunsTask P.L.algebra P.F.edge P.targets self.old self.new) }
         ensures goes { GoesOn P.L.algebra P.F.edge P.targets 0 self.old self.new }
         ensures remembers { Remembers self.old self.new }
     {
-        let Some(task) = self.take_next()? else {
+        let Some((key, function)) = self.image.unclaimed_entry() else {
             return Ok(false);
         };
-        match Work::of(self.alloc, task) {
-            Ok(work) => {
-                self.parts_are_inside(DRAINING);
-                self.run(work)
-            }
-            Err((refused, _)) => Err(refused),
+        self.fill(key, function, parts)?;
+        self.run(key, parts.as_slice())?;
+        Ok(true)
+    }
+
+    /// Makes the list the parts that a pending key owes now.
+    fn fill(&self, key: Key, function: P::F, parts: &mut PartList<P>) -> Result<(), Refused>
+        requires loaded { is_loaded self.now ≡ true }
+        requires pending { is_pending self.now.pile key ≡ true }
+        requires function { found self.now.table key ≡ Some function }
+        ensures parts { OnOk result (OwesParts P.F.edge P.targets self.now key parts.new) }
+        ensures inside { OnOk result (AreInside self.now parts.new) }
+        ensures refused { IsOkUnless result Refused.NoMemory }
+    {
+        match &self.loaded {
+            Some(loaded) => fill_parts(self.alloc, loaded, &self.image, key, function, parts),
+            None => unreachable!(),
         }
+    }
+
+    /// Does the parts that a pending key owes, and takes it out of the pending ones, unless one of them
+    /// lowered the key itself. To a run this is a claim by hand 0, its parts and its end: no hand can see
+    /// the core in between, so that the claim and its task need not be made.
+    ///
+    /// Refusal: `NoMemory` keeps the parts done before it; to a run hand 0 gave its claim back then.
+    fn run(&mut self, key: Key, parts: &[(Key, P::F)]) -> Result<(), Refused>
+        requires free { IsFree self.old.pile }
+        requires pending { is_pending self.old.pile key ≡ true }
+        requires inside { AreInside self.old parts.now }
+        requires owed { OwesParts P.F.edge P.targets self.old key parts.now }
+        ensures refused { IsOkUnless result Refused.NoMemory }
+        ensures falls { OnOk result (HasLess P.F.edge self.old self.new) }
+        ensures free { IsFree self.new.pile }
+        ensures claims { OnOk result (GoesOnPaid P.L.algebra P.F.edge P.targets 1 self.old self.new) }
+        ensures goes { GoesOn P.L.algebra P.F.edge P.targets 0 self.old self.new }
+        ensures remembers { Remembers self.old self.new }
+    {
+        calls_are_steps::<P>();
+        let is_lowered = self.do_parts(key, parts)?;
+        if !is_lowered {
+            self.settle(key)?;
+        }
+        Ok(())
+    }
+
+    /// Does the parts, and answers whether one of them lowered the key itself.
+    fn do_parts(&mut self, key: Key, parts: &[(Key, P::F)]) -> Result<bool, Refused>
+        requires free { IsFree self.old.pile }
+        requires pending { is_pending self.old.pile key ≡ true }
+        requires inside { AreInside self.old parts.now }
+        ensures refused { IsOkUnless result Refused.NoMemory }
+        ensures all { IfOk result (DoesAll P.L.algebra P.F.edge P.targets 0 key parts.now self.old self.new) }
+        ensures some { DoesSome P.L.algebra P.F.edge P.targets 0 key parts.now self.old self.new }
+        ensures free { IsFree self.new.pile }
+        ensures pending { is_pending self.new.pile key ≡ true }
+        ensures stays { IsSameProblem self.old self.new }
+        ensures remembers { Remembers self.old self.new }
+    {
+        let mut is_lowered = false;
+        for part in parts {
+            let change = self.lower(part.0, part.1)?;
+            is_lowered = is_lowered_too(is_lowered, change, part.0, key);
+        }
+        Ok(is_lowered)
+    }
+
+    /// Makes a pending key, which no hand has claimed, pending no longer.
+    fn settle(&mut self, key: Key) -> Result<(), Refused>
+        requires free { IsFree self.old.pile }
+        requires pending { is_pending self.old.pile key ≡ true }
+        ensures refused { IsOkUnless result Refused.NoMemory }
+        ensures settled { OnOk result (IsTakenOut key self.old.pile self.new.pile) }
+        ensures claims { self.new.pile.claims ≡ self.old.pile.claims }
+        ensures table { self.new.table ≡ self.old.table }
+        ensures stays { IsSameProblem self.old self.new }
+        ensures remembers { Remembers self.old self.new }
+        ensures unchanged { OnErr result (self.new ≡ self.old) }
+    {
+        self.image.settle(key)?;
+        Ok(())
     }
 
     /// Claims the next task as hand 0, where no hand has a claim: none where no key is pending. It is a
@@ -143,21 +217,36 @@ impl<P: Problem> Core<P> {
             Claimed::Quiet => Ok(None),
         }
     }
+}
 
-    /// Does all parts of the work that was claimed last, and finishes it.
-    fn run(&mut self, mut work: Work<P>) -> Result<bool, Refused>
-        requires fresh { ends_key (claim_at self.old.pile 0) ≡ true }
-        requires inside { AreInside self.old work.parts }
-        ensures refused { IsOkUnless result Refused.NoMemory }
-        ensures more { IfOk result (λ more. more ≡ true) }
-        ensures falls { OnOk result (HasLess P.F.edge self.old self.new) }
-        ensures done { OnOk result (claim_at self.new.pile 0 ≡ None) }
-        ensures others { StayOthersFree 0 self.old.pile self.new.pile }
-        ensures remembers { Remembers self.old self.new }
-        ensures goes { RunsWork P.L.algebra P.F.edge P.targets result work self.old self.new }
-    {
-        while self.next_part(DRAINING, &mut work)? != Parted::NoPart {}
-        self.end_claim(DRAINING)?;
-        Ok(true)
-    }
+/// Makes the list the parts that a key owes, at the site of its node and with the partners that are
+/// present now.
+fn fill_parts<P: Problem>(
+    alloc: Global,
+    loaded: &Loaded<P>,
+    image: &KeyedImage<P::F, Task<P>>,
+    key: Key,
+    function: P::F,
+    parts: &mut PartList<P>,
+) -> Result<(), Refused>
+    requires place { StandsIn loaded.now.graph key }
+    requires function { found image.now.table key ≡ Some function }
+    ensures parts { OnOk result (ListsParts P.F.edge P.targets loaded.now image.now.table key parts.new) }
+    ensures inside { OnOk result (AllStandIn loaded.now.graph parts.new) }
+    ensures refused { IsOkUnless result Refused.NoMemory }
+{
+    let node = key.node();
+    let site = loaded.graph.site(node);
+    let procedure = loaded.graph.procedure_of(node);
+    let partners = partners_of(alloc, loaded, image, key, procedure, site)?;
+    parts.fill(key, function, site, &partners)?;
+    Ok(())
+}
+
+/// Whether the key itself was lowered before, or by this part.
+fn is_lowered_too(is_lowered: bool, change: Change, part: Key, key: Key) -> bool
+    ensures lowered { change ≡ Change.Lowered → result ≡ (same_key key part || is_lowered) }
+    ensures same { change ≡ Change.Same → result ≡ is_lowered }
+{
+    is_lowered || (change == Change::Lowered && key == part)
 }

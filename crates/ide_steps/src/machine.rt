@@ -2,6 +2,7 @@
 ghost use Rattle.ide_graph.specs.GraphOf.{IsGraphOf};
 ghost use Rattle.ide_graph.specs.ProgramEdges.{HasEdgesOf};
 ghost use Rattle.ide_image.specs.Notes.{noted, noted_count};
+ghost use Rattle.ide_image.specs.KeyedImage.{CountsPending};
 ghost use Rattle.ide_steps.specs.Changed.{HandsOut, Notes, Remembers, standing_entry, entry_then};
 ghost use Rattle.ide_steps.specs.Core.{IsInside, IsSameProblem, IsUnchanged};
 ghost use Rattle.ide_steps.specs.Drain.{HasLess, IsPaidBy};
@@ -205,6 +206,7 @@ impl<P: Problem> Core<P> {
         ensures stays { IsSameProblem self.old self.new }
         ensures falls { result ≡ Ok Change.Lowered → HasLess P.F.edge self.old self.new }
         ensures paid { result ≡ Ok Change.Lowered → (h : ℕ) → IsPaidBy P.F.edge h 1 self.old self.new }
+        ensures count { result ≡ Ok Change.Lowered → CountsPending key self.old.pile self.new.pile }
         ensures still { result ≡ Ok Change.Same → IsUnchanged self.old self.new }
         ensures notes { result ≡ Ok Change.Lowered → Notes self.old self.new (Some key) }
         ensures remembers { Remembers self.old self.new }

@@ -23,35 +23,13 @@ returns-in_err-may_drain-clause-refused g c =
 pub returns-in_err-may_drain-clause-remembers : goal.returns-in_err-may_drain-clause-remembers
 returns-in_err-may_drain-clause-remembers g c = remembers-same _ _ refl refl refl
 
-pub returns-then-is_err-clause-goes : goal.returns-then-is_err-clause-goes
-returns-then-is_err-clause-goes g c =
-    goes-on-then g.P.L.Lattice.algebra g.P.F.EdgeFn.edge g.P.Problem.targets c.args.self.now c.run_all-drained.new.self c.release.new.self
-    c.run_all-drained.ensures.goes
-    (goes-released g.P.L.Lattice.algebra g.P.F.EdgeFn.edge g.P.Problem.targets c.run_all-drained.new.self c.release.new.self 0
-    c.release.ensures.stays c.release.ensures.released)
-
-pub returns-then-is_err-clause-free : goal.returns-then-is_err-clause-free
-returns-then-is_err-clause-free g c = λ free.
-    free-without c.release.new.self.pile c.release.ensures.claim (λ h other.
-    c.release.ensures.claims h ∙ (ap (λ b. cond b None (claim_at c.run_all-drained.new.self.pile h)) other ∙ c.run_all-drained.ensures.others h other))
-
-pub returns-else-is_err-clause-few : goal.returns-else-is_err-clause-few
-returns-else-is_err-clause-few g c =
+pub returns-clause-few : goal.returns-clause-few
+returns-clause-few g c =
     few-of g.P.L.Lattice.algebra g.P.F.EdgeFn.edge g.P.Problem.targets (c.images_have_room.ensures) c.run_all-drained.result c.args.self.now c.run_all-drained.new.self
     c.cores_are_whole.ensures c.run_all-drained.ensures.claims
 
-pub returns-then-is_err-clause-refused : goal.returns-then-is_err-clause-refused
-returns-then-is_err-clause-refused g c =
+pub returns-clause-refused : goal.returns-clause-refused
+returns-clause-refused g c =
     IfErr-weaker c.run_all-drained.result _ _
     (λ refused is. subst (IsDrainRefusal {F = g.row.P-F.Denot} c.args.self.now) (sym is) (memory (record { loaded = search rules; free = search rules })))
     c.run_all-drained.ensures.refused
-
-pub returns-else-is_err-clause-refused : goal.returns-else-is_err-clause-refused
-returns-else-is_err-clause-refused g c =
-    IfErr-weaker c.run_all-drained.result _ _
-    (λ refused is. subst (IsDrainRefusal {F = g.row.P-F.Denot} c.args.self.now) (sym is) (memory (record { loaded = search rules; free = search rules })))
-    c.run_all-drained.ensures.refused
-
-pub returns-then-is_err-clause-remembers : goal.returns-then-is_err-clause-remembers
-returns-then-is_err-clause-remembers g c =
-    remembers-on _ c.run_all-drained.new.self _ c.release.ensures.changes c.release.ensures.table c.release.ensures.pending c.run_all-drained.ensures.remembers

@@ -1,210 +1,81 @@
-use Rattle.std.proofs.Common.{rules, refl, Ok, None, ◌≡◌, ◌+◌, ◌-◌, ◌*◌, ◌^◌, ◌<◌, ◌≤◌, ◌⊎◌, Bool, true, false, cond, ℕ, length, arith, ◌∙◌, ap, inl, inr, sym, subst}
-use Rattle.std.specs.Prelude.{nat_eq}
-use Rattle.ide_image.specs.Worklist.{claim_at, ends_key}
-use Rattle.ide_image.specs.Spent.{spent}
-use Rattle.ide_lattice.specs.Algebra.{EdgeAlgebra}
-use Rattle.ide_tasks.specs.Work.{WorkData}
-use Rattle.ide_steps.specs.Core.{AllStandIn, CoreData}
-use Rattle.ide_steps.specs.declared.part.Parted.{Parted}
-use Rattle.ide_steps.specs.declared.part.Parted.TheVariants.{Lowered, Same}
-use Rattle.ide_steps.specs.Drain.{IsPaidBy, left_by, lowerings_by, potential}
-use Rattle.ide_steps.specs.Going.{GoesOnByHand}
-use Rattle.ide_steps.specs.Steps.{IsCurrent}
-use Rattle.ide_steps.proofs.Going.{goes-then, goes-finish, goes-lowered, goes-same, goes-skipped, goes-unchanged, parted-is, works-on}
-use Rattle.ide_steps.proofs.Noted.{remembers-same, remembers-then}
+use Rattle.std.proofs.Common.{◌≡◌, ◌+◌, ◌≤◌, ◌∙◌, None, ap, arith, cond, false, true, get_or, length, refl, rules, subst, sym}
+use Rattle.ide_steps.specs.Going.{GoesOn}
+use Rattle.ide_steps.specs.Running.{WorksOff}
+use Rattle.ide_steps.proofs.Going.{goes-on}
+use Rattle.ide_steps.proofs.Noted.{remembers-then}
+use Rattle.ide_steps.proofs.Running.{key-begins, key-runs, key-stops}
 use Rattle.ide_steps.proofs.machine.Core.run.Goals as goal
 
--- the end of a task takes at most its key out, and takes it out where the flag says so
-ended : (twice now then start : ℕ) (ends : Bool) → now + cond ends 1 0 ≡ then → (twice + then < start) ⊎ ((twice + then ≡ start) × (ends ≡ true))
-    → twice + now < start
-ended twice now then start true count (inl less) = omega (arith, count, less)
-ended twice now then start true count (inr same) = omega (arith, count, same.0)
-ended twice now then start false count (inl less) = omega (arith, count, less)
-ended twice now then start false count (inr same) = let no : ⊥ = cc (same.1) in elim no [ ]
-
--- it pays for its own task, by its key or by the part that lowered its key
-settled : (now then start : ℕ) (ends : Bool) → now + cond ends 1 0 ≡ then → then + cond ends 0 1 ≤ start → 1 + now ≤ start
-settled now then start true count is = omega (arith, count, is)
-settled now then start false count is = omega (arith, count, is)
-
-pub returns-clause-falls : goal.returns-clause-falls
-returns-clause-falls g c =
+-- some parts are done, and to a run the claim is given back
+pub returns-in_err-is_lowered-clause-goes : goal.returns-in_err-is_lowered-clause-goes
+returns-in_err-is_lowered-clause-goes g c =
+    let A = g.P.L.Lattice.algebra in
     let B = g.P.F.EdgeFn.edge in
-    let core = c.next_part.new.self in
-    let here = (c.in_ok-next_part.ensures.no_part (search rules)).1 in
-    let less = ended (2 * (2 ^ 64 * B.height - spent B core.table.entries)) (length c.end_claim.new.self.pile.pending) (length core.pile.pending)
-    (potential B c.args.self.now) (ends_key (claim_at core.pile 0)) c.in_ok-end_claim.ensures.count
-    (subst (λ core. (potential B core < potential B c.args.self.now)
-    ⊎ ((potential B core ≡ potential B c.args.self.now) × (ends_key (claim_at core.pile 0) ≡ true)))
-    (sym here) c.loop-work.invariant.1) in
-    subst (λ t. 2 * (2 ^ 64 * B.height - spent B t.entries) + length c.end_claim.new.self.pile.pending < potential B c.args.self.now)
-    (sym c.end_claim.ensures.table) less
+    let targets = g.P.Problem.targets in
+    let owed = c.requires.owed in
+    let some = c.do_parts.ensures.some in
+    key-stops A B targets 0 c.args.self.now c.do_parts.new.self c.args.key c.args.parts.now some.0 some.1 some.2 owed.task owed.owes
+    (key-begins A B targets c.calls_are_steps.ensures c.args.self.now c.args.key c.args.parts.now c.requires.free c.requires.pending owed)
+    (c.do_parts.ensures.free 0)
 
-pub returns-clause-others : goal.returns-clause-others
-returns-clause-others g c = λ h other none.
-    c.in_ok-end_claim.ensures.claims h
-    ∙ ap (λ b. cond b None (claim_at c.next_part.new.self.pile h)) other
-    ∙ c.in_ok-next_part.ensures.free h (c.loop-work.invariant.4 h other none)
+pub returns-in_err-settle-clause-goes : goal.returns-in_err-settle-clause-goes
+returns-in_err-settle-clause-goes g c =
+    let A = g.P.L.Lattice.algebra in
+    let B = g.P.F.EdgeFn.edge in
+    let targets = g.P.Problem.targets in
+    let owed = c.requires.owed in
+    subst (GoesOn A B targets 0 c.args.self.now) (sym c.in_err-settle.ensures.unchanged)
+    (key-stops A B targets 0 c.args.self.now c.do_parts.new.self c.args.key c.args.parts.now (length c.args.parts.now) c.in_ok-is_lowered.is_lowered
+    c.in_ok-is_lowered.ensures.all owed.task owed.owes
+    (key-begins A B targets c.calls_are_steps.ensures c.args.self.now c.args.key c.args.parts.now c.requires.free c.requires.pending owed)
+    (c.do_parts.ensures.free 0))
 
-pub returns-clause-goes : goal.returns-clause-goes
-returns-clause-goes g c =
+-- no part lowered the key itself, and it is taken out
+pub returns-in_ok-settle-clause-claims : goal.returns-in_ok-settle-clause-claims
+returns-in_ok-settle-clause-claims g c =
     let A = g.P.L.Lattice.algebra in
     let B = g.P.F.EdgeFn.edge in
     let targets = g.P.Problem.targets in
     let start = c.args.self.now in
-    let core = c.next_part.new.self in
-    let over = c.end_claim.new.self in
-    let work = c.loop-work.work in
-    let done = c.in_ok-next_part.ensures.no_part (search rules) in
-    let by = subst (IsPaidBy B 0 c.loop-work.invariant.0 start) (sym done.1) c.loop-work.invariant.3 in
-    let keys = by.keys in
-    let fresh : left_by (claim_at start.pile 0) ≡ 0 = ap (λ b. cond b 0 1) c.requires.fresh in
-    let due : length core.pile.pending + left_by (claim_at core.pile 0) ≤ length start.pile.pending + c.loop-work.invariant.0 = omega (arith, keys, fresh) in
-    let paid = settled (length over.pile.pending) (length core.pile.pending) (length start.pile.pending + c.loop-work.invariant.0)
-    (ends_key (claim_at core.pile 0)) c.in_ok-end_claim.ensures.count due in
-    let ranks = by.ranks in
-    let same = ap (λ t. spent B t.entries) c.end_claim.ensures.table in (
-      c.loop-work.invariant.0 + 0,
-      λ working.
-          let now = c.loop-work.invariant.2 working in
-          goes-then A B targets start core over
-          (subst (GoesOnByHand A B targets 0 0 c.loop-work.invariant.0 0 start) (sym done.1) now.1)
-          (goes-finish A B targets core over 0 work c.end_claim.ensures.stays
-          (subst (λ s. IsCurrent B targets s 0 work) (sym done.1) now.0) done.0 c.in_ok-end_claim.ensures.finished),
-      record { keys = omega (arith, paid); ranks = omega (arith, ranks, same) },
-    )
+    let mid = c.do_parts.new.self in
+    let new = c.settle.new.self in
+    let key = c.args.key in
+    let parts = c.args.parts.now in
+    let owed = c.requires.owed in
+    let settled = c.in_ok-settle.ensures.settled in
+    let one = settled.count in
+    let unlowered : c.in_ok-is_lowered.is_lowered ≡ false = search rules in
+    let works = subst (λ b. WorksOff A B targets 0 key parts (length parts) b start mid) unlowered c.in_ok-is_lowered.ensures.all in
+    let runs = key-runs A B targets 0 start mid new key parts false works c.settle.ensures.table (omega (arith, one)) owed.task owed.owes
+    (key-begins A B targets c.calls_are_steps.ensures start key parts c.requires.free c.requires.pending owed)
+    c.settle.ensures.stays (c.do_parts.ensures.free 0) (λ h. ap (λ claims. get_or claims h None) c.settle.ensures.claims) c.do_parts.ensures.pending settled.pending in
+    record { lowerings = 0 + works.lowerings + 0; goes = runs.0; paid = runs.1 }
 
-pub returns-in_err-next_part-clause-others : goal.returns-in_err-next_part-clause-others
-returns-in_err-next_part-clause-others g c = λ h other none. c.in_err-next_part.ensures.free h (c.loop-work.invariant.4 h other none)
+pub returns-in_ok-settle-clause-goes : goal.returns-in_ok-settle-clause-goes
+returns-in_ok-settle-clause-goes g c =
+    goes-on g.P.L.Lattice.algebra g.P.F.EdgeFn.edge g.P.Problem.targets c.args.self.now c.settle.new.self (returns-in_ok-settle-clause-claims g c).goes
 
-pub returns-in_err-next_part-clause-goes : goal.returns-in_err-next_part-clause-goes
-returns-in_err-next_part-clause-goes g c =
-    let A = g.P.L.Lattice.algebra in
-    let B = g.P.F.EdgeFn.edge in
-    let targets = g.P.Problem.targets in (
-      c.loop-work.invariant.0 + 0,
-      λ working.
-          goes-then A B targets c.args.self.now c.loop-work.self c.next_part.new.self (c.loop-work.invariant.2 working).1
-          (goes-unchanged A B targets 0 c.loop-work.self c.next_part.new.self c.in_err-next_part.ensures.unchanged.0),
-      search rules,
-    )
+pub returns-in_ok-settle-clause-remembers : goal.returns-in_ok-settle-clause-remembers
+returns-in_ok-settle-clause-remembers g c = remembers-then _ _ _ c.do_parts.ensures.remembers c.settle.ensures.remembers
 
-pub loop-work-init : goal.loop-work-init
-loop-work-init g c = (
-  0,
-  inr (refl, c.requires.fresh),
-  λ working. (working, goes-same g.P.L.Lattice.algebra g.P.F.EdgeFn.edge g.P.Problem.targets 0 c.args.self.now c.args.self.now refl),
-  record { keys = omega arith; ranks = omega arith },
-  λ h other none. none,
-  refl,
-  refl,
-  remembers-same _ _ refl refl refl,
-)
-
--- what was paid for before a part, and the part
-paid-on : {F L : Type 0} (B : EdgeAlgebra F L) (k l : ℕ) (start old new : CoreData F) → IsPaidBy B 0 k start old → IsPaidBy B 0 l old new → IsPaidBy B 0 (k + l) start new
-paid-on B k l start old new before here =
-    let keys = before.keys in
-    let more_keys = here.keys in
-    let ranks = before.ranks in
-    let more_ranks = here.ranks in
-    record { keys = omega (arith, keys, more_keys); ranks = omega (arith, ranks, more_ranks) }
-
-pub loop-work-preserved : goal.loop-work-preserved
-loop-work-preserved g c =
+-- a part lowered it, and it stays pending
+pub returns-else-not-is_lowered-clause-claims : goal.returns-else-not-is_lowered-clause-claims
+returns-else-not-is_lowered-clause-claims g c =
     let A = g.P.L.Lattice.algebra in
     let B = g.P.F.EdgeFn.edge in
     let targets = g.P.Problem.targets in
     let start = c.args.self.now in
-    let old = c.loop-work.self in
-    let new = c.next_part.new.self in
-    let work = c.loop-work.work in
-    let after = c.next_part.new.work in
-    let ensures = c.in_ok-next_part.ensures in
-    let before = c.loop-work.invariant.0 in
-    let pays : (parted : Parted) → c.in_ok-next_part.field-0 ≡ parted → IsPaidBy B 0 (before + lowerings_by parted) start new =
-    λ parted is. paid-on B before (lowerings_by parted) start old new c.loop-work.invariant.3 (subst (λ p. IsPaidBy B 0 (lowerings_by p) old new) is ensures.paid) in
-    let others : (h : ℕ) → nat_eq 0 h ≡ false → claim_at start.pile h ≡ None → claim_at new.pile h ≡ None = λ h other none. ensures.free h (c.loop-work.invariant.4 h other none) in
-    let remembers = remembers-then start old new c.loop-work.invariant.7 ensures.remembers in
-    elim (parted-is c.in_ok-next_part.field-0) [
-      | inl lowered ↦
-          let is = ap Ok lowered in
-          let falls = ensures.falls is in (
-            before + 1,
-            elim c.loop-work.invariant.1 [
-              | inl less ↦ inl (omega (arith, less, falls))
-              | inr same ↦ inl (omega (arith, same.0, falls))
-            ],
-            λ working.
-                let now = c.loop-work.invariant.2 working in
-                let part = ensures.lowered is work.task now.0.claim in (
-                  works-on A B targets new 0 work after part.counted now.0.parts (ensures.progress work.task now.0.claim),
-                  goes-then A B targets start old new now.1 (goes-lowered A B targets old new 0 work after work.task ensures.stays now.0.claim now.0.parts part),
-                ),
-            pays Lowered lowered,
-            others,
-            ensures.stays.graph ∙ c.loop-work.invariant.5,
-            ap (λ (w : WorkData g.row.P-F.Denot). w.parts) (ensures.next (inl is)).1 ∙ c.loop-work.invariant.6,
-            remembers,
-          )
-      | inr other ↦ elim other [
-        | inl same ↦
-            let is = ap Ok same in
-            let still = ensures.still is in (
-              before + 0,
-              elim c.loop-work.invariant.1 [
-                | inl less ↦ inl (omega (arith, less, still.0))
-                | inr earlier ↦ inr (still.0 ∙ earlier.0, still.1 ∙ earlier.1)
-              ],
-              λ working.
-                  let now = c.loop-work.invariant.2 working in
-                  let part = ensures.same is work.task now.0.claim in (
-                    works-on A B targets new 0 work after part.counted now.0.parts (ensures.progress work.task now.0.claim),
-                    goes-then A B targets start old new now.1 (goes-skipped A B targets old new 0 work after work.task ensures.stays now.0.claim now.0.parts part),
-                  ),
-              pays Same same,
-              others,
-              ensures.stays.graph ∙ c.loop-work.invariant.5,
-              ap (λ (w : WorkData g.row.P-F.Denot). w.parts) (ensures.next (inr is)).1 ∙ c.loop-work.invariant.6,
-              remembers,
-            )
-        | inr none ↦ absurd (search rules)
-      ]
-    ]
+    let mid = c.do_parts.new.self in
+    let key = c.args.key in
+    let parts = c.args.parts.now in
+    let owed = c.requires.owed in
+    let lowered : c.in_ok-is_lowered.is_lowered ≡ true = search rules in
+    let works = subst (λ b. WorksOff A B targets 0 key parts (length parts) b start mid) lowered c.in_ok-is_lowered.ensures.all in
+    let runs = key-runs A B targets 0 start mid mid key parts true works refl (omega arith) owed.task owed.owes
+    (key-begins A B targets c.calls_are_steps.ensures start key parts c.requires.free c.requires.pending owed)
+    (record { program = refl; graph = refl; roots = refl }) (c.do_parts.ensures.free 0) (λ h. refl) c.do_parts.ensures.pending (λ q. refl) in
+    record { lowerings = 0 + works.lowerings + 0; goes = runs.0; paid = runs.1 }
 
-pub next_part-requires : goal.next_part-requires
-next_part-requires g c = λ graph is.
-    subst (AllStandIn graph) (sym c.loop-work.invariant.6) (c.requires.inside graph (sym c.loop-work.invariant.5 ∙ is))
-
-pub returns-in_err-end_claim-clause-others : goal.returns-in_err-end_claim-clause-others
-returns-in_err-end_claim-clause-others g c = λ h other none.
-    ap (λ (core : CoreData g.row.P-F.Denot). claim_at core.pile h) c.in_err-end_claim.ensures.unchanged
-    ∙ c.in_ok-next_part.ensures.free h (c.loop-work.invariant.4 h other none)
-
--- a claim that could not be ended is as it was
-pub returns-in_err-end_claim-clause-goes : goal.returns-in_err-end_claim-clause-goes
-returns-in_err-end_claim-clause-goes g c =
-    let A = g.P.L.Lattice.algebra in
-    let B = g.P.F.EdgeFn.edge in
-    let targets = g.P.Problem.targets in
-    let start = c.args.self.now in
-    let core = c.next_part.new.self in
-    let done = c.in_ok-next_part.ensures.no_part (search rules) in (
-      c.loop-work.invariant.0 + 0,
-      λ working.
-          goes-then A B targets start core c.end_claim.new.self
-          (subst (GoesOnByHand A B targets 0 0 c.loop-work.invariant.0 0 start) (sym done.1) (c.loop-work.invariant.2 working).1)
-          (goes-same A B targets 0 core c.end_claim.new.self c.in_err-end_claim.ensures.unchanged),
-      search rules,
-    )
-
-pub returns-in_err-end_claim-clause-remembers : goal.returns-in_err-end_claim-clause-remembers
-returns-in_err-end_claim-clause-remembers g c =
-    remembers-then _ c.next_part.new.self _ (remembers-then _ _ _ c.loop-work.invariant.7 c.next_part.ensures.remembers) c.end_claim.ensures.remembers
-
-pub returns-clause-remembers : goal.returns-clause-remembers
-returns-clause-remembers g c =
-    remembers-then _ c.next_part.new.self _ (remembers-then _ _ _ c.loop-work.invariant.7 c.next_part.ensures.remembers) c.end_claim.ensures.remembers
-
-pub returns-in_err-next_part-clause-remembers : goal.returns-in_err-next_part-clause-remembers
-returns-in_err-next_part-clause-remembers g c = remembers-then _ _ _ c.loop-work.invariant.7 c.next_part.ensures.remembers
+pub returns-else-not-is_lowered-clause-goes : goal.returns-else-not-is_lowered-clause-goes
+returns-else-not-is_lowered-clause-goes g c =
+    goes-on g.P.L.Lattice.algebra g.P.F.EdgeFn.edge g.P.Problem.targets c.args.self.now c.do_parts.new.self (returns-else-not-is_lowered-clause-claims g c).goes

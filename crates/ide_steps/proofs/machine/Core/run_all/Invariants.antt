@@ -7,11 +7,11 @@ use Rattle.ide_steps.proofs.machine.Core.run_all.Given as goal
 
 -- so many tasks are counted as there were claims, as far as can be counted, which are paid for; and no
 -- hand has a claim
-abbrev pub invariant-loop-tasks : goal.invariant-loop-tasks
-invariant-loop-tasks g l =
+abbrev pub invariant-loop-parts : goal.invariant-loop-parts
+invariant-loop-parts g l =
     ((claims : ℕ) × (l.tasks ≡ min claims (2 ^ 64 - 1)) × GoesOnPaid g.P.L.Lattice.algebra g.P.F.EdgeFn.edge g.P.Problem.targets claims l.initial.self l.self)
     × IsFree l.self.pile
     × Remembers l.initial.self l.self
 
-abbrev pub decreases-loop-tasks : goal.decreases-loop-tasks
-decreases-loop-tasks g l = potential g.P.F.EdgeFn.edge l.self
+abbrev pub decreases-loop-parts : goal.decreases-loop-parts
+decreases-loop-parts g l = potential g.P.F.EdgeFn.edge l.self

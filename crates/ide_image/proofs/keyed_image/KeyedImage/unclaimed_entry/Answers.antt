@@ -4,7 +4,7 @@ use Rattle.ide_image.specs.Queue.{held_at, pending_at}
 use Rattle.ide_image.proofs.Held.{apart_at}
 use Rattle.ide_image.proofs.Agree.{any-at, at-index, free-unclaimed, is-pending}
 use Rattle.ide_image.proofs.Before.{at-held, waiting-is}
-use Rattle.ide_image.proofs.keyed_image.KeyedImage.unclaimed.Goals as goal
+use Rattle.ide_image.proofs.keyed_image.KeyedImage.unclaimed_entry.Goals as goal
 
 pub returns-in_err-slot-clause-none : goal.returns-in_err-slot-clause-none
 returns-in_err-slot-clause-none g c =
