@@ -1,8 +1,9 @@
 -- What contracts say of notes with a mark at each slot: which slots' keys are noted, and the slots of the noted keys.
-use Rattle.std.specs.Prelude.{◌≡◌, ℕ, ◌-◌, ◌<◌, ◌≤◌, suc, Bool, true, List, [], Option, Some, None, length, map, min, nat_eq, slice_index, unwrap_or, vec_capacity, vec_len}
+use Rattle.std.specs.Prelude.{◌≡◌, ℕ, ◌+◌, ◌-◌, ◌<◌, ◌≤◌, suc, Bool, true, List, [], Option, Some, None, length, map, min, nat_eq, slice_index, unwrap_or, vec_capacity, vec_len}
 use Rattle.std.specs.Global.{Vec}
 use Rattle.std.specs.Option.{is_some}
 use Rattle.ide_wire.specs.declared.key.Key.{Key}
+use Rattle.ide_image.specs.Queue.{SetsMark}
 use Rattle.ide_image.specs.declared.entry.Entry.{Entry}
 
 -- what is noted, if changes are, with the slot of each note; the number of the list that a slot was last noted in, that of the
@@ -32,6 +33,18 @@ module _ {F : Type 0} where
   -- the slots are those of the noted keys, where this is each key's place
   abbrev pub AreSlotsOf : (Key → ℕ) → ChangeLog F → Type 0
   AreSlotsOf place changes = map (λ note. place note.0) (unwrap_or changes.list []) ≡ map suc changes.slots
+
+  -- they stay those of the noted keys
+  abbrev pub KeepsSlots : (Key → ℕ) → (old new : ChangeLog F) → Type 0
+  KeepsSlots place old new = AreSlotsOf place old → AreSlotsOf place new
+
+  -- so they do wherever the slot is the key's place
+  abbrev pub KeepsSlotsAt : ℕ → Key → (old new : ChangeLog F) → Type 0
+  KeepsSlotsAt slot key old new = (place : Key → ℕ) → place key ≡ slot + 1 → KeepsSlots place old new
+
+  -- the slot's key is noted, where changes are, and each other slot is as it was
+  abbrev pub MarksNoted : ℕ → (old new : ChangeLog F) → Type 0
+  MarksNoted slot old new = SetsMark slot (is_some old.list) (noted_at old) (noted_at new)
 
   -- where changes are noted, there is room for so many notes more, of the first slots
   pub record MayNote (count slots : ℕ) (changes : ChangeLog F) : Type 0 where

@@ -1,9 +1,9 @@
 -- What contracts say of entries in the order in which their keys came, and of where each stands.
-use Rattle.std.specs.Prelude.{◌≡◌, ℕ, ◌+◌, ◌-◌, ◌<◌, ◌≤◌, ◌^◌, length, min, Some}
+use Rattle.std.specs.Prelude.{◌≡◌, ℕ, ◌+◌, ◌-◌, ◌<◌, ◌≤◌, ◌^◌, List, length, min, Some}
 use Rattle.std.specs.List.{IsDistinct}
 use Rattle.std.specs.Map.{keys_of}
 use Rattle.ide_pages.specs.Pages.{Numbers, cell_of}
-use Rattle.ide_image.specs.Tables.{Table, place_in}
+use Rattle.ide_image.specs.Tables.{Table, place_in, with_all, with_entry}
 use Rattle.ide_wire.specs.Key.{same_key}
 use Rattle.ide_wire.specs.declared.key.Key.{Key}
 
@@ -21,6 +21,18 @@ module _ {F : Type 0} where
   -- one more than the index of the key's entry: 0, if it has none
   abbrev pub place_of_key : Indexed F → Key → ℕ
   place_of_key indexed key = place_in key indexed.table.entries
+
+  -- P holds of the key at the place: of each absent one, at place 0
+  abbrev pub ForKeyAt : ℕ → Indexed F → (Key → Type 0) → Type 0
+  ForKeyAt place indexed P = (key : Key) → place ≡ place_of_key indexed key → P key
+
+  -- the function is put at the key: the key stays where it stands, and a new one goes last
+  abbrev pub PutsEntry : Key → F → (old new : Indexed F) → Type 0
+  PutsEntry key function old new = new.table.entries ≡ with_entry old.table.entries key function
+
+  -- so are the functions of a list at theirs, one after the other
+  abbrev pub PutsEntries : List (Key × F) → (old new : Indexed F) → Type 0
+  PutsEntries list old new = new.table.entries ≡ with_all old.table.entries list
 
   -- no two entries are of one key
   abbrev pub HasDistinctKeys : Indexed F → Type 0

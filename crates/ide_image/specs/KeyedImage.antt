@@ -11,8 +11,8 @@ use Rattle.ide_image.specs.Worklist.{AreHeld, Pile, claim_in, is_claim_of, is_pe
 use Rattle.ide_image.specs.declared.claim.Claim.{Claim}
 use Rattle.ide_image.specs.ChangeLog.{AreSlotsOf, ChangeLog, MayNote, noted_at}
 use Rattle.ide_image.specs.Indexed.{Indexed, MayTake, place_of_key}
-use Rattle.ide_image.specs.Notes.{entry_at, noted}
-use Rattle.ide_image.specs.Queue.{SlotMarks, SameMarks, SetsMark, held_at, pending_at}
+use Rattle.ide_image.specs.Notes.{NotesAll, entry_at, noted, with_note}
+use Rattle.ide_image.specs.Queue.{SlotMarks, SameMarks, SetsMark, held_at, one_if, pending_at, pending_count}
 use Rattle.ide_image.specs.declared.entry.Entry.{Entry}
 
 -- the tables; the pending keys with the claims; and, if somebody asked for changes, for each key that changed since, the entry
@@ -38,6 +38,10 @@ CountsPending key old new = length new.pending ≡ length old.pending + (if is_p
 abbrev pub marked_all : {T : Type 0} → List Key → Option (Claim T) → Option (Claim T)
 marked_all keys None = None
 marked_all keys (Some claim) = Some (record claim { lowered = list_any (same_key claim.key) keys || claim.lowered })
+
+-- the same of a list of claims
+abbrev pub MarksAllIn : {F T : Type 0} → List (Key × F) → (old new : List (Option (Claim T))) → Type 0
+MarksAllIn list old new = (h : ℕ) → claim_in new h ≡ marked_all (keys_of list) (claim_in old h)
 
 -- what holds of the slot at a place: nothing at place 0, which is of no slot
 abbrev pub marked_at : (ℕ → Bool) → ℕ → Bool
@@ -70,12 +74,56 @@ module _ {F : Type 0} where
   abbrev pub entry_by : Indexed F → SlotMarks → Key → Entry F
   entry_by indexed marks key = record { function = found indexed.table key; pending = pending_by_slot indexed marks key }
 
+  -- the key is pending beside those that were, each by its slot
+  abbrev pub AddsBySlot : Key → (indexed after : Indexed F) → (marks marks_after : SlotMarks) → Type 0
+  AddsBySlot key indexed after marks marks_after =
+      (q : Key) → pending_by_slot after marks_after q ≡ (same_key key q || pending_by_slot indexed marks q)
+
+  -- the keys of the list are pending beside those that were, each by its slot
+  abbrev pub AddsAllBySlot : List (Key × F) → (indexed after : Indexed F) → (marks marks_after : SlotMarks) → Type 0
+  AddsAllBySlot list indexed after marks marks_after =
+      AddsKeys (keys_of list) (pending_by_slot indexed marks) (pending_by_slot after marks_after)
+
+  -- one key more is pending, unless this one was, by its slot
+  abbrev pub CountsBySlot : Indexed F → Key → (marks marks_after : SlotMarks) → Type 0
+  CountsBySlot indexed key marks marks_after =
+      pending_count marks_after.list + one_if (pending_by_slot indexed marks key) ≡ pending_count marks.list + 1
+
+  -- the key's slot is pending no longer, and each other one is as it was
+  abbrev pub SettlesKey : Indexed F → Key → (old new : SlotMarks) → Type 0
+  SettlesKey indexed key old new = SetsAt (place_of_key indexed key) false (pending_at old.list) (pending_at new.list)
+
+  -- no hand has claimed the key's slot, and each other one is as it was
+  abbrev pub FreesKey : Indexed F → Key → (old new : SlotMarks) → Type 0
+  FreesKey indexed key old new = SetsAt (place_of_key indexed key) false (held_at old.list) (held_at new.list)
+
+  -- the key's slot is marked as noted, where changes are noted, and each other one is as it was
+  abbrev pub MarksKey : Indexed F → Key → (old new : ChangeLog F) → Type 0
+  MarksKey indexed key old new = SetsAt (place_of_key indexed key) (is_some old.list) (noted_at old) (noted_at new)
+
+  -- the key's slot is marked as noted exactly where the key is
+  abbrev pub IsListed : Indexed F → ChangeLog F → Key → Type 0
+  IsListed indexed changes key = marked_at (noted_at changes) (place_of_key indexed key) ≡ is_some (noted changes.list key)
+
+  -- the key is noted with its entry of before, by its slot, if changes are noted and it is not yet
+  abbrev pub NotesBySlot : Indexed F → SlotMarks → Key → (old new : ChangeLog F) → Type 0
+  NotesBySlot indexed marks key old new = new.list ≡ with_note old.list key (entry_by indexed marks key)
+
+  -- each key of the list is noted so
+  abbrev pub NotesAllBySlot : Indexed F → SlotMarks → List (Key × F) → (old new : ChangeLog F) → Type 0
+  NotesAllBySlot indexed marks list old new = NotesAll old.list new.list (keys_of list) (entry_by indexed marks)
+
   -- there is room for so many keys more, that are pending and noted
   pub record HasRoomFor (count : ℕ) (indexed : Indexed F) (marks : SlotMarks) (changes : ChangeLog F) : Type 0 where
     pub entries : MayTake count indexed
     pub marked : length indexed.table.entries + count ≤ length marks.list
     pub stacked : count ≤ marks.spare
     pub notes : MayNote count (length indexed.table.entries + count) changes
+
+  -- the room that is used is that of one key at most
+  abbrev pub UsesRoom : (indexed after : Indexed F) → (marks marks_after : SlotMarks) → (changes changes_after : ChangeLog F) → Type 0
+  UsesRoom indexed after marks marks_after changes changes_after =
+      (n : ℕ) → HasRoomFor (n + 1) indexed marks changes → HasRoomFor n after marks_after changes_after
 
   -- the parts make the same image, and each key that had a cell has it
   pub record SameParts (indexed after : Indexed F) (marks marks_after : SlotMarks) (changes changes_after : ChangeLog F) : Type 0 where
@@ -86,6 +134,10 @@ module _ {F : Type 0} where
     pub list : changes_after.list ≡ changes.list
     pub slots : changes_after.slots ≡ changes.slots
     pub noted : SameMarks (noted_at changes) (noted_at changes_after)
+
+  -- they make it over the same entries
+  abbrev pub SameOver : Indexed F → (marks marks_after : SlotMarks) → (changes changes_after : ChangeLog F) → Type 0
+  SameOver indexed marks marks_after changes changes_after = SameParts indexed indexed marks marks_after changes changes_after
 
 module _ {F T : Type 0} where
   -- the image that the parts make

@@ -5,7 +5,9 @@ use Rattle.std.specs.List.{filter_map}
 use Rattle.ide_image.specs.Tables.{found}
 use Rattle.ide_wire.specs.declared.key.Key.{Key}
 use Rattle.ide_image.specs.Worklist.{is_pending}
-use Rattle.ide_image.specs.KeyedImage.{KeyedImageData}
+use Rattle.ide_image.specs.Indexed.{Indexed}
+use Rattle.ide_image.specs.KeyedImage.{KeyedImageData, pending_by_slot}
+use Rattle.ide_image.specs.Queue.{SlotMarks}
 use Rattle.ide_image.specs.declared.entry.Entry.{Entry}
 
 module _ {F : Type 0} (same : F → F → Bool) where
@@ -23,6 +25,10 @@ module _ {F : Type 0} (same : F → F → Bool) where
   -- the same of a note
   abbrev pub left_item : {T : Type 0} → KeyedImageData F T → Key × Entry F → Option (Key × F × Bool)
   left_item image note = left_of note.0 (found image.table note.0) (is_pending image.pile note.0) note.1
+
+  -- the same of a key, by its slot
+  abbrev pub left_by_slot : Indexed F → SlotMarks → Key → (before : Entry F) → Option (Key × F × Bool)
+  left_by_slot indexed marks key before = left_of key (found indexed.table key) (pending_by_slot indexed marks key) before
 
   -- what is left, in the order of the notes
   abbrev pub left_items : {T : Type 0} → KeyedImageData F T → List (Key × F × Bool)

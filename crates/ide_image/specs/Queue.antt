@@ -63,9 +63,41 @@ held_count marks = sum_by (λ m. one_if (is_held m)) marks
 abbrev pub SetsMark : ℕ → Bool → (old new : ℕ → Bool) → Type 0
 SetsMark slot b old new = (n : ℕ) → new n ≡ (if nat_eq slot n then b else old n)
 
+-- it is pending now, or is not
+abbrev pub SetsPendingSlot : ℕ → Bool → (old new : List Mark) → Type 0
+SetsPendingSlot slot b old new = SetsMark slot b (pending_at old) (pending_at new)
+
+-- a hand has claimed it now, or has not
+abbrev pub SetsHeldSlot : ℕ → Bool → (old new : List Mark) → Type 0
+SetsHeldSlot slot b old new = SetsMark slot b (held_at old) (held_at new)
+
 -- each slot is as it was
 abbrev pub SameMarks : (old new : ℕ → Bool) → Type 0
 SameMarks old new = (n : ℕ) → new n ≡ old n
+
+-- one slot more is pending, unless this one was
+abbrev pub CountsPushed : ℕ → (old new : List Mark) → Type 0
+CountsPushed slot old new = pending_count new + one_if (pending_at old slot) ≡ pending_count old + 1
+
+-- one slot fewer is pending, if this one was
+abbrev pub CountsSettled : ℕ → (old new : List Mark) → Type 0
+CountsSettled slot old new = pending_count new + one_if (pending_at old slot) ≡ pending_count old
+
+-- one slot fewer is claimed, if this one was
+abbrev pub CountsReleased : ℕ → (old new : List Mark) → Type 0
+CountsReleased slot old new = held_count new + one_if (held_at old slot) ≡ held_count old
+
+-- a pending slot has this mark now: one slot fewer is pending, unless the mark is a pending one's
+abbrev pub CountsPendingMark : Mark → (old new : List Mark) → Type 0
+CountsPendingMark mark old new = pending_count new + 1 ≡ pending_count old + one_if (is_pending_mark mark)
+
+-- one that waited has it: one slot more is claimed, if the mark is a claimed one's
+abbrev pub CountsHeldMark : Mark → (old new : List Mark) → Type 0
+CountsHeldMark mark old new = held_count new ≡ held_count old + one_if (is_held mark)
+
+-- each sum over the marks to which settled slots add nothing is as it was
+abbrev pub SameSums : (old new : List Mark) → Type 0
+SameSums old new = (f : Mark → ℕ) → f Settled ≡ 0 → sum_by f new ≡ sum_by f old
 
 -- a slot waits exactly where it stands on the stack, at its position there
 pub record IsStacked (mark : ℕ → Mark) (at : ℕ → ℕ) (count : ℕ) : Type 0 where

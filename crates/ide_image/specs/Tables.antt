@@ -125,3 +125,7 @@ HaveCells places list = All (λ entry. IsSome (cell_of places entry.0)) list
 -- the fact with the function of the entry at the place, or with f where there is none
 abbrev pub partner_at : {F : Type 0} → F → List (Key × F) → ℕ × ℕ → ℕ × F
 partner_at f entries listed = (listed.0, unwrap_or (option_map (λ entry. entry.1) (slice_get entries (listed.1 - 1))) f)
+
+-- the same of each fact of a row, where there is none always top
+abbrev pub partners_at : {F L : Type 0} → EdgeAlgebra F L → List (Key × F) → List (ℕ × ℕ) → List (ℕ × F)
+partners_at edge entries row = map (partner_at edge.all_top entries) row

@@ -56,10 +56,18 @@ abbrev pub marked : {T : Type 0} → Key → Option (Claim T) → Option (Claim 
 marked key None = None
 marked key (Some claim) = if same_key claim.key key then Some (record claim { lowered = true }) else Some claim
 
+-- the same of a list of claims
+abbrev pub MarksIn : {T : Type 0} → Key → (old new : List (Option (Claim T))) → Type 0
+MarksIn key old new = (h : ℕ) → claim_in new h ≡ marked key (claim_in old h)
+
 -- the claim with so many parts done
 abbrev pub with_done : {T : Type 0} → ℕ → Option (Claim T) → Option (Claim T)
 with_done count None = None
 with_done count (Some claim) = Some (record claim { done = count })
+
+-- the same of a list of claims
+abbrev pub SetsDoneIn : {T : Type 0} → ℕ → ℕ → (old new : List (Option (Claim T))) → Type 0
+SetsDoneIn hand count old new = PutsIn hand (with_done count (claim_in old hand)) old new
 
 -- whether the claim's end takes the key out of the pending ones: it is of the key, which was not lowered since
 abbrev pub ends : {T : Type 0} → Option (Claim T) → Key → Bool

@@ -1,9 +1,9 @@
 //! Notes of what changed, with a mark at each slot whose key is noted.
 ghost use Rattle.std.specs.Prelude.{◌≡◌, ℕ, ◌+◌, ◌<◌, ◌≤◌, ◌^◌, [], None, Some, false, true, length, slice_index, OnOk, IsOk, option_map};
 ghost use Rattle.std.specs.Option.{is_some, option_copied};
-ghost use Rattle.ide_image.specs.ChangeLog.{AreSlotsOf, AreStamps, MayNote, list_of, noted_at};
+ghost use Rattle.ide_image.specs.ChangeLog.{AreStamps, KeepsSlotsAt, MarksNoted, MayNote, list_of, noted_at};
 ghost use Rattle.ide_image.specs.Notes.{noted, noted_count, with_note};
-ghost use Rattle.ide_image.specs.Queue.{SameMarks, SetsMark};
+ghost use Rattle.ide_image.specs.Queue.{SameMarks};
 
 use crate::entry::Entry;
 use ide_wire::Key;
@@ -103,8 +103,8 @@ impl<F: Copy + Drop> ChangeLog<F> {
         requires mark { noted_at self.old slot ≡ is_some (noted self.old.list key) }
         requires few { slot < 2 ^ 32 }
         ensures list { self.new.list ≡ with_note self.old.list key before }
-        ensures slots { (place : Key → ℕ) → place key ≡ slot + 1 → AreSlotsOf place self.old → AreSlotsOf place self.new }
-        ensures marks { SetsMark slot (is_some self.old.list) (noted_at self.old) (noted_at self.new) }
+        ensures slots { KeepsSlotsAt slot key self.old self.new }
+        ensures marks { MarksNoted slot self.old self.new }
         ensures room { (n s : ℕ) → MayNote (n + 1) s self.old → MayNote n s self.new }
     {
         let is_noted = self.is_noted(slot);

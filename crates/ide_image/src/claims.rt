@@ -1,7 +1,7 @@
 //! The claims of hands: one place for each hand from 0 on, as far as a hand was in use.
 ghost use Rattle.std.specs.Prelude.{◌≡◌, ℕ, ◌<◌, false, filter, length, nat_eq, IsSome, IsTrue, OnOk};
 ghost use Rattle.std.specs.Option.{is_some, option_copied};
-ghost use Rattle.ide_image.specs.Worklist.{PutsIn, claim_in, marked, with_done};
+ghost use Rattle.ide_image.specs.Worklist.{MarksIn, PutsIn, SetsDoneIn, claim_in, marked};
 ghost use Rattle.ide_image.specs.Notes.{ended_key};
 
 use crate::claim::Claim;
@@ -49,7 +49,7 @@ pub(crate) fn take_claim<T: Drop>(
 
 /// Says how many parts of the hand's task are done.
 pub(crate) fn set_done<T: Drop>(claims: &mut Vec<Option<Claim<T>>>, hand: usize, count: usize)
-    ensures { PutsIn hand (with_done count (claim_in claims.old.items hand)) claims.old.items claims.new.items }
+    ensures { SetsDoneIn hand count claims.old.items claims.new.items }
 {
     if hand < claims.len() {
         if let Some(claim) = &mut claims[hand] {
@@ -71,7 +71,7 @@ fn mark_claim<T>(claim: &mut Option<Claim<T>>, key: Key)
 
 /// Marks the claims of the key as lowered.
 pub(crate) fn mark<T: Drop>(claims: &mut Vec<Option<Claim<T>>>, key: Key)
-    ensures { (h : ℕ) → claim_in claims.new.items h ≡ marked key (claim_in claims.old.items h) }
+    ensures { MarksIn key claims.old.items claims.new.items }
 {
     for claim in claims.iter_mut() {
         mark_claim(claim, key);

@@ -1,5 +1,5 @@
 //! Entries in the order in which their keys came, and where each stands.
-ghost use Rattle.std.specs.Prelude.{◌≡◌, ◌≢◌, ℕ, ◌+◌, ◌-◌, ◌<◌, ◌≤◌, ◌^◌, ◌↔◌, [], None, Some, length, map, slice_get, IfOk, IfSome, IfNone, OnOk, OnErr, IsOkUnless, IsSome, vec_capacity, vec_len};
+ghost use Rattle.std.specs.Prelude.{◌≡◌, ◌≢◌, ℕ, ◌+◌, ◌-◌, ◌<◌, ◌≤◌, ◌^◌, ◌↔◌, [], None, Some, length, slice_get, IfOk, IfSome, IfNone, OnOk, OnErr, IsOkUnless, IsSome, vec_capacity, vec_len};
 ghost use Rattle.std.specs.List.{IsDistinct};
 ghost use Rattle.std.specs.Map.{keys_of, lookup};
 ghost use Rattle.ide_pages.specs.Pages.{KeepsCells, cell_of};
@@ -7,8 +7,8 @@ ghost use Rattle.ide_wire.specs.declared.key.Key.{Key};
 ghost use Rattle.ide_wire.specs.declared.refused.Refused.TheVariants.{NoMemory};
 ghost use Rattle.ide_wire.specs.Key.{same_key};
 ghost use Rattle.ide_wire.specs.KeyOrder.{key_cmp};
-ghost use Rattle.ide_image.specs.Tables.{AreJumpsTo, AreKeys, AreSummariesFrom, HaveCells, IsIndexed, found, function_at, nodes_of, or_top, partner_at, place_in, with_entry};
-ghost use Rattle.ide_image.specs.Indexed.{HasDistinctKeys, IsSpot, MayTake, place_of_key};
+ghost use Rattle.ide_image.specs.Tables.{AreJumpsTo, AreKeys, AreSummariesFrom, HaveCells, IsIndexed, found, function_at, nodes_of, or_top, partner_at, partners_at, place_in, with_entry};
+ghost use Rattle.ide_image.specs.Indexed.{ForKeyAt, HasDistinctKeys, IsSpot, MayTake, PutsEntry, place_of_key};
 
 use ide_lattice::EdgeFn;
 use ide_pages::Pages;
@@ -72,7 +72,7 @@ impl<F: EdgeFn> Indexed<F> {
 
     /// The function of the entry at a place, if it is one. No look-up.
     pub(crate) fn function_at(&self, place: u32) -> Option<F>
-        ensures { (key : Key) → place ≡ place_of_key self.now key → result ≡ found self.now.table key }
+        ensures { ForKeyAt place self.now (λ key. result ≡ found self.now.table key) }
     {
         if place == 0 {
             return None;
@@ -85,7 +85,7 @@ impl<F: EdgeFn> Indexed<F> {
 
     /// The same, where no entry stands for the function that always gives top.
     pub(crate) fn function_in(&self, place: u32) -> F
-        ensures { (key : Key) → place ≡ place_of_key self.now key → result ≡ function_at F.edge self.now.table key }
+        ensures { ForKeyAt place self.now (λ key. result ≡ function_at F.edge self.now.table key) }
     {
         match self.function_at(place) {
             Some(function) => function,
@@ -234,7 +234,7 @@ impl<F: EdgeFn> Indexed<F> {
     pub(crate) fn put(&mut self, spot: KeySpot, key: Key, function: F) -> usize
         requires spot { IsSpot self.old key spot.cell spot.place }
         requires room { MayTake 1 self.old }
-        ensures entries { self.new.table.entries ≡ with_entry self.old.table.entries key function }
+        ensures entries { PutsEntry key function self.old self.new }
         ensures index { result + 1 ≡ place_in key (with_entry self.old.table.entries key function) }
         ensures distinct { HasDistinctKeys self.old }
         ensures cells { KeepsCells self.old.places self.new.places }
@@ -273,7 +273,7 @@ fn partners_of<F: EdgeFn>(
     entries: &[(Key, F)],
     row: &[(Fact, u32)],
 ) -> Result<Vec<(Fact, F)>, AllocError>
-    ensures { IfOk result (λ partners. partners.items ≡ map (partner_at F.edge.all_top entries.now) row.now) }
+    ensures { IfOk result (λ partners. partners.items ≡ partners_at F.edge entries.now row.now) }
 {
     row.iter()
         .map(|listed| partner_at(entries, *listed))

@@ -1,20 +1,15 @@
 //! Steps of the parts that an image is made of, after which they agree again.
-ghost use Rattle.std.specs.Prelude.{◌≡◌, ℕ, ◌+◌, ◌||◌, None, Some, false, true, length, IsOk, OnOk, OnErr, IsOkUnless};
-ghost use Rattle.std.specs.List.{list_any};
-ghost use Rattle.std.specs.Map.{keys_of};
+ghost use Rattle.std.specs.Prelude.{◌≡◌, ℕ, ◌+◌, None, Some, false, true, length, IsOk, OnOk, OnErr, IsOkUnless};
 ghost use Rattle.std.specs.Option.{is_some};
 ghost use Rattle.ide_pages.specs.Pages.{KeepsCells};
-ghost use Rattle.ide_image.specs.Tables.{HaveCells, found, with_all, with_entry};
-ghost use Rattle.ide_wire.specs.declared.key.Key.{Key};
+ghost use Rattle.ide_image.specs.Tables.{HaveCells};
 ghost use Rattle.ide_wire.specs.declared.refused.Refused.TheVariants.{NoMemory};
-ghost use Rattle.ide_wire.specs.Key.{same_key};
-ghost use Rattle.ide_image.specs.Worklist.{claim_in, is_claim_of, marked};
-ghost use Rattle.ide_image.specs.ChangeLog.{AreSlotsOf, MayNote, noted_at};
-ghost use Rattle.ide_image.specs.KeyedImage.{AddsKeys, AreParts, Covers, HasRoomFor, SameParts, marked_at, entry_by, marked_all, pending_by_slot, SetsAt};
-ghost use Rattle.ide_image.specs.Indexed.{IsSpot, MayTake, place_of_key};
-ghost use Rattle.ide_image.specs.Left.{is_left, left_of};
-ghost use Rattle.ide_image.specs.Notes.{NotesAll, noted, with_note};
-ghost use Rattle.ide_image.specs.Queue.{SetsMark, held_at, one_if, pending_at, pending_count};
+ghost use Rattle.ide_image.specs.Worklist.{MarksIn, claim_in, is_claim_of};
+ghost use Rattle.ide_image.specs.ChangeLog.{KeepsSlots, MarksNoted, MayNote, noted_at};
+ghost use Rattle.ide_image.specs.KeyedImage.{AddsAllBySlot, AddsBySlot, AreParts, CountsBySlot, Covers, FreesKey, HasRoomFor, IsListed, MarksAllIn, MarksKey, NotesAllBySlot, NotesBySlot, SameOver, SameParts, SettlesKey, UsesRoom, marked_at, pending_by_slot};
+ghost use Rattle.ide_image.specs.Indexed.{IsSpot, MayTake, PutsEntries, PutsEntry, place_of_key};
+ghost use Rattle.ide_image.specs.Left.{is_left, left_by_slot};
+ghost use Rattle.ide_image.specs.Queue.{pending_at, pending_count};
 
 use crate::change_log::ChangeLog;
 use crate::claim::Claim;
@@ -48,7 +43,7 @@ pub(crate) fn left_at<F: EdgeFn>(
     before: Entry<F>,
 ) -> Option<(Key, F, bool)>
     requires slot { place_of_key indexed.now key ≡ slot + 1 }
-    ensures { result ≡ left_of F.eq key (found indexed.now.table key) (pending_by_slot indexed.now queue.now key) before }
+    ensures { result ≡ left_by_slot F.eq indexed.now queue.now key before }
 {
     let (_, now) = indexed.entry_at(slot as usize)?;
     let pending = queue.is_pending(slot as usize);
@@ -98,14 +93,14 @@ pub(crate) fn end_slot<F: EdgeFn>(
     key: Key,
 ) -> Result<(), Refused>
     requires pending { pending_by_slot indexed.now queue.old key ≡ true }
-    requires listed { marked_at (noted_at changes.old) (place_of_key indexed.now key) ≡ is_some (noted changes.old.list key) }
-    ensures pending { OnOk result (SetsAt (place_of_key indexed.now key) false (pending_at queue.old.list) (pending_at queue.new.list)) }
-    ensures held { OnOk result (SetsAt (place_of_key indexed.now key) false (held_at queue.old.list) (held_at queue.new.list)) }
+    requires listed { IsListed indexed.now changes.old key }
+    ensures pending { OnOk result (SettlesKey indexed.now key queue.old queue.new) }
+    ensures held { OnOk result (FreesKey indexed.now key queue.old queue.new) }
     ensures count { OnOk result (pending_count queue.new.list + 1 ≡ pending_count queue.old.list) }
-    ensures list { OnOk result (changes.new.list ≡ with_note changes.old.list key (entry_by indexed.now queue.old key)) }
-    ensures slots { OnOk result (AreSlotsOf (place_of_key indexed.now) changes.old → AreSlotsOf (place_of_key indexed.now) changes.new) }
-    ensures marks { OnOk result (SetsAt (place_of_key indexed.now key) (is_some changes.old.list) (noted_at changes.old) (noted_at changes.new)) }
-    ensures err { OnErr result (SameParts indexed.now indexed.now queue.old queue.new changes.old changes.new) }
+    ensures list { OnOk result (NotesBySlot indexed.now queue.old key changes.old changes.new) }
+    ensures slots { OnOk result (KeepsSlots (place_of_key indexed.now) changes.old changes.new) }
+    ensures marks { OnOk result (MarksKey indexed.now key changes.old changes.new) }
+    ensures err { OnErr result (SameOver indexed.now queue.old queue.new changes.old changes.new) }
     ensures nobody { changes.old.list ≡ None → IsOk result }
     ensures refused { IsOkUnless result NoMemory }
 {
@@ -133,13 +128,13 @@ pub(crate) fn put_noted<F: EdgeFn>(
 ) -> usize
     requires spot { IsSpot indexed.old key spot.cell spot.place }
     requires room { HasRoomFor 1 indexed.old queue.now changes.old }
-    requires listed { marked_at (noted_at changes.old) (place_of_key indexed.old key) ≡ is_some (noted changes.old.list key) }
+    requires listed { IsListed indexed.old changes.old key }
     requires unnoted { Covers (length indexed.old.table.entries) (noted_at changes.old) }
-    ensures entries { indexed.new.table.entries ≡ with_entry indexed.old.table.entries key function }
+    ensures entries { PutsEntry key function indexed.old indexed.new }
     ensures slot { result + 1 ≡ place_of_key indexed.new key }
-    ensures list { changes.new.list ≡ with_note changes.old.list key (entry_by indexed.old queue.now key) }
-    ensures slots { AreSlotsOf (place_of_key indexed.new) changes.old → AreSlotsOf (place_of_key indexed.new) changes.new }
-    ensures marks { SetsMark result (is_some changes.old.list) (noted_at changes.old) (noted_at changes.new) }
+    ensures list { NotesBySlot indexed.old queue.now key changes.old changes.new }
+    ensures slots { KeepsSlots (place_of_key indexed.new) changes.old changes.new }
+    ensures marks { MarksNoted result changes.old changes.new }
     ensures cells { KeepsCells indexed.old.places indexed.new.places }
     ensures taken { (n : ℕ) → MayTake (n + 1) indexed.old → MayTake n indexed.new }
     ensures notes { (n s : ℕ) → MayNote (n + 1) s changes.old → MayNote n s changes.new }
@@ -156,7 +151,7 @@ pub(crate) fn put_noted<F: EdgeFn>(
 /// Marks the claim of the key as lowered, if a hand has claimed it.
 fn mark_held<T: Drop>(claims: &mut Vec<Option<Claim<T>>>, is_held: bool, key: Key)
     requires { (h : ℕ) → is_held ≡ false → is_claim_of key (claim_in claims.old.items h) ≡ false }
-    ensures { (h : ℕ) → claim_in claims.new.items h ≡ marked key (claim_in claims.old.items h) }
+    ensures { MarksIn key claims.old.items claims.new.items }
 {
     if is_held {
         claims::mark(claims, key);
@@ -178,13 +173,13 @@ pub(crate) fn enter<F: EdgeFn, T: Drop>(
     requires room { HasRoomFor 1 indexed.old queue.old changes.old }
     requires whole { AreParts indexed.old queue.old claims.old.items changes.old }
     ensures whole { AreParts indexed.new queue.new claims.new.items changes.new }
-    ensures entries { indexed.new.table.entries ≡ with_entry indexed.old.table.entries key function }
-    ensures list { changes.new.list ≡ with_note changes.old.list key (entry_by indexed.old queue.old key) }
-    ensures claims { (h : ℕ) → claim_in claims.new.items h ≡ marked key (claim_in claims.old.items h) }
-    ensures pending { (q : Key) → pending_by_slot indexed.new queue.new q ≡ (same_key key q || pending_by_slot indexed.old queue.old q) }
-    ensures count { pending_count queue.new.list + one_if (pending_by_slot indexed.old queue.old key) ≡ pending_count queue.old.list + 1 }
+    ensures entries { PutsEntry key function indexed.old indexed.new }
+    ensures list { NotesBySlot indexed.old queue.old key changes.old changes.new }
+    ensures claims { MarksIn key claims.old.items claims.new.items }
+    ensures pending { AddsBySlot key indexed.old indexed.new queue.old queue.new }
+    ensures count { CountsBySlot indexed.old key queue.old queue.new }
     ensures cells { KeepsCells indexed.old.places indexed.new.places }
-    ensures room { (n : ℕ) → HasRoomFor (n + 1) indexed.old queue.old changes.old → HasRoomFor n indexed.new queue.new changes.new }
+    ensures room { UsesRoom indexed.old indexed.new queue.old queue.new changes.old changes.new }
 {
     let slot = put_noted(indexed, queue, changes, spot, key, function);
     queue.push(slot);
@@ -203,11 +198,11 @@ pub(crate) fn enter_all<F: EdgeFn, T: Drop>(
     requires cells { HaveCells indexed.old.places list.now }
     requires whole { AreParts indexed.old queue.old claims.old.items changes.old }
     ensures whole { AreParts indexed.new queue.new claims.new.items changes.new }
-    ensures entries { indexed.new.table.entries ≡ with_all indexed.old.table.entries list.now }
-    ensures pending { AddsKeys (keys_of list.now) (pending_by_slot indexed.old queue.old) (pending_by_slot indexed.new queue.new) }
-    ensures claims { (h : ℕ) → claim_in claims.new.items h ≡ marked_all (keys_of list.now) (claim_in claims.old.items h) }
+    ensures entries { PutsEntries list.now indexed.old indexed.new }
+    ensures pending { AddsAllBySlot list.now indexed.old indexed.new queue.old queue.new }
+    ensures claims { MarksAllIn list.now claims.old.items claims.new.items }
     ensures noting { is_some changes.new.list ≡ is_some changes.old.list }
-    ensures notes { NotesAll changes.old.list changes.new.list (keys_of list.now) (entry_by indexed.old queue.old) }
+    ensures notes { NotesAllBySlot indexed.old queue.old list.now changes.old changes.new }
 {
     for entry in list {
         let spot = indexed.spot_of(entry.0);

@@ -1,10 +1,8 @@
 //! Which slots are pending, and which of these a hand has claimed: a mark for each slot, and a stack of
 //! those that wait for a hand.
 ghost use Rattle.std.specs.Prelude.{◌≡◌, ◌≢◌, ℕ, ◌+◌, ◌-◌, ◌<◌, ◌≤◌, ◌^◌, ◌||◌, [], true, false, length, slice_get, Some, IfSome, IfNone, OnOk, vec_capacity, vec_len};
-ghost use Rattle.std.specs.List.{sum_by};
-ghost use Rattle.ide_image.specs.declared.queue.Mark.{Mark};
 ghost use Rattle.ide_image.specs.declared.queue.Mark.TheVariants.{Waiting};
-ghost use Rattle.ide_image.specs.Queue.{AreStacked, SameMarks, SetsMark, held_at, held_count, is_held, is_pending_mark, is_waiting_mark, mark_in, one_if, pending_at, pending_count, waiting_at, waiting_count};
+ghost use Rattle.ide_image.specs.Queue.{AreStacked, CountsHeldMark, CountsPendingMark, CountsPushed, CountsReleased, CountsSettled, SameMarks, SameSums, SetsHeldSlot, SetsPendingSlot, held_at, is_held, is_pending_mark, is_waiting_mark, mark_in, pending_at, pending_count, waiting_at, waiting_count};
 
 use std::alloc::{AllocError, Global};
 use std::marker::Model;
@@ -113,9 +111,9 @@ impl Queue {
     pub(crate) fn push(&mut self, slot: usize)
         requires there { slot < length self.old.list }
         requires room { 0 < self.old.spare }
-        ensures pending { SetsMark slot true (pending_at self.old.list) (pending_at self.new.list) }
+        ensures pending { SetsPendingSlot slot true self.old.list self.new.list }
         ensures held { SameMarks (held_at self.old.list) (held_at self.new.list) }
-        ensures count { pending_count self.new.list + one_if (pending_at self.old.list slot) ≡ pending_count self.old.list + 1 }
+        ensures count { CountsPushed slot self.old.list self.new.list }
         ensures covered { length self.new.list ≡ length self.old.list }
         ensures room { self.old.spare ≤ self.new.spare + 1 }
     {
@@ -127,9 +125,9 @@ impl Queue {
     /// Makes the slot settled.
     pub(crate) fn settle(&mut self, slot: usize)
         requires there { slot < length self.old.list }
-        ensures pending { SetsMark slot false (pending_at self.old.list) (pending_at self.new.list) }
-        ensures held { SetsMark slot false (held_at self.old.list) (held_at self.new.list) }
-        ensures count { pending_count self.new.list + one_if (pending_at self.old.list slot) ≡ pending_count self.old.list }
+        ensures pending { SetsPendingSlot slot false self.old.list self.new.list }
+        ensures held { SetsHeldSlot slot false self.old.list self.new.list }
+        ensures count { CountsSettled slot self.old.list self.new.list }
         ensures covered { length self.new.list ≡ length self.old.list }
         ensures room { self.old.spare ≤ self.new.spare }
     {
@@ -156,7 +154,7 @@ impl Queue {
         requires there { slot < length self.old.list }
         requires room { 0 < self.old.spare }
         requires free { held_at self.old.list slot ≡ false }
-        ensures pending { SetsMark slot pending (pending_at self.old.list) (pending_at self.new.list) }
+        ensures pending { SetsPendingSlot slot pending self.old.list self.new.list }
         ensures held { SameMarks (held_at self.old.list) (held_at self.new.list) }
     {
         if pending {
@@ -170,7 +168,7 @@ impl Queue {
     pub(crate) fn hold(&mut self, slot: usize)
         requires waits { waiting_at self.old.list slot ≡ true }
         ensures pending { SameMarks (pending_at self.old.list) (pending_at self.new.list) }
-        ensures held { SetsMark slot true (held_at self.old.list) (held_at self.new.list) }
+        ensures held { SetsHeldSlot slot true self.old.list self.new.list }
         ensures count { pending_count self.new.list ≡ pending_count self.old.list }
         ensures covered { length self.new.list ≡ length self.old.list }
         ensures room { self.new.spare ≡ self.old.spare }
@@ -185,7 +183,7 @@ impl Queue {
     pub(crate) fn release(&mut self, slot: usize)
         requires held { held_at self.old.list slot ≡ true }
         ensures pending { SameMarks (pending_at self.old.list) (pending_at self.new.list) }
-        ensures held { SetsMark slot false (held_at self.old.list) (held_at self.new.list) }
+        ensures held { SetsHeldSlot slot false self.old.list self.new.list }
         ensures count { pending_count self.new.list ≡ pending_count self.old.list }
         ensures covered { length self.new.list ≡ length self.old.list }
         ensures room { self.new.spare ≡ self.old.spare }
@@ -221,7 +219,7 @@ fn grow(marks: &mut Vec<Mark>, count: usize) -> Result<(), AllocError>
     ensures covered { OnOk result (count ≤ length marks.new.items) }
     ensures few { length marks.new.items < 2 ^ 32 }
     ensures same { (n : ℕ) → mark_in marks.new.items n ≡ mark_in marks.old.items n }
-    ensures counts { (f : Mark → ℕ) → f Mark.Settled ≡ 0 → sum_by f marks.new.items ≡ sum_by f marks.old.items }
+    ensures counts { SameSums marks.old.items marks.new.items }
 {
     for _ in marks.len()..count {
         marks.push(Mark::Settled)?;
@@ -238,11 +236,11 @@ fn stack_up(marks: &mut Vec<Mark>, stack: &mut Vec<u32>, slot: usize)
     requires room { vec_len stack.old < vec_capacity stack.old }
     requires stacked { AreStacked marks.old.items stack.old.items }
     ensures stacked { AreStacked marks.new.items stack.new.items }
-    ensures pending { SetsMark slot true (pending_at marks.old.items) (pending_at marks.new.items) }
-    ensures held { SetsMark slot false (held_at marks.old.items) (held_at marks.new.items) }
-    ensures pending_count { pending_count marks.new.items + one_if (pending_at marks.old.items slot) ≡ pending_count marks.old.items + 1 }
+    ensures pending { SetsPendingSlot slot true marks.old.items marks.new.items }
+    ensures held { SetsHeldSlot slot false marks.old.items marks.new.items }
+    ensures pending_count { CountsPushed slot marks.old.items marks.new.items }
     ensures waiting { waiting_count marks.new.items ≡ length stack.new.items }
-    ensures held_count { held_count marks.new.items + one_if (held_at marks.old.items slot) ≡ held_count marks.old.items }
+    ensures held_count { CountsReleased slot marks.old.items marks.new.items }
     ensures covered { length marks.new.items ≡ length marks.old.items }
     ensures len { vec_len stack.new ≡ vec_len stack.old + 1 }
     ensures capacity { vec_capacity stack.new ≡ vec_capacity stack.old }
@@ -258,11 +256,11 @@ fn take_off(marks: &mut Vec<Mark>, stack: &mut Vec<u32>, slot: usize, position: 
     requires counted { waiting_count marks.old.items ≡ length stack.old.items }
     requires stacked { AreStacked marks.old.items stack.old.items }
     ensures stacked { AreStacked marks.new.items stack.new.items }
-    ensures pending { SetsMark slot (is_pending_mark mark) (pending_at marks.old.items) (pending_at marks.new.items) }
-    ensures held { SetsMark slot (is_held mark) (held_at marks.old.items) (held_at marks.new.items) }
-    ensures pending_count { pending_count marks.new.items + 1 ≡ pending_count marks.old.items + one_if (is_pending_mark mark) }
+    ensures pending { SetsPendingSlot slot (is_pending_mark mark) marks.old.items marks.new.items }
+    ensures held { SetsHeldSlot slot (is_held mark) marks.old.items marks.new.items }
+    ensures pending_count { CountsPendingMark mark marks.old.items marks.new.items }
     ensures waiting { waiting_count marks.new.items ≡ length stack.new.items }
-    ensures held_count { held_count marks.new.items ≡ held_count marks.old.items + one_if (is_held mark) }
+    ensures held_count { CountsHeldMark mark marks.old.items marks.new.items }
     ensures covered { length marks.new.items ≡ length marks.old.items }
     ensures len { vec_len stack.new + 1 ≡ vec_len stack.old }
     ensures capacity { vec_capacity stack.new ≡ vec_capacity stack.old }
