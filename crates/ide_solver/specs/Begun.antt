@@ -1,4 +1,5 @@
 -- That roots are begun in a core, name by name.
+use Rattle.std.specs.Borrow.{Bor}
 use Rattle.std.specs.Prelude.{◌≡◌, ℕ, ◌<◌, ◌≤◌, List, Some, slice_index}
 use Rattle.ide_graph.specs.Joined.{AreJoined, start_at}
 use Rattle.ide_graph.specs.Supergraph.{Supergraph}
@@ -12,7 +13,8 @@ use Rattle.ide_theory.specs.Sites.{HaveEdgesOf}
 use Rattle.ide_image.specs.Worklist.{IsFree}
 use Rattle.ide_steps.specs.Core.{CoreData}
 use Rattle.ide_steps.specs.State.{state_of}
-use Rattle.ide_solver.specs.Solve.{AreRootNames}
+use Rattle.ide_solver.specs.Shown.{ShownAnalysis}
+use Rattle.ide_solver.specs.Solve.{AreRootNames, names_of}
 
 -- the sites fit together, each procedure's start is its own, and entry facts are facts
 pub record IsInOrder (graph : Supergraph) : Type 0 where
@@ -37,3 +39,7 @@ module _ {F L : Type 0} (A : LatticeAlgebra L) (B : EdgeAlgebra F L) (targets : 
         → Run (frame_at A B targets graph all) (state_of B targets old)
         → HasRoots (frame_at A B targets graph all) (roots_at A B targets graph all old.roots) (state_of B targets old).get
         → HasRoots (frame_at A B targets graph all) (roots_at A B targets graph all new.roots) (state_of B targets new).get
+
+-- the same by the analysis, of the names that are lent
+abbrev pub AreBegunFor : {F L : Type 0} → ShownAnalysis F L → (old new : CoreData F) → List (Bor (List ℕ)) → Type 0
+AreBegunFor a old new lent = AreBegun a.lattice a.functions a.targets old new (names_of lent)

@@ -1,4 +1,5 @@
 pub mod Begun
 pub mod Refusal
+pub mod Shown
 pub mod Solve
 pub mod Started

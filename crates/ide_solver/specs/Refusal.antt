@@ -1,4 +1,5 @@
 -- Why a text and the names of roots are refused.
+use Rattle.std.specs.Borrow.{Bor}
 use Rattle.std.specs.Prelude.{◌≡◌, ℕ, List, [], ◌∷◌, ◌++◌, Option, Some, None}
 use Rattle.ide_graph.specs.GraphOfText.{IsGraphOfText}
 use Rattle.ide_graph.specs.Supergraph.{Supergraph}
@@ -6,8 +7,10 @@ use Rattle.ide_text.specs.Parsed.{TextFault}
 use Rattle.ide_wire.specs.declared.refused.Fault.{Fault}
 use Rattle.ide_wire.specs.declared.refused.Refused.{Refused}
 use Rattle.ide_wire.specs.declared.refused.Refused.TheVariants.{NoMemory, Text, NoProgram}
+use Rattle.ide_steps.specs.Core.{CoreData}
 use Rattle.ide_steps.specs.Refusal.{IsRootName, RootFault}
 use Rattle.ide_values.specs.Refusal.{AreWorkers, IsValuesRefusal}
+use Rattle.ide_solver.specs.Solve.{names_of}
 
 -- of names that are made roots one after the other, beside these, the first that cannot be one has that fault
 pub data FirstRootFault (graph : Supergraph) : List ℕ → List (List ℕ) → Refused → Type 0 where
@@ -23,6 +26,10 @@ pub data IsRootsRefusal (graph : Option Supergraph) (roots : List ℕ) (names : 
   no_program : graph ≡ None → IsRootsRefusal graph roots names NoProgram
   no_root : (loaded : Supergraph) (refused : Refused) → graph ≡ Some loaded → FirstRootFault loaded roots names refused
       → IsRootsRefusal graph roots names refused
+
+-- the names that are lent do not all become roots of the core
+abbrev pub BarsRoots : {F : Type 0} → CoreData F → List (Bor (List ℕ)) → Refused → Type 0
+BarsRoots core lent = IsRootsRefusal core.graph core.roots (names_of lent)
 
 -- a refusal of a text and the names of roots: for want of memory, for the text's fault, or for the first
 -- name that cannot be a root of its program

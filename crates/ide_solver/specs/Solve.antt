@@ -1,5 +1,6 @@
 -- What is answered of a text and the names of roots: the dump of the best values.
-use Rattle.std.specs.Prelude.{◌≡◌, ℕ, ◌<◌, List, [], ◌∷◌, ◌++◌}
+use Rattle.std.specs.Borrow.{Bor}
+use Rattle.std.specs.Prelude.{◌≡◌, ℕ, ◌<◌, List, [], ◌∷◌, ◌++◌, Result, OnOk, map}
 use Rattle.std.specs.Global.{Vec}
 use Rattle.ide_graph.specs.GraphOfText.{IsGraphOfText}
 use Rattle.ide_graph.specs.Supergraph.{Supergraph}
@@ -15,6 +16,11 @@ use Rattle.ide_theory.specs.Sites.{HaveEdgesOf}
 use Rattle.ide_values.specs.BestDump.{IsBestDump}
 use Rattle.ide_values.specs.Frozen.{AreBestOf}
 use Rattle.ide_values.specs.Values.{ValuesData, value_there}
+use Rattle.ide_solver.specs.Shown.{ShownAnalysis}
+
+-- the names that are lent
+abbrev pub names_of : List (Bor (List ℕ)) → List (List ℕ)
+names_of lent = map (λ name. name.now) lent
 
 -- the names are those of the roots, in their order, after these
 pub data AreRootNames (graph : Supergraph) : List ℕ → List (List ℕ) → List ℕ → Type 0 where
@@ -33,12 +39,6 @@ module _ {F L : Type 0} (A : LatticeAlgebra L) (B : EdgeAlgebra F L) (targets : 
     pub best : (n d : ℕ) → n < values.graph.nodes → d < values.graph.facts
         → IsBest (frame_at A B targets values.graph all) (roots_at A B targets values.graph all values.roots) n d (value_there A values n d)
 
-  -- the image's best values, of its program, over its graph and for its roots, are those of the text and the names
-  abbrev pub LeadsToSolved : {P : Type 0} → List ℕ → List (List ℕ) → Closed P L F → Type 0
-  LeadsToSolved text names closed =
-      (values : ValuesData L) → values.program ≡ program_in closed → values.graph ≡ graph_in closed → values.roots ≡ closed.roots.items
-      → AreBestOf A B targets closed.tables values → AreSolved text names values
-
   -- the dump has the best value of each fact at each node of the program that the text spells, for the
   -- roots of these names
   pub record IsSolution (shown : L → List ℕ) (text : List ℕ) (names : List (List ℕ)) (dump : List ℕ) : Type 0 where
@@ -52,3 +52,18 @@ module _ {F L : Type 0} (A : LatticeAlgebra L) (B : EdgeAlgebra F L) (targets : 
   -- the dump is appended
   abbrev pub AppendsSolution : (L → List ℕ) → List ℕ → List (List ℕ) → (old new : Vec ℕ) → Type 0
   AppendsSolution shown text names old new = (dump : List ℕ) × (new.items ≡ old.items ++ dump) × IsSolution shown text names dump
+
+module _ {F L : Type 0} (a : ShownAnalysis F L) (text : List ℕ) (roots : List (Bor (List ℕ))) where
+  -- the values are solved by the analysis, for the roots of the names that are lent
+  abbrev pub AreSolvedFor : ValuesData L → Type 0
+  AreSolvedFor = AreSolved a.lattice a.functions a.targets text (names_of roots)
+
+  -- the image's best values, of its program, over its graph and for its roots, are so solved
+  abbrev pub LeadsToSolved : {P : Type 0} → Closed P L F → Type 0
+  LeadsToSolved closed =
+      (values : ValuesData L) → values.program ≡ program_in closed → values.graph ≡ graph_in closed → values.roots ≡ closed.roots.items
+      → AreBestOf a.lattice a.functions a.targets closed.tables values → AreSolvedFor values
+
+-- a call that is not refused appends the dump of that solution
+abbrev pub SolvesFor : {F L : Type 0} → ShownAnalysis F L → {T E : Type 0} → Result T E → List ℕ → List (Bor (List ℕ)) → (old new : Vec ℕ) → Type 0
+SolvesFor a result text roots old new = OnOk result (AppendsSolution a.lattice a.functions a.targets a.shown text (names_of roots) old new)

@@ -1,4 +1,5 @@
 -- A core that is ready to be drained: a program with its roots, and no hand at work.
+use Rattle.std.specs.Borrow.{Bor}
 use Rattle.std.specs.Prelude.{◌≡◌, ℕ, ◌<◌, List, [], Some}
 use Rattle.ide_graph.specs.GraphOfText.{IsGraphOfText}
 use Rattle.ide_graph.specs.Supergraph.{Supergraph}
@@ -14,7 +15,8 @@ use Rattle.ide_image.specs.Worklist.{IsFree}
 use Rattle.ide_steps.specs.Core.{CoreData}
 use Rattle.ide_steps.specs.Going.{IsFit}
 use Rattle.ide_steps.specs.State.{state_of}
-use Rattle.ide_solver.specs.Solve.{AreRootNames}
+use Rattle.ide_solver.specs.Shown.{ShownAnalysis}
+use Rattle.ide_solver.specs.Solve.{AreRootNames, names_of}
 
 module _ {F L : Type 0} (A : LatticeAlgebra L) (B : EdgeAlgebra F L) (targets : Targets F) where
   -- the core has the program that the text spells, with its graph, and the procedures of the names as its
@@ -31,6 +33,6 @@ module _ {F L : Type 0} (A : LatticeAlgebra L) (B : EdgeAlgebra F L) (targets : 
     pub begun : HasRoots (frame_at A B targets graph all) (roots_at A B targets graph all core.roots) (state_of B targets core).get
     pub unclaimed : IsFree core.pile
 
-  -- the same, with some graph
-  abbrev pub IsPreparedFor : List ℕ → List (List ℕ) → CoreData F → Type 0
-  IsPreparedFor text names core = (graph : Supergraph) × IsPrepared text names core graph
+-- the same by the analysis, with some graph and for the roots of the names that are lent
+abbrev pub IsPreparedFor : {F L : Type 0} → ShownAnalysis F L → List ℕ → List (Bor (List ℕ)) → CoreData F → Type 0
+IsPreparedFor a text roots core = (graph : Supergraph) × IsPrepared a.lattice a.functions a.targets text (names_of roots) core graph

@@ -6,6 +6,8 @@
 //! ```
 #![tactic(auto)]
 
+mod shown;
 mod solver;
 
+pub use shown::Shown;
 pub use solver::{solve, solve_shared, values_of, values_shared};

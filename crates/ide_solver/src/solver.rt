@@ -1,11 +1,12 @@
 //! Solving a text in memory, with one hand. The values may be filled by several workers.
-ghost use Rattle.std.specs.Prelude.{◌≡◌, IfErr, IfOk, OnErr, OnOk, map};
-ghost use Rattle.ide_solver.specs.Begun.{AreBegun};
-ghost use Rattle.ide_solver.specs.Refusal.{IsRootsRefusal, IsSharedRefusal, IsSolveRefusal};
-ghost use Rattle.ide_solver.specs.Solve.{AppendsSolution, AreSolved, LeadsToSolved};
+ghost use Rattle.std.specs.Prelude.{◌≡◌, IfErr, IfOk, OnErr, OnOk};
+ghost use Rattle.ide_solver.specs.Begun.{AreBegunFor};
+ghost use Rattle.ide_solver.specs.Refusal.{BarsRoots, IsSharedRefusal, IsSolveRefusal};
+ghost use Rattle.ide_solver.specs.Solve.{AreSolvedFor, LeadsToSolved, SolvesFor, names_of};
 ghost use Rattle.ide_solver.specs.Started.{IsPreparedFor};
 ghost use Rattle.ide_values.specs.Refusal.{AreWorkers};
 
+use crate::shown::Shown;
 use ide_graph::{
     ends_of_programs_are_nodes, exits_of_programs_are_owned, graphs_of_programs_are_closed,
     sites_of_programs_are_joined,
@@ -32,8 +33,8 @@ pub fn solve<P: Problem>(
     roots: &[&[u8]],
     out: &mut Vec<u8>,
 ) -> Result<(), Refused>
-    ensures solution { OnOk result (AppendsSolution P.L.algebra P.F.edge P.targets P.L.shown text.now (map (λ name. name.now) roots.now) out.old out.new) }
-    ensures refused { IfErr result (IsSolveRefusal text.now (map (λ name. name.now) roots.now)) }
+    ensures solution { SolvesFor ⟦<P as Shown>⟧.analysis result text.now roots.now out.old out.new }
+    ensures refused { IfErr result (IsSolveRefusal text.now (names_of roots.now)) }
     ensures unchanged { OnErr result (out.new.items ≡ out.old.items) }
 {
     let values = values_of::<P>(alloc, text, roots)?;
@@ -56,8 +57,8 @@ pub fn solve_shared<R: Threads + Sync, P: Problem>(
 where
     P::F: Sync,
     P::L: Send + Sync,
-    ensures solution { OnOk result (AppendsSolution P.L.algebra P.F.edge P.targets P.L.shown text.now (map (λ name. name.now) roots.now) out.old out.new) }
-    ensures refused { IfErr result (IsSharedRefusal workers text.now (map (λ name. name.now) roots.now)) }
+    ensures solution { SolvesFor ⟦<P as Shown>⟧.analysis result text.now roots.now out.old out.new }
+    ensures refused { IfErr result (IsSharedRefusal workers text.now (names_of roots.now)) }
     ensures unchanged { OnErr result (out.new.items ≡ out.old.items) }
 {
     let values = values_shared::<R, P>(rt, alloc, text, roots, workers)?;
@@ -71,8 +72,8 @@ pub fn values_of<P: Problem>(
     text: &[u8],
     roots: &[&[u8]],
 ) -> Result<Values<P>, Refused>
-    ensures solved { IfOk result (AreSolved P.L.algebra P.F.edge P.targets text.now (map (λ name. name.now) roots.now)) }
-    ensures refused { IfErr result (IsSolveRefusal text.now (map (λ name. name.now) roots.now)) }
+    ensures solved { IfOk result (AreSolvedFor ⟦<P as Shown>⟧.analysis text.now roots.now) }
+    ensures refused { IfErr result (IsSolveRefusal text.now (names_of roots.now)) }
 {
     let closed = closed_of::<P>(alloc, text, roots)?;
     closed.values_alone(alloc)
@@ -91,8 +92,8 @@ where
     P::F: Sync,
     P::L: Send + Sync,
     ensures workers { OnOk result (AreWorkers workers) }
-    ensures solved { IfOk result (AreSolved P.L.algebra P.F.edge P.targets text.now (map (λ name. name.now) roots.now)) }
-    ensures refused { IfErr result (IsSharedRefusal workers text.now (map (λ name. name.now) roots.now)) }
+    ensures solved { IfOk result (AreSolvedFor ⟦<P as Shown>⟧.analysis text.now roots.now) }
+    ensures refused { IfErr result (IsSharedRefusal workers text.now (names_of roots.now)) }
 {
     if workers == 0 || workers > HANDS {
         return Err(Refused::Limit);
@@ -103,8 +104,8 @@ where
 
 /// The quiet image of the program that the text spells, with the procedures of these names as roots.
 fn closed_of<P: Problem>(alloc: Global, text: &[u8], roots: &[&[u8]]) -> Result<Closed<P>, Refused>
-    ensures leads { IfOk result (LeadsToSolved P.L.algebra P.F.edge P.targets text.now (map (λ name. name.now) roots.now)) }
-    ensures refused { IfErr result (IsSolveRefusal text.now (map (λ name. name.now) roots.now)) }
+    ensures leads { IfOk result (LeadsToSolved ⟦<P as Shown>⟧.analysis text.now roots.now) }
+    ensures refused { IfErr result (IsSolveRefusal text.now (names_of roots.now)) }
 {
     sites_make_a_graph::<P>();
     runs_go_on::<P>();
@@ -118,8 +119,8 @@ fn closed_of<P: Problem>(alloc: Global, text: &[u8], roots: &[&[u8]]) -> Result<
 
 /// A core with the program that the text spells, and the procedures of these names as its roots.
 fn started<P: Problem>(alloc: Global, text: &[u8], roots: &[&[u8]]) -> Result<Core<P>, Refused>
-    ensures started { IfOk result (IsPreparedFor P.L.algebra P.F.edge P.targets text.now (map (λ name. name.now) roots.now)) }
-    ensures refused { IfErr result (IsSolveRefusal text.now (map (λ name. name.now) roots.now)) }
+    ensures started { IfOk result (IsPreparedFor ⟦<P as Shown>⟧.analysis text.now roots.now) }
+    ensures refused { IfErr result (IsSolveRefusal text.now (names_of roots.now)) }
 {
     graphs_are_supergraphs::<P>();
     sites_of_programs_are_joined();
@@ -137,8 +138,8 @@ fn started<P: Problem>(alloc: Global, text: &[u8], roots: &[&[u8]]) -> Result<Co
 
 /// Makes the procedures of these names roots, one after the other.
 fn begin_roots<P: Problem>(core: &mut Core<P>, names: &[&[u8]]) -> Result<(), Refused>
-    ensures begun { OnOk result (AreBegun P.L.algebra P.F.edge P.targets core.old core.new (map (λ name. name.now) names.now)) }
-    ensures refused { IfErr result (IsRootsRefusal core.old.graph core.old.roots (map (λ name. name.now) names.now)) }
+    ensures begun { OnOk result (AreBegunFor ⟦<P as Shown>⟧.analysis core.old core.new names.now) }
+    ensures refused { IfErr result (BarsRoots core.old names.now) }
 {
     sites_make_a_graph::<P>();
     runs_go_on::<P>();
