@@ -1,6 +1,6 @@
 //! Whether the solver's values are those that the paths give.
-ghost use Rattle.std.specs.Prelude.{◌<◌, ℕ, IsTrue};
-ghost use Rattle.ide_plain.specs.Agreement.{AreSame, IsSameAt};
+ghost use Rattle.std.specs.Prelude.{◌<◌, IsTrue};
+ghost use Rattle.ide_plain.specs.Agreement.{AreSame, AreSameAt, IsSameAt};
 
 use crate::walks::values_of_paths;
 use ide_graph::Graph;
@@ -54,7 +54,7 @@ fn is_all_same<P: Problem>(values: &Values<P>, plain: &[P::L]) -> bool
 /// Whether the values of the facts at a node are those found.
 fn is_row_same<P: Problem>(values: &Values<P>, node: Node, plain: &[P::L]) -> bool
     requires { node < values.now.graph.nodes }
-    ensures { IsTrue result → (d : ℕ) → d < values.now.graph.facts → IsSameAt P.L.algebra values.now plain.now node d }
+    ensures { IsTrue result → AreSameAt P.L.algebra values.now plain.now node }
 {
     for fact in 0..values.loaded().graph.fact_count() {
         if !is_same(values, node, fact as Fact, plain) {

@@ -1,11 +1,12 @@
 //! What an edge does to an environment.
 ghost use Rattle.std.specs.Prelude.{◌≡◌, ◌≤◌, ◌^◌, IfOk, length};
 ghost use Rattle.ide_problem.specs.Flow.{function_to};
-ghost use Rattle.ide_plain.specs.Effect.{environment_over, value_over};
+ghost use Rattle.ide_plain.specs.Effect.{ComeOut, ComesOut};
 
 use ide_graph::EdgeData;
 use ide_lattice::{EdgeFn, Lattice};
 use ide_problem::{Problem, TargetList};
+use ide_solver::Shown;
 use ide_wire::Fact;
 use std::alloc::{AllocError, Global};
 
@@ -18,7 +19,7 @@ pub fn environment_after<P: Problem>(
 ) -> Result<Vec<P::L>, AllocError>
     requires few { length environment.now ≤ 2 ^ 16 }
     ensures facts { IfOk result (λ after. length after.items ≡ length environment.now) }
-    ensures effect { IfOk result (λ after. after.items ≡ environment_over P.L.algebra P.F.edge (P.targets edge.now) environment.now) }
+    ensures effect { IfOk result (ComeOut ⟦<P as Shown>⟧.analysis edge.now environment.now) }
 {
     let mut after = Vec::with_capacity(alloc, environment.len())?;
     for fact in 0..environment.len() {
@@ -36,7 +37,7 @@ pub fn value_after<P: Problem>(
     fact: Fact,
 ) -> Result<P::L, AllocError>
     requires few { length environment.now ≤ 2 ^ 16 }
-    ensures effect { IfOk result (λ value. value ≡ value_over P.L.algebra P.F.edge (P.targets edge.now) environment.now fact) }
+    ensures effect { IfOk result (ComesOut ⟦<P as Shown>⟧.analysis edge.now environment.now fact) }
 {
     let mut targets = TargetList::new(alloc);
     let mut value = P::L::top();

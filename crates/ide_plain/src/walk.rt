@@ -1,10 +1,12 @@
 //! A walk along a valid path.
-ghost use Rattle.std.specs.Prelude.{◌≡◌, ◌≢◌, ◌≤◌, ◌^◌, ◌++◌, ◌∷◌, [], ℕ, List, length, IfNone, IfOk, IfSome, IsTrue};
-ghost use Rattle.ide_plain.specs.Effect.{IsEnvironmentOver};
+ghost use Rattle.std.specs.Prelude.{◌≡◌, ◌≤◌, ◌^◌, ◌++◌, ◌∷◌, [], length, IfNone, IfOk, IfSome, IsTrue};
+ghost use Rattle.ide_plain.specs.Effect.{ComeOut};
+ghost use Rattle.ide_plain.specs.Walks.{BringSame, HasOtherLatest, LeavesCall};
 
 use crate::effect::environment_after;
 use ide_graph::EdgeData;
 use ide_problem::Problem;
+use ide_solver::Shown;
 use ide_wire::Node;
 use std::alloc::{AllocError, Global};
 
@@ -28,7 +30,7 @@ impl<P: Problem> Walk<P> {
     ) -> Result<Walk<P>, AllocError>
         ensures node { IfOk result (λ walk. walk.node ≡ edge.now.end) }
         ensures calls { IfOk result (λ walk. walk.calls ≡ calls) }
-        ensures environment { IfOk result (λ walk. IsEnvironmentOver P.L.algebra P.F.edge (P.targets edge.now) self.now.environment walk.environment) }
+        ensures environment { IfOk result (λ walk. ComeOut ⟦<P as Shown>⟧.analysis edge.now self.now.environment.items walk.environment) }
     {
         let environment = environment_after::<P>(alloc, edge, self.environment.as_slice())?;
         Ok(Walk {
@@ -49,8 +51,8 @@ impl<P: Problem> Walk<P> {
 
     /// The open calls but for the latest, where that is a call at the node.
     pub fn calls_without(&self, alloc: Global, call: Node) -> Result<Option<Vec<Node>>, AllocError>
-        ensures left { IfOk result (λ left. IfSome left (λ calls. self.now.calls.items ≡ calls.items ++ call ∷ [])) }
-        ensures other { IfOk result (λ left. IfNone left ((calls : List ℕ) → self.now.calls.items ≢ calls ++ call ∷ [])) }
+        ensures left { IfOk result (λ left. IfSome left (LeavesCall self.now.calls call)) }
+        ensures other { IfOk result (λ left. IfNone left (HasOtherLatest self.now.calls call)) }
     {
         match self.calls.split_last() {
             Some((latest, earlier)) if *latest == call => {
@@ -64,7 +66,7 @@ impl<P: Problem> Walk<P> {
     pub fn is_same(&self, other: &Walk<P>) -> bool
         ensures node { IsTrue result → self.now.node ≡ other.now.node }
         ensures calls { IsTrue result → self.now.calls.items ≡ other.now.calls.items }
-        ensures environment { IsTrue result → self.now.environment.items ≡ other.now.environment.items }
+        ensures environment { IsTrue result → BringSame self.now.environment other.now.environment }
     {
         self.node == other.node
             && self.calls == other.calls
