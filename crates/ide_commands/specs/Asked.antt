@@ -36,3 +36,7 @@ module _ {F L : Type 0} (a : Analysis F L) where
       pub values : ValuesData L
       pub now : AreNow table values
       pub is : text ≡ dump_of_values a.lattice shown values
+
+    -- the dump of the values is appended
+    abbrev pub PrintsDump : (old new : Vec ℕ) → Type 0
+    PrintsDump old new = Prints Dumps old new

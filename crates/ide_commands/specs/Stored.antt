@@ -13,7 +13,7 @@ use Rattle.ide_slot_store.specs.declared.engine.SlotEngine.{SlotEngine}
 use Rattle.ide_text.specs.Parsed.{IsParsed}
 use Rattle.ide_text.specs.Program.{value_of}
 use Rattle.ide_text.specs.declared.program.Program.{Program}
-use Rattle.ide_commands.specs.Lines.{stored_line}
+use Rattle.ide_commands.specs.Lines.{generation_line, stored_line, version_line}
 
 -- the line of a store in which nothing is pending
 abbrev pub quiet_line : List ℕ
@@ -26,6 +26,14 @@ PrintsStored Call old new = (number : ℕ) × Call number × (new.items ≡ old.
 -- the work was done, and the line of a quiet store is printed
 abbrev pub PrintsQuiet : Type 0 → (old new : Vec ℕ) → Type 0
 PrintsQuiet Works old new = Works × (new.items ≡ old.items ++ quiet_line)
+
+module _ {P D L F : Type 0} {G : Ghosts D} (engine : SlotEngine P D L F G) (old new : Vec ℕ) where
+  -- the line of the generation of the current slot is printed, and that of its version
+  abbrev pub PrintsGeneration : Type 0
+  PrintsGeneration = new.items ≡ old.items ++ generation_line engine.writer.journal.generation
+
+  abbrev pub PrintsVersion : Type 0
+  PrintsVersion = new.items ≡ old.items ++ version_line engine.writer.journal.version
 
 -- what changed is sealed, if anything did
 pub data SealsRest {F L : Type 0} (a : Analysis F L) (drained kept : TableData F) : Type 0 where
@@ -56,6 +64,10 @@ module _ {F L : Type 0} (a : Analysis F L) {P D : Type 0} {G : Ghosts D} (old ne
     pub kept : TableData F
     pub seals : SealsRest a drained kept
     pub stores : StoreAll a kept new.table old.writer new.writer
+
+  -- and the line of a quiet store is printed
+  abbrev pub EndsQuiet : (before after : Vec ℕ) → Type 0
+  EndsQuiet before after = PrintsQuiet WorksAll before after
 
   -- a checkpoint is asked for, and then all that was sealed is stored, until no call of a checkpoint is left to make
   pub record MakesCheckpoint : Type 0 where

@@ -1,8 +1,8 @@
 //! What each command on a store does, over any disk, and what it prints.
 ghost use Rattle.std.specs.Prelude.{◌≡◌, ◌++◌, ℕ, List, OnOk, IfOk};
-ghost use Rattle.ide_commands.specs.Asked.{Answers, AreNow, Dumps, Prints};
-ghost use Rattle.ide_commands.specs.Lines.{generation_line, stored_line, version_line};
-ghost use Rattle.ide_commands.specs.Stored.{MakesCheckpoint, MakesRoot, Migrates, PrintsQuiet, PrintsStored, StoresText, WorksAll};
+ghost use Rattle.ide_commands.specs.Asked.{Answers, AreNow, Prints, PrintsDump};
+ghost use Rattle.ide_commands.specs.Lines.{stored_line};
+ghost use Rattle.ide_commands.specs.Stored.{EndsQuiet, MakesCheckpoint, MakesRoot, Migrates, PrintsGeneration, PrintsStored, PrintsVersion, StoresText, WorksAll};
 
 use crate::lines::{append_line, number_of};
 use ide_disk::Disk;
@@ -52,7 +52,7 @@ pub fn end_work<P: Problem, D: Disk>(
     engine: &mut SlotEngine<P, D>,
     out: &mut Vec<u8>,
 ) -> Result<(), Refused>
-    ensures { OnOk result (PrintsQuiet (WorksAll ⟦<P as Kept>⟧.analysis engine.old engine.new) out.old out.new) }
+    ensures { OnOk result (EndsQuiet ⟦<P as Kept>⟧.analysis engine.old engine.new out.old out.new) }
 {
     work_alone(engine)?;
     out.extend_from_slice(b"quiet\n")?;
@@ -76,7 +76,7 @@ pub(crate) fn checkpoint<P: Problem, D: Disk>(
     out: &mut Vec<u8>,
 ) -> Result<(), Refused>
     ensures checkpoint { OnOk result (MakesCheckpoint ⟦<P as Kept>⟧.analysis engine.old engine.new) }
-    ensures prints { OnOk result (out.new.items ≡ out.old.items ++ generation_line engine.new.writer.journal.generation) }
+    ensures prints { OnOk result (PrintsGeneration engine.new out.old out.new) }
 {
     make_checkpoint(alloc, engine)?;
     append_line(b"generation ", u64::from(engine.generation()), out)?;
@@ -91,7 +91,7 @@ pub(crate) fn migrate<P: Problem, D: Disk>(
     out: &mut Vec<u8>,
 ) -> Result<(), Refused>
     ensures migrates { OnOk result (Migrates ⟦<P as Kept>⟧.analysis engine.old engine.new) }
-    ensures prints { OnOk result (out.new.items ≡ out.old.items ++ version_line engine.new.writer.journal.version) }
+    ensures prints { OnOk result (PrintsVersion engine.new out.old out.new) }
 {
     write_anew(alloc, engine)?;
     append_line(b"version ", number_of(engine.version()), out)?;
@@ -157,7 +157,7 @@ pub(crate) fn dump<P: Problem>(
     table: &TableHalf<P>,
     out: &mut Vec<u8>,
 ) -> Result<(), Refused>
-    ensures { OnOk result (Prints (Dumps ⟦<P as Kept>⟧.analysis P.L.shown table.now) out.old out.new) }
+    ensures { OnOk result (PrintsDump ⟦<P as Kept>⟧.analysis P.L.shown table.now out.old out.new) }
 {
     let values = values_of(alloc, table)?;
     values.dump(out)
