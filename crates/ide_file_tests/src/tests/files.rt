@@ -30,6 +30,13 @@ fn first_three<R: Abort>(rt: &R, disk: &mut FileDisk<File>) -> Result<[u8; 3], F
     Ok(bytes)
 }
 
+// Closes the disk, and removes its file.
+fn remove<R: Files>(rt: &R, disk: FileDisk<File>, path: Path<'_>) -> Result<(), Fail> {
+    drop(disk);
+    fs::remove_file(rt, path)?;
+    Ok(())
+}
+
 #[test]
 fn what_is_written_is_read_back(rt: HostRuntime) -> Result<(), Fail> {
     let path = Path::new("ide_file_written");
@@ -51,9 +58,7 @@ fn what_is_written_is_read_back(rt: HostRuntime) -> Result<(), Fail> {
     let mut disk = FileDisk::create(&rt, path)?;
     assert_eq!(rt; disk.len()?, 5);
     assert_eq!(rt; first_three(&rt, &mut disk)?, *b"aXY");
-    drop(disk);
-    fs::remove_file(&rt, path)?;
-    Ok(())
+    remove(&rt, disk, path)
 }
 
 #[test]
@@ -87,9 +92,7 @@ fn a_file_in_use_is_refused(rt: HostRuntime) -> Result<(), Fail> {
     assert!(rt; matches!(FileDisk::open(&rt, path), Err(FileFault::InUse)));
     assert!(rt; matches!(FileDisk::create(&rt, path), Err(FileFault::InUse)));
     drop(disk);
-    drop(FileDisk::open(&rt, path)?);
-    fs::remove_file(&rt, path)?;
-    Ok(())
+    remove(&rt, FileDisk::open(&rt, path)?, path)
 }
 
 #[test]
@@ -102,7 +105,5 @@ fn another_length_is_a_fault(rt: HostRuntime) -> Result<(), Fail> {
     assert_eq!(rt; disk.calls(), 4);
     assert_eq!(rt; disk.failures(), 1);
     assert_eq!(rt; first_three(&rt, &mut disk)?, *b"abc");
-    drop(disk);
-    fs::remove_file(&rt, path)?;
-    Ok(())
+    remove(&rt, disk, path)
 }
