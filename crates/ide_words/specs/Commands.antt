@@ -23,9 +23,13 @@ wanted_among choices name = record (wanted name) { parser = Some (Names choices)
 abbrev pub numbered : ℕ → ℕ → Rule → Rule
 numbered least most word = record word { parser = Some (Unsigned least most) }
 
+-- a word behind an option, and what it is where the option is left out
+abbrev pub defaulted : (name option default : Text) → Rule
+defaulted name option default = record (new_rule name) { long = Some option; action = Some Set; defaults = default ∷ [] }
+
 -- `--workers N`, 1 to 64; where it is left out, 1
 abbrev pub workers : Rule
-workers = numbered 1 64 (record (new_rule (codes "N")) { long = Some (codes "workers"); action = Some Set; defaults = codes "1" ∷ [] })
+workers = numbered 1 64 (defaulted (codes "N") (codes "workers") (codes "1"))
 
 -- `--quiet`
 abbrev pub quiet : Rule
@@ -33,7 +37,7 @@ quiet = record (new_rule (codes "quiet")) { long = Some (codes "quiet"); action 
 
 -- `--checkpoint-every RECORDS`, 1 to 4294967295; where it is left out, 1024
 abbrev pub checkpoint_every : Rule
-checkpoint_every = numbered 1 4294967295 (record (new_rule (codes "RECORDS")) { long = Some (codes "checkpoint-every"); action = Some Set; defaults = codes "1024" ∷ [] })
+checkpoint_every = numbered 1 4294967295 (defaulted (codes "RECORDS") (codes "checkpoint-every") (codes "1024"))
 
 -- a command and the words that it takes
 abbrev pub command : Text → List Rule → Shape

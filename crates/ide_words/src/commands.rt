@@ -1,7 +1,7 @@
 //! The commands of the program, as `clap` is to read them.
 ghost use Rattle.std.specs.Prelude.{◌≡◌, [], false, IfOk};
 ghost use Rattle.clap.specs.Words.{app_of, rule_of};
-ghost use Rattle.ide_words.specs.Commands.{HasShape, IsCreate, IsExplain, IsIdesolve, IsOnce, IsOnceAlone, adopt, ask, check, checkpoint, checkpoint_every, dump, load, migrate, numbered, on_store, quiet, root, status, wanted, work, workers};
+ghost use Rattle.ide_words.specs.Commands.{HasShape, IsCreate, IsExplain, IsIdesolve, IsOnce, IsOnceAlone, ask, check, checkpoint_every, command, defaulted, load, numbered, on_store, quiet, root, wanted, work, workers};
 
 use crate::words::{INSTANCES, NAMES};
 use clap::builder::ValueParser;
@@ -18,6 +18,17 @@ error, or the output could not be written. Status 2: the words are no command.";
 const ANALYSES: &str = "uninit  variables that may be read before they are written
 copy    constants, through numbers and copies
 shift   constants, through sums and differences with a number too";
+
+/// What the commands on a store do that take no other word.
+const ADOPT: &str = "Goes on with a store of one file: makes its second file";
+
+const CHECKPOINT: &str = "Writes the image into the store's other file, and prints its generation";
+
+const MIGRATE: &str = "Writes a store of an older version anew, and prints its version";
+
+const DUMP: &str = "Prints all values";
+
+const STATUS: &str = "Prints how far the store has come";
 
 /// The most workers.
 const MOST_WORKERS: u64 = 64;
@@ -40,15 +51,15 @@ pub(crate) fn idesolve<'a>(alloc: Global) -> Result<Command<'a>, Error>
             .subcommand(check(alloc)?)?
             .subcommand(explain(alloc)?)?
             .subcommand(create(alloc)?)?
-            .subcommand(adopt(alloc)?)?
+            .subcommand(on_store(alloc, "adopt", ADOPT)?)?
             .subcommand(load(alloc)?)?
             .subcommand(root(alloc)?)?
             .subcommand(work(alloc)?)?
-            .subcommand(checkpoint(alloc)?)?
-            .subcommand(migrate(alloc)?)?
+            .subcommand(on_store(alloc, "checkpoint", CHECKPOINT)?)?
+            .subcommand(on_store(alloc, "migrate", MIGRATE)?)?
             .subcommand(ask(alloc)?)?
-            .subcommand(dump(alloc)?)?
-            .subcommand(status(alloc)?)?,
+            .subcommand(on_store(alloc, "dump", DUMP)?)?
+            .subcommand(on_store(alloc, "status", STATUS)?)?,
     )
 }
 
@@ -65,9 +76,9 @@ fn once_alone<'a>(alloc: Global) -> Result<Command<'a>, Error>
     ensures { IfOk result IsOnceAlone }
 {
     let instance = required(alloc, "INSTANCE", "The analysis").value_parser(INSTANCES.as_slice());
+    let about = "Solves a program text in memory and prints the values";
     Ok(
-        Command::new(alloc, "once")
-            .about("Solves a program text in memory and prints the values")
+        command(alloc, "once", about)
             .after_help(ANALYSES)
             .arg(instance)?
             .arg(required(alloc, "FILE", "The program text"))?
@@ -79,11 +90,8 @@ fn once_alone<'a>(alloc: Global) -> Result<Command<'a>, Error>
 fn check<'a>(alloc: Global) -> Result<Command<'a>, Error>
     ensures { IfOk result (HasShape check) }
 {
-    Ok(
-        Command::new(alloc, "check")
-            .about("Reads a program text and prints its counts, or its first fault")
-            .arg(required(alloc, "FILE", "The program text"))?,
-    )
+    let about = "Reads a program text and prints its counts, or its first fault";
+    Ok(command(alloc, "check", about).arg(required(alloc, "FILE", "The program text"))?)
 }
 
 /// `explain NAME`
@@ -91,11 +99,7 @@ fn explain<'a>(alloc: Global) -> Result<Command<'a>, Error>
     ensures { IfOk result IsExplain }
 {
     let name = required(alloc, "NAME", "E1 to E16, or F1 to F10").value_parser(NAMES.as_slice());
-    Ok(
-        Command::new(alloc, "explain")
-            .about("Prints what a refusal or a fault means")
-            .arg(name)?,
-    )
+    Ok(command(alloc, "explain", "Prints what a refusal or a fault means").arg(name)?)
 }
 
 /// `create STORE INSTANCE`
@@ -106,14 +110,6 @@ fn create<'a>(alloc: Global) -> Result<Command<'a>, Error>
     let about = "Makes a store with no program; old files of its name are replaced";
     let command = on_store(alloc, "create", about)?;
     Ok(command.after_help(ANALYSES).arg(instance)?)
-}
-
-/// `adopt STORE`
-fn adopt<'a>(alloc: Global) -> Result<Command<'a>, Error>
-    ensures { IfOk result (HasShape adopt) }
-{
-    let about = "Goes on with a store of one file: makes its second file";
-    on_store(alloc, "adopt", about)
 }
 
 /// `load STORE FILE`
@@ -145,22 +141,6 @@ fn work<'a>(alloc: Global) -> Result<Command<'a>, Error>
     )
 }
 
-/// `checkpoint STORE`
-fn checkpoint<'a>(alloc: Global) -> Result<Command<'a>, Error>
-    ensures { IfOk result (HasShape checkpoint) }
-{
-    let about = "Writes the image into the store's other file, and prints its generation";
-    on_store(alloc, "checkpoint", about)
-}
-
-/// `migrate STORE`
-fn migrate<'a>(alloc: Global) -> Result<Command<'a>, Error>
-    ensures { IfOk result (HasShape migrate) }
-{
-    let about = "Writes a store of an older version anew, and prints its version";
-    on_store(alloc, "migrate", about)
-}
-
 /// `ask STORE PROC NODE FACT`
 fn ask<'a>(alloc: Global) -> Result<Command<'a>, Error>
     ensures { IfOk result (HasShape ask) }
@@ -175,29 +155,18 @@ fn ask<'a>(alloc: Global) -> Result<Command<'a>, Error>
     )
 }
 
-/// `dump STORE`
-fn dump<'a>(alloc: Global) -> Result<Command<'a>, Error>
-    ensures { IfOk result (HasShape dump) }
-{
-    on_store(alloc, "dump", "Prints all values")
-}
-
-/// `status STORE`
-fn status<'a>(alloc: Global) -> Result<Command<'a>, Error>
-    ensures { IfOk result (HasShape status) }
-{
-    on_store(alloc, "status", "Prints how far the store has come")
-}
-
 /// A command on a store.
 fn on_store<'a>(alloc: Global, name: &'a str, about: &'a str) -> Result<Command<'a>, Error>
     ensures { IfOk result (HasShape (on_store name.now [])) }
 {
-    Ok(
-        Command::new(alloc, name)
-            .about(about)
-            .arg(required(alloc, "STORE", "The store's file"))?,
-    )
+    Ok(command(alloc, name, about).arg(required(alloc, "STORE", "The store's file"))?)
+}
+
+/// A command that takes no word.
+fn command<'a>(alloc: Global, name: &'a str, about: &'a str) -> Command<'a>
+    ensures { HasShape (command name.now []) result }
+{
+    Command::new(alloc, name).about(about)
 }
 
 /// A word that has to be given.
@@ -224,11 +193,7 @@ fn workers<'a>(alloc: Global) -> Arg<'a>
     ensures rule { rule_of result ≡ workers }
     ensures local { result.global ≡ false }
 {
-    let count = Arg::new(alloc, "N")
-        .long("workers")
-        .help("How many workers, 1 to 64")
-        .action(ArgAction::Set)
-        .default_value("1");
+    let count = defaulted(alloc, "N", "workers", "1").help("How many workers, 1 to 64");
     numbered(count, 1, MOST_WORKERS)
 }
 
@@ -248,10 +213,18 @@ fn checkpoint_every<'a>(alloc: Global) -> Arg<'a>
     ensures rule { rule_of result ≡ checkpoint_every }
     ensures local { result.global ≡ false }
 {
-    let records = Arg::new(alloc, "RECORDS")
-        .long("checkpoint-every")
-        .help("A checkpoint after so many records")
-        .action(ArgAction::Set)
-        .default_value("1024");
+    let help = "A checkpoint after so many records";
+    let records = defaulted(alloc, "RECORDS", "checkpoint-every", "1024").help(help);
     numbered(records, 1, MOST_RECORDS)
+}
+
+/// A word behind an option, which is the default where the option is left out.
+fn defaulted<'a>(alloc: Global, name: &'a str, option: &'a str, default: &'a str) -> Arg<'a>
+    ensures rule { rule_of result ≡ defaulted name.now option.now default.now }
+    ensures local { result.global ≡ false }
+{
+    Arg::new(alloc, name)
+        .long(option)
+        .action(ArgAction::Set)
+        .default_value(default)
 }
