@@ -4,12 +4,4 @@
 #![tactic(auto)]
 
 #[cfg(test)]
-mod gates;
-#[cfg(test)]
-mod hands;
-#[cfg(test)]
-mod services;
-#[cfg(test)]
-mod stops;
-#[cfg(test)]
-mod workers;
+mod tests;

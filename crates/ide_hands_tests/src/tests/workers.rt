@@ -3,19 +3,19 @@ ghost use Rattle.std.specs.Prelude.{◌≡◌};
 ghost use Rattle.std.specs.Arc.{arc_value};
 ghost use Rattle.ide_desks.specs.Opened.{IsToldOf};
 
-use crate::gates::{Counting, Crossing, Holding};
-use crate::services::{Served, given, value_at};
+use super::gates::{Crossing, Holding};
+use super::services::{Served, given, value_at};
+use super::stops::reopened;
 use ide_desks::Accord;
 use ide_instances::{ConstValue, CopyConst};
-use ide_memory_stores::{OpenedStore, Store, open, opened, with_board};
-use ide_service::{Crew, Ended, Gate, Open, Point, Service, work_together};
+use ide_memory_stores::{OpenedStore, open, opened, with_board};
+use ide_service::{Crew, Gate, Open, Service, work_together};
 use ide_store::Kept;
 use ide_wire::Refused;
 use ide_worked::{NUMBER, TWO_CALLS};
 use std::marker::Brand;
 use std::process::Abort;
 use std::sync::Wait;
-use std::test::Fail;
 use std::thread::Threads;
 use std::time::Clock;
 
@@ -80,66 +80,28 @@ fn expect_solved<R: Threads + Wait + Clock + Sync + Abort + AllocGlobal>(
 
 // One hand, two and four solve the two calls, by single calls and with tasks ahead; and two workers of three hands each.
 #[test]
-fn workers_and_a_writer_solve_and_store(rt: HostRuntime) -> Result<(), Fail> {
+fn workers_and_a_writer_solve_and_store(rt: HostRuntime) {
     expect_solved(&rt, 1, 1, 0);
     expect_solved(&rt, 2, 1, 0);
     expect_solved(&rt, 4, 1, 3);
     expect_solved(&rt, 2, 3, 0);
-    Ok(())
-}
-
-/// The store that is opened again where a hand did two of the three parts of the root's task, and they were stored: three keys
-/// are pending.
-fn reopened<J: Accord, R: Wait + Clock + Abort + AllocGlobal>(rt: &R, opened: OpenedStore) -> Store
-    requires board { arc_value opened.board ≡ J.board }
-    requires switches { opened.switch.board ≡ J.switches }
-    requires untold { J.told → ⊥ }
-{
-    let service: Served<J> = Service::new(rt.alloc(), opened);
-    let parted = Counting::new(Point::Parted, 1);
-    assert!(rt; service.work(rt, 0, &parted) == Ok(Ended::Stopped));
-    service.raise_stop();
-    assert!(rt; service.commit(rt, &Open { ahead: 0 }) == Ok(Ended::Quiet));
-    let again = given(rt, open(rt.alloc(), service.into_disks()));
-    assert!(rt; again.table.core().pending_count() == 3);
-    again
 }
 
 /// Asserts that one hand does a part while another is held behind its first claim.
 fn expect_two_at_once<
     J: Accord + Send + Sync,
     R: Threads + Wait + Clock + Sync + Abort + AllocGlobal,
->(rt: &R, opened: OpenedStore)
-    requires board { arc_value opened.board ≡ J.board }
-    requires switches { opened.switch.board ≡ J.switches }
-    requires untold { J.told → ⊥ }
-{
-    let service: Served<J> = Service::new(rt.alloc(), opened);
+>(rt: &R, service: &Served<J>) {
     let gate = Holding::new();
-    assert!(rt; work_on(rt, &service, 2, 1, &gate) == Ok(()));
+    assert!(rt; work_on(rt, service, 2, 1, &gate) == Ok(()));
     assert!(rt; gate.has_seen());
-}
-
-// No lock is held between two calls of a hand.
-#[test]
-fn two_hands_work_at_once(rt: HostRuntime) -> Result<(), Fail> {
-    let first = given(&rt, opened(rt.alloc(), NUMBER));
-    let again = reopened::<Brand, HostRuntime>(&rt, first);
-    let second = given(&rt, with_board(rt.alloc(), again));
-    expect_two_at_once::<Brand, HostRuntime>(&rt, second);
-    Ok(())
 }
 
 /// Asserts that a hand does a part while the writer is at its first disk call, which the hand waited for.
 fn expect_crossing<J: Accord + Send + Sync, R: Threads + Wait + Clock + Sync + Abort + AllocGlobal>(
     rt: &R,
-    opened: OpenedStore,
-)
-    requires board { arc_value opened.board ≡ J.board }
-    requires switches { opened.switch.board ≡ J.switches }
-    requires untold { J.told → ⊥ }
-{
-    let service: Served<J> = Service::new(rt.alloc(), opened);
+    service: Served<J>,
+) {
     let gate = Crossing::new();
     assert!(rt; work_on(rt, &service, 1, 1, &gate) == Ok(()));
     assert!(rt; gate.have_crossed());
@@ -147,35 +109,64 @@ fn expect_crossing<J: Accord + Send + Sync, R: Threads + Wait + Clock + Sync + A
     expect_all_stored(rt, service);
 }
 
-// The writer holds its own lock while it waits for a disk, and no hand waits for that.
-#[test]
-fn a_hand_works_while_the_writer_waits_for_a_disk(rt: HostRuntime) -> Result<(), Fail> {
-    let opened = given(&rt, opened(rt.alloc(), TWO_CALLS));
-    expect_crossing::<Brand, HostRuntime>(&rt, opened);
-    Ok(())
-}
-
 /// Asserts that no workers, and more than 64, are refused, and so are keys.
 fn expect_limits<J: Accord + Send + Sync, R: Threads + Wait + Clock + Sync + Abort + AllocGlobal>(
     rt: &R,
+    service: &Served<J>,
+) {
+    let open = Open { ahead: 0 };
+    assert!(rt; work_on(rt, service, 0, 1, &open) == Err(Refused::Limit));
+    assert!(rt; work_on(rt, service, 65, 1, &open) == Err(Refused::Limit));
+    assert!(rt; work_on(rt, service, 1, 0, &open) == Err(Refused::Limit));
+    assert!(rt; work_on(rt, service, 1, 65, &open) == Err(Refused::Limit));
+}
+
+/// What is asserted of workers on a service.
+#[derive(Clone, Copy)]
+enum Asserted {
+    TwoAtOnce,
+    Crossing,
+    Limits,
+}
+
+/// Asserts it of a service over the store.
+fn expect<J: Accord + Send + Sync, R: Threads + Wait + Clock + Sync + Abort + AllocGlobal>(
+    rt: &R,
     opened: OpenedStore,
+    asserted: Asserted,
 )
     requires board { arc_value opened.board ≡ J.board }
     requires switches { opened.switch.board ≡ J.switches }
     requires untold { J.told → ⊥ }
 {
     let service: Served<J> = Service::new(rt.alloc(), opened);
-    let open = Open { ahead: 0 };
-    assert!(rt; work_on(rt, &service, 0, 1, &open) == Err(Refused::Limit));
-    assert!(rt; work_on(rt, &service, 65, 1, &open) == Err(Refused::Limit));
-    assert!(rt; work_on(rt, &service, 1, 0, &open) == Err(Refused::Limit));
-    assert!(rt; work_on(rt, &service, 1, 65, &open) == Err(Refused::Limit));
+    match asserted {
+        Asserted::TwoAtOnce => expect_two_at_once(rt, &service),
+        Asserted::Crossing => expect_crossing(rt, service),
+        Asserted::Limits => expect_limits(rt, &service),
+    }
+}
+
+// No lock is held between two calls of a hand.
+#[test]
+fn two_hands_work_at_once(rt: HostRuntime) {
+    let first = given(&rt, opened(rt.alloc(), NUMBER));
+    let again = reopened::<Brand, HostRuntime>(&rt, first, 2);
+    assert!(rt; again.table.core().pending_count() == 3);
+    let second = given(&rt, with_board(rt.alloc(), again));
+    expect::<Brand, HostRuntime>(&rt, second, Asserted::TwoAtOnce);
+}
+
+// The writer holds its own lock while it waits for a disk, and no hand waits for that.
+#[test]
+fn a_hand_works_while_the_writer_waits_for_a_disk(rt: HostRuntime) {
+    let opened = given(&rt, opened(rt.alloc(), TWO_CALLS));
+    expect::<Brand, HostRuntime>(&rt, opened, Asserted::Crossing);
 }
 
 // There are from 1 to 64 workers, and as many hands.
 #[test]
-fn workers_have_a_limit(rt: HostRuntime) -> Result<(), Fail> {
+fn workers_have_a_limit(rt: HostRuntime) {
     let opened = given(&rt, opened(rt.alloc(), NUMBER));
-    expect_limits::<Brand, HostRuntime>(&rt, opened);
-    Ok(())
+    expect::<Brand, HostRuntime>(&rt, opened, Asserted::Limits);
 }

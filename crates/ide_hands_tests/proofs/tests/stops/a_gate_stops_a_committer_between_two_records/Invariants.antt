@@ -1,6 +1,6 @@
 use Rattle.std.proofs.Common.{[]}
 use Rattle.std.specs.Arc.{arc_value}
-use Rattle.ide_hands_tests.proofs.stops.a_gate_stops_a_committer_between_two_records.Given as goal
+use Rattle.ide_hands_tests.proofs.tests.stops.a_gate_stops_a_committer_between_two_records.Given as goal
 
 abbrev pub ghosts-expect_one_stored : goal.ghosts-expect_one_stored
 ghosts-expect_one_stored g a = record {

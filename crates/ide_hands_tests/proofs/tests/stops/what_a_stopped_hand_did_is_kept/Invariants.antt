@@ -1,9 +1,9 @@
 use Rattle.std.proofs.Common.{[]}
 use Rattle.std.specs.Arc.{arc_value}
-use Rattle.ide_hands_tests.proofs.workers.a_hand_works_while_the_writer_waits_for_a_disk.Given as goal
+use Rattle.ide_hands_tests.proofs.tests.stops.what_a_stopped_hand_did_is_kept.Given as goal
 
-abbrev pub ghosts-expect_crossing : goal.ghosts-expect_crossing
-ghosts-expect_crossing g a = record {
+abbrev pub ghosts-reopened : goal.ghosts-reopened
+ghosts-reopened g a = record {
   board = arc_value a.opened.board;
   switches = a.opened.switch.board;
   told = ⊥;

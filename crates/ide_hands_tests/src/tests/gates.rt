@@ -58,6 +58,13 @@ fn hold(came: &AtomicBool, seen: &AtomicBool) {
     }
 }
 
+/// Holds the first that comes, until the other came on.
+fn hold_first(first: &AtomicBool, came: &AtomicBool, seen: &AtomicBool) {
+    if !first.swap(true, Ordering::SeqCst) {
+        hold(came, seen);
+    }
+}
+
 /// Yields to others for a turn.
 fn let_others_work() {
     for _ in 0..YIELDS {
@@ -94,11 +101,7 @@ impl Gate for Holding {
 
     fn pass(&self, point: Point) -> bool {
         match point {
-            Point::Claimed => {
-                if !self.claimed.swap(true, Ordering::SeqCst) {
-                    hold(&self.parted, &self.seen);
-                }
-            }
+            Point::Claimed => hold_first(&self.claimed, &self.parted, &self.seen),
             Point::Parted => self.parted.store(true, Ordering::SeqCst),
             Point::BeforeSync | Point::Stored => {}
         }
@@ -148,16 +151,8 @@ impl Gate for Crossing {
 
     fn pass(&self, point: Point) -> bool {
         match point {
-            Point::Claimed => {
-                if !self.claimed.swap(true, Ordering::SeqCst) {
-                    hold(&self.syncing, &self.hand_saw);
-                }
-            }
-            Point::BeforeSync => {
-                if !self.syncing.swap(true, Ordering::SeqCst) {
-                    hold(&self.parted, &self.writer_saw);
-                }
-            }
+            Point::Claimed => hold_first(&self.claimed, &self.syncing, &self.hand_saw),
+            Point::BeforeSync => hold_first(&self.syncing, &self.parted, &self.writer_saw),
             Point::Parted => self.parted.store(true, Ordering::SeqCst),
             Point::Stored => {}
         }

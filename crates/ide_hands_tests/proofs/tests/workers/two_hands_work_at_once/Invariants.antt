@@ -1,9 +1,9 @@
 use Rattle.std.proofs.Common.{[]}
 use Rattle.std.specs.Arc.{arc_value}
-use Rattle.ide_hands_tests.proofs.workers.two_hands_work_at_once.Given as goal
+use Rattle.ide_hands_tests.proofs.tests.workers.two_hands_work_at_once.Given as goal
 
-abbrev pub ghosts-expect_two_at_once : goal.ghosts-expect_two_at_once
-ghosts-expect_two_at_once g a = record {
+abbrev pub ghosts-expect : goal.ghosts-expect
+ghosts-expect g a = record {
   board = arc_value a.opened.board;
   switches = a.opened.switch.board;
   told = ⊥;

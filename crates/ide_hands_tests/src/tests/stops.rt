@@ -2,16 +2,15 @@
 ghost use Rattle.std.specs.Prelude.{◌≡◌};
 ghost use Rattle.std.specs.Arc.{arc_value};
 
-use crate::gates::Counting;
-use crate::services::{Served, given};
+use super::gates::Counting;
+use super::services::{Served, given};
 use ide_desks::Accord;
-use ide_memory_stores::{Client, OpenedStore, open, opened, opened_for_client};
+use ide_memory_stores::{Client, OpenedStore, Store, open, opened, opened_for_client};
 use ide_service::{Ended, Open, Point, Service};
 use ide_worked::NUMBER;
 use std::marker::Brand;
 use std::process::Abort;
 use std::sync::Wait;
-use std::test::Fail;
 use std::time::Clock;
 
 /// Asserts that a committer that its gate stops before a record has stored those before it.
@@ -35,10 +34,9 @@ fn expect_one_stored<J: Accord, R: Wait + Clock + Abort + AllocGlobal>(
 }
 
 #[test]
-fn a_gate_stops_a_committer_between_two_records(rt: HostRuntime) -> Result<(), Fail> {
+fn a_gate_stops_a_committer_between_two_records(rt: HostRuntime) {
     let (opened, client) = given(&rt, opened_for_client(rt.alloc(), NUMBER));
     expect_one_stored::<Brand, HostRuntime>(&rt, opened, client);
-    Ok(())
 }
 
 /// Asserts that a hand that is stopped behind its claim, of which nothing was done, leaves nothing to seal, and that
@@ -56,33 +54,36 @@ fn expect_no_part<J: Accord, R: Wait + Clock + Abort + AllocGlobal>(rt: &R, open
 }
 
 #[test]
-fn a_hand_that_is_stopped_gives_its_claim_back(rt: HostRuntime) -> Result<(), Fail> {
+fn a_hand_that_is_stopped_gives_its_claim_back(rt: HostRuntime) {
     let opened = given(&rt, opened(rt.alloc(), NUMBER));
     expect_no_part::<Brand, HostRuntime>(&rt, opened);
-    Ok(())
 }
 
-/// Asserts that what a hand did before it was stopped behind its first part is record 2, and found again: two keys,
-/// both pending.
-fn expect_one_part<J: Accord, R: Wait + Clock + Abort + AllocGlobal>(rt: &R, opened: OpenedStore)
+/// The store that is opened again where the first hand did so many parts of the root's task, and they were stored, as
+/// record 2.
+pub(crate) fn reopened<J: Accord, R: Wait + Clock + Abort + AllocGlobal>(
+    rt: &R,
+    opened: OpenedStore,
+    parts: u64,
+) -> Store
     requires board { arc_value opened.board ≡ J.board }
     requires switches { opened.switch.board ≡ J.switches }
     requires untold { J.told → ⊥ }
 {
     let service: Served<J> = Service::new(rt.alloc(), opened);
-    let parted = Counting::new(Point::Parted, 0);
+    let parted = Counting::new(Point::Parted, parts.saturating_sub(1));
     assert!(rt; service.work(rt, 0, &parted) == Ok(Ended::Stopped));
     let sealed = given(rt, service.seal(rt));
     assert!(rt; sealed.is_some_and(|ticket| ticket.number == 2));
     service.raise_stop();
     assert!(rt; service.commit(rt, &Open { ahead: 0 }) == Ok(Ended::Quiet));
-    let again = given(rt, open(rt.alloc(), service.into_disks()));
-    assert!(rt; again.table.core().key_count() == 2 && again.table.core().pending_count() == 2);
+    given(rt, open(rt.alloc(), service.into_disks()))
 }
 
+// What a hand did before it was stopped behind its first part is found again: two keys, both pending.
 #[test]
-fn what_a_stopped_hand_did_is_kept(rt: HostRuntime) -> Result<(), Fail> {
+fn what_a_stopped_hand_did_is_kept(rt: HostRuntime) {
     let opened = given(&rt, opened(rt.alloc(), NUMBER));
-    expect_one_part::<Brand, HostRuntime>(&rt, opened);
-    Ok(())
+    let again = reopened::<Brand, HostRuntime>(&rt, opened, 1);
+    assert!(rt; again.table.core().key_count() == 2 && again.table.core().pending_count() == 2);
 }

@@ -2,8 +2,8 @@
 ghost use Rattle.std.specs.Prelude.{◌≡◌};
 ghost use Rattle.std.specs.Arc.{arc_value};
 
-use crate::gates::Counting;
-use crate::services::{Served, given};
+use super::gates::Counting;
+use super::services::{Served, given};
 use ide_desks::Accord;
 use ide_instances::CopyConst;
 use ide_memory_stores::{OpenedStore, Store, begun, opened};
@@ -17,14 +17,20 @@ use ide_worked::TWO_CALLS;
 use std::marker::Brand;
 use std::process::Abort;
 use std::sync::Wait;
-use std::test::Fail;
 use std::time::Clock;
 
-/// Lets the hand work on a service over the store, and answers how that ended, and the store.
+/// Which hands work: one, or several as one.
+#[derive(Clone, Copy)]
+enum Working {
+    Alone(usize),
+    Apart(Span),
+}
+
+/// Lets the hands work on a service over the store, and answers how that ended, and the store.
 fn work<J: Accord, R: Wait + Clock + AllocGlobal, G: Gate>(
     rt: &R,
     opened: OpenedStore,
-    hand: usize,
+    hands: Working,
     gate: &G,
 ) -> (Result<Ended, Refused>, Store)
     requires board { arc_value opened.board ≡ J.board }
@@ -32,27 +38,29 @@ fn work<J: Accord, R: Wait + Clock + AllocGlobal, G: Gate>(
     requires untold { J.told → ⊥ }
 {
     let service: Served<J> = Service::new(rt.alloc(), opened);
-    let ended = service.work(rt, hand, gate);
+    let ended = match hands {
+        Working::Alone(hand) => service.work(rt, hand, gate),
+        Working::Apart(span) => service.work_apart(rt, span, gate),
+    };
     (ended, service.into_engine())
 }
 
 /// The same over a store of the two calls.
 fn work_on_calls<R: Wait + Clock + AllocGlobal + Abort, G: Gate>(
     rt: &R,
-    hand: usize,
+    hands: Working,
     gate: &G,
 ) -> (Result<Ended, Refused>, Store) {
     let opened = given(rt, opened(rt.alloc(), TWO_CALLS));
-    work::<Brand, R, G>(rt, opened, hand, gate)
+    work::<Brand, R, G>(rt, opened, hands, gate)
 }
 
 // A gate that stops nobody lets the loop do all tasks.
 #[test]
-fn a_loop_ends_where_nothing_is_pending(rt: HostRuntime) -> Result<(), Fail> {
-    let (ended, engine) = work_on_calls(&rt, 0, &Open { ahead: 0 });
+fn a_loop_ends_where_nothing_is_pending(rt: HostRuntime) {
+    let (ended, engine) = work_on_calls(&rt, Working::Alone(0), &Open { ahead: 0 });
     assert!(rt; ended == Ok(Ended::Quiet));
     assert!(rt; engine.table.core().is_quiet() && engine.table.core().key_count() > 11);
-    Ok(())
 }
 
 /// Asserts that a loop whose gate lets so many such points pass is stopped there, with so many keys, and that
@@ -63,7 +71,7 @@ fn expect_stopped<R: Abort + Wait + Clock + AllocGlobal>(
     points: u64,
     keys: usize,
 ) {
-    let (ended, engine) = work_on_calls(rt, 5, &Counting::new(at, points));
+    let (ended, engine) = work_on_calls(rt, Working::Alone(5), &Counting::new(at, points));
     assert!(rt; ended == Ok(Ended::Stopped));
     assert!(rt; engine.table.core().claim_of(5).is_none() && !engine.table.core().is_quiet());
     assert!(rt; engine.table.core().key_count() == keys);
@@ -71,35 +79,17 @@ fn expect_stopped<R: Abort + Wait + Clock + AllocGlobal>(
 
 // A root makes one key, and each part of the first task one more.
 #[test]
-fn a_gate_stops_a_loop_between_two_parts(rt: HostRuntime) -> Result<(), Fail> {
+fn a_gate_stops_a_loop_between_two_parts(rt: HostRuntime) {
     expect_stopped(&rt, Point::Claimed, 0, 1);
     expect_stopped(&rt, Point::Parted, 0, 2);
     expect_stopped(&rt, Point::Parted, 1, 3);
-    Ok(())
 }
 
 // There is no hand of that number.
 #[test]
-fn a_hand_number_has_a_limit(rt: HostRuntime) -> Result<(), Fail> {
-    let (ended, _engine) = work_on_calls(&rt, 64, &Open { ahead: 0 });
+fn a_hand_number_has_a_limit(rt: HostRuntime) {
+    let (ended, _engine) = work_on_calls(&rt, Working::Alone(64), &Open { ahead: 0 });
     assert!(rt; ended == Err(Refused::Limit));
-    Ok(())
-}
-
-/// Lets three hands, from number 2 on, work as one on a service over the store, and answers how that ended, and the store.
-fn work_apart<J: Accord, R: Wait + Clock + AllocGlobal, G: Gate>(
-    rt: &R,
-    opened: OpenedStore,
-    gate: &G,
-) -> (Result<Ended, Refused>, Store)
-    requires board { arc_value opened.board ≡ J.board }
-    requires switches { opened.switch.board ≡ J.switches }
-    requires untold { J.told → ⊥ }
-{
-    let service: Served<J> = Service::new(rt.alloc(), opened);
-    let span = Span { first: 2, count: 3 };
-    let ended = service.work_apart(rt, span, gate);
-    (ended, service.into_engine())
 }
 
 /// Asserts that three hands that work as one are stopped at such a point, where the gate lets so many of them pass, with
@@ -110,9 +100,8 @@ fn expect_apart_stopped<R: Abort + Wait + Clock + AllocGlobal>(
     points: u64,
     keys: usize,
 ) {
-    let opened = given(rt, opened(rt.alloc(), TWO_CALLS));
-    let gate = Counting::new(at, points);
-    let (ended, engine) = work_apart::<Brand, R, Counting>(rt, opened, &gate);
+    let hands = Working::Apart(Span { first: 2, count: 3 });
+    let (ended, engine) = work_on_calls(rt, hands, &Counting::new(at, points));
     assert!(rt; ended == Ok(Ended::Stopped));
     for hand in 2..5 {
         assert!(rt; engine.table.core().claim_of(hand).is_none());
@@ -123,11 +112,10 @@ fn expect_apart_stopped<R: Abort + Wait + Clock + AllocGlobal>(
 // In the first hold the root's key is claimed, whose task has six parts; in the second they are given, and three of the
 // keys that they made are claimed.
 #[test]
-fn a_gate_stops_hands_that_work_as_one(rt: HostRuntime) -> Result<(), Fail> {
+fn a_gate_stops_hands_that_work_as_one(rt: HostRuntime) {
     expect_apart_stopped(&rt, Point::Claimed, 0, 1);
     expect_apart_stopped(&rt, Point::Parted, 0, 7);
     expect_apart_stopped(&rt, Point::Claimed, 1, 7);
-    Ok(())
 }
 
 /// A half whose batch is full after each of the first parts that it does, and before the first ends of claims,
@@ -196,7 +184,7 @@ impl Hands<CopyConst> for Filling {
 
 // A batch may be full several times in one task: it is sealed each time, and the loop goes on.
 #[test]
-fn a_loop_seals_as_often_as_a_batch_is_full(rt: HostRuntime) -> Result<(), Fail> {
+fn a_loop_seals_as_often_as_a_batch_is_full(rt: HostRuntime) {
     let SlotEngine { table, .. } = given(&rt, begun(rt.alloc(), TWO_CALLS));
     let mut filling = Filling {
         table,
@@ -209,5 +197,4 @@ fn a_loop_seals_as_often_as_a_batch_is_full(rt: HostRuntime) -> Result<(), Fail>
     assert!(rt; filling.parts == 0);
     assert!(rt; filling.ends == 0);
     assert!(rt; filling.table.core().is_quiet());
-    Ok(())
 }

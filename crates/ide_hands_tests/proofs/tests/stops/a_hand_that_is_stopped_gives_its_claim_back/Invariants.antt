@@ -1,9 +1,9 @@
 use Rattle.std.proofs.Common.{[]}
 use Rattle.std.specs.Arc.{arc_value}
-use Rattle.ide_hands_tests.proofs.hands.expect_apart_stopped.Given as goal
+use Rattle.ide_hands_tests.proofs.tests.stops.a_hand_that_is_stopped_gives_its_claim_back.Given as goal
 
-abbrev pub ghosts-work_apart : goal.ghosts-work_apart
-ghosts-work_apart g a = record {
+abbrev pub ghosts-expect_no_part : goal.ghosts-expect_no_part
+ghosts-expect_no_part g a = record {
   board = arc_value a.opened.board;
   switches = a.opened.switch.board;
   told = ⊥;
