@@ -3,8 +3,8 @@
 //! No engine makes one any more. The slot on A of a new store on two disks, of generation 0, has byte for byte
 //! the form of a store on one disk, in either version: so a store is made, and its disk A is taken alone, with
 //! a fresh disk beside it. A journal on one disk reads it.
-use crate::checkpoints::{expect_begin, expect_stored};
-use crate::engine::{disk, expect_calls, expect_step, open};
+use crate::checkpoints::{expect_begin, expect_stored, expect_ten_calls};
+use crate::engine::{disk, engine_of, expect_calls, open};
 use crate::versions::create_of;
 use ide_disk::{Disk, MemDisk};
 use ide_engines::seal_empty_main;
@@ -52,15 +52,11 @@ fn expect_adopted(
     version: Version,
 ) -> SlotEngine<Uninit, MemDisk> {
     let a = expect_one_disk(rt, version);
-    match SlotEngine::adopt(rt.alloc(), a, disk(rt)) {
-        Ok(engine) => {
-            expect_stored(rt, &engine, 3, 0);
-            assert!(rt; engine.version() == version);
-            assert!(rt; engine.table.core().is_quiet());
-            engine
-        }
-        Err((refused, _, _)) => panic!(rt; "{refused}"),
-    }
+    let engine = engine_of(rt, SlotEngine::adopt(rt.alloc(), a, disk(rt)));
+    expect_stored(rt, &engine, 3, 0);
+    assert!(rt; engine.version() == version);
+    assert!(rt; engine.table.core().is_quiet());
+    engine
 }
 
 /// Asserts that a checkpoint of it takes ten calls, and is of the second version.
@@ -68,12 +64,7 @@ fn expect_checkpoint<P: Problem>(
     rt: &(impl Abort + AllocGlobal),
     engine: &mut SlotEngine<P, MemDisk>,
 ) {
-    expect_begin(rt, engine, true);
-    for _ in 0..10 {
-        expect_step(rt, engine, true);
-    }
-    expect_step(rt, engine, false);
-    expect_stored(rt, engine, 3, 1);
+    expect_ten_calls(rt, engine);
     assert!(rt; engine.version() == Version::Two);
     expect_begin(rt, engine, false);
 }

@@ -35,7 +35,7 @@ pub(crate) fn expect_stored<P: Problem>(
 
 /// Makes a checkpoint of three records, and asserts that it takes ten disk calls, between which no other
 /// begins.
-fn expect_ten_calls<P: Problem>(
+pub(crate) fn expect_ten_calls<P: Problem>(
     rt: &(impl Abort + AllocGlobal),
     engine: &mut SlotEngine<P, MemDisk>,
 ) {

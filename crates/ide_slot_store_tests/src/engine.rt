@@ -28,21 +28,28 @@ pub(crate) fn disk(rt: &(impl Abort + AllocGlobal)) -> MemDisk {
     }
 }
 
-/// A new store on these disks.
-pub(crate) fn create_on<P: Problem>(
-    rt: &(impl Abort + AllocGlobal),
-    a: MemDisk,
-    b: MemDisk,
+/// A store that was made or opened, where that is not to be refused.
+pub(crate) fn engine_of<P: Problem>(
+    rt: &impl Abort,
+    found: Result<SlotEngine<P, MemDisk>, (Refused, MemDisk, MemDisk)>,
 ) -> SlotEngine<P, MemDisk> {
-    match SlotEngine::create(rt.alloc(), a, b) {
+    match found {
         Ok(engine) => engine,
         Err((refused, _, _)) => panic!(rt; "{refused}"),
     }
 }
 
+/// A new store on a disk, and on one beside it.
+pub(crate) fn create_on<P: Problem>(
+    rt: &(impl Abort + AllocGlobal),
+    a: MemDisk,
+) -> SlotEngine<P, MemDisk> {
+    engine_of(rt, SlotEngine::create(rt.alloc(), a, disk(rt)))
+}
+
 /// A new store.
 pub(crate) fn create<P: Problem>(rt: &(impl Abort + AllocGlobal)) -> SlotEngine<P, MemDisk> {
-    create_on(rt, disk(rt), disk(rt))
+    create_on(rt, disk(rt))
 }
 
 /// The store that the disks hold.
@@ -51,10 +58,7 @@ pub(crate) fn open<P: Problem>(
     a: MemDisk,
     b: MemDisk,
 ) -> SlotEngine<P, MemDisk> {
-    match SlotEngine::open(rt.alloc(), a, b) {
-        Ok(engine) => engine,
-        Err((refused, _, _)) => panic!(rt; "{refused}"),
-    }
+    engine_of(rt, SlotEngine::open(rt.alloc(), a, b))
 }
 
 /// The disks of a store, after a crash of that kind of both.

@@ -76,7 +76,7 @@ fn expect_failure<P: Problem>(
 
 /// The store behind it.
 fn failed(rt: &(impl Abort + AllocGlobal)) -> Engine {
-    let mut engine: Engine = create_on(rt, failing_disk(rt), disk(rt));
+    let mut engine: Engine = create_on(rt, failing_disk(rt));
     expect_failure(rt, &mut engine);
     engine
 }

@@ -87,14 +87,22 @@ pub(crate) fn expect_kept<P: Problem>(
     reopened(rt, engine, &left)
 }
 
-/// Asserts that a drain does the three tasks of an empty main, and seals what they changed.
+/// Seals what changed behind a load and a root, and asserts that these three records are kept.
+fn expect_three_kept<P: Problem>(
+    rt: &(impl Abort + AllocGlobal),
+    mut engine: SlotEngine<P, MemDisk>,
+) -> SlotEngine<P, MemDisk> {
+    assert!(rt; seal(&mut engine.table) == Ok(Some(2)));
+    expect_kept(rt, engine, 12)
+}
+
+/// Asserts that a drain does the three tasks of an empty main.
 fn drain_empty<P: Problem>(rt: &(impl Abort + AllocGlobal), table: &mut TableHalf<P>) {
     given(rt, begin(rt.alloc(), table, EMPTY));
     match table.drain() {
         Ok(tasks) => assert!(rt; tasks == 3),
         Err(refused) => panic!(rt; "{refused}"),
     }
-    assert!(rt; seal(table) == Ok(Some(2)));
 }
 
 // The records give back what a drain did.
@@ -102,23 +110,22 @@ fn drain_empty<P: Problem>(rt: &(impl Abort + AllocGlobal), table: &mut TableHal
 fn what_was_drained_is_kept(rt: HostRuntime) {
     let mut engine: SlotEngine<Uninit, MemDisk> = create(&rt);
     drain_empty(&rt, &mut engine.table);
-    let again = expect_kept(&rt, engine, 12);
+    let again = expect_three_kept(&rt, engine);
     assert!(rt; again.table.core().is_quiet());
 }
 
-/// Seals the run of the program with two calls.
-fn seal_two_calls<P: Problem>(rt: &(impl Abort + AllocGlobal), table: &mut TableHalf<P>) {
+/// Runs the program with two calls.
+fn run_two_calls<P: Problem>(rt: &(impl Abort + AllocGlobal), table: &mut TableHalf<P>) {
     given(rt, begin(rt.alloc(), table, TWO_CALLS));
     given(rt, Hand::new(0).drain(rt.alloc(), table));
-    assert!(rt; seal(table) == Ok(Some(2)));
 }
 
 // So they do of a program with two procedures.
 #[test]
 fn a_run_with_two_calls_is_kept(rt: HostRuntime) {
     let mut engine: SlotEngine<CopyConst, MemDisk> = create(&rt);
-    seal_two_calls(&rt, &mut engine.table);
-    let again = expect_kept(&rt, engine, 12);
+    run_two_calls(&rt, &mut engine.table);
+    let again = expect_three_kept(&rt, engine);
     assert!(rt; again.acked() == 3);
 }
 
@@ -140,14 +147,13 @@ fn a_load_behind_another_is_kept(rt: HostRuntime) {
     assert!(rt; Hand::new(0).drain(rt.alloc(), &mut again.table) == Ok(3));
 }
 
-/// Does two of the three parts of the first task of a main with one number, and seals what they changed.
-fn seal_two_parts<P: Problem>(rt: &(impl Abort + AllocGlobal), table: &mut TableHalf<P>) {
+/// Does two of the three parts of the first task of a main with one number.
+fn do_two_parts<P: Problem>(rt: &(impl Abort + AllocGlobal), table: &mut TableHalf<P>) {
     given(rt, begin(rt.alloc(), table, NUMBER));
     let mut hand = Hand::new(0);
     assert!(rt; hand.claim(rt.alloc(), table) == Ok(Given::Task));
     assert!(rt; hand.part(table) == Ok(Parted::Lowered));
     assert!(rt; hand.part(table) == Ok(Parted::Lowered));
-    assert!(rt; seal(table) == Ok(Some(2)));
 }
 
 /// Asserts that the first task and what its two parts lowered are pending, that nothing else is there, and
@@ -197,8 +203,8 @@ fn stopped_in_a_task(
     version: Version,
 ) -> SlotEngine<CopyConst, MemDisk> {
     let mut engine: SlotEngine<CopyConst, MemDisk> = create_of(rt, version, disk(rt), disk(rt));
-    seal_two_parts(rt, &mut engine.table);
-    expect_kept(rt, engine, 12)
+    do_two_parts(rt, &mut engine.table);
+    expect_three_kept(rt, engine)
 }
 
 /// Asserts that it goes on, and that what it does then is kept.

@@ -1,5 +1,5 @@
 //! Work and disk calls in turns: an opening behind a crash gives the image behind the last record that is left.
-use crate::engine::{create_on, disk, given, open_after_crash};
+use crate::engine::{create_on, given, open_after_crash};
 use ide_disk::{Leave, MemDisk};
 use ide_engines::{Hand, items_of, load, root, seal};
 use ide_instances::{ConstFn, ShiftConst};
@@ -48,7 +48,7 @@ impl<F: EdgeFn> Images<F> {
 /// A new store, on a disk with room for many records.
 fn create_roomy(rt: &(impl Abort + AllocGlobal)) -> Engine {
     match MemDisk::new(rt.alloc(), 200_000, 400_000) {
-        Ok(a) => create_on(rt, a, disk(rt)),
+        Ok(a) => create_on(rt, a),
         Err(_) => panic!(rt; "no memory"),
     }
 }

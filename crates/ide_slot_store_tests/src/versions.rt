@@ -1,6 +1,6 @@
 //! Stores whose current slot is of the first version: they go on in it until a checkpoint.
 use crate::checkpoints::{expect_begin, expect_stored};
-use crate::engine::{create, create_on, expect_step, given, open};
+use crate::engine::{create, engine_of, expect_step, given, open};
 use crate::harms::overwrite;
 use ide_disk::{Disk, MemDisk};
 use ide_engines::{Hand, begin, seal, seal_empty_main};
@@ -52,7 +52,7 @@ pub(crate) fn create_of<P: Problem>(
     a: MemDisk,
     b: MemDisk,
 ) -> SlotEngine<P, MemDisk> {
-    let engine = create_on(rt, a, b);
+    let engine = engine_of(rt, SlotEngine::create(rt.alloc(), a, b));
     match version {
         Version::Two => engine,
         Version::One => made_old(rt, engine),
@@ -123,6 +123,22 @@ fn expect_done<P: Problem>(rt: &(impl Abort + AllocGlobal), engine: &mut SlotEng
     assert!(rt; seal(&mut engine.table) == Ok(Some(2)));
 }
 
+/// Does what is pending, makes all disk calls that are left, and asserts how many these are, and of which version and
+/// generation the store is as it is opened then.
+fn expect_run_stored(
+    rt: &(impl Abort + AllocGlobal),
+    mut engine: Engine,
+    calls: usize,
+    version: Version,
+    generation: u32,
+) {
+    expect_done(rt, &mut engine);
+    expect_calls(rt, &mut engine, calls);
+    let (a, b) = engine.into_disks();
+    let again: Engine = open(rt, a, b);
+    expect_empty_main(rt, &again, version, generation);
+}
+
 // What is sealed while a checkpoint is under way is stored in the slot that this turns to, as that spells it.
 #[test]
 fn records_behind_a_checkpoint_are_of_its_version(rt: HostRuntime) {
@@ -130,23 +146,15 @@ fn records_behind_a_checkpoint_are_of_its_version(rt: HostRuntime) {
     let mut engine: Engine = open(&rt, a, b);
     assert!(rt; engine.version() == Version::One);
     expect_begin(&rt, &mut engine, true);
-    expect_done(&rt, &mut engine);
-    expect_calls(&rt, &mut engine, 14);
-    let (a, b) = engine.into_disks();
-    let again: Engine = open(&rt, a, b);
-    expect_empty_main(&rt, &again, Version::Two, 1);
+    expect_run_stored(&rt, engine, 14, Version::Two, 1);
 }
 
 // Without a checkpoint it goes on in its version.
 #[test]
 fn records_of_the_first_version_go_on_in_it(rt: HostRuntime) {
     let (a, b) = begun(&rt);
-    let mut engine: Engine = open(&rt, a, b);
-    expect_done(&rt, &mut engine);
-    expect_calls(&rt, &mut engine, 4);
-    let (a, b) = engine.into_disks();
-    let again: Engine = open(&rt, a, b);
-    expect_empty_main(&rt, &again, Version::One, 0);
+    let engine: Engine = open(&rt, a, b);
+    expect_run_stored(&rt, engine, 4, Version::One, 0);
 }
 
 // A store of the first version with no program has nothing to write anew.
