@@ -104,38 +104,26 @@ fn go_on<P: Problem>(
     longer: &mut Vec<Walk<P>>,
 ) -> Result<(), AllocError> {
     match site {
-        Site::Normal(edges) => pass(alloc, edges.as_slice(), walk, longer),
+        Site::Normal(edges) => pass(alloc, edges.as_slice(), &walk.calls, walk, longer),
         Site::Call { calls, along } => {
-            enter(alloc, calls.as_slice(), walk, longer)?;
-            pass(alloc, slice::from_ref(along), walk, longer)
+            let inside = walk.calls_with(alloc, walk.node)?;
+            pass(alloc, calls.as_slice(), &inside, walk, longer)?;
+            pass(alloc, slice::from_ref(along), &walk.calls, walk, longer)
         }
         Site::Exit { callers, .. } => leave(alloc, callers.as_slice(), walk, longer),
     }
 }
 
-/// Adds the walks over edges that stay in their procedure.
+/// Adds the walks over edges, behind which these calls are open.
 fn pass<P: Problem>(
     alloc: Global,
     edges: &[EdgeData],
+    calls: &[Node],
     walk: &Walk<P>,
     longer: &mut Vec<Walk<P>>,
 ) -> Result<(), AllocError> {
     for edge in edges {
-        let calls = Vec::from_slice(alloc, walk.calls.as_slice())?;
-        add(walk.over(alloc, edge, calls)?, longer)?;
-    }
-    Ok(())
-}
-
-/// Adds the walks into callees.
-fn enter<P: Problem>(
-    alloc: Global,
-    edges: &[EdgeData],
-    walk: &Walk<P>,
-    longer: &mut Vec<Walk<P>>,
-) -> Result<(), AllocError> {
-    for edge in edges {
-        let calls = walk.calls_with(alloc, walk.node)?;
+        let calls = Vec::from_slice(alloc, calls)?;
         add(walk.over(alloc, edge, calls)?, longer)?;
     }
     Ok(())
