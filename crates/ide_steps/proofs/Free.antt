@@ -1,16 +1,12 @@
 -- What follows where no hand has a claim.
-use Rattle.std.proofs.Common.{◌≡◌, ◌≢◌, ℕ, suc, true, false, true≢false, is_some, arith, List, [], ◌∷◌, Option, None, ap, sym, subst, ◌∙◌, refl, get_or, ◌||◌}
-use Rattle.std.specs.Prelude.{Result, Ok, Err, OnOk, nat_eq}
+use Rattle.std.proofs.Common.{◌≡◌, ◌≢◌, ℕ, suc, true, false, List, [], ◌∷◌, Option, None, ap, sym, subst, ◌∙◌, refl, get_or, ◌||◌}
+use Rattle.std.specs.Prelude.{nat_eq}
 use Rattle.std.specs.List.{list_any}
 use Rattle.std.proofs.lemmas.Bool.{eqb-true}
 use Rattle.ide_wire.specs.Key.{same_key, same_key_refl}
 use Rattle.ide_wire.specs.declared.key.Key.{Key}
 use Rattle.ide_image.specs.Worklist.{Pile, claim_at, is_claim_of, is_claimed, is_pending, IsFree}
 use Rattle.ide_image.specs.declared.claim.Claim.{Claim}
-use Rattle.ide_wire.specs.declared.refused.Refused.{Refused}
-use Rattle.ide_wire.specs.declared.refused.Refused.TheVariants.{NoMemory}
-use Rattle.ide_steps.specs.ClaimRefusal.{IsClaimRefusal, busy, limit, memory, no_program}
-use Rattle.ide_steps.specs.Core.{CoreData, is_loaded}
 
 first-waits : (key : Key) (keys : List Key) → list_any (same_key key) (key ∷ keys) ≡ true
 first-waits key keys = ap (λ b. b || list_any (same_key key) keys) (same_key_refl key)
@@ -51,16 +47,3 @@ module _ {T : Type 0} where
         | true ↦ λ same. subst (λ j. claim_at pile j ≡ None) (eqb-true 0 h same) none
         | false ↦ λ other. others h other
       ] refl
-
-  pub free-after : {X E : Type 0} (r : Result X E) (pile : Pile T) → OnOk r (claim_at pile 0 ≡ None)
-      → ((h : ℕ) → nat_eq 0 h ≡ false → claim_at pile h ≡ None) → OnOk r (IsFree pile)
-  free-after (Ok x) pile none others = free-without pile none others
-  free-after (Err e) pile none others = tt
-
--- where a program is loaded and no hand has a claim, hand 0 may claim
-pub claim-wants : {F : Type 0} (core : CoreData F) {refused : Refused} → is_loaded core ≡ true → IsFree core.pile
-    → IsClaimRefusal core 0 refused → refused ≡ NoMemory
-claim-wants core loaded free (limit past) = absurd (omega (arith, past))
-claim-wants core loaded free (no_program within unloaded) = absurd (true≢false (sym loaded ∙ unloaded))
-claim-wants core loaded free (busy within there claimed) = absurd (true≢false (sym claimed ∙ ap is_some (free 0)))
-claim-wants core loaded free (memory may key pending unclaimed) = refl

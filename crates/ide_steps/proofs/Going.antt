@@ -1,8 +1,6 @@
 -- What a core does to its state is steps of a tabulation.
-use Rattle.std.proofs.Common.{◌≡◌, ◌≢◌, ℕ, zero, suc, ◌+◌, ◌⊎◌, inl, inr, Bool, true, false, cond, List, [], ◌∷◌, Option, Some, None, option_map, slice_get, drop, length, ap, sym, subst, ◌∙◌, refl, arith}
+use Rattle.std.proofs.Common.{◌≡◌, ◌≢◌, ℕ, zero, suc, ◌+◌, List, [], ◌∷◌, Option, Some, None, option_map, slice_get, drop, length, ap, sym, subst, ◌∙◌, refl, arith}
 use Rattle.std.specs.List.{list_any}
-use Rattle.std.specs.Prelude.{Result, Ok, Err, IfOk, OnOk, nat_eq}
-use Rattle.std.proofs.lemmas.Bool.{eqb-true}
 use Rattle.std.proofs.lemmas.List.{drop_all}
 use Rattle.std.proofs.lemmas.Option.{same_Some}
 use Rattle.ide_graph.specs.Supergraph.{Supergraph}
@@ -17,15 +15,12 @@ use Rattle.ide_theory.proofs.Laws.Ways.{joined-claims, joined-lowerings, joined-
 use Rattle.ide_theory.specs.Run.{ArePartsOf, AreBy, IsBy, Run, goes_on, Step, Steps, claim, skip, lower, finish, release, none, more, steps_joined, claims_of, claims_in, lowerings_of, lowerings_in, releases_of, releases_in}
 use Rattle.ide_theory.specs.Sites.{HaveEdgesOf}
 use Rattle.ide_theory.specs.State.{Claim, State, finished, with_claim}
-use Rattle.ide_image.specs.Spent.{spent}
 use Rattle.ide_image.specs.Tables.{found}
 use Rattle.ide_wire.specs.Key.{same_key}
 use Rattle.ide_image.specs.Worklist.{claim_at}
 use Rattle.ide_image.specs.declared.claim.Claim.{Claim as Held}
-use Rattle.ide_steps.specs.declared.part.Parted.{Parted}
-use Rattle.ide_steps.specs.declared.part.Parted.TheVariants.{Lowered, Same, NoPart}
 use Rattle.ide_steps.specs.Core.{CoreData, IsSameProblem, IsUnchanged}
-use Rattle.ide_steps.specs.Drain.{ArePaid, GoesOnPaid}
+use Rattle.ide_steps.specs.Drain.{GoesOnPaid}
 use Rattle.ide_steps.specs.Going.{GoesOn, GoesOnByHand, IsFit}
 use Rattle.ide_steps.specs.State.{state_of, claim_of}
 use Rattle.ide_steps.specs.Steps.{IsCurrent, IsLowered, IsOneMore, IsSkipped, IsTaken, progress_at}
@@ -197,25 +192,6 @@ module _ {F L : Type 0} (A : LatticeAlgebra L) (B : EdgeAlgebra F L) (targets : 
     };
   }
 
-  -- a claim changes neither tables nor pending keys: the parts after it pay for it
-  pub paid-task : {E : Type 0} {k : ℕ} (r : Result Bool E) (old mid new : CoreData F) → mid.table ≡ old.table → mid.pile.pending ≡ old.pile.pending
-      → GoesOnByHand A B targets 0 1 0 0 old mid → GoesOnByHand A B targets 0 0 k 0 mid new → OnOk r (ArePaid B 1 k mid new) → OnOk r (GoesOnPaid A B targets 1 old new)
-  paid-task {k} (Ok flag) old mid new table pending first next paid = record {
-    lowerings = 0 + k;
-    goes = goes-then old mid new first next;
-    paid = record {
-      keys = let before = paid.keys in let same = ap length pending in omega (arith, before, same);
-      ranks = let before = paid.ranks in let same = ap (λ t. spent B t.entries) table in omega (arith, before, same);
-    };
-  }
-  paid-task (Err e) old mid new table pending first next paid = tt
-
-  -- a task that was run is one claim
-  pub goes-more : {E : Type 0} (r : Result Bool E) (old new : CoreData F) → IfOk r (λ more. more ≡ true) → OnOk r (GoesOnPaid A B targets 1 old new)
-      → IfOk r (λ more. GoesOnPaid A B targets (cond more 1 0) old new)
-  goes-more (Ok flag) old new is goes = subst (λ b. GoesOnPaid A B targets (cond b 1 0) old new) (sym is) goes
-  goes-more (Err e) old new is goes = tt
-
   -- an image, pending keys and claims that are as they were are the same state
   pub state-unchanged : (old new : CoreData F) → IsUnchanged old new → state_of B targets new ≡ state_of B targets old
   state-unchanged old new is = λ i. record {
@@ -223,10 +199,6 @@ module _ {F L : Type 0} (A : LatticeAlgebra L) (B : EdgeAlgebra F L) (targets : 
     pending = λ key. list_any (same_key key) (is.pending i);
     claims = λ h. option_map (claim_of B targets) (is.claims h i);
   }
-
-  pub goes-unchanged : (hand : ℕ) (old new : CoreData F) → IsUnchanged old new → GoesOnByHand A B targets hand 0 0 0 old new
-  goes-unchanged hand old new is =
-      goes-nowhere hand old new (record { program = is.program; graph = is.graph; roots = is.roots }) (state-unchanged old new is)
 
   -- a claim is a step, where its task owes what a claim of its key does
   pub goes-claim : (old new : CoreData F) (hand : ℕ) (task : TaskData F) → IsSameProblem old new → IsTaken B targets hand old new task
@@ -273,37 +245,6 @@ module _ {F L : Type 0} (A : LatticeAlgebra L) (B : EdgeAlgebra F L) (targets : 
       goes-step hand 0 0 1 old new same (λ g is all fit run. subst (StepBy (frame_at A B targets g all) hand 0 0 1 (state_of B targets old)) (sym state)
       (release hand (claim_of B targets held) (ap (option_map (claim_of B targets)) has), refl, refl, refl, refl))
 
-  without-claim : (core : CoreData F) (hand : ℕ) → claim_at core.pile hand ≡ None → with_claim (state_of B targets core) hand None ≡ state_of B targets core
-  without-claim core hand empty = λ i. record { get = (state_of B targets core).get; pending = (state_of B targets core).pending; claims = λ h. kept h i }
-    where
-      kept : (h : ℕ) → cond (nat_eq hand h) None ((state_of B targets core).claims h) ≡ (state_of B targets core).claims h
-      kept h = elim (nat_eq hand h) as (λ b. nat_eq hand h ≡ b → cond b None ((state_of B targets core).claims h) ≡ (state_of B targets core).claims h) [
-        | true ↦ λ same. sym (ap (option_map (claim_of B targets)) (ap (claim_at core.pile) (sym (eqb-true hand h same)) ∙ empty))
-        | false ↦ λ other. refl
-      ] refl
-
-  -- a hand that is without a claim then gave one back, or had none
-  pub goes-released : (old new : CoreData F) (hand : ℕ) → IsSameProblem old new
-      → state_of B targets new ≡ with_claim (state_of B targets old) hand None → GoesOn A B targets hand old new
-  goes-released old new hand same state =
-      elim (claim_at old.pile hand) as (λ o. claim_at old.pile hand ≡ o → GoesOn A B targets hand old new) [
-        | Some held ↦ λ has. goes-on old new (goes-back old new hand held same has state)
-        | None ↦ λ empty. goes-on old new (goes-nowhere hand old new same (state ∙ without-claim old hand empty))
-      ] refl
-
   pub goes-same : (hand : ℕ) (old new : CoreData F) → new ≡ old → GoesOnByHand A B targets hand 0 0 0 old new
   goes-same hand old new same =
       goes-nowhere hand old new (record { program = ap (λ c. c.program) same; graph = ap (λ c. c.graph) same; roots = ap (λ c. c.roots) same }) (ap (state_of B targets) same)
-
-  pub goes-finish : (old new : CoreData F) (hand : ℕ) (work : WorkData F) → IsSameProblem old new
-      → IsCurrent B targets old hand work → work.done ≡ length work.parts
-      → ((held : Held (TaskData F)) → claim_at old.pile hand ≡ Some held → state_of B targets new ≡ finished (state_of B targets old) hand (claim_of B targets held))
-      → GoesOnByHand A B targets hand 0 0 0 old new
-  goes-finish old new hand work same current over state =
-      goes-step hand 0 0 0 old new same (λ g is all fit run. finishes A B targets g all old new hand work work.task current.claim current.parts over state)
-
--- what a part did
-pub parted-is : (parted : Parted) → (parted ≡ Lowered) ⊎ ((parted ≡ Same) ⊎ (parted ≡ NoPart))
-parted-is Lowered = inl refl
-parted-is Same = inr (inl refl)
-parted-is NoPart = inr (inr refl)

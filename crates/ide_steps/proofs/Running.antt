@@ -17,7 +17,7 @@ use Rattle.ide_theory.specs.State.{Claim, State, claim_marked, new_claim, part_d
 use Rattle.ide_image.specs.KeyedImage.{CountsPending}
 use Rattle.ide_image.specs.Spent.{spent}
 use Rattle.ide_image.specs.Tables.{found}
-use Rattle.ide_image.specs.Worklist.{IsFree, claim_at, is_pending}
+use Rattle.ide_image.specs.Worklist.{IsFree, claim_at, ends_key, is_pending}
 use Rattle.ide_image.specs.declared.change.Change.{Change}
 use Rattle.ide_image.specs.declared.change.Change.TheVariants.{Lowered, Same}
 use Rattle.ide_image.specs.declared.claim.Claim.{Claim as Held}
@@ -30,8 +30,10 @@ use Rattle.ide_steps.specs.Going.{GoesOn, GoesOnByHand}
 use Rattle.ide_steps.specs.Running.{ListsParts, OwesParts, WorksOff, claimed_as, put_claim, with_held}
 use Rattle.ide_steps.specs.declared.loaded.Loaded.{Loaded}
 use Rattle.ide_steps.specs.State.{IsTaskOf, claim_of, state_of}
-use Rattle.ide_steps.specs.Steps.{HasReceived, IsChangedBy, IsLoweredBy, IsTaken, SameState, progress_of}
-use Rattle.ide_steps.proofs.Going.{StepBy, drop-at, goes-back, goes-ended, goes-nowhere, goes-on, goes-step, goes-then, same-problem}
+use Rattle.ide_steps.specs.Steps.{EndsDone, GivesBack, HasReceived, IsChangedBy, IsCurrent, IsLoweredBy, IsTaken, LowersPart, SameState, SkipsPart, progress_of}
+use Rattle.ide_steps.specs.Claiming.{FindsTask, KeepsAllBut}
+use Rattle.ide_steps.specs.Kept.{IsTaskWhere}
+use Rattle.ide_steps.proofs.Going.{StepBy, drop-at, goes-back, goes-ended, goes-nowhere, goes-on, goes-step, goes-then}
 use Rattle.ide_steps.proofs.Potential.{at-most-one}
 use Rattle.ide_steps.proofs.States.{drop-more, ends-cond}
 use Rattle.ide_theory.proofs.Laws.Targets.{nat_eq-refl}
@@ -42,10 +44,10 @@ not-or-as true waits = refl
 not-or-as false waits = refl
 
 -- fewer keys are pending where nothing was lowered, and no more where something was
-fallen : (twice before pending waits start more : ℕ) → twice ≡ before → 1 + pending ≤ waits + more → before + waits < start → more ≤ 1 → twice + pending < start
+pub fallen : (twice before pending waits start more : ℕ) → twice ≡ before → 1 + pending ≤ waits + more → before + waits < start → more ≤ 1 → twice + pending < start
 fallen twice before pending waits start more same count less one = omega (arith, same, count, less, one)
 
-settled : (twice before pending waits start more : ℕ) → twice ≡ before → 1 + pending ≤ waits + more → before + waits ≡ start → more ≡ 0 → twice + pending < start
+pub settled : (twice before pending waits start more : ℕ) → twice ≡ before → 1 + pending ≤ waits + more → before + waits ≡ start → more ≡ 0 → twice + pending < start
 settled twice before pending waits start more same count still none = omega (arith, same, count, still, none)
 
 -- no hand has a claim in no claims
@@ -103,6 +105,17 @@ module _ {F L : Type 0} (A : LatticeAlgebra L) (B : EdgeAlgebra F L) (targets : 
 
   held-same : (old new : CoreData F) (a b : Held (TaskData F)) → IsSameProblem old new → IsSameProblem (with_held old hand a) (with_held new hand b)
   held-same old new a b same = record { program = same.program; graph = same.graph; roots = same.roots }
+
+  -- the hand's claim, and each other hand's where they stay
+  pub held-there : (core : CoreData F) (held : Held (TaskData F)) → claim_at (with_held core hand held).pile hand ≡ Some held
+  held-there core held = put-own core.pile.claims hand (Some held)
+
+  pub held-claims : (old new : CoreData F) (held : Held (TaskData F)) → ((h : ℕ) → claim_at new.pile h ≡ claim_at old.pile h)
+      → (h : ℕ) → claim_at (with_held new hand held).pile h ≡ claim_at (with_held old hand held).pile h
+  held-claims old new held same =
+      by-hand hand (claim_at (with_held new hand held).pile) (claim_at (with_held old hand held).pile) (held-there new held ∙ sym (held-there old held))
+      (λ h other.
+      put-other new.pile.claims hand h (Some held) (not-own hand h other) ∙ same h ∙ sym (put-other old.pile.claims hand h (Some held) (not-own hand h other)))
 
   -- nothing happens to it where the core is unchanged
   held-still : (old new : CoreData F) (held : Held (TaskData F)) → IsSameProblem old new → IsUnchanged old new
@@ -214,11 +227,8 @@ module _ {F L : Type 0} (A : LatticeAlgebra L) (B : EdgeAlgebra F L) (targets : 
         (held-own old (claimed_as key task done lowered)) (drop-at (owed B targets task) done part at) met, refl, refl, refl, refl))
 
     -- the claim is given back
-    pub part-stops : (core : CoreData F) → claim_at core.pile hand ≡ None → GoesOnByHand A B targets hand 0 0 1 (with_held core hand (claimed_as key task done lowered)) core
-    part-stops core free =
-        goes-back A B targets (with_held core hand held) core hand held (record { program = refl; graph = refl; roots = refl })
-        (put-own core.pile.claims hand (Some held))
-        (λ i. record { get = found core.table; pending = is_pending core.pile; claims = λ h. by-hand hand (state_of B targets core).claims back.claims own others h i })
+    pub part-back : (core : CoreData F) → claim_at core.pile hand ≡ None → GivesBack B targets hand (with_held core hand (claimed_as key task done lowered)) core
+    part-back core free = λ i. record { get = found core.table; pending = is_pending core.pile; claims = λ h. by-hand hand (state_of B targets core).claims back.claims own others h i }
       where
         held : Held (TaskData F)
         held = claimed_as key task done lowered
@@ -231,6 +241,45 @@ module _ {F L : Type 0} (A : LatticeAlgebra L) (B : EdgeAlgebra F L) (targets : 
 
         others : (h : ℕ) → nat_eq hand h ≡ false → (state_of B targets core).claims h ≡ back.claims h
         others h other = sym (put-there (state_of B targets (with_held core hand held)).claims None h other ∙ held-other core held h other)
+
+    pub part-stops : (core : CoreData F) → claim_at core.pile hand ≡ None → GoesOnByHand A B targets hand 0 0 1 (with_held core hand (claimed_as key task done lowered)) core
+    part-stops core free =
+        goes-back A B targets (with_held core hand (claimed_as key task done lowered)) core hand (claimed_as key task done lowered)
+        (record { program = refl; graph = refl; roots = refl }) (put-own core.pile.claims hand (Some (claimed_as key task done lowered))) (part-back core free)
+
+    -- the claim is of the work with so many parts done, and what is done of it are the work's next parts
+    pub part-current : (core : CoreData F) (parts : List (Key × F)) → parts ≡ owed B targets task
+        → IsCurrent B targets (with_held core hand (claimed_as key task done lowered)) hand (record { task = task; parts = parts; done = done })
+    part-current core parts owes = record {
+      claim = ap progress_of (put-own core.pile.claims hand (Some (claimed_as key task done lowered)));
+      parts = owes;
+    }
+
+    pub part-lowered : (old new : CoreData F) (parts : List (Key × F)) (part : Key × F) → slice_get parts done ≡ Some part
+        → IsLoweredBy B targets old new part.0 part.1 → IsChangedBy B targets old part.0 part.1
+        → LowersPart B targets hand (with_held old hand (claimed_as key task done lowered)) (with_held new hand (claimed_as key task (done + 1) (same_key key part.0 || lowered)))
+        (record { task = task; parts = parts; done = done }) (record { task = task; parts = parts; done = done + 1 })
+    part-lowered old new parts part at lowers changes = record {
+      part = part;
+      next = at;
+      changes = record { falls = changes.falls; present = changes.present };
+      state =
+          ap (λ n. state_of B targets (with_held new hand (claimed_as key task n (same_key key part.0 || lowered)))) (add-one done)
+          ∙ sym (lowered-state old new part lowers);
+      counted = record { task = refl; parts = refl; done = refl };
+    }
+
+    pub part-skipped : (old new : CoreData F) (parts : List (Key × F)) (part : Key × F) → slice_get parts done ≡ Some part
+        → SameState B targets old new → HasReceived B targets old part.0 part.1
+        → SkipsPart B targets hand (with_held old hand (claimed_as key task done lowered)) (with_held new hand (claimed_as key task (done + 1) lowered))
+        (record { task = task; parts = parts; done = done }) (record { task = task; parts = parts; done = done + 1 })
+    part-skipped old new parts part at same met = record {
+      part = part;
+      next = at;
+      met = met;
+      state = ap (λ n. state_of B targets (with_held new hand (claimed_as key task n lowered))) (add-one done) ∙ sym (skipped-state old new same);
+      counted = record { task = refl; parts = refl; done = refl };
+    }
 
   -- a pending key that no hand has claimed is claimed
   pub key-claimed : (core : CoreData F) (key : Key) (task : TaskData F) → claim_at core.pile hand ≡ None → is_pending core.pile key ≡ true
@@ -260,16 +309,39 @@ module _ {F L : Type 0} (A : LatticeAlgebra L) (B : EdgeAlgebra F L) (targets : 
           held-other core (claimed_as key task 0 false) h other
           ∙ sym (put-there (state_of B targets core).claims (Some (new_claim task.key (owed B targets task))) h other)
 
+  -- all stays but the claim, which is of the key's task with no part done
+  pub key-keeps : (core : CoreData F) (held : Held (TaskData F)) → KeepsAllBut hand core (with_held core hand held)
+  key-keeps core held = record {
+    stays = record { program = refl; graph = refl; roots = refl };
+    table = refl;
+    pending = refl;
+    changes = refl;
+    others = λ h other. put-other core.pile.claims hand h (Some held) (not-own hand h other);
+  }
+
+  pub key-found : (core : CoreData F) (key : Key) (task : TaskData F) → claim_at core.pile hand ≡ None → is_pending core.pile key ≡ true
+      → ((h : ℕ) (held : Held (TaskData F)) → claim_at core.pile h ≡ Some held → held.key ≢ key) → task.key ≡ key
+      → ((graph : Supergraph) → IsTaskWhere B targets graph core task)
+      → FindsTask B targets hand core (with_held core hand (claimed_as key task 0 false)) task
+  key-found core key task free waits unclaimed of_key is_task = record {
+    fresh = ap ends_key (put-own core.pile.claims hand (Some (claimed_as key task 0 false)));
+    taken = key-claimed core key task free waits unclaimed of_key;
+    is_task = is_task;
+    progress = ap progress_of (put-own core.pile.claims hand (Some (claimed_as key task 0 false)));
+  }
+
   -- a claim with no part left is ended, and its key is taken out, unless it was lowered
-  pub key-ended : (core new : CoreData F) (key : Key) (task : TaskData F) (done : ℕ) (lowered : Bool) → IsSameProblem core new
+  pub key-over : (core new : CoreData F) (key : Key) (task : TaskData F) (done : ℕ) (lowered : Bool)
       → claim_at core.pile hand ≡ None → ((h : ℕ) → claim_at new.pile h ≡ claim_at core.pile h)
       → length (owed B targets task) ≤ done → is_pending core.pile key ≡ true → new.table ≡ core.table
       → ((q : Key) → is_pending new.pile q ≡ (not (not lowered && same_key key q) && is_pending core.pile q))
-      → GoesOnByHand A B targets hand 0 0 0 (with_held core hand (claimed_as key task done lowered)) new
-  key-ended core new key task done lowered same free claims all waits table pending =
-      goes-ended A B targets (with_held core hand held) new hand held (record { program = same.program; graph = same.graph; roots = same.roots })
-      (put-own core.pile.claims hand (Some held)) (drop_all done (owed B targets task) all)
-      (λ i. record { get = found (table i); pending = λ q. pendings q i; claims = λ h. by-hand hand (state_of B targets new).claims over own others h i })
+      → EndsDone B targets hand (with_held core hand (claimed_as key task done lowered)) new
+  key-over core new key task done lowered free claims all waits table pending = (
+    held,
+    put-own core.pile.claims hand (Some held),
+    drop_all done (owed B targets task) all,
+    λ i. record { get = found (table i); pending = λ q. pendings q i; claims = λ h. by-hand hand (state_of B targets new).claims over own others h i },
+  )
     where
       held : Held (TaskData F)
       held = claimed_as key task done lowered
@@ -287,6 +359,16 @@ module _ {F L : Type 0} (A : LatticeAlgebra L) (B : EdgeAlgebra F L) (targets : 
       others h other =
           ap (option_map (claim_of B targets)) (claims h)
           ∙ sym (put-there (state_of B targets (with_held core hand held)).claims None h other ∙ held-other core held h other)
+
+  pub key-ended : (core new : CoreData F) (key : Key) (task : TaskData F) (done : ℕ) (lowered : Bool) → IsSameProblem core new
+      → claim_at core.pile hand ≡ None → ((h : ℕ) → claim_at new.pile h ≡ claim_at core.pile h)
+      → length (owed B targets task) ≤ done → is_pending core.pile key ≡ true → new.table ≡ core.table
+      → ((q : Key) → is_pending new.pile q ≡ (not (not lowered && same_key key q) && is_pending core.pile q))
+      → GoesOnByHand A B targets hand 0 0 0 (with_held core hand (claimed_as key task done lowered)) new
+  key-ended core new key task done lowered same free claims all waits table pending =
+      let over = key-over core new key task done lowered free claims all waits table pending in
+      goes-ended A B targets (with_held core hand (claimed_as key task done lowered)) new hand over.0
+      (record { program = same.program; graph = same.graph; roots = same.roots }) over.1 over.2 over.3
 
   -- the count goes on by one
   one_more : (m k l : ℕ) (core new : CoreData F) (key : Key) (task : TaskData F) (done : ℕ) (now lowered : Bool) → now ≡ lowered
@@ -405,24 +487,6 @@ module _ {F L : Type 0} (A : LatticeAlgebra L) (B : EdgeAlgebra F L) (targets : 
         ranks = let earlier = works.ranks in let entries = ap (λ t. spent B t.entries) table in omega (arith, earlier, entries);
       },
     )
-
-    -- there is less to do then
-    pub key-falls : HasLess B old new
-    key-falls =
-        let twice : 2 * (2 ^ 64 * B.height - spent B new.table.entries) ≡ 2 * (2 ^ 64 * B.height - spent B mid.table.entries) =
-        ap (λ t. 2 * (2 ^ 64 * B.height - spent B t.entries)) table in
-        elim works.less [
-          | inl less ↦ fallen (2 * (2 ^ 64 * B.height - spent B new.table.entries)) (2 * (2 ^ 64 * B.height - spent B mid.table.entries)) (length new.pile.pending)
-              (length mid.pile.pending) (potential B old) (cond lowered 1 0) twice count less (taken lowered)
-          | inr still ↦
-              let none : ◌≡◌ {A = ℕ} (cond lowered 1 0) 0 = ap (λ b. cond b 1 0) still.1 in
-              settled (2 * (2 ^ 64 * B.height - spent B new.table.entries)) (2 * (2 ^ 64 * B.height - spent B mid.table.entries)) (length new.pile.pending)
-              (length mid.pile.pending) (potential B old) (cond lowered 1 0) twice count still.0 none
-        ]
-      where
-        taken : (b : Bool) → cond b 1 0 ≤ 1
-        taken true = omega arith
-        taken false = omega arith
 
   -- it is claimed, some of its parts are done, and the claim is given back
   pub key-stops : (old mid : CoreData F) (key : Key) (parts : List (Key × F)) (done : ℕ) (lowered : Bool) → WorksOff A B targets hand key parts done lowered old mid

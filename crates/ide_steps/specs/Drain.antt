@@ -1,10 +1,8 @@
 -- What falls with each task, and what pays for it.
-use Rattle.std.specs.Prelude.{◌≡◌, ℕ, ◌+◌, ◌-◌, ◌*◌, ◌^◌, ◌<◌, ◌≤◌, ◌⊎◌, Bool, false, Option, None, Some, Result, Ok, OnOk, if◌then◌else◌, length, min, nat_eq}
-use Rattle.std.specs.Option.{is_some}
+use Rattle.std.specs.Prelude.{◌≡◌, ℕ, ◌+◌, ◌-◌, ◌*◌, ◌^◌, ◌<◌, ◌≤◌, ◌⊎◌, Bool, Option, Result, Ok, if◌then◌else◌, length, min}
 use Rattle.ide_lattice.specs.Algebra.{LatticeAlgebra, EdgeAlgebra}
 use Rattle.ide_problem.specs.Flow.{Targets}
 use Rattle.ide_image.specs.Spent.{spent}
-use Rattle.ide_tasks.specs.Task.{TaskData}
 use Rattle.ide_image.specs.Worklist.{Pile, claim_at, ends_key}
 use Rattle.ide_image.specs.declared.claim.Claim.{Claim}
 use Rattle.ide_steps.specs.declared.part.Parted.{Parted}
@@ -15,14 +13,6 @@ use Rattle.ide_steps.specs.Going.{GoesOnByHand}
 -- a claim whose key was lowered leaves the key pending at its end
 abbrev pub left_by : {T : Type 0} → Option (Claim T) → ℕ
 left_by claim = if ends_key claim then 0 else 1
-
--- no other hand has a claim
-abbrev pub AreOthersFree : {T : Type 0} → ℕ → Pile T → Type 0
-AreOthersFree hand pile = (h : ℕ) → nat_eq hand h ≡ false → claim_at pile h ≡ None
-
--- another hand has a claim only if it had one
-abbrev pub StayOthersFree : {T : Type 0} → ℕ → (old new : Pile T) → Type 0
-StayOthersFree hand old new = (h : ℕ) → nat_eq hand h ≡ false → claim_at old h ≡ None → claim_at new h ≡ None
 
 -- the end of the hand's claim takes its key out of the pending ones, unless the key was lowered
 abbrev pub TakesOut : {T : Type 0} → ℕ → (old new : Pile T) → Type 0
@@ -71,10 +61,6 @@ HasDonePart result = (result ≡ Ok Lowered) ⊎ (result ≡ Ok Same)
 abbrev pub IsPartPaid : {F L : Type 0} → EdgeAlgebra F L → ℕ → (old new : CoreData F) → Parted → Type 0
 IsPartPaid B hand old new parted = IsPaidBy B hand (lowerings_by parted) old new
 
--- P holds of the task that is answered, if one is
-abbrev pub ForTask : {F E : Type 0} → Result (Option (TaskData F)) E → (TaskData F → Type 0) → Type 0
-ForTask {F} result P = (task : TaskData F) → result ≡ Ok (Some task) → P task
-
 module _ {F L : Type 0} (A : LatticeAlgebra L) (B : EdgeAlgebra F L) (targets : Targets F) where
   -- so many claims of hand 0, with some number of lowerings, lead from the one core's state to the
   -- other's, and are paid for; none is given back
@@ -86,10 +72,6 @@ module _ {F L : Type 0} (A : LatticeAlgebra L) (B : EdgeAlgebra F L) (targets : 
   -- the same for the one claim or none, by whether a task was run
   abbrev pub RunsTask : (old new : CoreData F) → Bool → Type 0
   RunsTask old new more = GoesOnPaid (if more then 1 else 0) old new
-
-  -- hand 0 claims the task, if there is one: that is one step, or none
-  abbrev pub ClaimsTask : (old new : CoreData F) → Option (TaskData F) → Type 0
-  ClaimsTask old new task = GoesOnByHand A B targets 0 (if is_some task then 1 else 0) 0 0 old new
 
   -- so many tasks were claimed and are paid for, told up to the largest number of 64 bits
   abbrev pub Drains : (old new : CoreData F) → ℕ → Type 0

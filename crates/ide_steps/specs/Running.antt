@@ -1,18 +1,18 @@
 -- What it is to a run that the parts of a pending key are done by a hand that has no claim: it claims the key, does
 -- them, and ends its claim. No other hand can see the core in between, so that the claim is not made.
-use Rattle.std.specs.Prelude.{◌≡◌, ℕ, zero, suc, ◌+◌, ◌≤◌, ◌⊎◌, ◌&&◌, not, Bool, false, List, [], ◌∷◌, Option, None, Some, if◌then◌else◌, length}
+use Rattle.std.specs.Prelude.{◌≡◌, ℕ, zero, suc, ◌+◌, ◌≤◌, ◌⊎◌, ◌&&◌, not, Bool, true, false, List, [], ◌∷◌, Option, None, Some, Result, Ok, if◌then◌else◌, length}
 use Rattle.ide_graph.specs.Supergraph.{Supergraph}
 use Rattle.ide_lattice.specs.Algebra.{LatticeAlgebra, EdgeAlgebra}
 use Rattle.ide_problem.specs.Flow.{Targets}
 use Rattle.ide_image.specs.Spent.{spent}
 use Rattle.ide_image.specs.Tables.{Table}
-use Rattle.ide_image.specs.Worklist.{Pile, is_pending}
+use Rattle.ide_image.specs.Worklist.{Pile, is_claimed, is_pending}
 use Rattle.ide_image.specs.declared.claim.Claim.{Claim}
 use Rattle.ide_tasks.specs.Parts.{owed}
 use Rattle.ide_tasks.specs.Task.{TaskData}
 use Rattle.ide_wire.specs.Key.{same_key}
 use Rattle.ide_wire.specs.declared.key.Key.{Key}
-use Rattle.ide_steps.specs.Core.{CoreData}
+use Rattle.ide_steps.specs.Core.{AreInside, CoreData}
 use Rattle.ide_steps.specs.Drain.{HasLess, potential}
 use Rattle.ide_steps.specs.Going.{GoesOnByHand}
 use Rattle.ide_steps.specs.Kept.{IsTaskWhere, WhereKept}
@@ -25,6 +25,14 @@ put_claim zero claim [] = claim ∷ []
 put_claim zero claim (c ∷ cs) = claim ∷ cs
 put_claim (suc hand) claim [] = None ∷ put_claim hand claim []
 put_claim (suc hand) claim (c ∷ cs) = c ∷ put_claim hand claim cs
+
+-- P holds of the key that is answered, if one is
+abbrev pub ForKey : {E : Type 0} → Result (Option Key) E → (Key → Type 0) → Type 0
+ForKey result P = (key : Key) → result ≡ Ok (Some key) → P key
+
+-- each pending key is claimed
+abbrev pub AreAllClaimed : {T : Type 0} → Pile T → Type 0
+AreAllClaimed pile = (q : Key) → is_pending pile q ≡ true → is_claimed pile q ≡ true
 
 module _ {F : Type 0} where
   -- a claim of the key with that task, of which so many parts are done; the key was lowered since, or was not
@@ -47,6 +55,13 @@ module _ {F L : Type 0} (B : EdgeAlgebra F L) (targets : Targets F) where
     pub of_key : task.key ≡ key
     pub owes : parts ≡ owed B targets task
     pub is_task : (graph : Supergraph) → IsTaskWhere B targets graph core task
+
+  -- the key waits for nobody's claim, and they are its parts, of which none has a key outside of the graph
+  pub record IsNextOwed (core : CoreData F) (parts : List (Key × F)) (key : Key) : Type 0 where
+    pub waits : is_pending core.pile key ≡ true
+    pub unclaimed : is_claimed core.pile key ≡ false
+    pub owed : OwesParts core key parts
+    pub inside : AreInside core parts
 
   -- the same of a table over the graph of a program that is kept
   pub record ListsParts {P Q : Type 0} (loaded : Loaded P Q F) (table : Table F) (key : Key) (parts : List (Key × F)) : Type 0 where

@@ -1,19 +1,17 @@
 //! All steps that are left, by one hand.
 ghost use Rattle.std.specs.Prelude.{◌≡◌, ◌⊎◌, ◌||◌, [], true, false, Ok, Some, None, IfErr, IfOk, OnErr, OnOk, IsOkUnless};
 ghost use Rattle.ide_wire.specs.Key.{same_key};
-ghost use Rattle.ide_steps.specs.Changed.{Remembers};
-ghost use Rattle.ide_steps.specs.Claiming.{FindsQuiet, FindsTask, KeepsAllBut};
-ghost use Rattle.ide_steps.specs.Core.{is_loaded, AllStandIn, AreInside, IsSameProblem, IsUnchanged, StandsIn};
+ghost use Rattle.ide_steps.specs.Changed.{Notes, Remembers};
+ghost use Rattle.ide_steps.specs.Core.{is_loaded, AllStandIn, AreInside, IsSameProblem, StandsIn};
 ghost use Rattle.ide_steps.specs.DrainRefusal.{IsDrainRefusal, IsNoDrain, MayDrain};
-ghost use Rattle.ide_steps.specs.Drain.{AreOthersFree, ClaimsTask, Drains, ForTask, GoesOnPaid, HasLess, RunsTask};
+ghost use Rattle.ide_steps.specs.Drain.{Drains, GoesOnPaid, HasLess, RunsTask};
 ghost use Rattle.ide_steps.specs.Going.{GoesOn};
 ghost use Rattle.ide_steps.specs.Room.{AreTasksFew};
-ghost use Rattle.ide_steps.specs.Running.{DoesAll, DoesSome, IsTakenOut, ListsParts, OwesParts};
-ghost use Rattle.ide_steps.specs.Steps.{progress_at};
+ghost use Rattle.ide_steps.specs.Running.{AreAllClaimed, DoesAll, DoesSome, ForKey, IsNextOwed, IsTakenOut, ListsParts, OwesParts};
 ghost use Rattle.ide_image.specs.Tables.{found};
-ghost use Rattle.ide_image.specs.Worklist.{claim_at, ends_key, is_pending, IsFree};
+ghost use Rattle.ide_image.specs.Worklist.{is_claimed, is_pending, IsFree};
 
-use crate::claim::{Claimed, partners_of};
+use crate::claim::partners_of;
 use crate::laws::{calls_are_steps, cores_are_whole, images_have_room};
 use crate::loaded::Loaded;
 use crate::machine::Core;
@@ -23,7 +21,7 @@ use ide_tasks::{PartList, Task};
 use ide_wire::{Key, Refused};
 use std::alloc::Global;
 
-/// The hand that drains.
+/// The hand that drains: that of the steps which a drain is to a run.
 const DRAINING: usize = 0;
 
 impl<P: Problem> Core<P> {
@@ -104,12 +102,30 @@ impl<P: Problem> Core<P> {
         ensures goes { GoesOn P.L.algebra P.F.edge P.targets 0 self.old self.new }
         ensures remembers { Remembers self.old self.new }
     {
-        let Some((key, function)) = self.image.unclaimed_entry() else {
+        let Some(key) = self.next_owed(parts)? else {
             return Ok(false);
         };
-        self.fill(key, function, parts)?;
         self.run(key, parts.as_slice())?;
         Ok(true)
+    }
+
+    /// Makes the list the parts that the next key owes as it stands, and answers the key: none where each
+    /// pending key is claimed. What was in the list is gone, and its room is used again. With
+    /// [`Core::lower_owed`] for each part and [`Core::settle_owed`] behind the last one, unless a part lowered
+    /// the key itself, that is to a run what a claim of the key, its parts and its end are (`WorksOff`).
+    ///
+    /// Refusal: `NoMemory`.
+    pub fn next_owed(&self, parts: &mut PartList<P>) -> Result<Option<Key>, Refused>
+        requires loaded { is_loaded self.now ≡ true }
+        ensures owed { ForKey result (IsNextOwed P.F.edge P.targets self.now parts.new) }
+        ensures none { result ≡ Ok None → AreAllClaimed self.now.pile }
+        ensures refused { IsOkUnless result Refused.NoMemory }
+    {
+        let Some((key, function)) = self.image.unclaimed_entry() else {
+            return Ok(None);
+        };
+        self.fill(key, function, parts)?;
+        Ok(Some(key))
     }
 
     /// Makes the list the parts that a pending key owes now.
@@ -125,6 +141,25 @@ impl<P: Problem> Core<P> {
             Some(loaded) => fill_parts(self.alloc, loaded, &self.image, key, function, parts),
             None => unreachable!(),
         }
+    }
+
+    /// Makes a pending key, which no hand has claimed, pending no longer.
+    ///
+    /// Refusal: `NoMemory`, which never comes where nobody asked for changes.
+    pub fn settle_owed(&mut self, key: Key) -> Result<(), Refused>
+        requires unclaimed { is_claimed self.old.pile key ≡ false }
+        requires pending { is_pending self.old.pile key ≡ true }
+        ensures refused { IsOkUnless result Refused.NoMemory }
+        ensures settled { OnOk result (IsTakenOut key self.old.pile self.new.pile) }
+        ensures claims { self.new.pile.claims ≡ self.old.pile.claims }
+        ensures table { self.new.table ≡ self.old.table }
+        ensures stays { IsSameProblem self.old self.new }
+        ensures notes { OnOk result (Notes self.old self.new (Some key)) }
+        ensures remembers { Remembers self.old self.new }
+        ensures unchanged { OnErr result (self.new ≡ self.old) }
+    {
+        self.image.settle(key)?;
+        Ok(())
     }
 
     /// Does the parts that a pending key owes, and takes it out of the pending ones, unless one of them
@@ -147,7 +182,7 @@ impl<P: Problem> Core<P> {
         calls_are_steps::<P>();
         let is_lowered = self.do_parts(key, parts)?;
         if !is_lowered {
-            self.settle(key)?;
+            self.settle_owed(key)?;
         }
         Ok(())
     }
@@ -167,55 +202,10 @@ impl<P: Problem> Core<P> {
     {
         let mut is_lowered = false;
         for part in parts {
-            let change = self.lower(part.0, part.1)?;
+            let change = self.lower_owed(part.0, part.1)?;
             is_lowered = is_lowered_too(is_lowered, change, part.0, key);
         }
         Ok(is_lowered)
-    }
-
-    /// Makes a pending key, which no hand has claimed, pending no longer.
-    fn settle(&mut self, key: Key) -> Result<(), Refused>
-        requires free { IsFree self.old.pile }
-        requires pending { is_pending self.old.pile key ≡ true }
-        ensures refused { IsOkUnless result Refused.NoMemory }
-        ensures settled { OnOk result (IsTakenOut key self.old.pile self.new.pile) }
-        ensures claims { self.new.pile.claims ≡ self.old.pile.claims }
-        ensures table { self.new.table ≡ self.old.table }
-        ensures stays { IsSameProblem self.old self.new }
-        ensures remembers { Remembers self.old self.new }
-        ensures unchanged { OnErr result (self.new ≡ self.old) }
-    {
-        self.image.settle(key)?;
-        Ok(())
-    }
-
-    /// Claims the next task as hand 0, where no hand has a claim: none where no key is pending. It is a
-    /// step, as the task owes what a claim of its key does.
-    ///
-    /// Refusal: `NoMemory`.
-    pub fn take_next(&mut self) -> Result<Option<Task<P>>, Refused>
-        requires loaded { is_loaded self.old ≡ true }
-        requires free { IsFree self.old.pile }
-        ensures refused { IsOkUnless result Refused.NoMemory }
-        ensures task { ForTask result (FindsTask P.F.edge P.targets 0 self.old self.new) }
-        ensures quiet { result ≡ Ok None → FindsQuiet self.old self.new }
-        ensures keeps { KeepsAllBut 0 self.old self.new }
-        ensures unchanged { OnErr result (IsUnchanged self.old self.new) }
-        ensures same { (self.new.table ≡ self.old.table) × (self.new.pile.pending ≡ self.old.pile.pending) }
-        ensures fresh { ForTask result (λ _. ends_key (claim_at self.new.pile 0) ≡ true) }
-        ensures progress { ForTask result (λ task. progress_at self.new.pile 0 ≡ Some (task, 0)) }
-        ensures others { AreOthersFree 0 self.new.pile }
-        ensures none { result ≡ Ok None → IsFree self.new.pile }
-        ensures claims { IfOk result (ClaimsTask P.L.algebra P.F.edge P.targets self.old self.new) }
-        ensures goes { GoesOn P.L.algebra P.F.edge P.targets 0 self.old self.new }
-        ensures remembers { Remembers self.old self.new }
-    {
-        calls_are_steps::<P>();
-        match self.claim(DRAINING)? {
-            Claimed::Task(task) => Ok(Some(task)),
-            Claimed::Idle => Err(Refused::Unfinished),
-            Claimed::Quiet => Ok(None),
-        }
     }
 }
 
@@ -243,8 +233,8 @@ fn fill_parts<P: Problem>(
     Ok(())
 }
 
-/// Whether the key itself was lowered before, or by this part.
-fn is_lowered_too(is_lowered: bool, change: Change, part: Key, key: Key) -> bool
+/// Whether a key that is drained was lowered itself, by a part of before or by this one.
+pub fn is_lowered_too(is_lowered: bool, change: Change, part: Key, key: Key) -> bool
     ensures lowered { change ≡ Change.Lowered → result ≡ (same_key key part || is_lowered) }
     ensures same { change ≡ Change.Same → result ≡ is_lowered }
 {

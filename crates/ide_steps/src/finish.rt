@@ -46,7 +46,7 @@ impl<P: Problem> Core<P> {
     /// [`Core::finish`] does once it has told that.
     ///
     /// Refusal: `NoMemory`, which never comes where nobody asked for changes.
-    pub fn own_finish(&mut self, hand: usize, work: &Work<P>) -> Result<(), Refused>
+    fn own_finish(&mut self, hand: usize, work: &Work<P>) -> Result<(), Refused>
         requires own { IsCurrent P.F.edge P.targets self.old hand work.now }
         requires over { work.now.done ≡ length work.now.parts }
         ensures refused { IsOkUnless result Refused.NoMemory }

@@ -199,9 +199,13 @@ impl<P: Problem> Core<P> {
         self.image.is_changed(key)
     }
 
-    /// Meets one entry with a function. An entry that changed is pending then, a claim of its key is
-    /// marked as lowered, and the entry of before is noted where somebody asked for changes.
-    pub(crate) fn lower(&mut self, key: Key, function: P::F) -> Result<Change, Refused>
+    /// Meets one entry with a function, as a part does. An entry that changed is pending then, a claim of
+    /// its key is marked as lowered, and the entry of before is noted where somebody asked for changes.
+    /// By itself it is no step of a run: with it a store drains a key that it claims for nobody
+    /// ([`Core::next_owed`]).
+    ///
+    /// Refusal: `NoMemory`.
+    pub fn lower_owed(&mut self, key: Key, function: P::F) -> Result<Change, Refused>
         requires { IsInside self.old key }
         ensures stays { IsSameProblem self.old self.new }
         ensures falls { result ≡ Ok Change.Lowered → HasLess P.F.edge self.old self.new }

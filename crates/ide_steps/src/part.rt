@@ -55,7 +55,7 @@ impl<P: Problem> Core<P> {
     /// it has told that.
     ///
     /// Refusal: `NoMemory`, which comes only where a part is left.
-    pub fn own_part(&mut self, hand: usize, work: &mut Work<P>) -> Result<Parted, Refused>
+    fn own_part(&mut self, hand: usize, work: &mut Work<P>) -> Result<Parted, Refused>
         requires { IsCurrent P.F.edge P.targets self.old hand work.old }
         ensures refused { IsOkUnless result Refused.NoMemory }
         ensures left { OnErr result (work.old.done < length work.old.parts) }
@@ -148,7 +148,7 @@ impl<P: Problem> Core<P> {
         let Some(part) = work.next() else {
             return Ok(Parted::NoPart);
         };
-        let change = self.lower(part.0, part.1)?;
+        let change = self.lower_owed(part.0, part.1)?;
         work.advance();
         self.image.set_done(hand, work.done());
         match change {

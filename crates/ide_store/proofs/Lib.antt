@@ -10,6 +10,7 @@ pub mod TwoDisks
 pub mod TwoDisksBegin
 pub mod TwoDisksPlans
 pub mod Overflow
+pub mod Owed
 pub mod Places
 pub mod Reached
 pub mod Working

@@ -1,7 +1,17 @@
 -- What draining does: acts of hand 0, and batches where one is full.
-use Rattle.std.specs.Prelude.{◌≡◌, ◌≤◌, ℕ, ◌+◌, ◌-◌, ◌^◌, Bool, true, false, List, [], ◌∷◌, if◌then◌else◌, min}
+use Rattle.std.specs.Prelude.{◌≡◌, ◌≤◌, ◌⊎◌, ℕ, ◌+◌, ◌-◌, ◌^◌, Bool, true, false, List, [], ◌∷◌, if◌then◌else◌, length, min}
 use Rattle.std.specs.List.{All}
-use Rattle.ide_steps.specs.Core.{CoreData}
+use Rattle.ide_image.specs.Worklist.{IsFree, is_pending}
+use Rattle.ide_image.specs.declared.claim.Claim.{Claim}
+use Rattle.ide_lattice.specs.Algebra.{EdgeAlgebra}
+use Rattle.ide_problem.specs.Flow.{Targets}
+use Rattle.ide_steps.specs.Core.{CoreData, IsSameProblem, IsUnchanged}
+use Rattle.ide_steps.specs.Drain.{HasLess, potential}
+use Rattle.ide_steps.specs.Running.{claimed_as, with_held}
+use Rattle.ide_steps.specs.Steps.{HasReceived, IsChangedBy, IsLoweredBy, SameState}
+use Rattle.ide_tasks.specs.Parts.{owed}
+use Rattle.ide_tasks.specs.Task.{TaskData}
+use Rattle.ide_wire.specs.declared.key.Key.{Key}
 use Rattle.ide_steps.specs.DrainRefusal.{IsNoDrain, MayDrain}
 use Rattle.ide_wire.specs.declared.refused.Refused.{Refused}
 use Rattle.ide_wire.specs.declared.refused.Refused.TheVariants.{NoMemory}
@@ -68,3 +78,50 @@ module _ {F L : Type 0} (a : Analysis F L) where
   pub data IsDrainStop (old new : TableData F) : Refused → Type 0 where
     no_drain : {refused : Refused} → IsNoDrain old.core refused → IsDrainStop old new refused
     stops : {refused : Refused} → MayDrain old.core → IsWorkStop new refused → IsDrainStop old new refused
+
+-- the half as it would be, if hand 0 had that claim
+abbrev pub table_held : {F : Type 0} → TableData F → Claim (TaskData F) → TableData F
+table_held table held = record table { core = with_held table.core 0 held }
+
+-- no hand has a claim, the key waits, and program, graph and roots stay
+pub record StaysOwed {F : Type 0} (key : Key) (old new : CoreData F) : Type 0 where
+  pub free : IsFree new.pile
+  pub waits : is_pending new.pile key ≡ true
+  pub same : IsSameProblem old new
+
+module _ {F L : Type 0} (B : EdgeAlgebra F L) (targets : Targets F) (key : Key) (function : F) (old new : CoreData F) where
+  -- the key's function was met with that one, which changed it
+  pub record LowersOwed : Type 0 where
+    pub lowers : IsLoweredBy B targets old new key function
+    pub changes : IsChangedBy B targets old key function
+    pub falls : HasLess B old new
+
+  -- the key had received that function, and nothing changed
+  pub record SkipsOwed : Type 0 where
+    pub same : SameState B targets old new
+    pub met : HasReceived B targets old key function
+    pub unchanged : IsUnchanged old new
+
+module _ {F L : Type 0} (a : Analysis F L) where
+  -- whatever claim hand 0 has, it did nothing but seal
+  abbrev pub WorksHeld : (old new : TableData F) → Type 0
+  WorksHeld old new = (held : Claim (TaskData F)) → WorksBy a (table_held old held) (table_held new held) 0 0
+
+  -- one key is run, or none
+  abbrev pub RunsKey : (old new : TableData F) → Bool → Type 0
+  RunsKey old new more = WorksBy a old new (if more then 1 else 0) 0
+
+  -- so many of the parts that a pending key owes are done, one of which lowered the key itself or none: to the store
+  -- hand 0 did them, which had claimed the key
+  pub record DrainsOff (key : Key) (parts : List (Key × F)) (done : ℕ) (lowered : Bool) (old new : TableData F) : Type 0 where
+    pub works : (task : TaskData F) → parts ≡ owed a.functions a.targets task
+        → WorksBy a (table_held old (claimed_as key task 0 false)) (table_held new (claimed_as key task done lowered)) 0 0
+    pub less : (HasLess a.functions old.core new.core) ⊎ ((potential a.functions new.core ≡ potential a.functions old.core) × (lowered ≡ false))
+
+  -- all of them are done
+  abbrev pub DrainsAll : Key → List (Key × F) → (old new : TableData F) → Bool → Type 0
+  DrainsAll key parts old new lowered = DrainsOff key parts (length parts) lowered old new
+
+  -- some of them are done
+  abbrev pub DrainsSome : Key → List (Key × F) → (old new : TableData F) → Type 0
+  DrainsSome key parts old new = (done : ℕ) × (lowered : Bool) × DrainsOff key parts done lowered old new

@@ -5,6 +5,7 @@ ghost use Rattle.ide_journal.specs.Lists.{entry_of};
 ghost use Rattle.ide_text.specs.Parsed.{IsParsed};
 ghost use Rattle.ide_text.specs.Program.{text_of, value_of};
 ghost use Rattle.ide_store.specs.Acting.{BeginsAnew, SpellsFirst, SpellsRecord};
+ghost use Rattle.ide_store.specs.Draining.{WorksHeld};
 ghost use Rattle.ide_store.specs.Table.{IsSameTable, KeepsRest};
 ghost use Rattle.ide_store.specs.TableCalls.{BeginsRoot, FindsNothing, IsLoadStop, IsRefusal, IsRootStop, IsSealStop, LoadsProgram, SealsBatch};
 
@@ -28,6 +29,7 @@ impl<P: Problem> TableHalf<P> {
     pub fn seal(&mut self) -> Result<Option<Ticket>, Refused>
         ensures seals { IfOk result (λ sealed. IfSome sealed (λ ticket. SealsBatch ⟦<P as Kept>⟧.analysis self.old self.new ticket.number)) }
         ensures nothing { result ≡ Ok None → FindsNothing ⟦<P as Kept>⟧.analysis self.old self.new }
+        ensures held { WorksHeld ⟦<P as Kept>⟧.analysis self.old self.new }
         ensures anew { OnOk result (BeginsAnew self.old.core self.new.core) }
         ensures few { self.new.sealed ≤ 4294967295 }
         ensures working { OnOk result (self.old.failed ≡ false) }
@@ -100,6 +102,7 @@ impl<P: Problem> TableHalf<P> {
     pub(crate) fn seal_changes(&mut self) -> Result<Option<Ticket>, Refused>
         ensures seals { IfOk result (λ sealed. IfSome sealed (λ ticket. SealsBatch ⟦<P as Kept>⟧.analysis self.old self.new ticket.number)) }
         ensures nothing { result ≡ Ok None → FindsNothing ⟦<P as Kept>⟧.analysis self.old self.new }
+        ensures held { WorksHeld ⟦<P as Kept>⟧.analysis self.old self.new }
         ensures anew { OnOk result (BeginsAnew self.old.core self.new.core) }
         ensures few { self.new.sealed ≤ 4294967295 }
         ensures refused { IfErr result (IsSealStop ⟦<P as Kept>⟧.analysis self.old) }

@@ -1,4 +1,4 @@
-use Rattle.std.proofs.Common.{◌≡◌, ◌⊎◌, inl, inr, ◌∙◌, ap, refl, sym, Ok, Some}
+use Rattle.std.proofs.Common.{◌≡◌, inl, inr, ◌∙◌, ap, refl, Ok, Some}
 use Rattle.std.specs.Prelude.{slice_get}
 use Rattle.std.proofs.lemmas.Option.{slice_get_read}
 use Rattle.ide_wire.specs.declared.key.Key.{Key}
@@ -26,7 +26,7 @@ loop-part-preserved g c =
     let parts = c.args.parts.now in
     let start = c.args.self.now in
     let old = c.loop-part.self in
-    let new = c.lower.new.self in
+    let new = c.lower_owed.new.self in
     let index = c.loop-part.part-index in
     let part : Key × g.row.P-F.Denot = c.part-item.result in
     let before = c.loop-part.invariant in
@@ -59,6 +59,6 @@ returns-in_err-change-clause-some g c =
     let before = c.loop-part.invariant in (
       c.loop-part.part-index,
       c.loop-part.is_lowered,
-      works-still g.P.L.Lattice.algebra g.P.F.EdgeFn.edge g.P.Problem.targets 0 c.args.key c.args.parts.now c.args.self.now c.loop-part.self c.lower.new.self
+      works-still g.P.L.Lattice.algebra g.P.F.EdgeFn.edge g.P.Problem.targets 0 c.args.key c.args.parts.now c.args.self.now c.loop-part.self c.lower_owed.new.self
           c.loop-part.part-index c.loop-part.is_lowered before.works c.in_err-change.ensures.stays c.in_err-change.ensures.unchanged,
     )

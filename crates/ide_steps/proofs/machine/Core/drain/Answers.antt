@@ -1,12 +1,10 @@
-use Rattle.std.proofs.Common.{None, ap, cond, refl, rules, subst, sym, ◌∙◌}
+use Rattle.std.proofs.Common.{refl, rules, subst, sym}
 use Rattle.std.proofs.lemmas.Result.{IfErr-weaker, err_from_is_err_and}
 use Rattle.ide_steps.proofs.States.{handed-on}
-use Rattle.ide_image.specs.Worklist.{claim_at}
 use Rattle.ide_steps.specs.DrainRefusal.{IsDrainRefusal, memory, no_drain}
-use Rattle.ide_steps.proofs.Free.{free-without}
-use Rattle.ide_steps.proofs.Going.{goes-on, goes-on-then, goes-released, goes-same}
+use Rattle.ide_steps.proofs.Going.{goes-on, goes-same}
 use Rattle.ide_steps.proofs.Bounded.{few-of}
-use Rattle.ide_steps.proofs.Noted.{remembers-on, remembers-same}
+use Rattle.ide_steps.proofs.Noted.{remembers-same}
 use Rattle.ide_steps.proofs.machine.Core.drain.Goals as goal
 
 pub returns-in_err-may_drain-clause-goes : goal.returns-in_err-may_drain-clause-goes

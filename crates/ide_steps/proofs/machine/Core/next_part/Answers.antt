@@ -82,8 +82,8 @@ returns-clause-tasks g c = λ _.
     (tasks-counted {F = g.row.P-F.Denot} c.args.hand c.done.result c.args.self.now.pile c.self.inside.image.pile c.set_done.new.self.pile
     (rw (← c.self.view_is) at c.in_ok-change.ensures.progress) c.set_done.ensures.claims)
 
-pub lower-requires : goal.lower-requires
-lower-requires g c = λ graph is.
+pub lower_owed-requires : goal.lower_owed-requires
+lower_owed-requires g c = λ graph is.
     at-found (λ part. StandsIn graph part.0) c.args.work.now.parts c.args.work.now.done c.in-Some.part (c.requires graph is) (sym c.in-Some.ensures.next)
 
 pub invariant_of-self : goal.invariant_of-self
@@ -96,8 +96,8 @@ returns-clause-notes g c = λ is part at.
     let change : c.in_ok-change.change ≡ Change.Lowered =
     elim c.match-change.branch [ in-Lowered w ↦ w.in-Lowered.is | in-Same w ↦ absurd (cc (is, w.result-is)) ] in
     let same : c.in-Some.part ≡ part = same_Some _ _ (c.in-Some.ensures.next ∙ at) in
-    notes-on _ c.lower.new.self _ (Some part.0) (c.set_done.ensures.changes ∙ ap (λ (core : CoreData g.row.P-F.Denot). core.changes) c.self.view_is)
-    (subst (λ p. Notes c.args.self.now c.lower.new.self (Some p.0)) same (c.in_ok-change.ensures.notes (ap Ok change)))
+    notes-on _ c.lower_owed.new.self _ (Some part.0) (c.set_done.ensures.changes ∙ ap (λ (core : CoreData g.row.P-F.Denot). core.changes) c.self.view_is)
+    (subst (λ p. Notes c.args.self.now c.lower_owed.new.self (Some p.0)) same (c.in_ok-change.ensures.notes (ap Ok change)))
 
 pub returns-clause-notes_none : goal.returns-clause-notes_none
 returns-clause-notes_none g c = λ is.
@@ -107,11 +107,11 @@ returns-clause-notes_none g c = λ is.
 
 pub returns-clause-remembers : goal.returns-clause-remembers
 returns-clause-remembers g c =
-    remembers-on _ c.lower.new.self _
+    remembers-on _ c.lower_owed.new.self _
     (c.set_done.ensures.changes ∙ ap (λ (core : CoreData g.row.P-F.Denot). core.changes) c.self.view_is)
     (c.set_done.ensures.table ∙ ap (λ (core : CoreData g.row.P-F.Denot). core.table) c.self.view_is)
     (c.set_done.ensures.pending ∙ ap (λ (core : CoreData g.row.P-F.Denot). core.pile.pending) c.self.view_is)
-    c.lower.ensures.remembers
+    c.lower_owed.ensures.remembers
 
 pub returns-in_default-clause-remembers : goal.returns-in_default-clause-remembers
 returns-in_default-clause-remembers g c = remembers-same _ _ refl refl refl

@@ -1,10 +1,10 @@
-use Rattle.std.proofs.Common.{◌≡◌, ◌∙◌, ◌+◌, false, subst, sym, ap, arith}
+use Rattle.std.proofs.Common.{◌≡◌, ◌∙◌, false, subst, sym, ap, arith}
 use Rattle.std.proofs.lemmas.Result.{err_from_is_err_and}
 use Rattle.ide_steps.proofs.States.{handed-on}
 use Rattle.ide_store.specs.Draining.{IsDrainStop, no_drain}
 use Rattle.ide_store.specs.Table.{Analysis, TableData}
 use Rattle.ide_store.specs.TableCalls.{IsRefusal, after_failure, by_itself}
-use Rattle.ide_store.proofs.Drained.{drain_names, drain_stop, works_still, works_then}
+use Rattle.ide_store.proofs.Drained.{drain_names, drain_stop, works_still}
 use Rattle.ide_steps.specs.DrainRefusal.{IsNoDrain, MayDrain}
 use Rattle.ide_store.proofs.table.TableHalf.drain.Given.{Over}
 use Rattle.ide_store.proofs.table.TableHalf.drain.Goals as goal
@@ -40,35 +40,11 @@ returns-in_err-may_drain-clause-refused g c =
 pub returns-in_err-may_drain-clause-stops : goal.returns-in_err-may_drain-clause-stops
 returns-in_err-may_drain-clause-stops g c = (0, 0, omega arith, works_still (kept g) _ _ (λ place w handed reached on. on))
 
-pub returns-then-is_err-clause-refused : goal.returns-then-is_err-clause-refused
-returns-then-is_err-clause-refused g c =
-    drain_stop (kept g) c.run_all-drained.result c.args.self.now c.run_all-drained.new.self c.give_back.new.self (working _ _ c.self.view_is c.if-self.false)
+pub returns-clause-refused : goal.returns-clause-refused
+returns-clause-refused g c =
+    drain_stop (kept g) c.run_all.result c.args.self.now c.run_all.new.self c.run_all.new.self (working _ _ c.self.view_is c.if-self.false)
     (subst (λ (table : TableData g.row.P-F.Denot). MayDrain table.core) c.self.view_is c.in_ok-may_drain.ensures.may)
-    c.give_back.ensures.stop c.run_all-drained.ensures.refused
+    (λ e stop. stop) c.run_all.ensures.refused
 
-pub returns-then-is_err-clause-stops : goal.returns-then-is_err-clause-stops
-returns-then-is_err-clause-stops g c =
-    let before = c.run_all-drained.ensures.works in
-    let back = c.give_back.ensures.works in
-    let few = back.1 in (
-      before.0 + 0,
-      0 + back.0,
-      omega (arith, few),
-      works_then (kept g) c.args.self.now c.run_all-drained.new.self c.give_back.new.self before.0 0 0 back.0 before.1 back.2,
-    )
-
-pub returns-then-is_err-clause-unchanged : goal.returns-then-is_err-clause-unchanged
-returns-then-is_err-clause-unchanged g c = drain_names _ _ c.run_all-drained.result c.run_all-drained.new.self c.run_all-drained.ensures.refused
-
-pub returns-else-is_err-clause-refused : goal.returns-else-is_err-clause-refused
-returns-else-is_err-clause-refused g c =
-    drain_stop (kept g) c.run_all-drained.result c.args.self.now c.run_all-drained.new.self c.run_all-drained.new.self (working _ _ c.self.view_is c.if-self.false)
-    (subst (λ (table : TableData g.row.P-F.Denot). MayDrain table.core) c.self.view_is c.in_ok-may_drain.ensures.may)
-    (λ e stop. stop) c.run_all-drained.ensures.refused
-
-pub returns-else-is_err-clause-stops : goal.returns-else-is_err-clause-stops
-returns-else-is_err-clause-stops g c =
-    let before = c.run_all-drained.ensures.works in (before.0, 0, omega arith, before.1)
-
-pub returns-else-is_err-clause-unchanged : goal.returns-else-is_err-clause-unchanged
-returns-else-is_err-clause-unchanged g c = drain_names _ _ c.run_all-drained.result c.run_all-drained.new.self c.run_all-drained.ensures.refused
+pub returns-clause-unchanged : goal.returns-clause-unchanged
+returns-clause-unchanged g c = drain_names _ _ c.run_all.result c.run_all.new.self c.run_all.ensures.refused

@@ -4,7 +4,7 @@ use Rattle.ide_steps.proofs.States.{handed-on}
 use Rattle.ide_image.specs.Notes.{noted_count}
 use Rattle.ide_store.specs.Draining.{IsWorkStop, full_batch_stays}
 use Rattle.ide_store.specs.Table.{Analysis, TableData}
-use Rattle.ide_store.proofs.Drained.{anew_core, equal_core, seal_works, stop_stays, works_still}
+use Rattle.ide_store.proofs.Drained.{anew_core, equal_core, stop_stays}
 use Rattle.ide_store.proofs.table.TableHalf.make_room.Given.{Over}
 use Rattle.ide_store.proofs.table.TableHalf.make_room.Goals as goal
 
@@ -19,12 +19,6 @@ kept g = record {
   form = g.P.F.Wire.form;
 }
 
-pub returns-then-changed_count-lt-MOST_CHANGED-clause-works : goal.returns-then-changed_count-lt-MOST_CHANGED-clause-works
-returns-then-changed_count-lt-MOST_CHANGED-clause-works g c = works_still (kept g) _ _ (λ place w handed reached on. on)
-
-pub returns-clause-works : goal.returns-clause-works
-returns-clause-works g c = seal_works (kept g) c.seal_changes.result _ _ c.seal_changes.ensures.seals c.seal_changes.ensures.nothing c.seal_changes.ensures.unchanged
-
 pub returns-clause-room : goal.returns-clause-room
 returns-clause-room g c =
     let none = ap (λ core. noted_count core.changes) c.in_ok-seal_changes.ensures.anew in
@@ -32,10 +26,6 @@ returns-clause-room g c =
 
 pub returns-clause-core : goal.returns-clause-core
 returns-clause-core g c = anew_core c.args.self.now.core c.seal_changes.new.self.core c.in_ok-seal_changes.ensures.anew
-
-pub returns-in_err-seal_changes-clause-works : goal.returns-in_err-seal_changes-clause-works
-returns-in_err-seal_changes-clause-works g c =
-    seal_works (kept g) c.seal_changes.result _ _ c.seal_changes.ensures.seals c.seal_changes.ensures.nothing c.seal_changes.ensures.unchanged
 
 pub returns-in_err-seal_changes-clause-core : goal.returns-in_err-seal_changes-clause-core
 returns-in_err-seal_changes-clause-core g c = equal_core c.args.self.now.core c.seal_changes.new.self.core c.in_err-seal_changes.ensures.unchanged.0

@@ -1,9 +1,15 @@
-use Rattle.std.proofs.Common.{inr, refl}
+use Rattle.std.proofs.Common.{◌≡◌, ◌∙◌, None, ap, arith, false, true, get_or, length, refl, rules, subst}
 use Rattle.std.proofs.lemmas.Result.{err_from_is_err_and}
+use Rattle.ide_image.specs.Worklist.{claim_at, is_pending}
+use Rattle.ide_steps.proofs.Noted.{remembers-same}
+use Rattle.ide_steps.specs.Room.{IsWholeCore}
+use Rattle.ide_steps.proofs.Free.{none-claimed}
 use Rattle.ide_steps.proofs.States.{handed-on}
-use Rattle.ide_store.specs.Draining.{IsWorkStop}
-use Rattle.ide_store.proofs.Drained.{left_then, less_ended, problem_then, works_still, works_then}
-use Rattle.ide_store.specs.Table.{Analysis}
+use Rattle.ide_wire.specs.declared.refused.Refused.TheVariants.{NoMemory}
+use Rattle.ide_store.specs.Draining.{DrainsOff, IsWorkStop, memory_is_wanting}
+use Rattle.ide_store.specs.Table.{Analysis, TableData}
+use Rattle.ide_store.proofs.Drained.{same_pile, same_tables, unchanged_equal}
+use Rattle.ide_store.proofs.Owed.{key_stops, key_works, less_run, off_sealed, off_unchanged}
 use Rattle.ide_store.proofs.table.TableHalf.run.Given.{Over}
 use Rattle.ide_store.proofs.table.TableHalf.run.Goals as goal
 
@@ -18,89 +24,113 @@ kept g = record {
   form = g.P.F.Wire.form;
 }
 
-pub loop-work-init : goal.loop-work-init
-loop-work-init g c = (
-  works_still (kept g) _ _ (λ place w handed reached on. on),
-  inr (refl, c.requires.fresh),
-  c.requires.own,
-  λ h other none. none,
-  record { program = refl; graph = refl; roots = refl },
-)
+pub returns-in_err-is_lowered-clause-stops : goal.returns-in_err-is_lowered-clause-stops
+returns-in_err-is_lowered-clause-stops g c =
+    let next = c.requires.owed in
+    let whole = subst (λ (table : TableData g.row.P-F.Denot). IsWholeCore table.core) c.self.view_is c.cores_are_whole.ensures in
+    let some = c.do_parts.ensures.some in
+    key_stops (kept g) c.calls_are_acts.ensures c.args.key c.args.parts.now c.args.self.now whole c.requires.may.free next.waits next.owed
+    c.do_parts.new.self some.0 some.1 some.2 (c.do_parts.ensures.kept.free 0)
 
-pub loop-work-preserved : goal.loop-work-preserved
-loop-work-preserved g c =
+pub returns-in_err-make_room-clause-stops : goal.returns-in_err-make_room-clause-stops
+returns-in_err-make_room-clause-stops g c =
+    let next = c.requires.owed in
+    let whole = subst (λ (table : TableData g.row.P-F.Denot). IsWholeCore table.core) c.self.view_is c.cores_are_whole.ensures in
+    let parts = c.args.parts.now in
+    let mid = c.do_parts.new.self in
+    let full = c.make_room.new.self in
+    let pile = same_pile mid.core full.core c.make_room.ensures.core in
+    key_stops (kept g) c.calls_are_acts.ensures c.args.key parts c.args.self.now whole c.requires.may.free next.waits next.owed
+    full (length parts) c.in_ok-is_lowered.is_lowered
+    (off_sealed (kept g) c.calls_are_acts.ensures c.args.key parts c.args.self.now mid full (length parts) c.in_ok-is_lowered.is_lowered c.in_ok-is_lowered.ensures.all
+    c.make_room.ensures.held c.make_room.ensures.core)
+    (ap (λ p. claim_at p 0) pile ∙ c.do_parts.ensures.kept.free 0)
+
+pub returns-in_err-settle-clause-stops : goal.returns-in_err-settle-clause-stops
+returns-in_err-settle-clause-stops g c =
+    let next = c.requires.owed in
+    let whole = subst (λ (table : TableData g.row.P-F.Denot). IsWholeCore table.core) c.self.view_is c.cores_are_whole.ensures in
+    let parts = c.args.parts.now in
     let start = c.args.self.now in
-    let old = c.loop-work.self in
-    let new = c.next_part.new.self in
-    let before = c.loop-work.invariant in (
-      works_then (kept g) start old new 0 0 0 0 before.0 c.next_part.ensures.works,
-      left_then g.P.F.EdgeFn.edge start.core old.core new.core before.1 c.in_ok-next_part.ensures.less,
-      c.in_ok-next_part.ensures.own,
-      λ h other none. c.next_part.ensures.others h other (before.3 h other none),
-      problem_then start.core old.core new.core before.4 c.next_part.ensures.stays,
-    )
+    let mid = c.do_parts.new.self in
+    let full = c.make_room.new.self in
+    let new = c.settle.new.self in
+    let pile = same_pile mid.core full.core c.make_room.ensures.core in
+    let same = unchanged_equal full.core new.core c.in_err-settle.ensures.unchanged in
+    key_stops (kept g) c.calls_are_acts.ensures c.args.key parts start whole c.requires.may.free next.waits next.owed
+    new (length parts) c.in_ok-is_lowered.is_lowered
+    (off_unchanged (kept g) c.calls_are_acts.ensures c.args.key parts start full new (length parts) c.in_ok-is_lowered.is_lowered
+    (off_sealed (kept g) c.calls_are_acts.ensures c.args.key parts start mid full (length parts) c.in_ok-is_lowered.is_lowered c.in_ok-is_lowered.ensures.all
+    c.make_room.ensures.held c.make_room.ensures.core)
+    c.settle.ensures.rest same)
+    (same.claims 0 ∙ ap (λ p. claim_at p 0) pile ∙ c.do_parts.ensures.kept.free 0)
 
-pub returns-clause-works : goal.returns-clause-works
-returns-clause-works g c =
+-- no part lowered the key itself, and it is taken out
+pub returns-in_ok-settle-clause-works : goal.returns-in_ok-settle-clause-works
+returns-in_ok-settle-clause-works g c =
+    let next = c.requires.owed in
+    let whole = subst (λ (table : TableData g.row.P-F.Denot). IsWholeCore table.core) c.self.view_is c.cores_are_whole.ensures in
+    let key = c.args.key in
+    let parts = c.args.parts.now in
     let start = c.args.self.now in
-    let mid = c.next_part.new.self in
-    works_then (kept g) start mid c.end.new.self 0 0 0 0
-    (works_then (kept g) start c.loop-work.self mid 0 0 0 0 c.loop-work.invariant.0 c.next_part.ensures.works) c.end.ensures.works
+    let mid = c.do_parts.new.self in
+    let full = c.make_room.new.self in
+    let pile = same_pile mid.core full.core c.make_room.ensures.core in
+    let unlowered : c.in_ok-is_lowered.is_lowered ≡ false = search rules in
+    let off = off_sealed (kept g) c.calls_are_acts.ensures key parts start mid full (length parts) c.in_ok-is_lowered.is_lowered c.in_ok-is_lowered.ensures.all
+    c.make_room.ensures.held c.make_room.ensures.core in
+    key_works (kept g) c.calls_are_acts.ensures key parts start whole c.requires.may.free next.waits next.owed full (length parts) false
+    (subst (λ b. DrainsOff (kept g) key parts (length parts) b start full) unlowered off)
+    (ap (λ p. claim_at p 0) pile ∙ c.do_parts.ensures.kept.free 0)
+    c.settle.new.self (omega arith) c.settle.ensures.noting c.settle.ensures.rest c.settle.ensures.stays c.settle.ensures.remembers
+    (λ h. ap (λ claims. get_or claims h None) c.settle.ensures.claims) (ap (λ p. is_pending p key) pile ∙ c.do_parts.ensures.kept.waits) c.settle.ensures.table
+    c.in_ok-settle.ensures.settled.pending
 
-pub returns-clause-falls : goal.returns-clause-falls
-returns-clause-falls g c =
-    let B = g.P.F.EdgeFn.edge in
-    let start = c.args.self.now.core in
-    let mid = c.next_part.new.self.core in
-    less_ended B start mid c.end.new.self.core (left_then B start c.loop-work.self.core mid c.loop-work.invariant.1 c.in_ok-next_part.ensures.less)
-    c.in_ok-end.ensures.count c.end.ensures.table
+pub returns-in_ok-settle-clause-stops : goal.returns-in_ok-settle-clause-stops
+returns-in_ok-settle-clause-stops g c = (1, 0, omega arith, returns-in_ok-settle-clause-works g c)
 
-pub returns-clause-others : goal.returns-clause-others
-returns-clause-others g c = λ h other none.
-    c.end.ensures.others h other (c.next_part.ensures.others h other (c.loop-work.invariant.3 h other none))
+pub returns-in_ok-settle-clause-falls : goal.returns-in_ok-settle-clause-falls
+returns-in_ok-settle-clause-falls g c =
+    let mid = c.do_parts.new.self in
+    let full = c.make_room.new.self in
+    let pending = ap (λ p. length p.pending) (same_pile mid.core full.core c.make_room.ensures.core) in
+    let one = c.in_ok-settle.ensures.settled.count in
+    less_run (kept g) c.args.self.now.core mid.core c.settle.new.self.core c.in_ok-is_lowered.is_lowered c.in_ok-is_lowered.ensures.all.less
+    (c.settle.ensures.table ∙ same_tables mid.core full.core c.make_room.ensures.core) (omega (arith, one, pending))
 
-pub returns-clause-stays : goal.returns-clause-stays
-returns-clause-stays g c =
-    let start = c.args.self.now.core in
-    let mid = c.next_part.new.self.core in
-    problem_then start mid c.end.new.self.core
-    (problem_then start c.loop-work.self.core mid c.loop-work.invariant.4 c.next_part.ensures.stays) c.end.ensures.stays
-
-pub returns-in_err-next_part-clause-works : goal.returns-in_err-next_part-clause-works
-returns-in_err-next_part-clause-works g c =
-    works_then (kept g) c.args.self.now c.loop-work.self c.next_part.new.self 0 0 0 0 c.loop-work.invariant.0 c.next_part.ensures.works
-
-pub returns-in_err-next_part-clause-others : goal.returns-in_err-next_part-clause-others
-returns-in_err-next_part-clause-others g c = λ h other none. c.next_part.ensures.others h other (c.loop-work.invariant.3 h other none)
-
-pub returns-in_err-next_part-clause-stays : goal.returns-in_err-next_part-clause-stays
-returns-in_err-next_part-clause-stays g c =
-    problem_then c.args.self.now.core c.loop-work.self.core c.next_part.new.self.core c.loop-work.invariant.4 c.next_part.ensures.stays
-
-pub returns-in_err-next_part-clause-refused : goal.returns-in_err-next_part-clause-refused
-returns-in_err-next_part-clause-refused g c =
-    let p = err_from_is_err_and c.from_residual.result c.from_residual.ensures.1 in
-    handed-on (IsWorkStop _ c.next_part.new.self) c.from_residual.result c.in_err-next_part.field-0.0 p.0 p.1 p.2 c.in_err-next_part.ensures.refused
-
-pub returns-in_err-end-clause-works : goal.returns-in_err-end-clause-works
-returns-in_err-end-clause-works g c =
+-- a part lowered it, and it stays pending
+pub returns-else-not-is_lowered-clause-works : goal.returns-else-not-is_lowered-clause-works
+returns-else-not-is_lowered-clause-works g c =
+    let next = c.requires.owed in
+    let whole = subst (λ (table : TableData g.row.P-F.Denot). IsWholeCore table.core) c.self.view_is c.cores_are_whole.ensures in
+    let key = c.args.key in
+    let parts = c.args.parts.now in
     let start = c.args.self.now in
-    let mid = c.next_part.new.self in
-    works_then (kept g) start mid c.end.new.self 0 0 0 0
-    (works_then (kept g) start c.loop-work.self mid 0 0 0 0 c.loop-work.invariant.0 c.next_part.ensures.works) c.end.ensures.works
+    let mid = c.do_parts.new.self in
+    let lowered : c.in_ok-is_lowered.is_lowered ≡ true = search rules in
+    key_works (kept g) c.calls_are_acts.ensures key parts start whole c.requires.may.free next.waits next.owed mid (length parts) true
+    (subst (λ b. DrainsOff (kept g) key parts (length parts) b start mid) lowered c.in_ok-is_lowered.ensures.all)
+    (c.do_parts.ensures.kept.free 0)
+    mid (omega arith) c.do_parts.ensures.noting (record { version = refl; sealed = refl; waiting = refl; failed = refl }) (record { program = refl; graph = refl; roots = refl })
+    (remembers-same _ _ refl refl refl) (λ h. refl) c.do_parts.ensures.kept.waits refl (λ q. refl)
 
-pub returns-in_err-end-clause-others : goal.returns-in_err-end-clause-others
-returns-in_err-end-clause-others g c = λ h other none.
-    c.end.ensures.others h other (c.next_part.ensures.others h other (c.loop-work.invariant.3 h other none))
+pub returns-else-not-is_lowered-clause-stops : goal.returns-else-not-is_lowered-clause-stops
+returns-else-not-is_lowered-clause-stops g c = (1, 0, omega arith, returns-else-not-is_lowered-clause-works g c)
 
-pub returns-in_err-end-clause-stays : goal.returns-in_err-end-clause-stays
-returns-in_err-end-clause-stays g c =
-    let start = c.args.self.now.core in
-    let mid = c.next_part.new.self.core in
-    problem_then start mid c.end.new.self.core
-    (problem_then start c.loop-work.self.core mid c.loop-work.invariant.4 c.next_part.ensures.stays) c.end.ensures.stays
+pub returns-else-not-is_lowered-clause-falls : goal.returns-else-not-is_lowered-clause-falls
+returns-else-not-is_lowered-clause-falls g c =
+    let mid = c.do_parts.new.self in
+    let lowered : c.in_ok-is_lowered.is_lowered ≡ true = search rules in
+    less_run (kept g) c.args.self.now.core mid.core mid.core true (subst (λ b. DrainsOff (kept g) c.args.key c.args.parts.now (length c.args.parts.now) b c.args.self.now mid) lowered c.in_ok-is_lowered.ensures.all).less refl (omega arith)
 
-pub returns-in_err-end-clause-refused : goal.returns-in_err-end-clause-refused
-returns-in_err-end-clause-refused g c =
-    let p = err_from_is_err_and c.from_residual-in_err-end.result c.from_residual-in_err-end.ensures.1 in
-    handed-on (IsWorkStop _ c.end.new.self) c.from_residual-in_err-end.result c.in_err-end.field-0.0 p.0 p.1 p.2 c.in_err-end.ensures.refused
+pub settle-requires-clause-unclaimed : goal.settle-requires-clause-unclaimed
+settle-requires-clause-unclaimed g c =
+    let mid = c.do_parts.new.self in
+    let full = c.make_room.new.self in
+    let pile = same_pile mid.core full.core c.make_room.ensures.core in
+    none-claimed full.core.pile (λ h. ap (λ p. claim_at p h) pile ∙ c.do_parts.ensures.kept.free h) c.args.key
+
+pub returns-in_err-settle-clause-refused : goal.returns-in_err-settle-clause-refused
+returns-in_err-settle-clause-refused g c =
+    let p = err_from_is_err_and c.from_residual-in_err-settle.result c.from_residual-in_err-settle.ensures.1 in
+    handed-on (IsWorkStop _ c.settle.new.self) c.from_residual-in_err-settle.result NoMemory p.0 p.1 (p.2 ∙ c.in_err-settle.ensures.refused) memory_is_wanting

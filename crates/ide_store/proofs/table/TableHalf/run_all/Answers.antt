@@ -18,41 +18,46 @@ kept g = record {
   form = g.P.F.Wire.form;
 }
 
-pub loop-tasks-init : goal.loop-tasks-init
-loop-tasks-init g c = ((0, refl, works_still (kept g) _ _ (λ place w handed reached on. on)), c.requires)
+pub loop-parts-init : goal.loop-parts-init
+loop-parts-init g c = ((0, refl, works_still (kept g) _ _ (λ place w handed reached on. on)), c.requires)
 
-pub loop-tasks-preserved : goal.loop-tasks-preserved
-loop-tasks-preserved g c =
-    let before = c.loop-tasks.invariant.0 in
+pub loop-parts-preserved : goal.loop-parts-preserved
+loop-parts-preserved g c =
+    let before = c.loop-parts.invariant.0 in
     let here = before.1 in
     let more = c.saturating_add-tasks.ensures in (
       (
         before.0 + 1,
         omega (arith, here, more),
-        works_then (kept g) c.args.self.now c.loop-tasks.self c.run_next.new.self before.0 0 1 0 before.2
-            (subst (λ b. WorksBy (kept g) c.loop-tasks.self c.run_next.new.self (cond b 1 0) 0) c.if-branch.true c.in_ok-run_next.ensures.works),
+        works_then (kept g) c.args.self.now c.loop-parts.self c.run_next.new.self before.0 0 1 0 before.2
+            (subst (λ b. WorksBy (kept g) c.loop-parts.self c.run_next.new.self (cond b 1 0) 0) c.if-branch.true c.in_ok-run_next.ensures.works),
       ),
-      c.in_ok-run_next.ensures.may,
+      c.run_next.ensures.may,
     )
 
 pub returns-clause-drains : goal.returns-clause-drains
 returns-clause-drains g c =
-    let before = c.loop-tasks.invariant.0 in
+    let before = c.loop-parts.invariant.0 in
     let here = before.1 in (
       before.0 + 0,
       omega (arith, here),
-      works_then (kept g) c.args.self.now c.loop-tasks.self c.run_next.new.self before.0 0 0 0 before.2
-          (subst (λ b. WorksBy (kept g) c.loop-tasks.self c.run_next.new.self (cond b 1 0) 0) c.if-branch.false c.in_ok-run_next.ensures.works),
+      works_then (kept g) c.args.self.now c.loop-parts.self c.run_next.new.self before.0 0 0 0 before.2
+          (subst (λ b. WorksBy (kept g) c.loop-parts.self c.run_next.new.self (cond b 1 0) 0) c.if-branch.false c.in_ok-run_next.ensures.works),
     )
 
-pub returns-clause-works : goal.returns-clause-works
-returns-clause-works g c = let drains = returns-clause-drains g c in (drains.0, drains.2)
+pub returns-clause-stops : goal.returns-clause-stops
+returns-clause-stops g c = let drains = returns-clause-drains g c in (drains.0, 0, omega arith, drains.2)
 
-pub returns-in_err-run_next-clause-works : goal.returns-in_err-run_next-clause-works
-returns-in_err-run_next-clause-works g c =
-    let before = c.loop-tasks.invariant.0 in
-    let worked = c.run_next.ensures.worked in
-    (before.0 + worked.0, works_then (kept g) c.args.self.now c.loop-tasks.self c.run_next.new.self before.0 0 worked.0 0 before.2 worked.1)
+pub returns-in_err-run_next-clause-stops : goal.returns-in_err-run_next-clause-stops
+returns-in_err-run_next-clause-stops g c =
+    let before = c.loop-parts.invariant.0 in
+    let stops = c.run_next.ensures.stops in
+    let few = stops.2 in (
+      before.0 + stops.0,
+      0 + stops.1,
+      omega (arith, few),
+      works_then (kept g) c.args.self.now c.loop-parts.self c.run_next.new.self before.0 0 stops.0 stops.1 before.2 stops.3,
+    )
 
 pub returns-in_err-run_next-clause-refused : goal.returns-in_err-run_next-clause-refused
 returns-in_err-run_next-clause-refused g c =

@@ -9,7 +9,7 @@ use Rattle.ide_steps.proofs.Nodes.{kept-lowered, through}
 use Rattle.ide_steps.proofs.Noted.{err-then, notes-change, remembers-lowered}
 use Rattle.ide_steps.proofs.Potential.{at-most-one, falls, push-pays}
 use Rattle.ide_steps.proofs.States.{changes-of, or_top-unwrap, state-lowered}
-use Rattle.ide_steps.proofs.machine.Core.lower.Goals as goal
+use Rattle.ide_steps.proofs.machine.Core.lower_owed.Goals as goal
 
 -- `search` would try long at this before it gave up: an invariant is a function into a record
 pub invariant_of-self : goal.invariant_of-self

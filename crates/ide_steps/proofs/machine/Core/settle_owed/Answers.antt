@@ -2,14 +2,10 @@ use Rattle.std.proofs.Common.{Some, ap, false, ◌∙◌}
 use Rattle.std.specs.Prelude.{◌&&◌, not}
 use Rattle.ide_wire.specs.Key.{same_key}
 use Rattle.ide_image.specs.Worklist.{is_pending}
-use Rattle.ide_steps.proofs.Free.{none-claimed}
 use Rattle.ide_steps.proofs.Nodes.{kept-set}
-use Rattle.ide_steps.proofs.Noted.{remembers-change, remembers-image, same-entry}
+use Rattle.ide_steps.proofs.Noted.{notes-change, remembers-change, remembers-image, same-entry}
 use Rattle.ide_steps.proofs.Running.{not-or-as}
-use Rattle.ide_steps.proofs.machine.Core.settle.Goals as goal
-
-pub settle-requires-clause-unclaimed : goal.settle-requires-clause-unclaimed
-settle-requires-clause-unclaimed g c = none-claimed c.self.inside.image.pile (rw (← c.self.view_is) at c.requires.free) c.args.key
+use Rattle.ide_steps.proofs.machine.Core.settle_owed.Goals as goal
 
 pub invariant_of-self-2 : goal.invariant_of-self-2
 invariant_of-self-2 g c = λ loaded is.
@@ -33,3 +29,6 @@ returns-clause-remembers g c =
 pub returns-in_err-settle-clause-remembers : goal.returns-in_err-settle-clause-remembers
 returns-in_err-settle-clause-remembers g c =
     rw (← c.self.view_is) (remembers-image _ _ c.in_err-settle.ensures.err)
+
+pub returns-clause-notes : goal.returns-clause-notes
+returns-clause-notes g c = rw (← c.self.view_is) (notes-change _ _ (Some c.args.key) c.in_ok-settle.ensures.noted)
