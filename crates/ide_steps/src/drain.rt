@@ -1,5 +1,5 @@
 //! All steps that are left, by one hand.
-ghost use Rattle.std.specs.Prelude.{◌≡◌, ◌⊎◌, ◌||◌, [], true, false, Ok, Some, None, IfErr, IfOk, OnErr, OnOk, IsOkUnless};
+ghost use Rattle.std.specs.Prelude.{◌≡◌, ◌⊎◌, ◌||◌, [], true, false, Ok, Some, None, IfErr, IfOk, IsOk, OnErr, OnOk, IsOkUnless};
 ghost use Rattle.ide_wire.specs.Key.{same_key};
 ghost use Rattle.ide_steps.specs.Changed.{Notes, Remembers};
 ghost use Rattle.ide_steps.specs.Core.{is_loaded, AllStandIn, AreInside, IsSameProblem, StandsIn};
@@ -25,15 +25,15 @@ use std::alloc::Global;
 const DRAINING: usize = 0;
 
 impl<P: Problem> Core<P> {
-    /// Claims and finishes tasks as hand 0 until no key is pending, and answers how many, up to the
-    /// largest number of 64 bits. Each is paid for by a key that was pending, or by a part that
-    /// lowered an entry, and each of those by a rank that an entry lost: in a run over the graph of a
+    /// Runs keys until none is pending, and answers how many, up to the largest number of 64 bits. To a
+    /// run each is a claim by hand 0, its parts and its end; no claim is made, since no hand could see
+    /// it. Each is paid for by a key that was pending, or by a part that lowered an entry, and each of those by a rank that an entry lost: in a run over the graph of a
     /// text there are at most as many as keys were pending, and `HEIGHT` for each jump of a node and
     /// two facts and each summary of a call and two facts.
     ///
     /// Refusals: `NoProgram`; `Busy` where hand 0 has a claim; `Unfinished` where another hand has
-    /// one; all tested first, in this order. `NoMemory` keeps the steps done before it and releases
-    /// hand 0's claim.
+    /// one; all tested first, in this order. `NoMemory` keeps the steps done before it, and to a run
+    /// hand 0 gave its claim back.
     pub fn drain(&mut self) -> Result<u64, Refused>
         ensures may { OnOk result (MayDrain self.old) }
         ensures refused { IfErr result (IsDrainRefusal self.old) }
@@ -150,6 +150,7 @@ impl<P: Problem> Core<P> {
         requires unclaimed { is_claimed self.old.pile key ≡ false }
         requires pending { is_pending self.old.pile key ≡ true }
         ensures refused { IsOkUnless result Refused.NoMemory }
+        ensures nobody { self.old.changes ≡ None → IsOk result }
         ensures settled { OnOk result (IsTakenOut key self.old.pile self.new.pile) }
         ensures claims { self.new.pile.claims ≡ self.old.pile.claims }
         ensures table { self.new.table ≡ self.old.table }

@@ -23,13 +23,13 @@ use ide_tasks::PartList;
 use ide_wire::{Key, Refused};
 
 impl<P: Problem> TableHalf<P> {
-    /// Claims keys, does their parts and ends the claims as hand 0, until no key is pending, and answers
-    /// how many it claimed, up to the largest number of 64 bits. A batch that is full is sealed before
-    /// the next part, and before the next end of a claim.
+    /// Runs keys until none is pending, and answers how many, up to the largest number of 64 bits: to the
+    /// store each is a claim by hand 0, its parts and its end. A batch that is full is sealed before the
+    /// next part, and before the next end of a claim.
     ///
     /// Refusals, in this order: `Failed`; those of [`ide_steps::Core::may_drain`]; `NoMemory`, and
-    /// `Limit` as of [`TableHalf::seal`]: these two keep what was done and sealed before, and hand 0's
-    /// claim is given back.
+    /// `Limit` as of [`TableHalf::seal`]: these two keep what was done and sealed before, and to the store
+    /// hand 0's claim was given back.
     pub fn drain(&mut self) -> Result<u64, Refused>
         ensures drains { IfOk result (DrainsBy ⟦<P as Kept>⟧.analysis self.old self.new) }
         ensures stops { StopsBy ⟦<P as Kept>⟧.analysis self.old self.new }
