@@ -1,5 +1,6 @@
 //! The counts of one solve.
-ghost use Rattle.std.specs.Prelude.{◌≡◌, length};
+ghost use Rattle.std.specs.Prelude.{◌≡◌};
+ghost use Rattle.ide_bench.specs.Phases.{counts_over};
 
 use ide_graph::Graph;
 use ide_image::Tables;
@@ -17,7 +18,7 @@ pub(crate) struct Counts {
 impl Counts {
     /// The counts of a graph, its tables and so many tasks.
     pub(crate) fn of<F: EdgeFn>(graph: &Graph, tables: &Tables<F>, tasks: u64) -> Counts
-        ensures { result ≡ record { nodes = graph.now.nodes; facts = graph.now.facts; keys = length tables.now.entries; tasks = tasks } }
+        ensures { result ≡ counts_over graph.now tables.now tasks }
     {
         Counts {
             nodes: graph.node_count(),

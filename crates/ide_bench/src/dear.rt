@@ -1,8 +1,7 @@
 //! An analysis whose functions are dear, to time how hands share a table.
-ghost use Rattle.std.specs.Prelude.{◌≡◌, ◌-◌, ◌<◌, ◌++◌, [], map, OnErr, OnOk};
-ghost use Rattle.std.specs.List.{range_with_len};
+ghost use Rattle.std.specs.Prelude.{◌≡◌, ◌<◌, [], OnErr, OnOk};
 ghost use Rattle.std.proofs.Common.{lit≤};
-ghost use Rattle.ide_bench.specs.Dear.{spread_end, with_identity};
+ghost use Rattle.ide_bench.specs.Dear.{AddsSpread, spread_end};
 
 use ide_graph::EdgeData;
 use ide_instances::{ConstFn, ConstValue};
@@ -59,7 +58,7 @@ fn end_of(facts: u32, fact: Fact) -> Fact
 
 /// Adds each fact from the first to before the end, by the identity, and takes its time.
 fn add_spread(first: Fact, end: Fact, targets: &mut TargetList<ConstFn>) -> Result<(), AllocError>
-    ensures ok { OnOk result (targets.new.list.items ≡ targets.old.list.items ++ map with_identity (range_with_len first (end - first))) }
+    ensures ok { OnOk result (AddsSpread first end targets.old.list targets.new.list) }
     ensures err { OnErr result (targets.new.list.items ≡ []) }
 {
     for fact in first..end {

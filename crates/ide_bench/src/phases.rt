@@ -1,7 +1,6 @@
 //! The phases of a solve by copy constants, each with those before it.
 ghost use Rattle.std.specs.Prelude.{IfOk};
-ghost use Rattle.std.specs.Arc.{arc_value};
-ghost use Rattle.ide_bench.specs.Phases.{AreCountsOf, HasProcedures, IsDumpLength, IsRootedAtMain};
+ghost use Rattle.ide_bench.specs.Phases.{AreCountsOf, HasProcedures, IsDumpLength, IsTabulated};
 ghost use Rattle.ide_graph.specs.GraphOfText.{IsGraphOfText};
 
 use crate::counts::Counts;
@@ -38,7 +37,7 @@ pub(crate) fn graph_of(alloc: Global, text: &[u8]) -> Result<Graph>
 
 /// Tabulates the jump functions and summaries of a text's program, with `main` as the root.
 pub(crate) fn drain_core(alloc: Global, text: &[u8]) -> Result<Tabulated>
-    ensures { IfOk result (λ tabulated. IsRootedAtMain text.now (arc_value tabulated.closed.loaded).graph tabulated.closed.roots.items) }
+    ensures { IfOk result (IsTabulated text.now) }
 {
     let mut core: Core<CopyConst> = Core::new(alloc);
     core.load(parse(alloc, text)?)?;

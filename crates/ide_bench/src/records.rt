@@ -1,8 +1,8 @@
 //! Records in a journal on a disk in memory, and what copying their bodies alone takes.
 ghost use Rattle.std.specs.Prelude.{◌≡◌, ◌*◌, IfOk, OnOk, length};
-ghost use Rattle.ide_bench.specs.Records.{AppendsRecord, alike};
+ghost use Rattle.ide_bench.specs.Records.{AppendsRecord, KeepsAlike};
 ghost use Rattle.ide_journal.specs.Format.{head_of, zeros};
-ghost use Rattle.ide_journal.specs.Lists.{IsAtRest, entry_of};
+ghost use Rattle.ide_journal.specs.Lists.{entry_of};
 
 use anyhow::{Result, bail, ensure};
 use ide_disk::{Disk, MemDisk};
@@ -62,7 +62,7 @@ impl Sizes {
 
     /// A journal with the records.
     fn journal(self, alloc: Global) -> Result<Journal<MemDisk>>
-        ensures { IfOk result (IsAtRest (head_of Version.Two TAG) (alike KIND self.length self.count)) }
+        ensures { IfOk result (KeepsAlike (head_of Version.Two TAG) KIND self.length self.count) }
     {
         let record = self.record(alloc)?;
         let mut journal = match Journal::create(alloc, self.disk(alloc)?, TAG, Version::Two) {
