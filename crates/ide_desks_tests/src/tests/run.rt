@@ -127,29 +127,6 @@ fn expect_stored<J: Accord>(
     assert!(rt; board.acked(client) == all, "behind");
 }
 
-/// Asserts that work goes on while two records wait for the disks, and that a client sees them once they are
-/// stored.
-fn expect_run<J: Accord, R: Abort + AllocGlobal>(
-    rt: &R,
-    table: &mut Table<J>,
-    writer: &mut Writer<J>,
-    board: &Board<SealedRecord>,
-    client: &mut ClientSeat<SealedRecord>,
-)
-    requires { client.old.board ≡ board.now }
-    ensures { client.new.board ≡ board.now }
-{
-    assert!(rt; table.hand_over(writer), "nothing waits with the writer");
-    expect_work(rt, table);
-    assert!(rt;
-        !table.hand_over(writer),
-        "two records wait with the writer"
-    );
-    expect_stored(rt, writer, board, client, 2, 2);
-    assert!(rt; table.hand_over(writer), "both are stored");
-    expect_stored(rt, writer, board, client, 1, 3);
-}
-
 /// Asserts that a checkpoint begins where all is stored, that one does not beside it, and that its calls store no
 /// record.
 fn expect_checkpoint<J: Accord, R: Abort + AllocGlobal>(
@@ -170,11 +147,57 @@ fn expect_checkpoint<J: Accord, R: Abort + AllocGlobal>(
     );
 }
 
-/// A run by both desks. Answers how many keys there are at its end, and the disks.
+/// Asserts that the write of a record fails, and that the desk does nothing from then on.
+fn expect_failed_write<J: Accord>(rt: &impl Abort, table: &mut Table<J>, writer: &mut Writer<J>) {
+    assert!(rt; table.hand_over(writer) && !writer.has_failed());
+    assert!(rt; store(writer) == Err(Refused::Disk) && writer.has_failed());
+    assert!(rt; store(writer) == Err(Refused::Failed) && !table.hand_over(writer));
+}
+
+/// Asserts that a table that is stopped gives no work.
+fn expect_stopped<J: Accord>(rt: &(impl Abort + AllocGlobal), table: &mut Table<J>) {
+    table.stop();
+    assert!(rt; drain(rt.alloc(), table) == Err(Refused::Failed));
+}
+
+/// Asserts that work goes on while two records wait for the disks, and that a client sees them once they are
+/// stored. Where the disk fails, no record is stored, and the work ends.
+fn expect_run<J: Accord, R: Abort + AllocGlobal>(
+    rt: &R,
+    table: &mut Table<J>,
+    writer: &mut Writer<J>,
+    board: &Board<SealedRecord>,
+    client: &mut ClientSeat<SealedRecord>,
+    fails: bool,
+)
+    requires { client.old.board ≡ board.now }
+    ensures { client.new.board ≡ board.now }
+{
+    if fails {
+        expect_failed_write(rt, table, writer);
+        assert!(rt; board.acked(client) == 0);
+        expect_stopped(rt, table);
+        return;
+    }
+    assert!(rt; table.hand_over(writer), "nothing waits with the writer");
+    expect_work(rt, table);
+    assert!(rt;
+        !table.hand_over(writer),
+        "two records wait with the writer"
+    );
+    expect_stored(rt, writer, board, client, 2, 2);
+    assert!(rt; table.hand_over(writer), "both are stored");
+    expect_stored(rt, writer, board, client, 1, 3);
+    expect_checkpoint(rt, table, writer);
+}
+
+/// A run by both desks, whose first record can't be stored where the disk fails. Answers how many keys there are at
+/// its end, and the disks.
 fn run<J: Accord, R: Abort + AllocGlobal>(
     rt: &R,
     opened: Opened<ShiftConst, MemDisk>,
     mut client: ClientSeat<SealedRecord>,
+    fails: bool,
 ) -> (usize, (MemDisk, MemDisk))
     requires board { arc_value opened.board ≡ J.board }
     requires switches { opened.switch.board ≡ J.switches }
@@ -183,36 +206,9 @@ fn run<J: Accord, R: Abort + AllocGlobal>(
 {
     let (mut table, mut writer, board) = opened.named::<J>();
     given(rt, order(rt, &mut table, &mut client));
-    expect_run(rt, &mut table, &mut writer, &board, &mut client);
-    expect_checkpoint(rt, &mut table, &mut writer);
+    expect_run(rt, &mut table, &mut writer, &board, &mut client, fails);
     writer.confirm(&mut client);
     (table.half().core().key_count(), writer.into_disks())
-}
-
-/// Asserts that the write of a record fails, and that the desk does nothing from then on.
-fn expect_failed_write<J: Accord>(rt: &impl Abort, table: &mut Table<J>, writer: &mut Writer<J>) {
-    assert!(rt; table.hand_over(writer) && !writer.has_failed());
-    assert!(rt; store(writer) == Err(Refused::Disk) && writer.has_failed());
-    assert!(rt; store(writer) == Err(Refused::Failed) && !table.hand_over(writer));
-}
-
-/// A run by both desks whose first record can't be stored.
-fn fail<J: Accord, R: Abort + AllocGlobal>(
-    rt: &R,
-    opened: Opened<ShiftConst, MemDisk>,
-    mut client: ClientSeat<SealedRecord>,
-)
-    requires board { arc_value opened.board ≡ J.board }
-    requires switches { opened.switch.board ≡ J.switches }
-    requires client { client.board ≡ J.board }
-    requires untold { J.told → ⊥ }
-{
-    let (mut table, mut writer, board) = opened.named::<J>();
-    given(rt, order(rt, &mut table, &mut client));
-    expect_failed_write(rt, &mut table, &mut writer);
-    assert!(rt; board.acked(&mut client) == 0);
-    table.stop();
-    assert!(rt; drain(rt.alloc(), &mut table) == Err(Refused::Failed));
 }
 
 /// A new store whose first disk fails in its call of that number.
@@ -249,7 +245,7 @@ fn open<R: Abort + AllocGlobal>(
 #[test]
 fn both_desks_go_on_apart(rt: HostRuntime) -> Result<(), Fail> {
     let (opened, client) = open(&rt, 1000)?;
-    let (keys, (a, b)) = run::<Brand, _>(&rt, opened, client);
+    let (keys, (a, b)) = run::<Brand, _>(&rt, opened, client, false);
     match SlotEngine::<ShiftConst, MemDisk>::open(rt.alloc(), a, b) {
         Ok(engine) => {
             assert!(rt; engine.acked() == 3 && engine.table.core().key_count() == keys);
@@ -263,7 +259,7 @@ fn both_desks_go_on_apart(rt: HostRuntime) -> Result<(), Fail> {
 #[test]
 fn a_failed_disk_stops_both_desks(rt: HostRuntime) -> Result<(), Fail> {
     let (opened, client) = open(&rt, 6)?;
-    fail::<Brand, _>(&rt, opened, client);
+    let _ = run::<Brand, _>(&rt, opened, client, true);
     Ok(())
 }
 
