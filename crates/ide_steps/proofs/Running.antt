@@ -182,9 +182,14 @@ module _ {F L : Type 0} (A : LatticeAlgebra L) (B : EdgeAlgebra F L) (targets : 
         let before = with_held old hand (claimed_as key task done lowered) in
         let after = with_held new hand (claimed_as key task (suc done) (same_key key part.0 || lowered)) in
         goes-step A B targets hand 0 1 0 before after (held-same old new (claimed_as key task done lowered) (claimed_as key task (suc done) (same_key key part.0 || lowered)) same)
-        (λ g is all fit run. subst (StepBy (frame_at A B targets g all) hand 0 1 0 (state_of B targets before)) (lowered-state old new part lowers)
-        (lower hand (claim_of B targets (claimed_as key task done lowered)) part.0 part.1 (drop (suc done) (owed B targets task))
-        (held-own old (claimed_as key task done lowered)) (drop-at (owed B targets task) done part at) changes.falls, refl, refl, refl, refl))
+        (λ g is all fit run. subst (StepBy (frame_at A B targets g all) hand 0 1 0 (state_of B targets before)) (lowered-state old new part lowers) (
+          lower hand (claim_of B targets (claimed_as key task done lowered)) part.0 part.1 (drop (suc done) (owed B targets task))
+              (held-own old (claimed_as key task done lowered)) (drop-at (owed B targets task) done part at) changes.falls,
+          refl,
+          refl,
+          refl,
+          refl,
+        ))
 
     -- a part that its key has received already
     skipped-state : (old new : CoreData F) → SameState B targets old new
@@ -222,9 +227,14 @@ module _ {F L : Type 0} (A : LatticeAlgebra L) (B : EdgeAlgebra F L) (targets : 
         let before = with_held old hand (claimed_as key task done lowered) in
         let after = with_held new hand (claimed_as key task (suc done) lowered) in
         goes-step A B targets hand 0 0 0 before after (held-same old new (claimed_as key task done lowered) (claimed_as key task (suc done) lowered) same)
-        (λ g is all fit run. subst (StepBy (frame_at A B targets g all) hand 0 0 0 (state_of B targets before)) (skipped-state old new state_is)
-        (skip hand (claim_of B targets (claimed_as key task done lowered)) part.0 part.1 (drop (suc done) (owed B targets task))
-        (held-own old (claimed_as key task done lowered)) (drop-at (owed B targets task) done part at) met, refl, refl, refl, refl))
+        (λ g is all fit run. subst (StepBy (frame_at A B targets g all) hand 0 0 0 (state_of B targets before)) (skipped-state old new state_is) (
+          skip hand (claim_of B targets (claimed_as key task done lowered)) part.0 part.1 (drop (suc done) (owed B targets task))
+              (held-own old (claimed_as key task done lowered)) (drop-at (owed B targets task) done part at) met,
+          refl,
+          refl,
+          refl,
+          refl,
+        ))
 
     -- the claim is given back
     pub part-back : (core : CoreData F) → claim_at core.pile hand ≡ None → GivesBack B targets hand (with_held core hand (claimed_as key task done lowered)) core
