@@ -29,7 +29,6 @@ impl<P: Problem> TableHalf<P> {
     pub fn seal(&mut self) -> Result<Option<Ticket>, Refused>
         ensures seals { IfOk result (λ sealed. IfSome sealed (λ ticket. SealsBatch ⟦<P as Kept>⟧.analysis self.old self.new ticket.number)) }
         ensures nothing { result ≡ Ok None → FindsNothing ⟦<P as Kept>⟧.analysis self.old self.new }
-        ensures held { WorksHeld ⟦<P as Kept>⟧.analysis self.old self.new }
         ensures anew { OnOk result (BeginsAnew self.old.core self.new.core) }
         ensures few { self.new.sealed ≤ 4294967295 }
         ensures working { OnOk result (self.old.failed ≡ false) }
