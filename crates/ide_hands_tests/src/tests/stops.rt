@@ -59,12 +59,19 @@ fn a_hand_that_is_stopped_gives_its_claim_back(rt: HostRuntime) {
     expect_no_part::<Brand, HostRuntime>(&rt, opened);
 }
 
+/// Who seals what a hand did: the test, or the committer by itself.
+pub(crate) enum Sealing {
+    Asked,
+    Left,
+}
+
 /// The store that is opened again where the first hand did so many parts of the root's task, and they were stored, as
 /// record 2.
 pub(crate) fn reopened<J: Accord, R: Wait + Clock + Abort + AllocGlobal>(
     rt: &R,
     opened: OpenedStore,
     parts: u64,
+    sealing: Sealing,
 ) -> Store
     requires board { arc_value opened.board ≡ J.board }
     requires switches { opened.switch.board ≡ J.switches }
@@ -73,8 +80,10 @@ pub(crate) fn reopened<J: Accord, R: Wait + Clock + Abort + AllocGlobal>(
     let service: Served<J> = Service::new(rt.alloc(), opened);
     let parted = Counting::new(Point::Parted, parts.saturating_sub(1));
     assert!(rt; service.work(rt, 0, &parted) == Ok(Ended::Stopped));
-    let sealed = given(rt, service.seal(rt));
-    assert!(rt; sealed.is_some_and(|ticket| ticket.number == 2));
+    if let Sealing::Asked = sealing {
+        let sealed = given(rt, service.seal(rt));
+        assert!(rt; sealed.is_some_and(|ticket| ticket.number == 2));
+    }
     service.raise_stop();
     assert!(rt; service.commit(rt, &Open { ahead: 0 }) == Ok(Ended::Quiet));
     given(rt, open(rt.alloc(), service.into_disks()))
@@ -84,6 +93,6 @@ pub(crate) fn reopened<J: Accord, R: Wait + Clock + Abort + AllocGlobal>(
 #[test]
 fn what_a_stopped_hand_did_is_kept(rt: HostRuntime) {
     let opened = given(&rt, opened(rt.alloc(), NUMBER));
-    let again = reopened::<Brand, HostRuntime>(&rt, opened, 1);
+    let again = reopened::<Brand, HostRuntime>(&rt, opened, 1, Sealing::Asked);
     assert!(rt; again.table.core().key_count() == 2 && again.table.core().pending_count() == 2);
 }

@@ -5,7 +5,7 @@ ghost use Rattle.ide_desks.specs.Opened.{IsToldOf};
 
 use super::gates::{Crossing, Holding};
 use super::services::{Served, given, value_at};
-use super::stops::reopened;
+use super::stops::{Sealing, reopened};
 use ide_desks::Accord;
 use ide_instances::{ConstValue, CopyConst};
 use ide_memory_stores::{OpenedStore, open, opened, with_board};
@@ -151,7 +151,7 @@ fn expect<J: Accord + Send + Sync, R: Threads + Wait + Clock + Sync + Abort + Al
 #[test]
 fn two_hands_work_at_once(rt: HostRuntime) {
     let first = given(&rt, opened(rt.alloc(), NUMBER));
-    let again = reopened::<Brand, HostRuntime>(&rt, first, 2);
+    let again = reopened::<Brand, HostRuntime>(&rt, first, 2, Sealing::Left);
     assert!(rt; again.table.core().pending_count() == 3);
     let second = given(&rt, with_board(rt.alloc(), again));
     expect::<Brand, HostRuntime>(&rt, second, Asserted::TwoAtOnce);
