@@ -60,6 +60,7 @@ fn a_hand_that_is_stopped_gives_its_claim_back(rt: HostRuntime) {
 }
 
 /// Who seals what a hand did: the test, or the committer by itself.
+#[derive(Clone, Copy)]
 pub(crate) enum Sealing {
     Asked,
     Left,
