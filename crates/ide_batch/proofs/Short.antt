@@ -12,7 +12,7 @@ use Rattle.ide_batch.specs.Bodies.{IsBody, IsEntryOf, MayBeSpelled}
 use Rattle.ide_batch.specs.Forms.{counted}
 use Rattle.ide_batch.specs.Groups.{Group, IsGroup, IsGroupedBody, Member, group_form, items_of, key_of_kind, member_form}
 use Rattle.ide_batch.specs.Items.{Functions, IsListBody, Item, entry_form, item_form, mark}
-use Rattle.ide_batch.specs.Records.{RecordValue, Load, Root, Batch, kind_of}
+use Rattle.ide_batch.specs.Records.{RecordValue, Load, Root, Batch, record_kind}
 
 mark_short : (pending : Bool) → length (mark pending) ≡ 1
 mark_short true = refl
@@ -94,12 +94,12 @@ module _ {F : Type 0} (functions : Functions F) (small : (f : F) → length (fun
     short = short version record_value entry.1 may is.body;
   }
     where
-      some_kind : (r : RecordValue F) → 1 ≤ kind_of r
+      some_kind : (r : RecordValue F) → 1 ≤ record_kind r
       some_kind (Load text) = lit≤ tt
       some_kind (Root name) = lit≤ tt
       some_kind (Batch items) = lit≤ tt
 
-      known_kind : (r : RecordValue F) → kind_of r ≤ 3
+      known_kind : (r : RecordValue F) → record_kind r ≤ 3
       known_kind (Load text) = lit≤ tt
       known_kind (Root name) = lit≤ tt
       known_kind (Batch items) = lit≤ tt

@@ -5,7 +5,7 @@ use Rattle.ide_journal.specs.declared.version.Version.{Version}
 use Rattle.ide_journal.specs.declared.version.Version.TheVariants.{One, Two}
 use Rattle.ide_batch.specs.Groups.{IsGroupedBody}
 use Rattle.ide_batch.specs.Items.{AreWritten, Functions, Item, IsListBody}
-use Rattle.ide_batch.specs.Records.{RecordValue, Load, Root, Batch, kind_of}
+use Rattle.ide_batch.specs.Records.{RecordValue, Load, Root, Batch, record_kind}
 
 module _ {F : Type 0} (functions : Functions F) where
   -- the items' body: a list in the first version, groups in the second
@@ -21,7 +21,7 @@ module _ {F : Type 0} (functions : Functions F) where
 
   -- the journal's record has the record's kind and its body
   pub record IsEntryOf (version : Version) (record_value : RecordValue F) (entry : Entry) : Type 0 where
-    pub kind : entry.0 ≡ kind_of record_value
+    pub kind : entry.0 ≡ record_kind record_value
     pub body : IsBody version record_value entry.1
 
   -- the formats spell the record: a text or a name within the limit of a body, or items such as a body may have

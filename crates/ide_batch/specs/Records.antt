@@ -16,7 +16,7 @@ value_of_record (declared.Root name) = Root name.items
 value_of_record (declared.Batch items) = Batch items.items
 
 -- the kind that the journal notes
-abbrev pub kind_of : {F : Type 0} → RecordValue F → ℕ
-kind_of (Load text) = 1
-kind_of (Root name) = 2
-kind_of (Batch items) = 3
+abbrev pub record_kind : {F : Type 0} → RecordValue F → ℕ
+record_kind (Load text) = 1
+record_kind (Root name) = 2
+record_kind (Batch items) = 3

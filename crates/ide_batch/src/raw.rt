@@ -2,7 +2,7 @@
 ghost use Rattle.std.specs.Prelude.{◌≡◌, [], OnOk, IfOk, IfErr};
 ghost use Rattle.ide_batch.specs.Bodies.{AreSpelled, IsBody, IsEntryOf, MayBeSpelled};
 ghost use Rattle.ide_batch.specs.Items.{AreWritten, functions_by};
-ghost use Rattle.ide_batch.specs.Records.{kind_of, value_of_record};
+ghost use Rattle.ide_batch.specs.Records.{record_kind, value_of_record};
 ghost use Rattle.ide_journal.specs.Format.{IsEntry};
 ghost use Rattle.ide_journal.specs.Lists.{entry_of};
 
@@ -29,13 +29,13 @@ pub fn to_raw<F: EdgeFn>(
 {
     let mut body = Vec::new(alloc);
     put_body(change, version, &mut body)?;
-    let kind = kind_of(change);
+    let kind = record_kind(change);
     Ok(RawRecord { kind, body })
 }
 
 /// The kind that the journal notes.
-fn kind_of<F>(change: &Record<F>) -> u8
-    ensures { result ≡ kind_of (value_of_record change.now) }
+fn record_kind<F>(change: &Record<F>) -> u8
+    ensures { result ≡ record_kind (value_of_record change.now) }
 {
     match change {
         Record::Load(_) => 1,

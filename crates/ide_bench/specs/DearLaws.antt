@@ -10,8 +10,8 @@ use Rattle.ide_problem.specs.Flow.{AreTargets, IsFlow, function_to}
 use Rattle.ide_problem.specs.SharedLaws.{are_lower, are_range}
 use Rattle.ide_bench.specs.Dear.{spread_end, spread_targets, with_identity}
 
-in-order : (edge : EdgeData) (fact : ℕ) → AreTargets const_edge.proper 0 edge.facts (spread_targets edge fact)
-in-order edge fact =
+spread-in-order : (edge : EdgeData) (fact : ℕ) → AreTargets const_edge.proper 0 edge.facts (spread_targets edge fact)
+spread-in-order edge fact =
     are_lower const_edge.proper 0 fact edge.facts (spread_targets edge fact) (omega arith)
     (are_range const_edge.proper (Shift 0) refl fact (spread_end edge.facts fact - fact) edge.facts (λ some. omega (arith, some)))
 
@@ -27,7 +27,7 @@ itself (suc n) some = refl
 
 pub spread_flow : IsFlow const_edge spread_targets
 spread_flow = record {
-  in_order = λ edge fact lawful. in-order edge fact;
+  in_order = λ edge fact lawful. spread-in-order edge fact;
   none_outside = λ edge fact lawful past. none edge fact past;
   zero = λ edge lawful. itself (spread_end edge.facts 0 - 0) (omega (arith, lawful.result, lawful.facts));
 }

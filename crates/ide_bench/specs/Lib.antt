@@ -3,3 +3,4 @@ pub mod DearLaws
 pub mod Phases
 pub mod Records
 pub mod Stores
+pub mod Working

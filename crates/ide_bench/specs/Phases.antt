@@ -3,7 +3,7 @@ use Rattle.std.specs.Prelude.{◌≡◌, ℕ, List, [], ◌∷◌, Some, codes, 
 use Rattle.ide_graph.specs.GraphOfText.{IsGraphOfText}
 use Rattle.ide_graph.specs.Supergraph.{Supergraph, procedure_named}
 use Rattle.ide_image.specs.Tables.{Table}
-use Rattle.ide_instances.specs.ConstValue.{const_algebra, shown_value}
+use Rattle.ide_instances.specs.ConstValue.{const_algebra, shown_constant}
 use Rattle.ide_instances.specs.declared.const_value.ConstValue.{ConstValue}
 use Rattle.ide_steps.specs.Frozen.{graph_in}
 use Rattle.ide_text.specs.Parsed.{IsParsed}
@@ -48,4 +48,4 @@ pub record AreCountsOf (text : List ℕ) (counts : Counts) : Type 0 where
 pub record IsDumpLength (text : List ℕ) (bytes : ℕ) : Type 0 where
   pub values : ValuesData ConstValue
   pub rooted : IsRootedAtMain text values.graph values.roots
-  pub measured : bytes ≡ length (dump_of values.graph (λ n d. shown_value (value_there const_algebra values n d)))
+  pub measured : bytes ≡ length (dump_of values.graph (λ n d. shown_constant (value_there const_algebra values n d)))

@@ -2,6 +2,7 @@
 ghost use Rattle.std.specs.Prelude.{◌≡◌};
 ghost use Rattle.ide_bench.specs.Phases.{counts_over};
 
+use crate::figures::Figure;
 use ide_graph::Graph;
 use ide_image::Tables;
 use ide_lattice::EdgeFn;
@@ -9,10 +10,10 @@ use ide_lattice::EdgeFn;
 /// How large a program's graph, its tables and the work on them are.
 #[derive(Clone, Copy)]
 pub(crate) struct Counts {
-    pub(crate) nodes: usize,
-    pub(crate) facts: usize,
-    pub(crate) keys: usize,
-    pub(crate) tasks: u64,
+    nodes: usize,
+    facts: usize,
+    keys: usize,
+    tasks: u64,
 }
 
 impl Counts {
@@ -26,5 +27,15 @@ impl Counts {
             keys: tables.key_count(),
             tasks,
         }
+    }
+
+    /// Each number by its name.
+    pub(crate) fn figures(self) -> [Figure; 4] {
+        [
+            ("nodes", self.nodes as u64),
+            ("facts", self.facts as u64),
+            ("keys", self.keys as u64),
+            ("tasks", self.tasks),
+        ]
     }
 }

@@ -2,6 +2,7 @@
 ghost use Rattle.std.specs.Prelude.{IfOk};
 ghost use Rattle.ide_bench.specs.Phases.{IsDumpLength};
 
+use crate::figures::Figure;
 use crate::phases::{Tabulated, drain_core};
 use anyhow::Result;
 use ide_instances::CopyConst;
@@ -13,10 +14,22 @@ use std::time::{Clock, Instant};
 /// Microseconds of the clock that each step of a value phase took, and how many bytes the dump has.
 #[derive(Clone, Copy)]
 pub(crate) struct Steps {
-    pub(crate) starts: u64,
-    pub(crate) fill: u64,
-    pub(crate) dump: u64,
-    pub(crate) bytes: usize,
+    starts: u64,
+    fill: u64,
+    dump: u64,
+    bytes: usize,
+}
+
+impl Steps {
+    /// Each number by its name.
+    pub(crate) fn figures(self) -> [Figure; 4] {
+        [
+            ("starts", self.starts),
+            ("fill", self.fill),
+            ("dump", self.dump),
+            ("bytes", self.bytes as u64),
+        ]
+    }
 }
 
 /// Notes when a worker of a fill first begins: start values are found until then.

@@ -29,6 +29,7 @@
 mod batches;
 mod counts;
 mod dear;
+mod figures;
 mod fills;
 mod phases;
 mod records;
@@ -36,26 +37,27 @@ mod stores;
 
 use anyhow::{Context, Result, bail};
 use batches::{Batches, copy_each, read, spell};
-use counts::Counts;
+use figures::print_figures;
 use fills::{Steps, time_fill};
 use ide_graph::Graph;
 use ide_journal::Version;
 use phases::{count_procedures, graph_of, measure_dump, solve, tabulate};
-use records::{Sizes, Stored, append, copy, reopen};
+use records::{Sizes, append, copy, reopen};
 use std::fs::Files;
 use std::sync::Wait;
 use std::thread::Threads;
 use std::time::Clock;
 use std::{env, fs};
-use stores::{Amounts, Pace, checkpoint, copy_disk, keep, resume, work, work_dear};
+use stores::{Amounts, Analysis, Pace, checkpoint, copy_disk, keep, resume, work};
 
 fn main(rt: HostRuntime) -> Result<()> {
     let words: Vec<String> = env::args(&rt)?.collect(rt.alloc())?;
-    match word(words.as_slice(), 1)? {
-        "work" => print_amounts(&rt, run_workers(&rt, words.as_slice(), false)?),
-        "dear" => print_amounts(&rt, run_workers(&rt, words.as_slice(), true)?),
-        "fill" => print_steps(&rt, run_fill(&rt, words.as_slice())?),
-        _ => run(&rt, words.as_slice()),
+    let words = words.as_slice();
+    match word(words, 1)? {
+        "work" => print_figures(&rt, &run_workers(&rt, words, Analysis::Copies)?.figures()),
+        "dear" => print_figures(&rt, &run_workers(&rt, words, Analysis::Dear)?.figures()),
+        "fill" => print_figures(&rt, &run_fill(&rt, words)?.figures()),
+        _ => run(&rt, words),
     }
 }
 
@@ -64,24 +66,20 @@ fn run_fill<R: Threads + Clock + Sync + Files + AllocGlobal>(
     rt: &R,
     words: &[String],
 ) -> Result<Steps> {
-    let text: Vec<u8> = fs::read(rt, word(words, 2)?).context("the text cannot be read")?;
+    let text = text_of(rt, words)?;
     let workers = number(word(words, 3)?)?;
     time_fill(rt, text.as_slice(), workers)
 }
 
-/// Lets workers work on a text as the words ask for, by a dear analysis or by copy constants.
+/// Lets workers work on a text as the words ask for, by the analysis.
 fn run_workers<R: Threads + Wait + Clock + Sync + Files + AllocGlobal>(
     rt: &R,
     words: &[String],
-    dear: bool,
+    analysis: Analysis,
 ) -> Result<Amounts> {
-    let text: Vec<u8> = fs::read(rt, word(words, 2)?).context("the text cannot be read")?;
+    let text = text_of(rt, words)?;
     let pace = pace_of(words)?;
-    if dear {
-        work_dear(rt, text.as_slice(), pace)
-    } else {
-        work(rt, text.as_slice(), pace)
-    }
+    work(rt, text.as_slice(), analysis, pace)
 }
 
 /// The pace that three words say.
@@ -96,8 +94,8 @@ fn pace_of(words: &[String]) -> Result<Pace> {
 /// Does what the words ask for, and prints what it came to.
 fn run(rt: &HostRuntime, words: &[String]) -> Result<()> {
     match word(words, 1)? {
-        "append" => print_stored(rt, append(rt.alloc(), sizes_of(words)?)?),
-        "reopen" => print_stored(rt, reopen(rt.alloc(), sizes_of(words)?)?),
+        "append" => print_figures(rt, &append(rt.alloc(), sizes_of(words)?)?.figures()),
+        "reopen" => print_figures(rt, &reopen(rt.alloc(), sizes_of(words)?)?.figures()),
         "copy" => print_bytes(rt, copy(rt.alloc(), sizes_of(words)?)?),
         "spell" => print_bytes(rt, spell(rt.alloc(), batches_of(words)?)?),
         "read" => print_bytes(rt, read(rt.alloc(), batches_of(words)?)?),
@@ -111,12 +109,12 @@ fn run_phase(rt: &HostRuntime, phase: &str, text: &[u8]) -> Result<()> {
     match phase {
         "parse" => print_procedures(rt, count_procedures(rt.alloc(), text)?),
         "graph" => print_graph(rt, &graph_of(rt.alloc(), text)?),
-        "tabulate" => print_counts(rt, tabulate(rt.alloc(), text)?),
-        "solve" => print_counts(rt, solve(rt.alloc(), text)?),
+        "tabulate" => print_figures(rt, &tabulate(rt.alloc(), text)?.figures()),
+        "solve" => print_figures(rt, &solve(rt.alloc(), text)?.figures()),
         "print" => print_bytes(rt, measure_dump(rt.alloc(), text)?),
-        "keep" => print_amounts(rt, keep(rt.alloc(), text)?),
-        "resume" => print_amounts(rt, resume(rt.alloc(), text)?),
-        "checkpoint" => print_amounts(rt, checkpoint(rt.alloc(), text)?),
+        "keep" => print_figures(rt, &keep(rt.alloc(), text)?.figures()),
+        "resume" => print_figures(rt, &resume(rt.alloc(), text)?.figures()),
+        "checkpoint" => print_figures(rt, &checkpoint(rt.alloc(), text)?.figures()),
         "bytes" => print_bytes(rt, copy_disk(rt.alloc(), text)?),
         _ => bail!(
             "parse, graph, tabulate, solve, print, fill, keep, resume, checkpoint, bytes, work, dear, append, reopen, copy, spell, read or recopy is wanted"
@@ -131,7 +129,7 @@ fn word(words: &[String], index: usize) -> Result<&str> {
 }
 
 /// The text of the file that a word names.
-fn text_of(rt: &HostRuntime, words: &[String]) -> Result<Vec<u8>> {
+fn text_of<R: Files + AllocGlobal>(rt: &R, words: &[String]) -> Result<Vec<u8>> {
     fs::read(rt, word(words, 2)?).context("the text cannot be read")
 }
 
@@ -164,51 +162,17 @@ fn number(word: &str) -> Result<usize> {
 
 /// Prints how many procedures there are.
 fn print_procedures(rt: &HostRuntime, count: usize) -> Result<()> {
-    println!(rt; "procedures {}", count)?;
-    Ok(())
+    print_figures(rt, &[("procedures", count as u64)])
 }
 
 /// Prints how large a graph is.
 fn print_graph(rt: &HostRuntime, graph: &Graph) -> Result<()> {
-    println!(rt; "nodes {} facts {}", graph.node_count(), graph.fact_count())?;
-    Ok(())
-}
-
-/// Prints counts.
-fn print_counts(rt: &HostRuntime, counts: Counts) -> Result<()> {
-    println!(rt;
-        "nodes {} facts {} keys {} tasks {}",
-        counts.nodes, counts.facts, counts.keys, counts.tasks
-    )?;
-    Ok(())
-}
-
-/// Prints how many records there are and how long their file is.
-fn print_stored(rt: &HostRuntime, stored: Stored) -> Result<()> {
-    println!(rt; "records {} bytes {}", stored.records, stored.bytes)?;
-    Ok(())
-}
-
-/// Prints what a store came to.
-fn print_amounts(rt: &HostRuntime, amounts: Amounts) -> Result<()> {
-    println!(rt;
-        "records {} bytes {} keys {} tasks {}",
-        amounts.records, amounts.bytes, amounts.keys, amounts.tasks
-    )?;
-    Ok(())
-}
-
-/// Prints how long the steps of a value phase took.
-fn print_steps(rt: &HostRuntime, steps: Steps) -> Result<()> {
-    println!(rt;
-        "starts {} fill {} dump {} bytes {}",
-        steps.starts, steps.fill, steps.dump, steps.bytes
-    )?;
-    Ok(())
+    let nodes = graph.node_count() as u64;
+    let facts = graph.fact_count() as u64;
+    print_figures(rt, &[("nodes", nodes), ("facts", facts)])
 }
 
 /// Prints how many bytes there are.
 fn print_bytes(rt: &HostRuntime, bytes: usize) -> Result<()> {
-    println!(rt; "bytes {}", bytes)?;
-    Ok(())
+    print_figures(rt, &[("bytes", bytes as u64)])
 }

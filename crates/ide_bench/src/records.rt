@@ -4,6 +4,7 @@ ghost use Rattle.ide_bench.specs.Records.{AppendsRecord, KeepsAlike};
 ghost use Rattle.ide_journal.specs.Format.{head_of, zeros};
 ghost use Rattle.ide_journal.specs.Lists.{entry_of};
 
+use crate::figures::Figure;
 use anyhow::{Result, bail, ensure};
 use ide_disk::{Disk, MemDisk};
 use ide_journal::laws::holds_one_list;
@@ -28,11 +29,18 @@ pub(crate) struct Sizes {
     pub(crate) count: usize,
 }
 
-/// How many records a store has, and how long its file is.
+/// How many records a store has, and how long its file is, or both its files together.
 #[derive(Clone, Copy)]
 pub(crate) struct Stored {
-    pub(crate) records: usize,
+    pub(crate) records: u64,
     pub(crate) bytes: u64,
+}
+
+impl Stored {
+    /// Each number by its name.
+    pub(crate) fn figures(self) -> [Figure; 2] {
+        [("records", self.records), ("bytes", self.bytes)]
+    }
 }
 
 impl Sizes {
@@ -101,7 +109,7 @@ pub(crate) fn append(alloc: Global, sizes: Sizes) -> Result<Stored>
     ensures { IfOk result (λ stored. stored.records ≡ sizes.count) }
 {
     let journal = sizes.journal(alloc)?;
-    let records = journal.count() as usize;
+    let records = journal.count();
     let bytes = journal.into_disk().len()?;
     Ok(Stored { records, bytes })
 }
@@ -114,7 +122,7 @@ pub(crate) fn reopen(alloc: Global, sizes: Sizes) -> Result<Stored>
     let disk = sizes.journal(alloc)?.into_disk();
     match Journal::open(alloc, disk, TAG) {
         Ok((journal, records)) => Ok(Stored {
-            records: records.len(),
+            records: records.len() as u64,
             bytes: journal.into_disk().len()?,
         }),
         Err((refused, _)) => Err(refused.into()),

@@ -1,11 +1,13 @@
 //! A text's run in a store on two disks in memory, by copy constants or by a dear analysis, and what copying the bytes of
 //! one takes.
 ghost use Rattle.std.specs.Prelude.{◌≡◌, IfOk};
-ghost use Rattle.std.specs.Arc.{arc_value};
 ghost use Rattle.ide_disk.specs.Memory.{memory_size};
 ghost use Rattle.ide_bench.specs.Stores.{AreAmountsOf};
+ghost use Rattle.ide_bench.specs.Working.{run_board, run_switches};
 
 use crate::dear::Spread;
+use crate::figures::Figure;
+use crate::records::Stored;
 use anyhow::Result;
 use ide_desks::{Accord, Opened};
 use ide_disk::{Disk, MemDisk};
@@ -27,13 +29,32 @@ const CALLS: usize = 1_024;
 /// No client orders commands while hands work.
 const NO_CLIENTS: u64 = 0;
 
-/// How many records a store has stored, how long its disks are, how many keys it has, and how many tasks that took.
+/// What a store has on its disks, how many keys it has, and how many tasks that took.
 #[derive(Clone, Copy)]
 pub(crate) struct Amounts {
-    pub(crate) records: u64,
-    pub(crate) bytes: u64,
-    pub(crate) keys: usize,
-    pub(crate) tasks: u64,
+    stored: Stored,
+    keys: usize,
+    tasks: u64,
+}
+
+impl Amounts {
+    /// Each number by its name.
+    pub(crate) fn figures(self) -> [Figure; 4] {
+        let [records, bytes] = self.stored.figures();
+        [
+            records,
+            bytes,
+            ("keys", self.keys as u64),
+            ("tasks", self.tasks),
+        ]
+    }
+}
+
+/// The analysis by which workers end a run.
+#[derive(Clone, Copy)]
+pub(crate) enum Analysis {
+    Copies,
+    Dear,
 }
 
 /// A store with no record.
@@ -87,9 +108,9 @@ fn measure_store<P: Problem>(engine: SlotEngine<P, MemDisk>, tasks: u64) -> Resu
     let (mut a, mut b) = engine.into_disks();
     let first = a.len()?;
     let second = b.len()?;
+    let bytes = first.saturating_add(second);
     Ok(Amounts {
-        records,
-        bytes: first.saturating_add(second),
+        stored: Stored { records, bytes },
         keys,
         tasks,
     })
@@ -128,58 +149,58 @@ macro_rules! end_run {
     }};
 }
 
-/// Keeps a text's run in a store, by workers and one that writes.
+/// A store that was opened with a board, by its analysis.
+#[derive(Drop)]
+enum OpenedStore {
+    Copies(Opened<CopyConst, MemDisk>),
+    Dear(Opened<Spread, MemDisk>),
+}
+
+impl OpenedStore {
+    /// A new store of the analysis, as [`opened`] makes it.
+    fn of(alloc: Global, text: &[u8], analysis: Analysis) -> Result<OpenedStore> {
+        match analysis {
+            Analysis::Copies => Ok(OpenedStore::Copies(opened(alloc, text)?)),
+            Analysis::Dear => Ok(OpenedStore::Dear(opened(alloc, text)?)),
+        }
+    }
+}
+
+/// A new store with a board, which has a text's program, and `main` as the root.
+fn opened<P: Problem>(alloc: Global, text: &[u8]) -> Result<Opened<P, MemDisk>> {
+    let mut engine = create(alloc)?;
+    begin(alloc, &mut engine, text)?;
+    match Opened::new(alloc, engine, NO_CLIENTS) {
+        Ok((opened, _)) => Ok(opened),
+        Err((refused, _)) => Err(refused.into()),
+    }
+}
+
+/// Keeps a text's run by the analysis in a store, by workers and one that writes.
 pub(crate) fn work<R: Threads + Wait + Clock + Sync + AllocGlobal>(
     rt: &R,
     text: &[u8],
+    analysis: Analysis,
     pace: Pace,
 ) -> Result<Amounts> {
-    let mut engine = create(rt.alloc())?;
-    begin(rt.alloc(), &mut engine, text)?;
-    match Opened::new(rt.alloc(), engine, NO_CLIENTS) {
-        Ok((opened, _)) => work_on::<Brand, R>(rt, opened, pace),
-        Err((refused, _)) => Err(refused.into()),
-    }
+    let opened = OpenedStore::of(rt.alloc(), text, analysis)?;
+    work_opened::<Brand, R>(rt, opened, pace)
 }
 
 /// The same on a store that was opened with a board.
-fn work_on<J: Accord + Send + Sync, R: Threads + Wait + Clock + Sync + AllocGlobal>(
+fn work_opened<J: Accord + Send + Sync, R: Threads + Wait + Clock + Sync + AllocGlobal>(
     rt: &R,
-    opened: Opened<CopyConst, MemDisk>,
+    opened: OpenedStore,
     pace: Pace,
 ) -> Result<Amounts>
-    requires board { arc_value opened.board ≡ J.board }
-    requires switches { opened.switch.board ≡ J.switches }
+    requires board { run_board opened ≡ J.board }
+    requires switches { run_switches opened ≡ J.switches }
     requires untold { J.told → ⊥ }
 {
-    end_run!(rt, opened, pace)
-}
-
-/// Keeps a text's run by a dear analysis in a store, by workers and one that writes.
-pub(crate) fn work_dear<R: Threads + Wait + Clock + Sync + AllocGlobal>(
-    rt: &R,
-    text: &[u8],
-    pace: Pace,
-) -> Result<Amounts> {
-    let mut engine = create(rt.alloc())?;
-    begin(rt.alloc(), &mut engine, text)?;
-    match Opened::new(rt.alloc(), engine, NO_CLIENTS) {
-        Ok((opened, _)) => work_dear_on::<Brand, R>(rt, opened, pace),
-        Err((refused, _)) => Err(refused.into()),
+    match opened {
+        OpenedStore::Copies(opened) => end_run!(rt, opened, pace),
+        OpenedStore::Dear(opened) => end_run!(rt, opened, pace),
     }
-}
-
-/// The same on a store that was opened with a board.
-fn work_dear_on<J: Accord + Send + Sync, R: Threads + Wait + Clock + Sync + AllocGlobal>(
-    rt: &R,
-    opened: Opened<Spread, MemDisk>,
-    pace: Pace,
-) -> Result<Amounts>
-    requires board { arc_value opened.board ≡ J.board }
-    requires switches { opened.switch.board ≡ J.switches }
-    requires untold { J.told → ⊥ }
-{
-    end_run!(rt, opened, pace)
 }
 
 /// Keeps a text's run in a store, and opens that store from its disks.

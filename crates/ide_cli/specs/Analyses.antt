@@ -1,11 +1,11 @@
 -- The analyses of the program, as contracts of stores see them.
 use Rattle.std.specs.Prelude.{true}
 use Rattle.ide_instances.specs.ConstFn.{const_edge, is_proper_fn}
-use Rattle.ide_instances.specs.ConstFnForm.{fn_form as const_form}
+use Rattle.ide_instances.specs.ConstFnForm.{const_fn_form}
 use Rattle.ide_instances.specs.ConstValue.{const_algebra}
 use Rattle.ide_instances.specs.Received.{copy_targets, shift_targets, uninit_targets}
 use Rattle.ide_instances.specs.UninitFn.{uninit_edge}
-use Rattle.ide_instances.specs.UninitForm.{fn_form as uninit_form}
+use Rattle.ide_instances.specs.UninitForm.{uninit_fn_form}
 use Rattle.ide_instances.specs.UninitValue.{uninit_algebra}
 use Rattle.ide_instances.specs.contracts.const_fn.ConstFnPartialEq.TheImpl.{ghosts as const_equality}
 use Rattle.ide_instances.specs.contracts.uninit_fn.UninitFnPartialEq.TheImpl.{ghosts as uninit_equality}
@@ -23,7 +23,7 @@ uninit_analysis = record {
   targets = uninit_targets;
   same = uninit_equality.eq;
   proper = λ f. true;
-  form = uninit_form;
+  form = uninit_fn_form;
 }
 
 -- one of constants, which differ in what their flow does
@@ -34,7 +34,7 @@ constants_by targets = record {
   targets = targets;
   same = const_equality.eq;
   proper = is_proper_fn;
-  form = const_form;
+  form = const_fn_form;
 }
 
 abbrev pub copy_analysis : Analysis ConstFn ConstValue

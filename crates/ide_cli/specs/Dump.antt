@@ -1,16 +1,16 @@
 -- What each analysis prints of a text.
 use Rattle.std.specs.Prelude.{ℕ, List, [], ◌∷◌}
 use Rattle.ide_instances.specs.ConstFn.{const_edge}
-use Rattle.ide_instances.specs.ConstValue.{const_algebra, shown_value as shown_constant}
+use Rattle.ide_instances.specs.ConstValue.{const_algebra, shown_constant}
 use Rattle.ide_instances.specs.Received.{copy_targets, shift_targets, uninit_targets}
 use Rattle.ide_instances.specs.UninitFn.{uninit_edge}
-use Rattle.ide_instances.specs.UninitValue.{uninit_algebra, shown_value}
+use Rattle.ide_instances.specs.UninitValue.{uninit_algebra, shown_uninit}
 use Rattle.ide_solver.specs.Solve.{IsSolution}
 use Rattle.ide_words.specs.declared.words.Instance.{Instance}
 use Rattle.ide_words.specs.declared.words.Instance.TheVariants.{Uninit, Copy, Shift}
 
 -- the dump of a text by an analysis, with one root
 abbrev pub IsDump : Instance → List ℕ → List ℕ → List ℕ → Type 0
-IsDump Uninit text root dump = IsSolution uninit_algebra uninit_edge uninit_targets shown_value text (root ∷ []) dump
+IsDump Uninit text root dump = IsSolution uninit_algebra uninit_edge uninit_targets shown_uninit text (root ∷ []) dump
 IsDump Copy text root dump = IsSolution const_algebra const_edge copy_targets shown_constant text (root ∷ []) dump
 IsDump Shift text root dump = IsSolution const_algebra const_edge shift_targets shown_constant text (root ∷ []) dump

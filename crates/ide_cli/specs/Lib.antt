@@ -5,3 +5,4 @@ pub mod Explained
 pub mod Help
 pub mod Printed
 pub mod Stores
+pub mod Working

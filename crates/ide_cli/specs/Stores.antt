@@ -11,8 +11,8 @@ use Rattle.ide_disk.specs.declared.disk.Disk.{Ghosts}
 use Rattle.ide_file.specs.contracts.disk.FileDiskDisk.TheImpl.{ghosts as disk_over}
 use Rattle.ide_file.specs.contracts.system.FileBackingFile.TheImpl.{dict as file_calls, ghosts as file}
 use Rattle.ide_file.specs.declared.disk.FileDisk.{FileDisk}
-use Rattle.ide_instances.specs.ConstValue.{shown_value as shown_constant}
-use Rattle.ide_instances.specs.UninitValue.{shown_value}
+use Rattle.ide_instances.specs.ConstValue.{shown_constant}
+use Rattle.ide_instances.specs.UninitValue.{shown_uninit}
 use Rattle.ide_slot_store.specs.declared.engine.SlotEngine.{SlotEngine}
 use Rattle.ide_store.specs.Table.{Analysis}
 use Rattle.ide_words.specs.declared.words.StoreCommand.{StoreCommand}
@@ -36,7 +36,7 @@ OpenStore = Store (FileDisk File file) (disk_over file_row file file_calls)
 
 -- the command does with the store what one of its analysis does, and prints what that came to
 abbrev pub ObeysOver : OpenStore → StoreCommand → List ℕ → (old new : Vec ℕ) → Type 0
-ObeysOver (Uninit engine) command text old new = Obeys uninit_analysis shown_value engine command text old new
+ObeysOver (Uninit engine) command text old new = Obeys uninit_analysis shown_uninit engine command text old new
 ObeysOver (Copy engine) command text old new = Obeys copy_analysis shown_constant engine command text old new
 ObeysOver (Shift engine) command text old new = Obeys shift_analysis shown_constant engine command text old new
 

@@ -25,51 +25,60 @@ pub(crate) const SECOND: &str = ".2";
 /// A disk over a file.
 type Disk = FileDisk<File>;
 
-/// The disk over the first file of a store, opened or made.
-fn first_of<'a>(store: &'a str, disk: Result<Disk, FileFault>) -> Result<Disk, Failure<'a>> {
-    disk.map_err(|_| Failure::CannotRead(store))
+/// What becomes of a file: it is opened, or it is made where it is not there. What it holds stays.
+#[derive(Clone, Copy)]
+enum Reach {
+    Open,
+    Make,
 }
 
-/// Makes the second file of a store, where it is not there. What it holds stays.
-fn make_second<'a, R: Files<File = File> + AllocGlobal>(
-    rt: &R,
-    store: &'a str,
-) -> Result<Disk, Failure<'a>> {
-    let name = format!(in rt.alloc(); "{store}{SECOND}")?;
-    FileDisk::create(rt, Path::new(&name)).map_err(|_| Failure::CannotReadSecond(store))
-}
-
-/// Opens the two files of a store.
-fn open_both<'a, R: Files<File = File> + AllocGlobal>(
-    rt: &R,
-    store: &'a str,
-) -> Result<(Disk, Disk), Failure<'a>> {
-    let first = first_of(store, FileDisk::open(rt, Path::new(store)))?;
-    match open_second(rt, store) {
-        Ok(second) => Ok((first, second)),
-        Err(failure) => Err(failure),
+impl Reach {
+    /// The disk over the file of that name.
+    fn disk<R: Files<File = File> + AllocGlobal>(
+        self,
+        rt: &R,
+        name: &str,
+    ) -> Result<Disk, FileFault> {
+        match self {
+            Reach::Open => FileDisk::open(rt, Path::new(name)),
+            Reach::Make => FileDisk::create(rt, Path::new(name)),
+        }
     }
 }
 
-/// Opens the second file of a store.
-fn open_second<'a, R: Files<File = File> + AllocGlobal>(
+/// The disk over the first file of a store.
+fn first_of<'a, R: Files<File = File> + AllocGlobal>(
     rt: &R,
     store: &'a str,
+    reach: Reach,
 ) -> Result<Disk, Failure<'a>> {
-    let name = format!(in rt.alloc(); "{store}{SECOND}")?;
-    FileDisk::open(rt, Path::new(&name)).map_err(|_| Failure::CannotReadSecond(store))
+    reach
+        .disk(rt, store)
+        .map_err(|_| Failure::CannotRead(store))
 }
 
-/// Makes the two files of a store, where they are not there.
-fn make_both<'a, R: Files<File = File> + AllocGlobal>(
+/// The disk over the second file of a store, beside that over its first.
+fn beside<'a, R: Files<File = File> + AllocGlobal>(
+    rt: &R,
+    first: Disk,
+    store: &'a str,
+    reach: Reach,
+) -> Result<(Disk, Disk), Failure<'a>> {
+    let name = format!(in rt.alloc(); "{store}{SECOND}")?;
+    match reach.disk(rt, &name) {
+        Ok(second) => Ok((first, second)),
+        Err(_) => Err(Failure::CannotReadSecond(store)),
+    }
+}
+
+/// The disks over both files of a store.
+fn both_of<'a, R: Files<File = File> + AllocGlobal>(
     rt: &R,
     store: &'a str,
+    reach: Reach,
 ) -> Result<(Disk, Disk), Failure<'a>> {
-    let first = first_of(store, FileDisk::create(rt, Path::new(store)))?;
-    match make_second(rt, store) {
-        Ok(second) => Ok((first, second)),
-        Err(failure) => Err(failure),
-    }
+    let first = first_of(rt, store, reach)?;
+    beside(rt, first, store, reach)
 }
 
 /// Makes a store of the analysis in the files of that name, whatever they held.
@@ -81,7 +90,7 @@ pub(crate) fn create<'a, R: Files<File = File> + AllocGlobal>(
 ) -> Result<(), Failure<'a>>
     ensures { OnOk result (out.new.items ≡ out.old.items ++ created_line) }
 {
-    let (a, b) = make_both(rt, store)?;
+    let (a, b) = both_of(rt, store, Reach::Make)?;
     match instance {
         Instance::Uninit => create_of::<Uninit>(rt.alloc(), a, b)?,
         Instance::Copy => create_of::<CopyConst>(rt.alloc(), a, b)?,
@@ -119,14 +128,9 @@ fn open_first<'a, R: Files<File = File> + AllocGlobal>(
     rt: &R,
     store: &'a str,
 ) -> Result<(Disk, Disk), Failure<'a>> {
-    let mut first = first_of(store, FileDisk::open(rt, Path::new(store)))?;
-    if let Err(refused) = tag(&mut first) {
-        return Err(Failure::Refused(refused));
-    }
-    match make_second(rt, store) {
-        Ok(second) => Ok((first, second)),
-        Err(failure) => Err(failure),
-    }
+    let mut first = first_of(rt, store, Reach::Open)?;
+    tag(&mut first)?;
+    beside(rt, first, store, Reach::Make)
 }
 
 /// Adopts the store that the first disk holds.
@@ -150,7 +154,7 @@ pub(crate) fn obey<'a, R: Files<File = File> + AllocGlobal + Threads + Wait + Cl
 ) -> Result<(), Failure<'a>>
     ensures { OnOk result (IsObeyed command.entry out.old out.new) }
 {
-    let (a, b) = open_both(rt, store)?;
+    let (a, b) = both_of(rt, store, Reach::Open)?;
     match text_of(rt, command) {
         Ok(text) => Ok(obey_on(rt, a, b, command, &text, terminal, out)?),
         Err(failure) => Err(failure),

@@ -1,10 +1,10 @@
 //! Work on a store in two files, by several hands and one that writes.
 //!
-//! It is written for each analysis by itself: the kit gives no proof of threads that are sent what rests on a
-//! bound on a type parameter's own type, as that a problem's functions may be sent.
-ghost use Rattle.std.specs.Arc.{arc_value};
+//! The hands' work is written out for each analysis by a macro: the kit gives no proof of threads that are sent what rests
+//! on a bound on a type parameter's own type, as that a problem's functions may be sent.
 ghost use Rattle.std.specs.Prelude.{◌≡◌, OnOk};
 ghost use Rattle.ide_cli.specs.Stores.{EndsWork, IsWorked};
+ghost use Rattle.ide_cli.specs.Working.{board_of, switches_of};
 
 use crate::telling::Telling;
 use ide_commands::{Store, end_work};
@@ -16,6 +16,7 @@ use ide_service::{Crew, Service, work_together};
 use ide_slot_store::SlotEngine;
 use ide_store::Kept;
 use ide_wire::Refused;
+use std::alloc::Global;
 use std::fs::File;
 use std::io::Stderr;
 use std::marker::Brand;
@@ -39,6 +40,38 @@ pub(crate) struct Asked {
     pub(crate) workers: usize,
     pub(crate) checkpoint_every: u32,
     pub(crate) terminal: Option<Stderr>,
+}
+
+/// A store that was opened with a board, by its analysis.
+#[derive(Drop)]
+enum OpenedStore {
+    Uninit(Opened<Uninit, Disk>),
+    Copy(Opened<CopyConst, Disk>),
+    Shift(Opened<ShiftConst, Disk>),
+}
+
+impl OpenedStore {
+    /// The store with a new board, at which no client has a seat.
+    ///
+    /// Refusals: those of [`Opened::new`].
+    fn of(alloc: Global, store: Store<Disk>) -> Result<OpenedStore, Refused> {
+        match store {
+            Store::Uninit(engine) => Ok(OpenedStore::Uninit(opened(alloc, engine)?)),
+            Store::Copy(engine) => Ok(OpenedStore::Copy(opened(alloc, engine)?)),
+            Store::Shift(engine) => Ok(OpenedStore::Shift(opened(alloc, engine)?)),
+        }
+    }
+}
+
+/// The engine with a new board, at which no client has a seat.
+fn opened<P: Problem>(
+    alloc: Global,
+    engine: SlotEngine<P, Disk>,
+) -> Result<Opened<P, Disk>, Refused> {
+    match Opened::new(alloc, engine, NO_CLIENTS) {
+        Ok((opened, _)) => Ok(opened),
+        Err((refused, _)) => Err(refused),
+    }
 }
 
 /// Lets hands do all that is pending in the engine that was opened with a board, while one stores what they do, and
@@ -91,63 +124,25 @@ pub(crate) fn work<R: Threads + Wait + Clock + Sync + AllocGlobal>(
     // It is the store that the hands left, and the same whether they told how far they had come.
     ensures { OnOk result (IsWorked asked.workers asked.checkpoint_every out.old out.new) }
 {
-    match store {
-        Store::Uninit(engine) => match Opened::new(rt.alloc(), engine, NO_CLIENTS) {
-            Ok((opened, _)) => work_uninit::<Brand, R>(rt, opened, asked, out),
-            Err((refused, _)) => Err(refused),
-        },
-        Store::Copy(engine) => match Opened::new(rt.alloc(), engine, NO_CLIENTS) {
-            Ok((opened, _)) => work_copy::<Brand, R>(rt, opened, asked, out),
-            Err((refused, _)) => Err(refused),
-        },
-        Store::Shift(engine) => match Opened::new(rt.alloc(), engine, NO_CLIENTS) {
-            Ok((opened, _)) => work_shift::<Brand, R>(rt, opened, asked, out),
-            Err((refused, _)) => Err(refused),
-        },
+    let opened = OpenedStore::of(rt.alloc(), store)?;
+    work_opened::<Brand, R>(rt, opened, asked, out)
+}
+
+/// The same on a store that was opened with a board.
+fn work_opened<J: Accord + Send + Sync, R: Threads + Wait + Clock + Sync + AllocGlobal>(
+    rt: &R,
+    opened: OpenedStore,
+    asked: Asked,
+    out: &mut Vec<u8>,
+) -> Result<(), Refused>
+    requires board { board_of opened ≡ J.board }
+    requires switches { switches_of opened ≡ J.switches }
+    requires untold { J.told → ⊥ }
+    ensures { OnOk result (IsWorked asked.workers asked.checkpoint_every out.old out.new) }
+{
+    match opened {
+        OpenedStore::Uninit(opened) => work_on!(rt, opened, asked, out),
+        OpenedStore::Copy(opened) => work_on!(rt, opened, asked, out),
+        OpenedStore::Shift(opened) => work_on!(rt, opened, asked, out),
     }
-}
-
-/// The same on a store of variables that may be read before they are written.
-fn work_uninit<J: Accord + Send + Sync, R: Threads + Wait + Clock + Sync + AllocGlobal>(
-    rt: &R,
-    opened: Opened<Uninit, Disk>,
-    asked: Asked,
-    out: &mut Vec<u8>,
-) -> Result<(), Refused>
-    requires board { arc_value opened.board ≡ J.board }
-    requires switches { opened.switch.board ≡ J.switches }
-    requires untold { J.told → ⊥ }
-    ensures { OnOk result (IsWorked asked.workers asked.checkpoint_every out.old out.new) }
-{
-    work_on!(rt, opened, asked, out)
-}
-
-/// The same on a store of constants through copies.
-fn work_copy<J: Accord + Send + Sync, R: Threads + Wait + Clock + Sync + AllocGlobal>(
-    rt: &R,
-    opened: Opened<CopyConst, Disk>,
-    asked: Asked,
-    out: &mut Vec<u8>,
-) -> Result<(), Refused>
-    requires board { arc_value opened.board ≡ J.board }
-    requires switches { opened.switch.board ≡ J.switches }
-    requires untold { J.told → ⊥ }
-    ensures { OnOk result (IsWorked asked.workers asked.checkpoint_every out.old out.new) }
-{
-    work_on!(rt, opened, asked, out)
-}
-
-/// The same on a store of constants through sums.
-fn work_shift<J: Accord + Send + Sync, R: Threads + Wait + Clock + Sync + AllocGlobal>(
-    rt: &R,
-    opened: Opened<ShiftConst, Disk>,
-    asked: Asked,
-    out: &mut Vec<u8>,
-) -> Result<(), Refused>
-    requires board { arc_value opened.board ≡ J.board }
-    requires switches { opened.switch.board ≡ J.switches }
-    requires untold { J.told → ⊥ }
-    ensures { OnOk result (IsWorked asked.workers asked.checkpoint_every out.old out.new) }
-{
-    work_on!(rt, opened, asked, out)
 }

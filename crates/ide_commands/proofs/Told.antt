@@ -1,6 +1,6 @@
 -- What the calls of a store say of it, put together: what a seal came to, and the values of an image.
 use Rattle.std.proofs.Common.{◌≡◌, ◌∙◌, ℕ, Bool, List, [], refl, ap, sym, subst}
-use Rattle.std.specs.Prelude.{Option, Some, None, Result, Ok, Err, IfSome, OnOk, is_some, option_map}
+use Rattle.std.specs.Prelude.{Option, Some, None, Result, Ok, Err, IfOk, IfSome, is_some, option_map}
 use Rattle.std.specs.Option.{option_copied}
 use Rattle.std.specs.Borrow.{Bor}
 use Rattle.ide_graph.specs.Supergraph.{Supergraph}
@@ -44,7 +44,8 @@ pub is_there : {X Y : Type 0} (f : X → Y) (o : Option (Bor X)) (p : Option Y) 
 is_there {X} {Y} f None p b same is = same ∙ ap (λ (q : Option Y). is_some q) is
 is_there {X} {Y} f (Some x) p b same is = same ∙ ap (λ (q : Option Y). is_some q) is
 
--- what holds of a call that is not refused holds together
-pub both_on_ok : {T E : Type 0} (P Q : Type 0) (result : Result T E) → OnOk result P → OnOk result Q → OnOk result (P × Q)
-both_on_ok P Q (Ok value) one two = (one, two)
-both_on_ok P Q (Err refused) one two = tt
+-- what holds of what was made holds of the same with another refusal
+pub is_made : {T E X : Type 0} (Holds : T → Type 0) (made : Result T X) (result : Result T E) → IfOk result (λ x. made ≡ Ok x) → IfOk made Holds
+    → IfOk result Holds
+is_made Holds made (Ok x) is holds = subst (λ m. IfOk m Holds) is holds
+is_made Holds made (Err e) is holds = tt

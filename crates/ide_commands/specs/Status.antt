@@ -6,7 +6,7 @@ use Rattle.ide_slot_journal.specs.Stands.{records_stored}
 use Rattle.ide_slot_store.specs.Sizes.{bytes_of}
 use Rattle.ide_slot_store.specs.declared.writer.SlotWriterHalf.{SlotWriterHalf}
 use Rattle.ide_store.specs.Table.{TableData}
-use Rattle.ide_commands.specs.Lines.{line_of, number_of}
+use Rattle.ide_commands.specs.Lines.{number_line, version_number}
 use Rattle.ide_commands.specs.declared.status.Status.{Status}
 
 -- the counts are those of the store
@@ -19,7 +19,7 @@ pub record IsStatusOf {F D : Type 0} {G : Ghosts D} (table : TableData F) (write
   pub bytes : status.bytes ≡ bytes_of writer
   pub generation : status.generation ≡ writer.journal.generation
   pub base : status.base ≡ writer.journal.base
-  pub version : status.version ≡ number_of writer.journal.version
+  pub version : status.version ≡ version_number writer.journal.version
 
 -- whether there is a program
 abbrev pub program_line : Bool → List ℕ
@@ -29,13 +29,13 @@ program_line has = if has then codes "program yes\n" else codes "program no\n"
 abbrev pub image_lines : Status → List ℕ
 image_lines s =
     program_line s.has_program
-    ++ (line_of (codes "roots ") s.roots ++ (line_of (codes "keys ") s.keys ++ line_of (codes "pending ") s.pending))
+    ++ (number_line (codes "roots ") s.roots ++ (number_line (codes "keys ") s.keys ++ number_line (codes "pending ") s.pending))
 
 abbrev pub slot_lines : Status → List ℕ
 slot_lines s =
-    line_of (codes "records ") s.records
-    ++ (line_of (codes "bytes ") s.bytes ++ (line_of (codes "generation ") s.generation
-    ++ (line_of (codes "base ") s.base ++ line_of (codes "version ") s.version)))
+    number_line (codes "records ") s.records
+    ++ (number_line (codes "bytes ") s.bytes ++ (number_line (codes "generation ") s.generation
+    ++ (number_line (codes "base ") s.base ++ number_line (codes "version ") s.version)))
 
 abbrev pub status_lines : Status → List ℕ
 status_lines s = image_lines s ++ slot_lines s

@@ -4,7 +4,7 @@ ghost use Rattle.ide_commands.specs.Asked.{Answers, AreNow, Prints, PrintsDump};
 ghost use Rattle.ide_commands.specs.Lines.{stored_line};
 ghost use Rattle.ide_commands.specs.Stored.{EndsQuiet, MakesCheckpoint, MakesRoot, Migrates, PrintsGeneration, PrintsStored, PrintsVersion, StoresText, WorksAll};
 
-use crate::lines::{append_line, number_of};
+use crate::lines::{append_line, version_number};
 use ide_disk::Disk;
 use ide_journal::Version;
 use ide_lattice::Lattice;
@@ -69,50 +69,22 @@ fn work_alone<P: Problem, D: Disk>(engine: &mut SlotEngine<P, D>) -> Result<(), 
     Ok(())
 }
 
-/// Makes a checkpoint, where one begins, and appends the generation of the current slot then.
-pub(crate) fn checkpoint<P: Problem, D: Disk>(
-    alloc: Global,
-    engine: &mut SlotEngine<P, D>,
-    out: &mut Vec<u8>,
-) -> Result<(), Refused>
-    ensures checkpoint { OnOk result (MakesCheckpoint ⟦<P as Kept>⟧.analysis engine.old engine.new) }
-    ensures prints { OnOk result (PrintsGeneration engine.new out.old out.new) }
-{
-    make_checkpoint(alloc, engine)?;
-    append_line(b"generation ", u64::from(engine.generation()), out)?;
-    Ok(())
-}
-
-/// Makes a checkpoint of a store of the first version, where one begins, so that it is of the second then, and
-/// appends the version of the current slot.
+/// Makes a checkpoint of a store of the first version, where one begins, so that it is of the second then; of one of the
+/// second it does nothing.
 pub(crate) fn migrate<P: Problem, D: Disk>(
-    alloc: Global,
-    engine: &mut SlotEngine<P, D>,
-    out: &mut Vec<u8>,
-) -> Result<(), Refused>
-    ensures migrates { OnOk result (Migrates ⟦<P as Kept>⟧.analysis engine.old engine.new) }
-    ensures prints { OnOk result (PrintsVersion engine.new out.old out.new) }
-{
-    write_anew(alloc, engine)?;
-    append_line(b"version ", number_of(engine.version()), out)?;
-    Ok(())
-}
-
-/// Makes a checkpoint of a store of the first version; of one of the second it does nothing.
-fn write_anew<P: Problem, D: Disk>(
     alloc: Global,
     engine: &mut SlotEngine<P, D>,
 ) -> Result<(), Refused>
     ensures { OnOk result (Migrates ⟦<P as Kept>⟧.analysis engine.old engine.new) }
 {
     match engine.version() {
-        Version::One => make_checkpoint(alloc, engine),
+        Version::One => checkpoint(alloc, engine),
         Version::Two => Ok(()),
     }
 }
 
-/// Asks for a checkpoint, and makes disk calls until none is left to make.
-fn make_checkpoint<P: Problem, D: Disk>(
+/// Makes a checkpoint, where one begins: disk calls, until none is left to make.
+pub(crate) fn checkpoint<P: Problem, D: Disk>(
     alloc: Global,
     engine: &mut SlotEngine<P, D>,
 ) -> Result<(), Refused>
@@ -121,6 +93,26 @@ fn make_checkpoint<P: Problem, D: Disk>(
     let _ = engine.checkpoint(alloc)?;
     engine.store_all()?;
     Ok(())
+}
+
+/// Appends the generation of the current slot.
+pub(crate) fn append_generation<P: Problem, D: Disk>(
+    engine: &SlotEngine<P, D>,
+    out: &mut Vec<u8>,
+) -> Result<(), AllocError>
+    ensures { OnOk result (PrintsGeneration engine.now out.old out.new) }
+{
+    append_line(b"generation ", u64::from(engine.generation()), out)
+}
+
+/// Appends the version of the current slot.
+pub(crate) fn append_version<P: Problem, D: Disk>(
+    engine: &SlotEngine<P, D>,
+    out: &mut Vec<u8>,
+) -> Result<(), AllocError>
+    ensures { OnOk result (PrintsVersion engine.now out.old out.new) }
+{
+    append_line(b"version ", version_number(engine.version()), out)
 }
 
 /// Appends the number of a stored record.

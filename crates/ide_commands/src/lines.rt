@@ -1,6 +1,6 @@
 //! Lines that tell a number.
 ghost use Rattle.std.specs.Prelude.{◌≡◌, ◌++◌, OnOk};
-ghost use Rattle.ide_commands.specs.Lines.{line_of, number_of};
+ghost use Rattle.ide_commands.specs.Lines.{number_line, version_number};
 
 use ide_journal::Version;
 use itoa::Buffer;
@@ -8,7 +8,7 @@ use std::alloc::AllocError;
 
 /// Appends a line of what is told and its number.
 pub(crate) fn append_line(told: &[u8], number: u64, out: &mut Vec<u8>) -> Result<(), AllocError>
-    ensures { OnOk result (out.new.items ≡ out.old.items ++ line_of told.now number) }
+    ensures { OnOk result (out.new.items ≡ out.old.items ++ number_line told.now number) }
 {
     out.extend_from_slice(told)?;
     out.extend_from_slice(Buffer::new().format(number).as_bytes())?;
@@ -16,8 +16,8 @@ pub(crate) fn append_line(told: &[u8], number: u64, out: &mut Vec<u8>) -> Result
 }
 
 /// The number of a version.
-pub(crate) fn number_of(version: Version) -> u64
-    ensures { result ≡ number_of version }
+pub(crate) fn version_number(version: Version) -> u64
+    ensures { result ≡ version_number version }
 {
     match version {
         Version::One => 1,

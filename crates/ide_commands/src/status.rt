@@ -2,7 +2,7 @@
 ghost use Rattle.std.specs.Prelude.{◌≡◌, ◌++◌, OnOk, IfOk};
 ghost use Rattle.ide_commands.specs.Status.{IsStatusOf, PrintsStatus, image_lines, program_line, slot_lines, status_lines};
 
-use crate::lines::{append_line, number_of};
+use crate::lines::{append_line, version_number};
 use ide_disk::Disk;
 use ide_problem::Problem;
 use ide_slot_store::SlotEngine;
@@ -44,7 +44,7 @@ impl Status {
         let records = engine.acked();
         let generation = u64::from(engine.generation());
         let base = u64::from(engine.writer.base());
-        let version = number_of(engine.version());
+        let version = version_number(engine.version());
         let (mut a, mut b) = engine.into_disks();
         let first = length_of(&mut a)?;
         let second = length_of(&mut b)?;

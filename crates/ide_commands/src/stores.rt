@@ -1,10 +1,10 @@
 //! Stores of the program's analyses, and which calls each command on one makes.
-ghost use Rattle.std.specs.Prelude.{◌≡◌, IfOk, OnOk};
+ghost use Rattle.std.specs.Prelude.{◌≡◌, IfOk, Ok, OnOk};
+ghost use Rattle.ide_commands.specs.Analyses.{tag_of};
 ghost use Rattle.ide_commands.specs.Obeyed.{Obeys};
 ghost use Rattle.ide_commands.specs.Opened.{IsAdopted, IsOpened};
 ghost use Rattle.ide_slot_journal.specs.Opened.{states_of};
-ghost use Rattle.ide_slot_store.specs.Adopting.{AdoptsEngine};
-ghost use Rattle.ide_slot_store.specs.Engine.{MakesEngine, OpensEngine};
+ghost use Rattle.ide_slot_store.specs.Engine.{MakesEngine};
 ghost use Rattle.ide_words.specs.declared.words.StoreCommand.TheVariants.{Status};
 
 use crate::calls;
@@ -17,7 +17,7 @@ use ide_slot_journal::current_tag;
 use ide_slot_store::SlotEngine;
 use ide_store::Kept;
 use ide_wire::Refused;
-use ide_words::StoreCommand;
+use ide_words::{Instance, StoreCommand};
 use std::alloc::Global;
 
 /// An open store, by its analysis.
@@ -38,7 +38,16 @@ pub fn create<P: Problem, D: Disk + Drop>(
 ) -> Result<SlotEngine<P, D>, Refused>
     ensures { MakesEngine ⟦<P as Kept>⟧.analysis P.TAG a b result }
 {
-    match SlotEngine::create(alloc, a, b) {
+    engine_of(SlotEngine::create(alloc, a, b))
+}
+
+/// The engine, or why there is none: the disks that come back with a refusal are let go of.
+fn engine_of<P: Problem, D: Disk + Drop>(
+    made: Result<SlotEngine<P, D>, (Refused, D, D)>,
+) -> Result<SlotEngine<P, D>, Refused>
+    ensures { IfOk result (λ engine. made ≡ Ok engine) }
+{
+    match made {
         Ok(engine) => Ok(engine),
         Err((refused, _, _)) => Err(refused),
     }
@@ -52,28 +61,10 @@ pub fn open<D: Disk + Drop>(alloc: Global, mut a: D, mut b: D) -> Result<Store<D
     ensures { D.honest a → D.honest b → IfOk result (IsOpened (states_of D.Disk a b)) }
 {
     let tag = current_tag(&mut a, &mut b)?;
-    if tag == Uninit::TAG {
-        Ok(Store::Uninit(opened(alloc, a, b)?))
-    } else if tag == CopyConst::TAG {
-        Ok(Store::Copy(opened(alloc, a, b)?))
-    } else if tag == ShiftConst::TAG {
-        Ok(Store::Shift(opened(alloc, a, b)?))
-    } else {
-        Err(Refused::WrongInstance)
-    }
-}
-
-/// Opens the store of an analysis that the disks A and B hold.
-fn opened<P: Problem, D: Disk + Drop>(
-    alloc: Global,
-    a: D,
-    b: D,
-) -> Result<SlotEngine<P, D>, Refused>
-    ensures { OpensEngine ⟦<P as Kept>⟧.analysis P.TAG a b result }
-{
-    match SlotEngine::open(alloc, a, b) {
-        Ok(engine) => Ok(engine),
-        Err((refused, _, _)) => Err(refused),
+    match instance_of(tag)? {
+        Instance::Uninit => Ok(Store::Uninit(engine_of(SlotEngine::open(alloc, a, b))?)),
+        Instance::Copy => Ok(Store::Copy(engine_of(SlotEngine::open(alloc, a, b))?)),
+        Instance::Shift => Ok(Store::Shift(engine_of(SlotEngine::open(alloc, a, b))?)),
     }
 }
 
@@ -86,28 +77,27 @@ pub fn adopt<D: Disk + Drop>(alloc: Global, mut a: D, b: D) -> Result<Store<D>, 
     ensures { D.honest a → D.honest b → IfOk result (IsAdopted (D.state a)) }
 {
     let tag = tag(&mut a)?;
-    if tag == Uninit::TAG {
-        Ok(Store::Uninit(adopted(alloc, a, b)?))
-    } else if tag == CopyConst::TAG {
-        Ok(Store::Copy(adopted(alloc, a, b)?))
-    } else if tag == ShiftConst::TAG {
-        Ok(Store::Shift(adopted(alloc, a, b)?))
-    } else {
-        Err(Refused::WrongInstance)
+    match instance_of(tag)? {
+        Instance::Uninit => Ok(Store::Uninit(engine_of(SlotEngine::adopt(alloc, a, b))?)),
+        Instance::Copy => Ok(Store::Copy(engine_of(SlotEngine::adopt(alloc, a, b))?)),
+        Instance::Shift => Ok(Store::Shift(engine_of(SlotEngine::adopt(alloc, a, b))?)),
     }
 }
 
-/// Adopts the store of an analysis that the disk A alone holds.
-fn adopted<P: Problem, D: Disk + Drop>(
-    alloc: Global,
-    a: D,
-    b: D,
-) -> Result<SlotEngine<P, D>, Refused>
-    ensures { AdoptsEngine ⟦<P as Kept>⟧.analysis P.TAG a b result }
+/// The analysis of the program whose stores have that tag.
+///
+/// Refusal: `WrongInstance`, where it is of none.
+fn instance_of(tag: u8) -> Result<Instance, Refused>
+    ensures { IfOk result (λ instance. tag ≡ tag_of instance) }
 {
-    match SlotEngine::adopt(alloc, a, b) {
-        Ok(engine) => Ok(engine),
-        Err((refused, _, _)) => Err(refused),
+    if tag == Uninit::TAG {
+        Ok(Instance::Uninit)
+    } else if tag == CopyConst::TAG {
+        Ok(Instance::Copy)
+    } else if tag == ShiftConst::TAG {
+        Ok(Instance::Shift)
+    } else {
+        Err(Refused::WrongInstance)
     }
 }
 
@@ -146,8 +136,14 @@ fn obey<P: Problem, D: Disk>(
         StoreCommand::Load { .. } => calls::load(alloc, engine, text, out),
         StoreCommand::Root { procedure } => calls::root(engine, procedure.as_bytes(), out),
         StoreCommand::Work { .. } => calls::end_work(engine, out),
-        StoreCommand::Checkpoint => calls::checkpoint(alloc, engine, out),
-        StoreCommand::Migrate => calls::migrate(alloc, engine, out),
+        StoreCommand::Checkpoint => {
+            calls::checkpoint(alloc, engine)?;
+            Ok(calls::append_generation(engine, out)?)
+        }
+        StoreCommand::Migrate => {
+            calls::migrate(alloc, engine)?;
+            Ok(calls::append_version(engine, out)?)
+        }
         StoreCommand::Ask {
             procedure,
             position,

@@ -103,7 +103,7 @@ module _ {F L : Type 0} (a : Analysis F L) (tag : ℕ) (version : Version) (firs
         both_live : WorksOnRun a tag Two (spelling_anew table) records × WritesLive a tag Two records (length writer.stored) new
         both_live =
             planned_live (length writer.stored)
-            (subst (λ (b : Bool). keeping.KeepsWriting a tag version b records (length writer.stored) old) going writes.keeps)
+            (subst (λ (b : Bool). keeping.WritesUnlessFailed a tag version b records (length writer.stored) old) going writes.keeps)
             (record { handed = none_waits; still = still; parts = parts; image = image; plans = plans; sides = sides })
 
         pub desk_planned : IsWriterDesk a tag Two first new writer failed
@@ -111,7 +111,7 @@ module _ {F L : Type 0} (a : Analysis F L) (tag : ℕ) (version : Version) (firs
           begun = writes.begun;
           unknown_first = writes.unknown_first;
           honest = same_honest old.journal new.journal sides writes.honest;
-          keeps = subst (λ (b : Bool). keeping.KeepsWriting a tag Two b records (length writer.stored) new) (sym going) both_live.1;
+          keeps = subst (λ (b : Bool). keeping.WritesUnlessFailed a tag Two b records (length writer.stored) new) (sym going) both_live.1;
         }
 
         -- the half that works spells records in the second version then
@@ -132,7 +132,7 @@ module _ {F L : Type 0} (a : Analysis F L) (tag : ℕ) (version : Version) (firs
     begun = writes.begun;
     unknown_first = writes.unknown_first;
     honest = same_honest old.journal new.journal sides writes.honest;
-    keeps = subst (λ (b : Bool). keeping.KeepsWriting a tag version b (records_in first writer.taken) (length writer.stored) new) (sym going)
+    keeps = subst (λ (b : Bool). keeping.WritesUnlessFailed a tag version b (records_in first writer.taken) (length writer.stored) new) (sym going)
         (stays_live a tag version keep (records_in first writer.taken) (length writer.stored) old new
-        (subst (λ (b : Bool). keeping.KeepsWriting a tag version b (records_in first writer.taken) (length writer.stored) old) going writes.keeps) keeps quiet);
+        (subst (λ (b : Bool). keeping.WritesUnlessFailed a tag version b (records_in first writer.taken) (length writer.stored) old) going writes.keeps) keeps quiet);
   }

@@ -31,7 +31,7 @@ use Rattle.ide_board.specs.Records.{ClientView, WriterView, with_stored}
 use Rattle.ide_desks.specs.Desks.{IsWriterDesk}
 use Rattle.ide_desks.proofs.Lists.{get_replicate, get_take, record_of, records_count, records_get}
 use Rattle.ide_desks.specs.Stepping.{IsStepRefusal, wants_memory}
-use Rattle.ide_desks.specs.Keeping.{HaveOwn, HoldsStored, KeepsOwn, KeepsStored, KeepsWriting, LeavesStored, WritesLive, records_in, unknown}
+use Rattle.ide_desks.specs.Keeping.{HaveOwn, HoldsStored, KeepsOwn, KeepsStored, WritesUnlessFailed, LeavesStored, WritesLive, records_in, unknown}
 
 module _ {F L : Type 0} (a : Analysis F L) (tag : ℕ) (version : Version) {D : Type 0} {G : Ghosts D} where
   -- it has stored as many as its journal counts
@@ -189,7 +189,7 @@ module _ {F L : Type 0} (a : Analysis F L) (tag : ℕ) (version : Version) {D : 
   count = length seat.stored
 
   live : WritesLive a tag version taken count old
-  live = subst (λ (b : Bool). KeepsWriting a tag version b taken count old) works desk.keeps
+  live = subst (λ (b : Bool). WritesUnlessFailed a tag version b taken count old) works desk.keeps
 
   taken_count : length taken ≡ length seat.taken
   taken_count = records_count first seat.taken desk.begun
@@ -202,7 +202,7 @@ module _ {F L : Type 0} (a : Analysis F L) (tag : ℕ) (version : Version) {D : 
     begun = desk.begun;
     unknown_first = desk.unknown_first;
     honest = honest desk.honest;
-    keeps = subst (λ (b : Bool). KeepsWriting a tag version b taken count new) (sym works) on;
+    keeps = subst (λ (b : Bool). WritesUnlessFailed a tag version b taken count new) (sym works) on;
   }
 
   pub desk_rests : (AreHonest old.journal → StepsOver old new (Ok false)) → (count ≡ length seat.taken) × IsWriterDesk a tag version first new seat failed_before
@@ -239,7 +239,7 @@ module _ {F L : Type 0} (a : Analysis F L) (tag : ℕ) (version : Version) {D : 
             begun = desk.begun;
             unknown_first = desk.unknown_first;
             honest = honest desk.honest;
-            keeps = subst (λ (b : Bool). KeepsWriting a tag version b taken (length (take (count + 1) seat.taken)) new) (sym works)
+            keeps = subst (λ (b : Bool). WritesUnlessFailed a tag version b taken (length (take (count + 1) seat.taken)) new) (sym works)
                 (subst (λ (n : ℕ). WritesLive a tag version taken n new) (sym long) on);
           }
 
@@ -282,7 +282,7 @@ keeps_own a tag version keep first half seat fault client beginning desk own lef
       own_found first seat.stored seat.taken found.0 is.count beginning desk.begun desk.unknown_first is.is is.least client.seen client.number client.own own,
     ) ∣₁
   where
-    safe_as : (b : Bool) → KeepsWriting a tag version b (records_in first seat.taken) (length seat.stored) half
+    safe_as : (b : Bool) → WritesUnlessFailed a tag version b (records_in first seat.taken) (length seat.stored) half
         → IsSafe (two_disks (slots_of a) tag) (records_in first seat.taken) (length seat.stored) (disks_of half.journal)
     safe_as false on = (keep tag).live_safe (records_in first seat.taken) (length seat.stored) (slot_writer on.other half.journal) (disks_of half.journal) on.live
     safe_as true safe = safe

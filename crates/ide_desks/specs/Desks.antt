@@ -3,7 +3,7 @@ use Rattle.std.specs.Prelude.{◌≡◌, ℕ, ◌+◌, ◌++◌, ◌≤◌, Bool
 use Rattle.ide_board.specs.Records.{AreStoredBelow, ClientView, TableView, WriterView, with_own, with_sealed, with_stored}
 use Rattle.ide_desks.specs.declared.writer.Stepped.{Stepped}
 use Rattle.ide_desks.specs.declared.writer.Stepped.TheVariants.{Called, Rested, Stored}
-use Rattle.ide_desks.specs.Keeping.{KeepsWriting, WorksOnRun, handed_of, records_in, unknown, waiting_of}
+use Rattle.ide_desks.specs.Keeping.{WritesUnlessFailed, WorksOnRun, handed_of, records_in, unknown, records_waiting}
 use Rattle.ide_disk.specs.declared.disk.Disk.{Ghosts}
 use Rattle.ide_journal.specs.Format.{Entry}
 use Rattle.ide_journal.specs.declared.version.Version.{Version}
@@ -79,7 +79,7 @@ module _ {F L : Type 0} (a : Analysis F L) (tag : ℕ) (version : Version) (firs
   -- of the records that were not handed over the half has each; and until it is told of a failure it works on a run
   pub record IsTableDesk (table : TableData F) (seat : TableView VersionedEntry) : Type 0 where
     pub begun : length first ≤ seat.handed
-    pub waits : in_version version table.waiting ≡ waiting_of first seat
+    pub waits : in_version version table.waiting ≡ records_waiting first seat
     pub run : table.failed ≡ false → WorksOnRun a tag version table (handed_of first seat)
 
   -- the disks keep the stored ones of the records that were taken over
@@ -87,7 +87,7 @@ module _ {F L : Type 0} (a : Analysis F L) (tag : ℕ) (version : Version) (firs
     pub begun : length first ≤ length seat.taken
     pub unknown_first : take (length first) seat.taken ≡ replicate (length first) unknown
     pub honest : AreHonest half.journal
-    pub keeps : KeepsWriting a tag version failed (records_in first seat.taken) (length seat.stored) half
+    pub keeps : WritesUnlessFailed a tag version failed (records_in first seat.taken) (length seat.stored) half
 
 -- the writer's seat after a step: one more record is stored, or none
 abbrev pub seat_after : Stepped → WriterView VersionedEntry → WriterView VersionedEntry

@@ -28,8 +28,8 @@ records_in first sealed = first ++ drop (length first) (map (λ m. m.0) sealed)
 abbrev pub handed_of : (first : List VersionedEntry) → TableView VersionedEntry → List VersionedEntry
 handed_of first seat = take seat.handed (records_in first seat.sealed)
 
-abbrev pub waiting_of : (first : List VersionedEntry) → TableView VersionedEntry → List VersionedEntry
-waiting_of first seat = drop seat.handed (records_in first seat.sealed)
+abbrev pub records_waiting : (first : List VersionedEntry) → TableView VersionedEntry → List VersionedEntry
+records_waiting first seat = drop seat.handed (records_in first seat.sealed)
 
 -- what stands in the place of a record that the board does not know
 abbrev pub unknown : Marked VersionedEntry
@@ -65,9 +65,9 @@ module _ {F L : Type 0} (a : Analysis F L) (tag : ℕ) where
   KeepsStored taken stored half = IsSafe (two_disks (slots_of a) tag) taken stored (disks_of half.journal)
 
   -- the half writes while no call of a disk failed, and keeps what is stored from then on
-  abbrev pub KeepsWriting : {D : Type 0} {G : Ghosts D} → Version → (failed : Bool) → List VersionedEntry → ℕ → SlotWriterHalf D G → Type 0
-  KeepsWriting version false taken stored half = WritesLive a tag version taken stored half
-  KeepsWriting version true taken stored half = KeepsStored taken stored half
+  abbrev pub WritesUnlessFailed : {D : Type 0} {G : Ghosts D} → Version → (failed : Bool) → List VersionedEntry → ℕ → SlotWriterHalf D G → Type 0
+  WritesUnlessFailed version false taken stored half = WritesLive a tag version taken stored half
+  WritesUnlessFailed version true taken stored half = KeepsStored taken stored half
 
   -- what is left holds the stored ones of the records, and perhaps some behind them
   pub record HoldsStored (taken : List VersionedEntry) (stored : ℕ) (left : Sides (List ℕ)) : Type 0 where

@@ -20,13 +20,7 @@ impl FileDisk<File> {
         ensures failures { IfOk result (λ disk. file_failure_count disk ≡ 0) }
         ensures working { IfOk result IsWorking }
     {
-        let file = File::options()
-            .read(true)
-            .write(true)
-            .create(true)
-            .open(rt, path)
-            .map_err(FileFault::Unreadable)?;
-        lock(&file)?;
+        let file = open_locked(rt, path, true)?;
         sync_folder(rt, path).map_err(FileFault::Unreadable)?;
         FileDisk::over(file)
     }
@@ -38,14 +32,24 @@ impl FileDisk<File> {
         ensures failures { IfOk result (λ disk. file_failure_count disk ≡ 0) }
         ensures working { IfOk result IsWorking }
     {
-        let file = File::options()
-            .read(true)
-            .write(true)
-            .open(rt, path)
-            .map_err(FileFault::Unreadable)?;
-        lock(&file)?;
-        FileDisk::over(file)
+        FileDisk::over(open_locked(rt, path, false)?)
     }
+}
+
+// The file for reading and writing, with its lock; it may be made where it is not there.
+fn open_locked<R: Files<File = File>>(
+    rt: &R,
+    path: Path<'_>,
+    may_make: bool,
+) -> Result<File, FileFault> {
+    let file = File::options()
+        .read(true)
+        .write(true)
+        .create(may_make)
+        .open(rt, path)
+        .map_err(FileFault::Unreadable)?;
+    lock(&file)?;
+    Ok(file)
 }
 
 // Takes the advisory lock, which the system gives back where the file is closed.

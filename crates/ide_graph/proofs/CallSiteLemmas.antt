@@ -14,7 +14,7 @@ use Rattle.ide_graph.specs.declared.edge.EdgeData.{EdgeData}
 use Rattle.ide_graph.specs.declared.edge.EdgeKind.TheVariants as kind
 use Rattle.ide_graph.specs.Lists.{Lists}
 use Rattle.ide_graph.specs.Numbers.{statement, start_of, result_of}
-use Rattle.ide_graph.specs.ProgramEdges.{ArePassed, CallAt, IsAlong, IsAssigned, IsBack, IsCall, IsCallFrom, IsCallee, edge_of}
+use Rattle.ide_graph.specs.ProgramEdges.{ArePassed, CallAt, IsAlong, IsTargetFact, IsBack, IsCall, IsCallFrom, IsCallee, edge_of}
 use Rattle.ide_graph.proofs.FoundLemmas.{there}
 use Rattle.ide_graph.proofs.NodeLemmas.{spots_two, starts_apart}
 use Rattle.ide_graph.proofs.ProgramLemmas.{same_spot, same_owner}
@@ -52,7 +52,7 @@ module _ (p : Program) where
       let fact : x.0 ≡ y.0 = same_Some x.0 y.0 (sym x.1 ∙ y.1) in
       get_or_from_slice_get xs k (x.0, result_of p + 1 + k) d x.2 ∙ (ap (λ f. (f, result_of p + 1 + k)) fact ∙ sym (get_or_from_slice_get ys k (y.0, result_of p + 1 + k) d y.2)))
 
-  assigned_once : (q : Procedure) (target : Option (List ℕ)) (a b : Option ℕ) → IsAssigned p q target a → IsAssigned p q target b → a ≡ b
+  assigned_once : (q : Procedure) (target : Option (List ℕ)) (a b : Option ℕ) → IsTargetFact p q target a → IsTargetFact p q target b → a ≡ b
   assigned_once q None a b x y = x ∙ sym y
   assigned_once q (Some name) a b x y = x.2 ∙ (ap (λ f. Some f) (same_Some x.0 y.0 (sym x.1 ∙ y.1)) ∙ sym y.2)
 
@@ -68,16 +68,16 @@ module _ (p : Program) where
   pub back_once : (n callee : ℕ) (a b : EdgeData) → IsBack p n callee a → IsBack p n callee b → a ≡ b
   back_once n callee a b x y =
       let same = same_call n x.call y.call in
-      let assigned : IsAssigned p y.call.procedure y.call.target x.target =
-      subst (λ t. IsAssigned p y.call.procedure t x.target) same.target (subst (λ q. IsAssigned p q x.call.target x.target) same.procedure x.assigned) in
+      let assigned : IsTargetFact p y.call.procedure y.call.target x.target =
+      subst (λ t. IsTargetFact p y.call.procedure t x.target) same.target (subst (λ q. IsTargetFact p q x.call.target x.target) same.procedure x.assigned) in
       let target : x.target ≡ y.target = assigned_once y.call.procedure y.call.target x.target y.target assigned y.assigned in
       x.is ∙ (ap (λ t. edge_of p (n + 1) (kind.Return t)) target ∙ sym y.is)
 
   pub along_once : (n : ℕ) (a b : EdgeData) → IsAlong p n a → IsAlong p n b → a ≡ b
   along_once n a b x y =
       let same = same_call n x.call y.call in
-      let assigned : IsAssigned p y.call.procedure y.call.target x.target =
-      subst (λ t. IsAssigned p y.call.procedure t x.target) same.target (subst (λ q. IsAssigned p q x.call.target x.target) same.procedure x.assigned) in
+      let assigned : IsTargetFact p y.call.procedure y.call.target x.target =
+      subst (λ t. IsTargetFact p y.call.procedure t x.target) same.target (subst (λ q. IsTargetFact p q x.call.target x.target) same.procedure x.assigned) in
       let target : x.target ≡ y.target = assigned_once y.call.procedure y.call.target x.target y.target assigned y.assigned in
       x.is ∙ (ap (λ t. edge_of p (n + 1) (kind.CallToReturn t)) target ∙ sym y.is)
 

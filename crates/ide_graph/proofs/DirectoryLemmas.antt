@@ -8,9 +8,10 @@ use Rattle.indexmap.specs.IndexMap.{insert_entry}
 use Rattle.ide_text.specs.declared.program.Procedure.{Procedure}
 use Rattle.ide_text.specs.Names.{is_named}
 use Rattle.std.specs.Str.{bytes_eq}
-use Rattle.ide_graph.specs.Naming.{number_of, with_number}
+use Rattle.ide_text.specs.Places.{place_of, with_place}
 use Rattle.ide_graph.specs.Numbers.{procedure_of}
-use Rattle.ide_graph.proofs.PlaceLemmas.{or_else, number_of-with, position-push}
+use Rattle.ide_text.proofs.PlaceLemmas.{place_of-with_place}
+use Rattle.ide_text.proofs.Positions.{or_else, position-push}
 
 pub All-insert_entry : {K V : Type 0} (eq : K → K → Bool) (P : V → Type 0) (es : List (K × V)) (k : K) (v : V) → All P (values_of es) → P v → All P (values_of (insert_entry eq es k v))
 All-insert_entry eq P [] k v all one = All-cons P v [] one all
@@ -21,11 +22,11 @@ All-insert_entry eq P (e ∷ es) k v all one =
     ]
 
 -- one more procedure
-pub procedure_of-more : (numbers : List (List ℕ × ℕ)) (ps : List Procedure) (q : Procedure) (n : ℕ) → n ≡ length ps
-    → ((name : List ℕ) → number_of numbers name ≡ procedure_of ps name)
-    → (name : List ℕ) → number_of (with_number numbers q.name n) name ≡ procedure_of (ps ++ q ∷ []) name
-procedure_of-more numbers ps q n is before name =
-    number_of-with numbers q.name name n
+pub procedure_of-more : (places : List (List ℕ × ℕ)) (ps : List Procedure) (q : Procedure) (n : ℕ) → n ≡ length ps
+    → ((name : List ℕ) → place_of places name ≡ procedure_of ps name)
+    → (name : List ℕ) → place_of (with_place places q.name n) name ≡ procedure_of (ps ++ q ∷ []) name
+procedure_of-more places ps q n is before name =
+    place_of-with_place places q.name name n
     ∙ ap (λ o. or_else o (cond (bytes_eq name q.name) (Some n) None)) (before name)
     ∙ ap (λ m. or_else (procedure_of ps name) (cond (bytes_eq name q.name) (Some m) None)) is
     ∙ sym (position-push (is_named name) ps q)

@@ -8,7 +8,7 @@ use Rattle.ide_text.specs.Names.{is_among}
 use Rattle.std.specs.Str.{bytes_eq}
 use Rattle.ide_graph.specs.Named.{fact_of_name, own_or_shared}
 use Rattle.ide_graph.specs.Naming.{AreNew}
-use Rattle.ide_graph.proofs.PlaceLemmas.{or_else, later, position-cons, position-append, position_within, position_found, is_some-position}
+use Rattle.ide_text.proofs.Positions.{or_else, later, position-cons, position-append, position_within, position_found, is_some-position}
 
 -- none of the names is that of the zero fact or of the result
 abbrev pub AreFree : List (List ℕ) → Type 0

@@ -22,7 +22,7 @@ use Rattle.ide_graph.specs.GraphOf.{IsGraphOf}
 use Rattle.ide_graph.specs.Joined.{HasFlat, HasCall, ReturnsTo, HasCaller, IsEntered, IsLeft, start_at, SitesOfProgramsAreJoined}
 use Rattle.ide_graph.specs.Lists.{Lists}
 use Rattle.ide_graph.specs.Numbers.{Spot, statement, exit, nodes_of, start_of, exit_of, result_of}
-use Rattle.ide_graph.specs.ProgramEdges.{edge_of, ArePassed, CallAt, IsNormal, HasEdgesOf, IsAlong, IsAssigned, IsCall, IsCallFrom, IsCallerOf, IsExitSite, IsPlain, IsSiteOf}
+use Rattle.ide_graph.specs.ProgramEdges.{edge_of, ArePassed, CallAt, IsNormal, HasEdgesOf, IsAlong, IsTargetFact, IsCall, IsCallFrom, IsCallerOf, IsExitSite, IsPlain, IsSiteOf}
 use Rattle.ide_graph.specs.Supergraph.{Supergraph}
 use Rattle.ide_graph.proofs.CallSiteLemmas.{callee_found}
 use Rattle.ide_graph.proofs.CallLemmas.{arguments_known, passed_more, passed_none, targets_known}
@@ -37,7 +37,7 @@ of_each : {X : Type 0} (P : X → Type 0) (xs : List X) (x : X) → All P xs →
 of_each P xs x all there = subst P there.2 (all there.0 x there.1)
 
 -- a call with a target assigns a fact
-assigned_exists : (p : Program) (q : Procedure) (target : Option (List ℕ)) → AllHaveFacts p q (option_to_list target) → (fact : Option ℕ) × IsAssigned p q target fact
+assigned_exists : (p : Program) (q : Procedure) (target : Option (List ℕ)) → AllHaveFacts p q (option_to_list target) → (fact : Option ℕ) × IsTargetFact p q target fact
 assigned_exists p q None known = (None, refl)
 assigned_exists p q (Some x) known = let found = known x (0, omega arith, refl) in (Some found.0, (found.0, found.1, refl))
 

@@ -22,7 +22,7 @@ use Rattle.ide_graph.specs.EdgeLaws.{EdgesAreLawful, IsLawful}
 use Rattle.ide_graph.specs.Lawful.{AreParameters, IsAssigned as AssignsVariable, IsEffect, IsKind, IsVariable}
 use Rattle.std.specs.Str.{bytes_eq}
 use Rattle.ide_graph.specs.Numbers.{Spot, start, statement, return_site, exit, names_at, start_of, result_of, facts_of}
-use Rattle.ide_graph.specs.ProgramEdges.{CallAt, Gives, Goes, HasFact, IsAlong, IsAssigned, IsBack, IsCall, IsNormal, Stands, edge_of}
+use Rattle.ide_graph.specs.ProgramEdges.{CallAt, Gives, Goes, HasFact, IsAlong, IsTargetFact, IsBack, IsCall, IsNormal, Stands, edge_of}
 use Rattle.ide_graph.proofs.CallLemmas.{arguments_counted}
 use Rattle.ide_graph.proofs.CallSiteLemmas.{callee_found}
 use Rattle.ide_graph.proofs.FactLemmas.{own_within}
@@ -84,7 +84,7 @@ module _ (p : Program) (index : ℕ) (q : Procedure) (owner : slice_get (procedu
   goes_effect proper n return_site stands end effect g = rw g.1 tt
   goes_effect proper n exit stands end effect g = absurd g
 
-  assigned_variable : (target : Option (List ℕ)) (assigned : Option ℕ) → IfSome target IsName → IsAssigned p q target assigned → AssignsVariable (facts_of p) assigned
+  assigned_variable : (target : Option (List ℕ)) (assigned : Option ℕ) → IfSome target IsName → IsTargetFact p q target assigned → AssignsVariable (facts_of p) assigned
   assigned_variable None assigned proper is = rw is tt
   assigned_variable (Some x) assigned proper is = rw is.2 (is_variable x is.0 proper is.1)
 

@@ -24,7 +24,7 @@ use Rattle.ide_graph.specs.declared.site.Caller.{Caller}
 use Rattle.ide_graph.specs.declared.site.Site.{Site}
 use Rattle.ide_graph.specs.declared.site.Site.TheVariants as site
 use Rattle.ide_graph.specs.Numbers.{Spot, start, statement, return_site, exit, spots_on, spots_of, nodes_from, nodes_of, start_of, exit_of, label_from, procedure_of, names_at, most_own, result_of, facts_of}
-use Rattle.ide_graph.specs.ProgramEdges.{ArePassed, CallAt, Gives, Goes, HasFact, IsAlong, IsAssigned, IsBack, IsCall, IsCallee, IsCallerOf, IsCallFrom, IsNormal, IsPlain, IsPlainNode, IsSiteOf, Stands, edge_of}
+use Rattle.ide_graph.specs.ProgramEdges.{ArePassed, CallAt, Gives, Goes, HasFact, IsAlong, IsTargetFact, IsBack, IsCall, IsCallee, IsCallerOf, IsCallFrom, IsNormal, IsPlain, IsPlainNode, IsSiteOf, Stands, edge_of}
 use Rattle.ide_graph.proofs.ListsLemmas.{lists_same}
 
 -- ---- lists that a function maps to one list
@@ -352,7 +352,7 @@ module _ (p q : Program) (e : value_of p ≡ value_of q) (a b : Procedure) (same
   gives_same target expression.Unknown effect h = h
   gives_same target (expression.Mix y z) effect h = (h.0, h.1, has_same y h.0 h.2, has_same z h.1 h.3, h.4)
 
-  assigned_same : (target : Option (List ℕ)) (fact : Option ℕ) → IsAssigned p a target fact → IsAssigned q b target fact
+  assigned_same : (target : Option (List ℕ)) (fact : Option ℕ) → IsTargetFact p a target fact → IsTargetFact q b target fact
   assigned_same None fact h = h
   assigned_same (Some x) fact h = (h.0, has_same x h.0 h.1, h.2)
 
@@ -449,10 +449,10 @@ module _ (p q : Program) (e : value_of p ≡ value_of q) (n : ℕ) where
     sym (procedure_same (procedures_of p) (procedures_of q) (procedures_same p q e) h.0) ∙ h.2,
   )
 
-  target_there : (at : CallAt p n) (fact : Option ℕ) → IsAssigned p at.procedure at.target fact → IsAssigned q (call_there at).call.procedure (call_there at).call.target fact
+  target_there : (at : CallAt p n) (fact : Option ℕ) → IsTargetFact p at.procedure at.target fact → IsTargetFact q (call_there at).call.procedure (call_there at).call.target fact
   target_there at fact h =
       let there = call_there at in
-      subst (λ (x : Option (List ℕ)). IsAssigned q there.call.procedure x fact) there.target (assigned_same p q e at.procedure there.call.procedure there.procedure at.target fact h)
+      subst (λ (x : Option (List ℕ)). IsTargetFact q there.call.procedure x fact) there.target (assigned_same p q e at.procedure there.call.procedure there.procedure at.target fact h)
 
   call_same : (callee : ℕ) (edge : EdgeData) → IsCall p n callee edge → IsCall q n callee edge
   call_same callee edge h =

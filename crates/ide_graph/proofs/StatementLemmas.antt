@@ -8,10 +8,12 @@ use Rattle.ide_text.specs.declared.program.Statement.{Statement}
 use Rattle.ide_text.specs.declared.program.Statement.TheVariants.{Assign, Skip, At, Goto, Branch, Call, Return}
 use Rattle.ide_text.specs.Names.{declares}
 use Rattle.std.specs.Str.{bytes_eq}
-use Rattle.ide_graph.specs.Naming.{number_of, with_number}
+use Rattle.ide_text.specs.Places.{place_of, with_place}
 use Rattle.ide_graph.specs.Numbering.{nodes_at}
 use Rattle.ide_graph.specs.Numbers.{Spot, statement, return_site, label_among, spots_on}
-use Rattle.ide_graph.proofs.PlaceLemmas.{or_else, number_of-with, label_among-push}
+use Rattle.ide_text.proofs.PlaceLemmas.{place_of-with_place}
+use Rattle.ide_text.proofs.Positions.{or_else}
+use Rattle.ide_graph.proofs.PlaceLemmas.{label_among-push}
 
 -- one more element than the front has
 pub front_more : {X : Type 0} (P : List X → Type 0) (xs : List X) (i : ℕ) (x : X) → i < length xs → x ≡ get_or xs i x → P (take i xs ++ x ∷ []) → P (take (i + 1) xs)
@@ -32,16 +34,16 @@ pub next_node : (k : ℕ) (old now : List (ℕ × Spot)) (xs : List Statement) �
 next_node k old now xs before =
     ap length before ∙ length-append old (nodes_at k (flat_map spots_on xs)) ∙ ap (λ n. length old + n) (length-map (flat_map spots_on xs) (λ spot. (k, spot)))
 
-module _ (begin : ℕ) (xs : List Statement) (s : Statement) (labels : List (List ℕ × ℕ)) (before : (name : List ℕ) → number_of labels name ≡ label_among begin xs name) where
-  pub labels_more : (label : List ℕ) (n : ℕ) → n ≡ begin + length (flat_map spots_on xs) → s ≡ At label → (name : List ℕ) → number_of (with_number labels label n) name ≡ label_among begin (xs ++ s ∷ []) name
+module _ (begin : ℕ) (xs : List Statement) (s : Statement) (labels : List (List ℕ × ℕ)) (before : (name : List ℕ) → place_of labels name ≡ label_among begin xs name) where
+  pub labels_more : (label : List ℕ) (n : ℕ) → n ≡ begin + length (flat_map spots_on xs) → s ≡ At label → (name : List ℕ) → place_of (with_place labels label n) name ≡ label_among begin (xs ++ s ∷ []) name
   labels_more label n is at name =
-      number_of-with labels label name n
+      place_of-with_place labels label name n
       ∙ ap (λ o. or_else o (cond (bytes_eq name label) (Some n) None)) (before name)
       ∙ ap (λ m. or_else (label_among begin xs name) (cond (bytes_eq name label) (Some m) None)) is
       ∙ ap (λ b. or_else (label_among begin xs name) (cond b (Some (begin + length (flat_map spots_on xs))) None)) (sym (ap (declares name) at))
       ∙ sym (label_among-push begin xs s name)
 
-  pub labels_same : ((name : List ℕ) → declares name s ≡ false) → (name : List ℕ) → number_of labels name ≡ label_among begin (xs ++ s ∷ []) name
+  pub labels_same : ((name : List ℕ) → declares name s ≡ false) → (name : List ℕ) → place_of labels name ≡ label_among begin (xs ++ s ∷ []) name
   labels_same none name =
       before name ∙ sym (same (label_among begin xs name))
       ∙ ap (λ b. or_else (label_among begin xs name) (cond b (Some (begin + length (flat_map spots_on xs))) None)) (sym (none name))

@@ -13,13 +13,14 @@ use Rattle.ide_graph.specs.declared.scope.Scope.{Scope}
 use Rattle.ide_graph.specs.declared.site.Caller.{Caller}
 use Rattle.ide_graph.specs.declared.site.Site.{Site}
 use Rattle.ide_graph.specs.declared.site.Site.TheVariants as site
+use Rattle.ide_graph.specs.Edges.{AllCallersWithin}
 use Rattle.ide_graph.specs.Lists.{Lists}
 use Rattle.ide_graph.specs.Named.{procedure_of_name, fact_of_name}
 use Rattle.ide_graph.specs.Numbered.{IsNumbered}
-use Rattle.ide_graph.specs.Naming.{number_of}
+use Rattle.ide_text.specs.Places.{place_of}
 use Rattle.ide_graph.specs.Numbering.{nodes_in}
 use Rattle.ide_graph.specs.Numbers.{nodes_of, start_of, exit_of, label_from, procedure_of, fact_at, facts_of}
-use Rattle.ide_graph.specs.ProgramEdges.{CallAt, HasFact, IsCallee, IsCallerOf, IsAssigned}
+use Rattle.ide_graph.specs.ProgramEdges.{CallAt, HasFact, IsCallee, IsCallerOf, IsTargetFact}
 
 -- how many nodes the program has
 abbrev pub node_count : Builder → ℕ
@@ -28,6 +29,11 @@ node_count builder = length builder.numbering.now.spots.items
 -- how many procedures the program has
 abbrev pub procedure_count : Builder → ℕ
 procedure_count builder = length builder.numbering.now.layouts.items
+
+-- there is a list of callers for each procedure, all of them within the program
+pub record ListsCallers (builder : Builder) (callers : List (Vec Caller)) : Type 0 where
+  pub whole : length callers ≡ procedure_count builder
+  pub within : AllCallersWithin (node_count builder) callers
 
 -- each is one of the program's procedures
 abbrev pub AreProcedures : Builder → List ℕ → Type 0
@@ -45,7 +51,7 @@ pub record DescribeProcedure (p : Program) (index : ℕ) (q : Procedure) (layout
   pub exit : layout.exit ≡ exit_of (procedures_of p) index
   pub own : layout.own ≡ q.parameters.items ++ q.locals.items
   pub parameters : layout.parameter_count ≡ length q.parameters.items
-  pub labelled : (name : List ℕ) → number_of labels name ≡ label_from (start_of (procedures_of p) index) q name
+  pub labelled : (name : List ℕ) → place_of labels name ≡ label_from (start_of (procedures_of p) index) q name
 
 -- the names of the program find their facts as the globals and a procedure's own facts are looked up
 abbrev pub FindsFacts : Program → Type 0
@@ -85,7 +91,7 @@ HasNormal P (site.Exit begin callers) = ⊥
 pub record IsCallOf (p : Program) (call : Call) : Type 0 where
   pub at : CallAt p call.node
   pub scope : IsScopeOf p at.index at.procedure call.scope
-  pub target : IsAssigned p at.procedure at.target call.target
+  pub target : IsTargetFact p at.procedure at.target call.target
   pub callees : Lists (IsCallee p at.callees.items) (λ callee. callee) call.callees.items
   pub arguments : call.arguments.now ≡ at.arguments.items
 

@@ -6,7 +6,8 @@ use Rattle.ide_graph.specs.declared.numbering.Numbering.{Numbering}
 use Rattle.ide_graph.specs.declared.numbering.Place.{Place}
 use Rattle.ide_graph.specs.declared.numbering.Place.TheVariants.{Start, Statement, ReturnSite, Exit}
 use Rattle.ide_graph.specs.declared.numbering.Spot.{Spot as Node}
-use Rattle.ide_graph.specs.Naming.{HasOwnNames, number_of}
+use Rattle.ide_text.specs.Places.{place_of}
+use Rattle.ide_graph.specs.Naming.{HasOwnNames}
 use Rattle.ide_graph.specs.Numbers.{Spot, start, statement, return_site, exit, nodes_of, start_of, exit_of, label_from}
 
 -- what stands at a node
@@ -43,7 +44,7 @@ IsLayoutOf procedures index q layout = IsLayout (start_of procedures index) (exi
 
 -- each label has the node of its first `at`, in a procedure that begins at that node
 abbrev pub AreLabels : ℕ → Procedure → List (List ℕ × ℕ) → Type 0
-AreLabels begin q labels = (name : List ℕ) → number_of labels name ≡ label_from begin q name
+AreLabels begin q labels = (name : List ℕ) → place_of labels name ≡ label_from begin q name
 
 -- the first pass numbered these procedures
 pub record IsNumberingOf (procedures : List Procedure) (numbering : Numbering) : Type 0 where

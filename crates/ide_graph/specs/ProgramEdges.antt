@@ -96,9 +96,9 @@ pub record ArePassed (p : Program) (q : Procedure) (arguments : List (List ℕ))
   pub in_place : (k : ℕ) (x : List ℕ) → slice_get arguments k ≡ Some x → (fact : ℕ) × HasFact p q x fact × (slice_get pairs k ≡ Some (fact, result_of p + 1 + k))
 
 -- what a call assigns: the fact of its target, where it has one
-abbrev pub IsAssigned : Program → Procedure → Option (List ℕ) → Option ℕ → Type 0
-IsAssigned p q None assigned = assigned ≡ None
-IsAssigned p q (Some x) assigned = (fact : ℕ) × HasFact p q x fact × (assigned ≡ Some fact)
+abbrev pub IsTargetFact : Program → Procedure → Option (List ℕ) → Option ℕ → Type 0
+IsTargetFact p q None assigned = assigned ≡ None
+IsTargetFact p q (Some x) assigned = (fact : ℕ) × HasFact p q x fact × (assigned ≡ Some fact)
 
 -- the call edge from the node n to the start of that callee
 pub record IsCall (p : Program) (n callee : ℕ) (edge : EdgeData) : Type 0 where
@@ -112,7 +112,7 @@ pub record IsCall (p : Program) (n callee : ℕ) (edge : EdgeData) : Type 0 wher
 pub record IsAlong (p : Program) (n : ℕ) (edge : EdgeData) : Type 0 where
   pub call : CallAt p n
   pub target : Option ℕ
-  pub assigned : IsAssigned p call.procedure call.target target
+  pub assigned : IsTargetFact p call.procedure call.target target
   pub is : edge ≡ edge_of p (n + 1) (kind.CallToReturn target)
 
 -- the return edge from the exit of that callee to the return site of the call at the node n
@@ -120,7 +120,7 @@ pub record IsBack (p : Program) (n callee : ℕ) (edge : EdgeData) : Type 0 wher
   pub call : CallAt p n
   pub called : IsCallee p call.callees.items callee
   pub target : Option ℕ
-  pub assigned : IsAssigned p call.procedure call.target target
+  pub assigned : IsTargetFact p call.procedure call.target target
   pub is : edge ≡ edge_of p (n + 1) (kind.Return target)
 
 -- a call edge from the node n

@@ -3,7 +3,7 @@ ghost use Rattle.std.specs.Prelude.{ℕ, ◌≡◌, ◌-◌, ◌+◌, ◌<◌, �
 ghost use Rattle.std.specs.List.{All};
 ghost use Rattle.std.specs.Arc.{arc_value};
 ghost use Rattle.ide_wire.specs.declared.refused.Refused.TheVariants.{NoMemory};
-ghost use Rattle.ide_graph.specs.Edges.{EdgesWithin, EndsWithin, IsCallerWithin, AllCallersWithin};
+ghost use Rattle.ide_graph.specs.Edges.{EdgesWithin, EndsWithin, IsCallerWithin};
 ghost use Rattle.ide_graph.specs.Numbered.{IsNumbered};
 ghost use Rattle.ide_graph.specs.ProgramEdges.{AreSitesOf, IsCall, IsSiteOf, edge_of};
 
@@ -34,7 +34,7 @@ pub(crate) struct Builder<'a, 'p> {
 }
 
 impl<'a, 'p> Builder<'a, 'p> {
-    ghost use Rattle.ide_graph.specs.Building.{IsReady, IsCallOf, IsScopeOf, AllCallersBefore, AllCallersFrom, AreProcedures, HasNormal, node_count, procedure_count};
+    ghost use Rattle.ide_graph.specs.Building.{IsReady, IsCallOf, IsScopeOf, AllCallersBefore, AllCallersFrom, AreProcedures, HasNormal, ListsCallers, node_count, procedure_count};
     ghost use Rattle.ide_graph.specs.Exact.{AddsCallers, AreCallees, ForCall, ForCallAt, ForCallee, ForNode, ForProcedure, ForProgram, ForSpot, ForStatement, HasNormalTo, IsOfBranch, KeepsCallers};
 
     /// A builder over what the first pass found.
@@ -84,8 +84,7 @@ impl<'a, 'p> Builder<'a, 'p> {
     /// The callers of each procedure, by ascending call node.
     fn callers(&self) -> Result<Vec<Vec<Caller>>, Refused>
         requires { IsReady self.now }
-        ensures whole { IfOk result (λ callers. length callers.items ≡ procedure_count self.now) }
-        ensures within { IfOk result (λ made. AllCallersWithin (node_count self.now) made.items) }
+        ensures lists { IfOk result (λ callers. ListsCallers self.now callers.items) }
         ensures exact { ForProgram self.now (λ p. IfOk result (λ callers. AllCallersBefore p (node_count self.now) callers.items)) }
         ensures refused { IsOkUnless result NoMemory }
     {
@@ -98,8 +97,7 @@ impl<'a, 'p> Builder<'a, 'p> {
 
     /// An empty list of callers for each procedure.
     fn no_callers(&self) -> Result<Vec<Vec<Caller>>, Refused>
-        ensures whole { IfOk result (λ callers. length callers.items ≡ procedure_count self.now) }
-        ensures within { IfOk result (λ made. AllCallersWithin (node_count self.now) made.items) }
+        ensures lists { IfOk result (λ callers. ListsCallers self.now callers.items) }
         ensures empty { IfOk result (λ callers. All (λ calls. calls.items ≡ []) callers.items) }
         ensures refused { IsOkUnless result NoMemory }
     {
@@ -121,10 +119,8 @@ impl<'a, 'p> Builder<'a, 'p> {
         requires ready { IsReady self.now }
         requires node { node < node_count self.now }
         requires procedure { spot.procedure < procedure_count self.now }
-        requires whole { length callers.old.items ≡ procedure_count self.now }
-        requires within { AllCallersWithin (node_count self.now) callers.old.items }
-        ensures whole { length callers.new.items ≡ procedure_count self.now }
-        ensures within { AllCallersWithin (node_count self.now) callers.new.items }
+        requires callers { ListsCallers self.now callers.old.items }
+        ensures callers { ListsCallers self.now callers.new.items }
         ensures exact { ForSpot self.now node spot.entry (λ p. AddsCallers p node result callers.old.items callers.new.items) }
         ensures refused { IsOkUnless result NoMemory }
     {
@@ -153,10 +149,8 @@ impl<'a, 'p> Builder<'a, 'p> {
         requires ready { IsReady self.now }
         requires node { call.now.node < node_count self.now }
         requires callees { AreProcedures self.now call.now.callees.items }
-        requires whole { length callers.old.items ≡ procedure_count self.now }
-        requires within { AllCallersWithin (node_count self.now) callers.old.items }
-        ensures whole { length callers.new.items ≡ procedure_count self.now }
-        ensures within { AllCallersWithin (node_count self.now) callers.new.items }
+        requires callers { ListsCallers self.now callers.old.items }
+        ensures callers { ListsCallers self.now callers.new.items }
         ensures exact { ForCall self.now call.now (λ p. AddsCallers p call.now.node result callers.old.items callers.new.items) }
         ensures refused { IsOkUnless result NoMemory }
     {
@@ -180,10 +174,8 @@ impl<'a, 'p> Builder<'a, 'p> {
         requires ready { IsReady self.now }
         requires node { node < node_count self.now }
         requires procedure { spot.procedure < procedure_count self.now }
-        requires whole { length callers.old.items ≡ procedure_count self.now }
-        requires within { AllCallersWithin (node_count self.now) callers.old.items }
-        ensures whole { length callers.new.items ≡ procedure_count self.now }
-        ensures within { AllCallersWithin (node_count self.now) callers.new.items }
+        requires callers { ListsCallers self.now callers.old.items }
+        ensures callers { ListsCallers self.now callers.new.items }
         ensures edges { IfOk result (λ site. EdgesWithin (node_count self.now) site) }
         ensures exact { ForSpot self.now node spot.entry (λ p. AllCallersFrom p node callers.old.items → IfOk result (IsSiteOf p node)) }
         ensures left { ForSpot self.now node spot.entry (λ p. KeepsCallers p node callers.old.items callers.new.items) }

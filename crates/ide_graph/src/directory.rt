@@ -2,7 +2,7 @@
 ghost use Rattle.std.specs.Prelude.{◌≡◌, ◌<◌, length, IfOk, IfSome, OnOk, IsOkUnless};
 ghost use Rattle.ide_graph.specs.Found.{FindsEach};
 ghost use Rattle.ide_graph.specs.Named.{procedure_of_name};
-ghost use Rattle.ide_graph.specs.Naming.{with_number};
+ghost use Rattle.ide_text.specs.Places.{with_place};
 ghost use Rattle.ide_wire.specs.declared.refused.Refused.TheVariants.{NoMemory};
 
 use ide_text::Procedure;
@@ -60,7 +60,7 @@ impl Directory {
     /// Gives a name its procedure, unless it has one.
     fn add(&mut self, alloc: Global, name: &[u8], index: usize) -> Result<(), Refused>
         requires { index < self.old.count }
-        ensures added { OnOk result (self.new.procedures ≡ with_number self.old.procedures name.now index) }
+        ensures added { OnOk result (self.new.procedures ≡ with_place self.old.procedures name.now index) }
         ensures counted { self.new.count ≡ self.old.count }
         ensures refused { IsOkUnless result NoMemory }
     {

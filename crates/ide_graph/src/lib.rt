@@ -13,7 +13,6 @@ mod directory;
 mod edge;
 mod globals;
 mod graph;
-mod labels;
 mod laws;
 mod layout;
 mod names;

@@ -7,9 +7,8 @@ ghost use Rattle.ide_graph.specs.Numbered.{BelongTo, IsNumbered};
 ghost use Rattle.ide_graph.specs.Numbering.{nodes_at, nodes_in, spot_value, CountsNext, IsNumberingOf};
 ghost use Rattle.ide_graph.specs.Numbers.{nodes_of, spots_of, spots_on};
 
-use crate::labels::Labels;
 use crate::layout::Layout;
-use ide_text::{Procedure, Statement};
+use ide_text::{Places, Procedure, Statement};
 use ide_wire::{Node, Refused};
 use std::alloc::Global;
 
@@ -35,7 +34,7 @@ pub(crate) struct Spot<'a> {
 pub(crate) struct Numbering<'a> {
     pub spots: Vec<Spot<'a>>,
     pub layouts: Vec<Layout>,
-    pub labels: Vec<Labels<'a>>,
+    pub labels: Vec<Places<'a, Node>>,
 }
 
 impl<'a> Numbering<'a> {
@@ -78,13 +77,13 @@ impl<'a> Numbering<'a> {
     }
 }
 
-/// Adds the nodes of a procedure's statements, and answers its labels.
+/// Adds the nodes of a procedure's statements, and answers its labels, each with the node of its first `at`.
 fn add_statements<'a>(
     alloc: Global,
     spots: &mut Vec<Spot<'a>>,
     procedure: u32,
     statements: &'a [Statement],
-) -> Result<Labels<'a>, Refused>
+) -> Result<Places<'a, Node>, Refused>
     requires few { length spots.old.items + length (flat_map spots_on statements.now) < 2 ^ 32 }
     requires owned { BelongTo (procedure + 1) spots.old.items }
     ensures added { OnOk result (nodes_in spots.new.items ≡ nodes_in spots.old.items ++ nodes_at procedure (flat_map spots_on statements.now)) }
@@ -94,7 +93,7 @@ fn add_statements<'a>(
     ensures longer { OnOk result (length spots.old.items ≤ length spots.new.items) }
     ensures refused { IsOkUnless result NoMemory }
 {
-    let mut labels = Labels::new(alloc);
+    let mut labels = Places::new(alloc);
     for statement in statements {
         let node = add_spot(spots, procedure, Place::Statement(statement))?;
         match statement {

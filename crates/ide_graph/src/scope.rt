@@ -5,14 +5,13 @@ ghost use Rattle.ide_text.specs.NameFault.{variables_of};
 ghost use Rattle.ide_graph.specs.Building.{AllHaveFacts};
 ghost use Rattle.ide_graph.specs.Exact.{ForFact, ForLabel, ForScope};
 ghost use Rattle.ide_graph.specs.Numbers.{result_of};
-ghost use Rattle.ide_graph.specs.ProgramEdges.{Assigns, IsAssigned, entering};
+ghost use Rattle.ide_graph.specs.ProgramEdges.{Assigns, IsTargetFact, entering};
 ghost use Rattle.ide_graph.specs.declared.edge.Effect.TheVariants.{Copy};
 
 use crate::edge::Effect;
 use crate::globals::Globals;
-use crate::labels::Labels;
 use crate::layout::Layout;
-use ide_text::{Expression, Name};
+use ide_text::{Expression, Name, Places};
 use ide_wire::{Fact, Node};
 
 /// A procedure whose statements are read: what its names stand for.
@@ -22,7 +21,7 @@ use ide_wire::{Fact, Node};
 pub(crate) struct Scope<'a, 'p> {
     pub globals: &'a Globals,
     pub layout: &'a Layout,
-    pub labels: &'a Labels<'p>,
+    pub labels: &'a Places<'p, Node>,
 }
 
 impl<'a, 'p> Scope<'a, 'p> {
@@ -44,7 +43,7 @@ impl<'a, 'p> Scope<'a, 'p> {
 
     /// The fact that a call assigns, where it has a target.
     pub fn assigned(self, target: &Option<Name>) -> Option<Fact>
-        ensures { ForScope self.entry (λ p q. AllHaveFacts p q (option_to_list target.now) → IsAssigned p q target.now result) }
+        ensures { ForScope self.entry (λ p q. AllHaveFacts p q (option_to_list target.now) → IsTargetFact p q target.now result) }
     {
         let name = target.as_ref()?;
         Some(self.fact(name))

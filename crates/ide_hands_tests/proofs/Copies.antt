@@ -1,6 +1,6 @@
 -- Constants through copies, as contracts of stores see them.
 use Rattle.ide_instances.specs.ConstFn.{const_edge, is_proper_fn}
-use Rattle.ide_instances.specs.ConstFnForm.{fn_form}
+use Rattle.ide_instances.specs.ConstFnForm.{const_fn_form}
 use Rattle.ide_instances.specs.ConstValue.{const_algebra}
 use Rattle.ide_instances.specs.Received.{copy_targets}
 use Rattle.ide_instances.specs.contracts.const_fn.ConstFnPartialEq.TheImpl.{ghosts as const_equality}
@@ -15,5 +15,5 @@ copies = record {
   targets = copy_targets;
   same = const_equality.eq;
   proper = is_proper_fn;
-  form = fn_form;
+  form = const_fn_form;
 }

@@ -11,7 +11,7 @@ use Rattle.std.proofs.lemmas.Map.Keys.{IsDistinct-cons, IsDistinct-head, IsDisti
 use Rattle.ide_pages.specs.Pages.{KeepsCells, Numbers, cell_of, entries, number_at}
 use Rattle.ide_wire.specs.declared.key.Key.{Key}
 use Rattle.ide_wire.specs.Key.{node_of, same_key, same_key_exact, same_key_refl, same_key_symm}
-use Rattle.ide_image.specs.Tables.{IsIndexed, behind, nodes_of, place_in, with_entry}
+use Rattle.ide_image.specs.Tables.{IsIndexed, behind, entry_nodes, place_in, with_entry}
 
 behind-zero : (p : ℕ) → behind p ≡ 0 → p ≡ 0
 behind-zero zero is = refl
@@ -156,10 +156,10 @@ module _ {F : Type 0} (key : Key) where
       ] refl
 
   -- the nodes stay where the key has an entry, and else the key's goes last
-  nodes-at : (es : List (Key × F)) (n : ℕ) (f : F) → place_in key es ≡ suc n → nodes_of (with_entry es key f) ≡ nodes_of es
+  nodes-at : (es : List (Key × F)) (n : ℕ) (f : F) → place_in key es ≡ suc n → entry_nodes (with_entry es key f) ≡ entry_nodes es
   nodes-at [] n f is = absurd (omega (arith, is))
   nodes-at (e ∷ es) n f is =
-      elim (same_key key e.0) as (λ b. cond b 1 (behind (place_in key es)) ≡ suc n → nodes_of (cond b ((e.0, f) ∷ es) (e ∷ with_entry es key f)) ≡ node_of e.0 ∷ nodes_of es) [
+      elim (same_key key e.0) as (λ b. cond b 1 (behind (place_in key es)) ≡ suc n → entry_nodes (cond b ((e.0, f) ∷ es) (e ∷ with_entry es key f)) ≡ node_of e.0 ∷ entry_nodes es) [
         | true ↦ λ _. refl
         | false ↦ λ more. ap (λ ns. node_of e.0 ∷ ns) (nodes-at es (place_in key es - 1) f (before-behind (place_in key es) n more))
       ] is
@@ -168,10 +168,10 @@ module _ {F : Type 0} (key : Key) where
       before-behind zero n more = absurd (omega (arith, more))
       before-behind (suc p) n more = omega arith
 
-  nodes-last : (es : List (Key × F)) (f : F) → place_in key es ≡ 0 → nodes_of (with_entry es key f) ≡ nodes_of es ++ node_of key ∷ []
+  nodes-last : (es : List (Key × F)) (f : F) → place_in key es ≡ 0 → entry_nodes (with_entry es key f) ≡ entry_nodes es ++ node_of key ∷ []
   nodes-last [] f is = refl
   nodes-last (e ∷ es) f is =
-      elim (same_key key e.0) as (λ b. cond b 1 (behind (place_in key es)) ≡ 0 → nodes_of (cond b ((e.0, f) ∷ es) (e ∷ with_entry es key f)) ≡ node_of e.0 ∷ (nodes_of es ++ node_of key ∷ [])) [
+      elim (same_key key e.0) as (λ b. cond b 1 (behind (place_in key es)) ≡ 0 → entry_nodes (cond b ((e.0, f) ∷ es) (e ∷ with_entry es key f)) ≡ node_of e.0 ∷ (entry_nodes es ++ node_of key ∷ [])) [
         | true ↦ λ no. absurd (omega (arith, no))
         | false ↦ λ none. ap (λ ns. node_of e.0 ∷ ns) (nodes-last es f (behind-zero (place_in key es) none))
       ] is

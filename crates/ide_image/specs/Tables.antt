@@ -22,8 +22,8 @@ abbrev pub found : {F : Type 0} → Table F → Key → Option F
 found table key = lookup (same_key key) table.entries
 
 -- the node of each entry's key
-abbrev pub nodes_of : {F : Type 0} → List (Key × F) → List ℕ
-nodes_of entries = map (λ entry. node_of entry.0) entries
+abbrev pub entry_nodes : {F : Type 0} → List (Key × F) → List ℕ
+entry_nodes entries = map (λ entry. node_of entry.0) entries
 
 -- the key's function is f, and every other entry stays
 pub record Sets {F : Type 0} (old new : Table F) (key : Key) (f : F) : Type 0 where
@@ -115,7 +115,7 @@ place_in key (e ∷ es) = if same_key key e.0 then 1 else behind (place_in key e
 -- the number at each key is the place of its entry, the nodes are those of the entries, and no two entries are of one key
 pub record IsIndexed {F : Type 0} (places : Numbers) (nodes : List ℕ) (entries : List (Key × F)) : Type 0 where
   pub places_are : (key : Key) → number_at places key ≡ place_in key entries
-  pub nodes_are : nodes ≡ nodes_of entries
+  pub nodes_are : nodes ≡ entry_nodes entries
   pub distinct : IsDistinct same_key (keys_of entries)
 
 -- each key of the list has a cell

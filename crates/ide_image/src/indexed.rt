@@ -7,7 +7,7 @@ ghost use Rattle.ide_wire.specs.declared.key.Key.{Key};
 ghost use Rattle.ide_wire.specs.declared.refused.Refused.TheVariants.{NoMemory};
 ghost use Rattle.ide_wire.specs.Key.{same_key};
 ghost use Rattle.ide_wire.specs.KeyOrder.{key_cmp};
-ghost use Rattle.ide_image.specs.Tables.{AreJumpsTo, AreKeys, AreSummariesFrom, HaveCells, IsIndexed, found, function_at, nodes_of, or_top, partner_at, partners_at, place_in, with_entry};
+ghost use Rattle.ide_image.specs.Tables.{AreJumpsTo, AreKeys, AreSummariesFrom, HaveCells, IsIndexed, found, function_at, entry_nodes, or_top, partner_at, partners_at, place_in, with_entry};
 ghost use Rattle.ide_image.specs.Indexed.{ForKeyAt, HasDistinctKeys, IsSpot, MayTake, PutsEntry, place_of_key};
 
 use ide_lattice::EdgeFn;
@@ -113,7 +113,7 @@ impl<F: EdgeFn> Indexed<F> {
 
     /// The node of each entry's key, in the order of the entries.
     pub(crate) fn nodes(&self) -> &[Node]
-        ensures nodes { result.now ≡ nodes_of self.now.table.entries }
+        ensures nodes { result.now ≡ entry_nodes self.now.table.entries }
         ensures distinct { HasDistinctKeys self.now }
     {
         &self.nodes

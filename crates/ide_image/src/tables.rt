@@ -3,7 +3,7 @@ ghost use Rattle.std.specs.Prelude.{◌≡◌, ◌≤◌, ◌↔◌, None, Some,
 ghost use Rattle.std.specs.List.{IsDistinct};
 ghost use Rattle.std.specs.Map.{keys_of};
 ghost use Rattle.ide_wire.specs.Key.{same_key};
-ghost use Rattle.ide_image.specs.Tables.{Table, found, nodes_of};
+ghost use Rattle.ide_image.specs.Tables.{Table, found, entry_nodes};
 
 use crate::indexed::Indexed;
 use ide_lattice::EdgeFn;
@@ -59,7 +59,7 @@ impl<F: EdgeFn> Tables<F> {
     /// The node of the key of each entry, in the order of `entry_at`. So a walk over the entries of
     /// some nodes reads 4 bytes of each other one.
     pub fn nodes(&self) -> &[Node]
-        ensures nodes { result.now ≡ nodes_of self.now.entries }
+        ensures nodes { result.now ≡ entry_nodes self.now.entries }
         ensures distinct { IsDistinct same_key (keys_of self.now.entries) }
     {
         self.indexed.nodes()

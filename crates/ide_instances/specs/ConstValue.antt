@@ -25,10 +25,10 @@ is_proper (Const k) = fits 64 k
 is_proper Bottom = true
 
 -- the printed form of a value
-abbrev pub shown_value : ConstValue → List ℕ
-shown_value Top = codes "top"
-shown_value (Const k) = codes "const " ++ decimal k
-shown_value Bottom = codes "bottom"
+abbrev pub shown_constant : ConstValue → List ℕ
+shown_constant Top = codes "top"
+shown_constant (Const k) = codes "const " ++ decimal k
+shown_constant Bottom = codes "bottom"
 
 abbrev pub const_algebra : LatticeAlgebra ConstValue
 const_algebra = record {

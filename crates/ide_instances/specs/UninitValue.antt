@@ -14,9 +14,9 @@ uninit_rank Top = 1
 uninit_rank Bottom = 0
 
 -- the printed form of a value
-abbrev pub shown_value : UninitValue → List ℕ
-shown_value Top = codes "top"
-shown_value Bottom = codes "bottom"
+abbrev pub shown_uninit : UninitValue → List ℕ
+shown_uninit Top = codes "top"
+shown_uninit Bottom = codes "bottom"
 
 abbrev pub uninit_algebra : LatticeAlgebra UninitValue
 uninit_algebra = record {

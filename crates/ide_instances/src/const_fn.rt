@@ -48,7 +48,7 @@ fn put_numbers(kind: u8, first: u64, second: u64, out: &mut Vec<u8>) -> Result<(
 
 impl Wire for ConstFn {
     ghost use Rattle.ide_instances.specs.ConstFn.{is_proper_fn};
-    ghost use Rattle.ide_instances.specs.ConstFnForm.{fn_form, fn_not_empty, fn_at_most, fn_prefix_free};
+    ghost use Rattle.ide_instances.specs.ConstFnForm.{const_fn_form, const_fn_not_empty, const_fn_at_most, const_fn_prefix_free};
 
     const MAX: usize = 17;
 
@@ -56,7 +56,7 @@ impl Wire for ConstFn {
 
     ghost proper = { is_proper_fn };
 
-    ghost form = { fn_form };
+    ghost form = { const_fn_form };
 
     fn put(&self, out: &mut Vec<u8>) -> Result<(), AllocError> {
         match *self {
@@ -90,11 +90,11 @@ impl Wire for ConstFn {
         }
     }
 
-    ghost not_empty = { fn_not_empty };
+    ghost not_empty = { const_fn_not_empty };
 
-    ghost at_most_max = { fn_at_most };
+    ghost at_most_max = { const_fn_at_most };
 
-    ghost prefix_free = { fn_prefix_free };
+    ghost prefix_free = { const_fn_prefix_free };
 }
 
 impl EdgeFn for ConstFn {

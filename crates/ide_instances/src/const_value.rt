@@ -15,7 +15,7 @@ pub enum ConstValue {
 }
 
 impl Lattice for ConstValue {
-    ghost use Rattle.ide_instances.specs.ConstValue.{const_algebra, shown_value};
+    ghost use Rattle.ide_instances.specs.ConstValue.{const_algebra, shown_constant};
     ghost use Rattle.ide_instances.specs.ConstValueLaws.{const_lattice, const_value_exact};
 
     const HEIGHT: u16 = 2;
@@ -24,7 +24,7 @@ impl Lattice for ConstValue {
 
     ghost algebra = { const_algebra };
 
-    ghost shown = { shown_value };
+    ghost shown = { shown_constant };
 
     fn top() -> ConstValue {
         ConstValue::Top

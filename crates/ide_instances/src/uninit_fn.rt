@@ -18,7 +18,7 @@ pub enum UninitFn {
 }
 
 impl Wire for UninitFn {
-    ghost use Rattle.ide_instances.specs.UninitForm.{fn_form, fn_not_empty, fn_at_most, fn_prefix_free};
+    ghost use Rattle.ide_instances.specs.UninitForm.{uninit_fn_form, uninit_fn_not_empty, uninit_fn_at_most, uninit_fn_prefix_free};
 
     const MAX: usize = 1;
 
@@ -26,7 +26,7 @@ impl Wire for UninitFn {
 
     ghost proper = { λ f. true };
 
-    ghost form = { fn_form };
+    ghost form = { uninit_fn_form };
 
     fn put(&self, out: &mut Vec<u8>) -> Result<(), AllocError> {
         let kind = match *self {
@@ -45,11 +45,11 @@ impl Wire for UninitFn {
         }
     }
 
-    ghost not_empty = { fn_not_empty };
+    ghost not_empty = { uninit_fn_not_empty };
 
-    ghost at_most_max = { fn_at_most };
+    ghost at_most_max = { uninit_fn_at_most };
 
-    ghost prefix_free = { fn_prefix_free };
+    ghost prefix_free = { uninit_fn_prefix_free };
 }
 
 impl EdgeFn for UninitFn {

@@ -15,7 +15,7 @@ pub enum UninitValue {
 }
 
 impl Lattice for UninitValue {
-    ghost use Rattle.ide_instances.specs.UninitValue.{uninit_algebra, shown_value};
+    ghost use Rattle.ide_instances.specs.UninitValue.{uninit_algebra, shown_uninit};
     ghost use Rattle.ide_instances.specs.UninitLaws.{uninit_lattice, uninit_value_exact};
 
     const HEIGHT: u16 = 1;
@@ -24,7 +24,7 @@ impl Lattice for UninitValue {
 
     ghost algebra = { uninit_algebra };
 
-    ghost shown = { shown_value };
+    ghost shown = { shown_uninit };
 
     fn top() -> UninitValue {
         UninitValue::Top

@@ -48,6 +48,10 @@ pub record IsOpened {D : Type 0} {G : Ghosts D} (tag : ℕ) (old : D) (journal :
 abbrev pub CutsBehind : ℕ → DiskState → DiskState → Type 0
 CutsBehind gate old new = (base rest : List ℕ) → gate ≡ length base → old ≡ settled (base ++ 0 ∷ rest) → new ≡ settled (base ++ 0 ∷ [])
 
+-- so it is of a disk
+abbrev pub CutsDisk : {D : Type 0} → Ghosts D → (gate : ℕ) → (old new : D) → Type 0
+CutsDisk G gate old new = CutsBehind gate (G.state old) (G.state new)
+
 -- and a crash at any moment leaves what stands before it, and the closed gate
 abbrev pub LeavesFront : {D : Type 0} → Ghosts D → ℕ → D → D → Type 0
 LeavesFront G gate old new = (base rest : List ℕ) → gate ≡ length base → G.state old ≡ settled (base ++ 0 ∷ rest)

@@ -9,6 +9,17 @@ abbrev pub IsDamaged : ℕ → List ℕ → Type 0
 IsDamaged number bytes = (entry : Entry) (rest : List ℕ) → IsEntry entry → number ≤ 4294967294 → 0 < length rest
     → bytes ≡ after_gate number entry ++ rest → ⊥
 
+-- behind an open gate stands a record with a body of so many bytes, of whatever kind and number, and a gate behind it
+pub record IsFramed (count : ℕ) (bytes : List ℕ) : Type 0 where
+  pub sized : slice_range bytes 9 13 ≡ to_le_bytes w32 count
+  pub short : count ≤ 4194304
+  pub filled : slice_range bytes (13 + count) (13 + count + padding count) ≡ zeros (padding count)
+  pub inside : 13 + count + padding count < length bytes
+
+-- none stands there
+abbrev pub IsUnframed : List ℕ → Type 0
+IsUnframed bytes = (count : ℕ) → IsFramed count bytes → ⊥
+
 -- such a record stands there, with a body of so many bytes
 pub record IsWholeRecord (number count : ℕ) (bytes : List ℕ) : Type 0 where
   pub low : number ≤ 4294967294

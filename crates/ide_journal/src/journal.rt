@@ -1,13 +1,12 @@
 //! A journal over a disk.
 ghost use Rattle.std.specs.Prelude.{◌≡◌, ◌↔◌, ◌+◌, ◌<◌, ◌≤◌, [], length, IsTrue, OnOk, OnErr, IfOk, IfErr};
-ghost use Rattle.ide_disk.specs.Disk.{settled};
-ghost use Rattle.ide_disk.specs.Time.{failures_after};
 ghost use Rattle.ide_journal.specs.Format.{IsEntry, head_of};
 ghost use Rattle.ide_journal.specs.Phases.{LeadsTo};
 
+use crate::disk_calls::rewrite;
 use crate::opening::recover;
 use crate::reading::Loaded;
-use crate::spelling::{spell, spell_header};
+use crate::spelling::{spell_header, spell_record};
 use crate::stage::Stage;
 use crate::{Phase, RawRecord, Version};
 use ide_disk::{DeviceFault, Disk};
@@ -168,7 +167,7 @@ impl<D: Disk> Journal<D> {
         ensures count { stored_count self.new ≡ stored_count self.old }
         ensures version { version_of self.new ≡ version_of self.old }
     {
-        spell(&mut self.tail, self.count, raw)?;
+        spell_record(&mut self.tail, self.count, raw, 0)?;
         self.next = self.count + 1;
         self.stage = Stage::Begun;
         Ok(())
@@ -337,16 +336,4 @@ impl<D: Disk> Journal<D> {
             }
         }
     }
-}
-
-// Puts the bytes in the place of all that the disk has, and brings them onto the disk.
-fn rewrite<D: Disk>(disk: &mut D, bytes: &[u8]) -> Result<(), DeviceFault>
-    ensures size { OnOk result (D.size disk.new ≡ length bytes.now) }
-    ensures bytes { D.honest disk.old → OnOk result (D.state disk.new ≡ settled bytes.now) }
-    ensures honest { D.honest disk.old → D.honest disk.new }
-    ensures failures { D.failures disk.new ≡ failures_after result (D.failures disk.old) }
-{
-    disk.cut(0)?;
-    disk.write(0, bytes)?;
-    disk.sync()
 }

@@ -4,7 +4,7 @@ ghost use Rattle.std.specs.Int.{w32, w64, to_le_bytes};
 ghost use Rattle.ide_journal.specs.Format.{head_of, letters};
 ghost use Rattle.ide_journal.specs.Lists.{entry_of, entries_of};
 ghost use Rattle.ide_journal.specs.Opening.{IsLoaded};
-ghost use Rattle.ide_journal.specs.Reading.{AreRead, IsDamaged, IsNoStore, IsRead, IsStore, IsWholeRecord};
+ghost use Rattle.ide_journal.specs.Reading.{AreRead, IsDamaged, IsFramed, IsNoStore, IsRead, IsStore, IsUnframed, IsWholeRecord};
 ghost use Rattle.ide_journal.specs.Refusals.{IsFileRefusal, IsRecordRefusal};
 
 use crate::spelling::padding;
@@ -45,26 +45,12 @@ pub fn number_of(bytes: &[u8]) -> u32
     LittleEndian::read_u32(bytes)
 }
 
-// How many bytes the body has of the whole record of that number that stands there.
-fn body_length(bytes: &[u8], number: u64) -> Option<usize>
-    ensures whole { IfSome result (λ count. IsWholeRecord number count bytes.now) }
-    ensures damaged { IfNone result (IsDamaged number bytes.now) }
+/// How many bytes the body has of the record that stands there, of whatever kind and number.
+pub fn framed_length(bytes: &[u8]) -> Option<usize>
+    ensures framed { IfSome result (λ count. IsFramed count bytes.now) }
+    ensures none { IfNone result (IsUnframed bytes.now) }
 {
     if bytes.len() < 14 {
-        return None;
-    }
-    if number > 4294967294 {
-        return None;
-    }
-    let kind = bytes[0];
-    if kind < 1 {
-        return None;
-    }
-    if kind > 3 {
-        return None;
-    }
-    let numbered = spells(&bytes[1..9], number);
-    if !numbered {
         return None;
     }
     let count = number_of(&bytes[9..13]) as usize;
@@ -78,6 +64,29 @@ fn body_length(bytes: &[u8], number: u64) -> Option<usize>
     }
     let filled = are_zeros(&bytes[end..size]);
     if !filled {
+        return None;
+    }
+    Some(count)
+}
+
+// How many bytes the body has of the whole record of that number that stands there.
+fn body_length(bytes: &[u8], number: u64) -> Option<usize>
+    ensures whole { IfSome result (λ count. IsWholeRecord number count bytes.now) }
+    ensures damaged { IfNone result (IsDamaged number bytes.now) }
+{
+    let count = framed_length(bytes)?;
+    if number > 4294967294 {
+        return None;
+    }
+    let kind = bytes[0];
+    if kind < 1 {
+        return None;
+    }
+    if kind > 3 {
+        return None;
+    }
+    let numbered = spells(&bytes[1..9], number);
+    if !numbered {
         return None;
     }
     Some(count)

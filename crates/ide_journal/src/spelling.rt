@@ -1,11 +1,10 @@
 //! How a record is spelled.
-ghost use Rattle.std.specs.Prelude.{◌≡◌, ◌+◌, ◌≤◌, ◌<◌, [], ◌∷◌, ◌++◌, length, OnOk, IfOk, IfErr, vec_len};
+ghost use Rattle.std.specs.Prelude.{◌≡◌, ◌+◌, ◌≤◌, ◌<◌, [], ◌∷◌, ◌++◌, length, OnOk, IfOk, vec_len};
 ghost use Rattle.ide_journal.specs.Format.{after_gate, head_of, padding, zeros, header};
 ghost use Rattle.ide_journal.specs.Lists.{entry_of};
 
 use crate::{RawRecord, Version};
 use byteorder::{ByteOrder, LittleEndian};
-use ide_wire::Refused;
 use std::alloc::{AllocError, Global};
 
 /// How many zeros fill the last page of a record whose body has so many bytes.
@@ -30,7 +29,7 @@ fn push_zeros(out: &mut Vec<u8>, count: usize) -> Result<(), AllocError>
 
 /// Spells the first page, and a closed gate behind it.
 #[tactic(auto, unfolding(crate::specs::Format::header))]
-pub(crate) fn spell_header(alloc: Global, version: Version, tag: u8) -> Result<Vec<u8>, AllocError>
+pub fn spell_header(alloc: Global, version: Version, tag: u8) -> Result<Vec<u8>, AllocError>
     ensures spelled { IfOk result (λ page. page.items ≡ header (head_of version tag) ++ 0 ∷ []) }
     ensures length { IfOk result (λ page. length page.items ≡ 4097) }
 {
@@ -42,12 +41,17 @@ pub(crate) fn spell_header(alloc: Global, version: Version, tag: u8) -> Result<V
     Ok(page)
 }
 
-/// Spells a record behind its gate, and a closed gate behind it.
+/// Spells what stands behind the gate of a record under that number, and the next gate behind it.
+/// What the vector held goes.
 #[tactic(auto, unfolding(crate::specs::Format::after_gate))]
-pub(crate) fn spell(out: &mut Vec<u8>, number: u64, raw: &RawRecord) -> Result<(), Refused>
+pub fn spell_record(
+    out: &mut Vec<u8>,
+    number: u64,
+    raw: &RawRecord,
+    gate: u8,
+) -> Result<(), AllocError>
     requires { length raw.now.body.items ≤ 4194304 }
-    ensures spelled { OnOk result (out.new.items ≡ after_gate number (entry_of raw.now) ++ 0 ∷ []) }
-    ensures refused { IfErr result (λ refused. refused ≡ Refused.NoMemory) }
+    ensures { OnOk result (out.new.items ≡ after_gate number (entry_of raw.now) ++ gate ∷ []) }
 {
     let body = raw.body.as_slice();
     let zeros = padding(body.len());
@@ -59,6 +63,6 @@ pub(crate) fn spell(out: &mut Vec<u8>, number: u64, raw: &RawRecord) -> Result<(
     out.extend_from_slice(&head)?;
     out.extend_from_slice(body)?;
     push_zeros(out, zeros)?;
-    out.push(0)?;
+    out.push(gate)?;
     Ok(())
 }

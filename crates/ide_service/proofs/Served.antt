@@ -8,7 +8,7 @@ use Rattle.std.specs.Option.{option_map}
 use Rattle.ide_batch.proofs.Imaged.{starts_as}
 use Rattle.ide_batch.specs.Applied.{named_in}
 use Rattle.ide_batch.specs.Fold.{procedures}
-use Rattle.ide_graph.proofs.PlaceLemmas.{position_within}
+use Rattle.ide_text.proofs.Positions.{position_within}
 use Rattle.ide_graph.specs.Numbers.{procedure_of, start_of}
 use Rattle.ide_graph.specs.Supergraph.{Supergraph}
 use Rattle.ide_store.specs.Versioned.{VersionedEntry}

@@ -1,7 +1,7 @@
 //! A hand at work: it claims a key, does the parts of its task and ends the claim, again and again, until
 //! nothing is left or a gate stops it.
 ghost use Rattle.std.specs.Prelude.{◌≡◌, ◌↔◌, ◌<◌, ◌≤◌, ℕ, false, length, true, Ok, IfErr, IfOk, IsTrue, OnErr, OnOk};
-ghost use Rattle.ide_service.specs.Parts.{IsFurther, with_more};
+ghost use Rattle.ide_service.specs.Parts.{IsFurther, with_more_done};
 ghost use Rattle.ide_service.specs.Refusing.{HandCall, IsLoopRefusal, IsRefusedOver, IsTaskRefusal, to_claim, to_finish, to_part, to_seal};
 ghost use Rattle.ide_steps.specs.Claiming.{IfTask};
 ghost use Rattle.ide_tasks.specs.Task.{TaskData};
@@ -107,7 +107,7 @@ pub trait Hands<P: Problem> {
     /// `Limit` where a batch is full: the parts before are done, and the work counts them.
     fn parts(&mut self, hand: usize, work: &mut Work<P>, most: usize) -> Result<usize, Refused>
         ensures most { IfOk result (λ count. count ≤ most) }
-        ensures counted { IfOk result (λ count. work.new ≡ with_more work.old count) }
+        ensures counted { IfOk result (λ count. work.new ≡ with_more_done work.old count) }
         ensures all { IfOk result (λ count. count < most → work.new.done ≡ length work.new.parts) }
         ensures further { IsFurther most work.old work.new }
         ensures cause { IfErr result (IsRefusedOver refuses (to_part hand work.new)) };
@@ -348,7 +348,7 @@ fn parts_with_room<R: Wait, P: Problem, H: Hands<P>>(
     work: &mut Work<P>,
     most: usize,
 ) -> Result<usize, Refused>
-    ensures counted { IfOk result (λ count. work.new ≡ with_more work.old count) }
+    ensures counted { IfOk result (λ count. work.new ≡ with_more_done work.old count) }
     ensures all { IfOk result (λ count. count < most → work.new.done ≡ length work.new.parts) }
     ensures refused { IfErr result (IsTaskRefusal H.refuses hand) }
 {

@@ -22,33 +22,28 @@ use std::thread;
 use std::thread::Threads;
 use std::time::Clock;
 
-/// Loads a text for the client, and answers the number of its record.
-fn load<J: Accord>(
-    rt: &impl Wait,
-    service: &Served<J>,
-    client: &mut Client,
-    text: &str,
-) -> Result<u64, Refused>
-    requires { client.old.board ≡ J.board }
-    ensures { client.new.board ≡ J.board }
-{
-    match service.load(rt, client, text.as_bytes()) {
-        Ok(ticket) => Ok(ticket.number),
-        Err(refused) => Err(refused),
-    }
+/// What a client orders: that a text is loaded, or that a procedure is made a root.
+#[derive(Clone, Copy)]
+enum Command<'a> {
+    Load(&'a str),
+    Root(&'a str),
 }
 
-/// Makes a procedure a root for the client, and answers the number of its record.
-fn root<J: Accord>(
+/// Orders it for the client, and answers the number of its record.
+fn order<J: Accord>(
     rt: &impl Wait,
     service: &Served<J>,
     client: &mut Client,
-    name: &str,
+    command: Command<'_>,
 ) -> Result<u64, Refused>
     requires { client.old.board ≡ J.board }
     ensures { client.new.board ≡ J.board }
 {
-    match service.root(rt, client, name.as_bytes()) {
+    let ordered = match command {
+        Command::Load(text) => service.load(rt, client, text.as_bytes()),
+        Command::Root(name) => service.root(rt, client, name.as_bytes()),
+    };
+    match ordered {
         Ok(ticket) => Ok(ticket.number),
         Err(refused) => Err(refused),
     }
@@ -65,17 +60,13 @@ fn crashed(disks: (MemDisk, MemDisk)) -> (MemDisk, MemDisk) {
 /// Asserts that a client sees its commands once they are stored, and not before, and that a crash leaves them.
 fn expect_seen<J: Accord, R: Wait + Clock + Abort + AllocGlobal>(
     rt: &R,
-    opened: OpenedStore,
+    service: Served<J>,
     mut client: Client,
 )
-    requires board { arc_value opened.board ≡ J.board }
-    requires switches { opened.switch.board ≡ J.switches }
-    requires client { client.board ≡ J.board }
-    requires untold { J.told → ⊥ }
+    requires { client.board ≡ J.board }
 {
-    let service: Served<J> = Service::new(rt.alloc(), opened);
-    assert!(rt; load(rt, &service, &mut client, NUMBER) == Ok(0));
-    assert!(rt; root(rt, &service, &mut client, "main") == Ok(1));
+    assert!(rt; order(rt, &service, &mut client, Command::Load(NUMBER)) == Ok(0));
+    assert!(rt; order(rt, &service, &mut client, Command::Root("main")) == Ok(1));
     assert!(rt; service.acked(&mut client) == 0);
     service.raise_stop();
     assert!(rt; service.commit(rt, &Open { ahead: 0 }) == Ok(Ended::Quiet));
@@ -84,73 +75,88 @@ fn expect_seen<J: Accord, R: Wait + Clock + Abort + AllocGlobal>(
     assert!(rt; again.acked() == 2 && again.table.core().key_count() == 1);
 }
 
-#[test]
-fn a_client_sees_what_is_stored(rt: HostRuntime) -> Result<(), Fail> {
-    let (opened, client) = given(&rt, opened_new(rt.alloc()));
-    expect_seen::<Brand, HostRuntime>(&rt, opened, client);
-    Ok(())
-}
-
 /// Asserts that a wrong text, a command with nothing loaded, and a procedure that is none are refused.
-fn expect_refused<J: Accord, R: Wait + Clock + Abort + AllocGlobal>(
-    rt: &R,
-    opened: OpenedStore,
-    mut client: Client,
-)
-    requires board { arc_value opened.board ≡ J.board }
-    requires switches { opened.switch.board ≡ J.switches }
-    requires client { client.board ≡ J.board }
-    requires untold { J.told → ⊥ }
+fn expect_refused<J: Accord>(rt: &(impl Wait + Abort), service: &Served<J>, mut client: Client)
+    requires { client.board ≡ J.board }
 {
-    let service: Served<J> = Service::new(rt.alloc(), opened);
     assert!(rt;
         matches!(
-            load(rt, &service, &mut client, "proc"),
+            order(rt, service, &mut client, Command::Load("proc")),
             Err(Refused::Text { .. })
         )
     );
-    assert!(rt; root(rt, &service, &mut client, "main") == Err(Refused::NoProgram));
-    assert!(rt; load(rt, &service, &mut client, NUMBER) == Ok(0));
-    assert!(rt; root(rt, &service, &mut client, "none") == Err(Refused::NoProcedure));
-}
-
-#[test]
-fn a_client_is_refused_as_a_store_refuses(rt: HostRuntime) -> Result<(), Fail> {
-    let (opened, client) = given(&rt, opened_new(rt.alloc()));
-    expect_refused::<Brand, HostRuntime>(&rt, opened, client);
-    Ok(())
+    assert!(rt; order(rt, service, &mut client, Command::Root("main")) == Err(Refused::NoProgram));
+    assert!(rt; order(rt, service, &mut client, Command::Load(NUMBER)) == Ok(0));
+    assert!(rt;
+        order(rt, service, &mut client, Command::Root("none")) == Err(Refused::NoProcedure)
+    );
 }
 
 /// Asserts that behind a failed disk call the committer, hands and clients are refused, and nothing is seen.
-fn expect_failed<J: Accord, R: Wait + Clock + Abort + AllocGlobal>(
+fn expect_failed<J: Accord, R: Wait + Clock + Abort>(
     rt: &R,
-    opened: OpenedStore,
+    service: &Served<J>,
     mut client: Client,
 )
-    requires board { arc_value opened.board ≡ J.board }
-    requires switches { opened.switch.board ≡ J.switches }
-    requires client { client.board ≡ J.board }
-    requires untold { J.told → ⊥ }
+    requires { client.board ≡ J.board }
 {
-    let service: Served<J> = Service::new(rt.alloc(), opened);
-    assert!(rt; load(rt, &service, &mut client, NUMBER) == Ok(0));
+    assert!(rt; order(rt, service, &mut client, Command::Load(NUMBER)) == Ok(0));
     let open = Open { ahead: 0 };
     assert!(rt; service.commit(rt, &open) == Err(Refused::Disk) && service.stopped());
     assert!(rt; service.commit(rt, &open) == Err(Refused::Failed));
     assert!(rt; service.work(rt, 0, &open) == Err(Refused::Failed));
-    assert!(rt; root(rt, &service, &mut client, "main") == Err(Refused::Failed));
+    assert!(rt; order(rt, service, &mut client, Command::Root("main")) == Err(Refused::Failed));
     assert!(rt; service.acked(&mut client) == 0);
 }
 
+/// What is asserted of a service and its client.
+#[derive(Clone, Copy)]
+enum Asserted {
+    Seen,
+    Refused,
+    Failed,
+}
+
+/// Asserts it of a service over the store.
+fn expect<J: Accord, R: Wait + Clock + Abort + AllocGlobal>(
+    rt: &R,
+    opened: OpenedStore,
+    client: Client,
+    asserted: Asserted,
+)
+    requires board { arc_value opened.board ≡ J.board }
+    requires switches { opened.switch.board ≡ J.switches }
+    requires client { client.board ≡ J.board }
+    requires untold { J.told → ⊥ }
+{
+    let service: Served<J> = Service::new(rt.alloc(), opened);
+    match asserted {
+        Asserted::Seen => expect_seen(rt, service, client),
+        Asserted::Refused => expect_refused(rt, &service, client),
+        Asserted::Failed => expect_failed(rt, &service, client),
+    }
+}
+
 #[test]
-fn behind_a_failed_disk_nothing_goes_on(rt: HostRuntime) -> Result<(), Fail> {
+fn a_client_sees_what_is_stored(rt: HostRuntime) {
+    let (opened, client) = given(&rt, opened_new(rt.alloc()));
+    expect::<Brand, HostRuntime>(&rt, opened, client, Asserted::Seen);
+}
+
+#[test]
+fn a_client_is_refused_as_a_store_refuses(rt: HostRuntime) {
+    let (opened, client) = given(&rt, opened_new(rt.alloc()));
+    expect::<Brand, HostRuntime>(&rt, opened, client, Asserted::Refused);
+}
+
+#[test]
+fn behind_a_failed_disk_nothing_goes_on(rt: HostRuntime) {
     let (opened, client) = given(&rt, opened_failing(rt.alloc(), 6));
-    expect_failed::<Brand, HostRuntime>(&rt, opened, client);
-    Ok(())
+    expect::<Brand, HostRuntime>(&rt, opened, client, Asserted::Failed);
 }
 
 /// Makes a procedure a root, from a thread of the client's, and looks how far the store is.
-fn order<J: Accord>(
+fn order_root<J: Accord>(
     rt: &impl Wait,
     service: &Served<J>,
     mut client: Client,
@@ -159,7 +165,7 @@ fn order<J: Accord>(
     requires { client.board ≡ J.board }
     ensures { result.1.board ≡ J.board }
 {
-    let ordered = root(rt, service, &mut client, name);
+    let ordered = order(rt, service, &mut client, Command::Root(name));
     service.acked(&mut client);
     (ordered, client)
 }
@@ -183,11 +189,11 @@ fn order_both<J: Accord + Send + Sync, R: Threads + Wait + Sync>(
         || -> (Result<u64, Refused>, Client)
             requires { first.board ≡ J.board }
             ensures { result.1.board ≡ J.board }
-        { order(rt, service, first, "main") },
+        { order_root(rt, service, first, "main") },
         || -> (Result<u64, Refused>, Client)
             requires { second.board ≡ J.board }
             ensures { result.1.board ≡ J.board }
-        { order(rt, service, second, "rec") },
+        { order_root(rt, service, second, "rec") },
     );
     service.raise_stop();
     both
@@ -222,7 +228,7 @@ fn expect_both<J: Accord + Send + Sync, R: Threads + Wait + Clock + Sync + Abort
     requires untold { J.told → ⊥ }
 {
     let service: Served<J> = Service::new(rt.alloc(), opened);
-    assert!(rt; load(rt, &service, &mut first, RECURSION) == Ok(0));
+    assert!(rt; order(rt, &service, &mut first, Command::Load(RECURSION)) == Ok(0));
     let open = Open { ahead: 0 };
     let (both, ended) = thread::join(
         rt,

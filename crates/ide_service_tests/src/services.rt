@@ -14,8 +14,5 @@ pub(crate) type Served<J> = Service<CopyConst, MemDisk, J>;
 pub(crate) fn given<T>(rt: &impl Abort, found: Result<T, Refused>) -> T
     ensures { found ≡ Ok result }
 {
-    match found {
-        Ok(value) => value,
-        Err(refused) => panic!(rt; "{refused}"),
-    }
+    found.expect(rt, "this is not to be refused")
 }

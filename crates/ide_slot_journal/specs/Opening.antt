@@ -1,12 +1,10 @@
 -- What an opening of two disks finds and leaves.
 use Rattle.std.specs.Prelude.{◌≡◌, ◌⊎◌, ℕ, ◌<◌, ◌≤◌, Bool, List, [], ◌∷◌, ◌++◌, length, take, Result, Err, IfErr, IfOk, OnErr, OnOk}
-use Rattle.std.specs.Global.{Vec}
 use Rattle.ide_disk.specs.Disk.{CrashLeaves, DiskState, settled}
 use Rattle.ide_disk.specs.OneCall.{FailsOnce}
 use Rattle.ide_disk.specs.declared.disk.Disk.{Ghosts}
 use Rattle.ide_journal.specs.Bytes.{IsBefore}
 use Rattle.ide_journal.specs.Moments.{LeavesOnly}
-use Rattle.ide_journal.specs.Opening.{CutsBehind}
 use Rattle.ide_slots.specs.Current.{HasNoCurrent, IsCurrent}
 use Rattle.ide_slots.specs.DiskCalls.{LeavesNoMoreThan}
 use Rattle.ide_slots.specs.Loading.{ClosesIn, HasRecords, slot_of}
@@ -24,17 +22,9 @@ use Rattle.ide_wire.specs.declared.refused.Refused.TheVariants as refusals
 abbrev pub HasFront : {D : Type 0} → Ghosts D → D → List ℕ → Type 0
 HasFront G disk front = front ≡ take 4097 (G.state disk).now
 
--- and these are all the bytes that a read gives
-abbrev pub HasBytes : {D : Type 0} → Ghosts D → D → Vec ℕ → Type 0
-HasBytes G disk bytes = bytes.items ≡ (G.state disk).now
-
 -- what a read of the old disk gives is on the new one
 abbrev pub SyncsAll : {D : Type 0} → Ghosts D → (old new : D) → Type 0
 SyncsAll G old new = G.state new ≡ settled (G.state old).now
-
--- what stands behind a closed gate at that place is dropped
-abbrev pub CutsDisk : {D : Type 0} → Ghosts D → (gate : ℕ) → (old new : D) → Type 0
-CutsDisk G gate old new = CutsBehind gate (G.state old) (G.state new)
 
 -- why the beginning of a disk is not read: a call of the disk failed, or its file is too short for a slot
 pub data IsLookRefusal (bytes : List ℕ) : Refused → Type 0 where

@@ -11,22 +11,23 @@ use Rattle.ide_slots.specs.Records.{all_numbered}
 use Rattle.ide_slots.specs.Slot.{AreCommands, IsPartEntry, NumberedEntry, Slot, SlotHead, numbered_from, slot_header}
 use Rattle.ide_slots.specs.declared.record.NumberedRecord.{NumberedRecord}
 use Rattle.ide_slot_journal.specs.declared.filler.Filler.{Filler}
+use Rattle.ide_slot_journal.specs.declared.planning.Spelling.{Spelling}
 use Rattle.ide_slot_journal.specs.declared.stage.FillStage.TheVariants.{Waits}
 
-abbrev pub bytes_of : List (Vec ℕ) → List (List ℕ)
-bytes_of todo = map (λ (chunk : Vec ℕ). chunk.items) todo
+abbrev pub chunk_bytes : List (Vec ℕ) → List (List ℕ)
+chunk_bytes todo = map (λ (chunk : Vec ℕ). chunk.items) todo
 
 -- these are spelled behind the others
 abbrev pub HasMore : List (List ℕ) → (old new : List (Vec ℕ)) → Type 0
-HasMore more old new = bytes_of new ≡ bytes_of old ++ more
+HasMore more old new = chunk_bytes new ≡ chunk_bytes old ++ more
 
 -- a record is, with that gate behind it
-abbrev pub SpellsOne : {A : Type 0} → (gate : ℕ) → NumberedEntry → (old new : VecDeque (Vec ℕ) A) → Type 0
-SpellsOne gate entry old new = HasMore (with_gate gate entry ∷ []) old.items new.items
+abbrev pub SpellsOne : (gate : ℕ) → NumberedEntry → (old new : Spelling) → Type 0
+SpellsOne gate entry old new = HasMore (with_gate gate entry ∷ []) old.todo.items new.todo.items
 
 -- records are, each with an open gate behind it
-abbrev pub SpellsOpen : {A : Type 0} → List NumberedEntry → (old new : VecDeque (Vec ℕ) A) → Type 0
-SpellsOpen records old new = HasMore (map (with_gate 1) records) old.items new.items
+abbrev pub SpellsOpen : List NumberedEntry → (old new : Spelling) → Type 0
+SpellsOpen records old new = HasMore (map (with_gate 1) records) old.todo.items new.todo.items
 
 -- parts are numbered from 0 on
 abbrev pub numbered_parts : List RawRecord → List NumberedEntry
@@ -34,7 +35,7 @@ numbered_parts parts = numbered_from 0 (entries_of parts)
 
 -- these commands and parts are spelled, with an open gate behind each but the last
 abbrev pub SpellsAll : {A : Type 0} → List NumberedRecord → List RawRecord → VecDeque (Vec ℕ) A → Type 0
-SpellsAll commands parts todo = bytes_of todo.items ≡ chunks (all_numbered commands ++ numbered_parts parts)
+SpellsAll commands parts todo = chunk_bytes todo.items ≡ chunks (all_numbered commands ++ numbered_parts parts)
 
 -- the body of a record is within the limit
 abbrev pub HasShortBody : RawRecord → Type 0

@@ -5,11 +5,9 @@ ghost use Rattle.ide_journal.specs.Refusals.{CountsFaults};
 ghost use Rattle.ide_slot_journal.specs.Adopting.{HasCheckpoint, HasClosedSlot, IsCheckpointFront, IsClosingRefusal, TellsCheckpoint};
 ghost use Rattle.ide_slot_journal.specs.OneDisk.{FailsNoCall};
 
-use crate::calls::rewrite;
 use crate::opening::front_of;
-use crate::spelling::spell_first;
 use ide_disk::Disk;
-use ide_journal::Version;
+use ide_journal::{Version, rewrite, spell_header};
 use ide_slots::read_head;
 use ide_wire::Refused;
 use std::alloc::Global;
@@ -62,7 +60,8 @@ pub fn put_closed<D: Disk>(alloc: Global, disk: &mut D, tag: u8) -> Result<(), R
         Ok(false) => {}
         Err(refused) => return Err(refused),
     }
-    let page = match spell_first(alloc, Version::Two, tag) {
+    // A closed slot of generation 0 is spelled as a new store on one disk.
+    let page = match spell_header(alloc, Version::Two, tag) {
         Ok(page) => page,
         Err(_) => return Err(Refused::NoMemory),
     };

@@ -1,7 +1,5 @@
 //! Calls of one disk.
 ghost use Rattle.std.specs.Prelude.{◌≡◌, ◌+◌, ◌≤◌, length, OnOk};
-ghost use Rattle.ide_disk.specs.Disk.{settled};
-ghost use Rattle.ide_disk.specs.Time.{failures_after};
 ghost use Rattle.ide_slots.specs.DiskCalls.{Cuts, Syncs, Writes};
 ghost use Rattle.ide_slot_journal.specs.OneDisk.{MakesDiskCall};
 
@@ -31,17 +29,5 @@ pub(crate) fn sync<D: Disk>(disk: &mut D) -> Result<(), DeviceFault>
     ensures call { MakesDiskCall D.Disk Syncs result disk.old disk.new }
     ensures size { D.size disk.new ≡ D.size disk.old }
 {
-    disk.sync()
-}
-
-// Puts the bytes in the place of all that the disk has, and brings them onto the disk.
-pub(crate) fn rewrite<D: Disk>(disk: &mut D, bytes: &[u8]) -> Result<(), DeviceFault>
-    ensures size { OnOk result (D.size disk.new ≡ length bytes.now) }
-    ensures bytes { D.honest disk.old → OnOk result (D.state disk.new ≡ settled bytes.now) }
-    ensures honest { D.honest disk.old → D.honest disk.new }
-    ensures failures { D.failures disk.new ≡ failures_after result (D.failures disk.old) }
-{
-    disk.cut(0)?;
-    disk.write(0, bytes)?;
     disk.sync()
 }

@@ -5,14 +5,13 @@ ghost use Rattle.ide_slots.specs.Records.{all_numbered};
 ghost use Rattle.ide_slot_journal.specs.OneDisk.{MakesDiskCall};
 ghost use Rattle.ide_slot_journal.specs.Stages.{first_place, stage_call};
 
-use crate::calls::{rewrite, sync, write};
+use crate::calls::{sync, write};
 use crate::filler::Filler;
 use crate::opening::{choose, count_of, recover};
 use crate::planning::spell_checkpoint;
-use crate::spelling::{spell, spell_first};
 use crate::stage::{FillStage, RecordStage};
 use ide_disk::{DeviceFault, Disk};
-use ide_journal::{Phase, RawRecord, Version};
+use ide_journal::{Phase, RawRecord, Version, rewrite, spell_header, spell_record};
 use ide_slots::{LoadedSlot, NumberedRecord, Side, SlotHead};
 use ide_wire::Refused;
 use std::alloc::Global;
@@ -86,7 +85,8 @@ impl<D: Disk> SlotJournal<D> {
         ensures back { ComeBackHonest D.Disk a b result }
         ensures refused { IfErr result (λ all. IsMakingRefusal D.Disk a b all.1 all.2 all.0) }
     {
-        let page = match spell_first(alloc, Version::Two, tag) {
+        // A closed slot of generation 0 is spelled as a new store on one disk.
+        let page = match spell_header(alloc, Version::Two, tag) {
             Ok(page) => page,
             Err(_) => return Err((Refused::NoMemory, a, b)),
         };
@@ -297,7 +297,7 @@ impl<D: Disk> SlotJournal<D> {
         ensures begun { TouchesNoDisk self.old self.new }
         ensures other { KeepsOther self.old self.new }
     {
-        spell(&mut self.tail, self.count, raw, 0)?;
+        spell_record(&mut self.tail, self.count, raw, 0)?;
         self.next = self.count + 1;
         self.stage = RecordStage::Waits;
         Ok(())

@@ -11,7 +11,6 @@ mod filler;
 mod journal;
 mod opening;
 mod planning;
-mod spelling;
 mod stage;
 mod tag;
 

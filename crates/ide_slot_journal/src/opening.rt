@@ -1,15 +1,14 @@
 //! What an opening does to the disks.
-ghost use Rattle.std.specs.Prelude.{◌≡◌, ◌⊎◌, ◌+◌, ◌<◌, ◌≤◌, length, OnOk, IfOk, IfErr, IfNone, IfSome};
+ghost use Rattle.std.specs.Prelude.{◌≡◌, ◌<◌, ◌≤◌, OnOk, IfOk, IfErr, IfNone, IfSome};
 ghost use Rattle.ide_disk.specs.Disk.{CrashLeaves};
-ghost use Rattle.ide_disk.specs.Time.{failures_after};
 ghost use Rattle.ide_journal.specs.Moments.{LeavesNoMore, OnlyLooks};
-ghost use Rattle.ide_journal.specs.Opening.{LeavesFront};
 ghost use Rattle.ide_journal.specs.Refusals.{CountsFaults, RunsOn};
 ghost use Rattle.ide_slots.specs.Loading.{slot_of};
 ghost use Rattle.ide_slots.specs.Slot.{slot_count};
-ghost use Rattle.ide_slot_journal.specs.Opening.{ChoosesSide, CountsFaultsOfTwo, CutsDisk, HasBytes, HasFront, IsLookRefusal, IsReadFrom, IsWholeSlot, OnlyCuts, RecoversSlot, RefusesRead, RefusesSide, StopsIfRefused, SyncsAll};
+ghost use Rattle.ide_slot_journal.specs.Opening.{ChoosesSide, CountsFaultsOfTwo, HasFront, IsLookRefusal, IsReadFrom, IsWholeSlot, OnlyCuts, RecoversSlot, RefusesRead, RefusesSide, StopsIfRefused, SyncsAll};
 
-use ide_disk::{DeviceFault, Disk};
+use ide_disk::Disk;
+use ide_journal::{cut_behind, read_all};
 use ide_slots::{LoadedSlot, Side, choose_slot, read_head, read_slot};
 use ide_wire::Refused;
 use std::alloc::Global;
@@ -102,26 +101,6 @@ pub(crate) fn choose<D: Disk>(a: &mut D, b: &mut D, tag: u8) -> Result<(Side, bo
     }
 }
 
-// All bytes of the disk.
-fn read_all<D: Disk>(alloc: Global, disk: &mut D) -> Result<Vec<u8>, Refused>
-    ensures bytes { D.honest disk.old → IfOk result (HasBytes D.Disk disk.old) }
-    ensures length { IfOk result (λ bytes. length bytes.items ≡ D.size disk.old) }
-    ensures same { OnlyLooks D.Disk disk.old disk.new }
-    ensures failures { CountsFaults D.Disk result disk.old disk.new }
-    ensures refused { IfErr result (λ refused. (refused ≡ Refused.NoMemory) ⊎ (refused ≡ Refused.Disk)) }
-{
-    let len = match disk.len() {
-        Ok(len) => len as usize,
-        Err(_) => return Err(Refused::Disk),
-    };
-    let mut bytes = Vec::with_capacity(alloc, len)?;
-    bytes.resize(len, 0)?;
-    match disk.read(0, &mut bytes) {
-        Ok(()) => Ok(bytes),
-        Err(_) => Err(Refused::Disk),
-    }
-}
-
 // The slot that the disk holds.
 fn load<D: Disk>(alloc: Global, disk: &mut D) -> Result<LoadedSlot, Refused>
     ensures whole { IfOk result IsWholeSlot }
@@ -159,23 +138,10 @@ pub(crate) fn recover<D: Disk>(alloc: Global, disk: &mut D) -> Result<LoadedSlot
         Ok(slot) => slot,
         Err(refused) => return Err(refused),
     };
-    match repair(disk, slot.gate) {
+    match cut_behind(disk, slot.gate) {
         Ok(()) => Ok(slot),
         Err(_) => Err(Refused::Disk),
     }
-}
-
-// Drops what stands behind a closed gate, and brings that onto the disk.
-fn repair<D: Disk>(disk: &mut D, gate: u64) -> Result<(), DeviceFault>
-    requires { gate < D.size disk.old }
-    ensures size { OnOk result (gate < D.size disk.new) }
-    ensures bytes { D.honest disk.old → OnOk result (CutsDisk D.Disk gate disk.old disk.new) }
-    ensures honest { D.honest disk.old → D.honest disk.new }
-    ensures any_moment { D.honest disk.old → LeavesFront D.Disk gate disk.old disk.new }
-    ensures failures { D.failures disk.new ≡ failures_after result (D.failures disk.old) }
-{
-    disk.cut(gate + 1)?;
-    disk.sync()
 }
 
 /// How many records a slot that was read stands for, those below its checkpoint too.

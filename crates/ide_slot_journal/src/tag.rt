@@ -19,14 +19,8 @@ pub fn current_tag<D: Disk>(a: &mut D, b: &mut D) -> Result<u8, Refused>
     ensures failures { CountsFaultsOfTwo D.Disk result a.old b.old a.new b.new }
     ensures refused { RefusesTag D.Disk result a.old b.old }
 {
-    let first = match read_front(a) {
-        Ok(first) => first,
-        Err(refused) => return Err(refused),
-    };
-    let second = match read_front(b) {
-        Ok(second) => second,
-        Err(refused) => return Err(refused),
-    };
+    let first = read_front(a)?;
+    let second = read_front(b)?;
     match find_current(&first, &second) {
         Some(found) => Ok(found.head.tag),
         None => Err(Refused::NotAStore),

@@ -38,7 +38,7 @@ use Rattle.ide_wire.specs.declared.key.Key.{Key}
 use Rattle.ide_wire.specs.declared.key.Key.TheVariants.{Jump}
 use Rattle.ide_wire.specs.declared.refused.Refused.{Refused}
 use Rattle.ide_wire.specs.declared.refused.Refused.TheVariants.{Limit}
-use Rattle.ide_store.specs.Machine.{IsSpelled, ProgramStep, slot_machine}
+use Rattle.ide_store.specs.Machine.{IsRecordOf, ProgramStep, slot_machine}
 use Rattle.ide_slot_store.specs.Parts.{AreImageParts, AreInParts, CommandsStayBelow, ImagePartsMakeCheckpoints, IsBelow, IsImagePart, IsPartsStop, IsSpellStop, PartsLeadUp, key_not_spelled, memory_is_wanting, one_not_spelled, wants_memory}
 use Rattle.ide_store.specs.Table.{Analysis, TableData, forms_of}
 use Rattle.ide_store.specs.TwoDisks.{is_command, unnumbered}
@@ -198,13 +198,13 @@ module _ {F : Type 0} where
       by_kind : (kind : ℕ) (entry : Entry) → entry.0 ≡ kind → (number : ℕ) → is_command (number, entry) ≡ (nat_le 1 kind && nat_le kind 2)
       by_kind kind entry is number = ap (λ (n : ℕ). nat_le 1 n && nat_le n 2) is
 
-      record_follows : (value : RecordValue F) (r : VersionedEntry) (low high next : ProgramImage F) → IsBelow low high → IsSpelled forms value r
+      record_follows : (value : RecordValue F) (r : VersionedEntry) (low high next : ProgramImage F) → IsBelow low high → IsRecordOf forms value r
           → RecordLeads functions equal value high next → Follows r.1 low next
       record_follows (Load text) r low high next below spelled leads =
-          let again : IsSpelled forms (Load text) (Two, r.1) = record { kind = spelled.kind; body = spelled.body } in
+          let again : IsRecordOf forms (Load text) (Two, r.1) = record { kind = spelled.kind; body = spelled.body } in
           inl (by_kind 1 r.1 spelled.kind, next, inl (record { value = Load text; spelled = again; leads = leads }), below_itself next)
       record_follows (Root name) r low high next below spelled leads =
-          let again : IsSpelled forms (Root name) (Two, r.1) = record { kind = spelled.kind; body = spelled.body } in
+          let again : IsRecordOf forms (Root name) (Two, r.1) = record { kind = spelled.kind; body = spelled.body } in
           inl (
             by_kind 2 r.1 spelled.kind,
             rooted low name,

@@ -5,7 +5,7 @@ use Rattle.ide_theory.proofs.Laws.Targets.{nat_eq-exact}
 use Rattle.ide_batch.specs.Bodies.{IsEntryOf}
 use Rattle.ide_batch.specs.Fold.{ProgramImage, RecordLeads}
 use Rattle.ide_batch.specs.Items.{Functions}
-use Rattle.ide_batch.specs.Records.{Batch, Load, RecordValue, Root, kind_of}
+use Rattle.ide_batch.specs.Records.{Batch, Load, RecordValue, Root, record_kind}
 use Rattle.ide_journal.specs.Format.{Entry}
 use Rattle.ide_journal.specs.declared.version.Version.{Version}
 use Rattle.ide_lattice.specs.Algebra.{EdgeAlgebra}
@@ -24,8 +24,8 @@ module _ {F L : Type 0} (functions : EdgeAlgebra F L) (same : F → F → Bool) 
   batch_sets body before now does = by does.value refl
     where
       by : (value : RecordValue F) → does.value ≡ value → SetsPart functions same forms (version, (4, body)) before now
-      by (Load text) is = absurd (omega (arith, does.spelled.kind ∙ ap kind_of is))
-      by (Root name) is = absurd (omega (arith, does.spelled.kind ∙ ap kind_of is))
+      by (Load text) is = absurd (omega (arith, does.spelled.kind ∙ ap record_kind is))
+      by (Root name) is = absurd (omega (arith, does.spelled.kind ∙ ap record_kind is))
       by (Batch items) is =
           let spelled = subst (λ (value : RecordValue F). IsEntryOf forms version value (3, body)) is does.spelled in
           record {
@@ -49,7 +49,7 @@ module _ {F L : Type 0} (functions : EdgeAlgebra F L) (same : F → F → Bool) 
     | inr part ↦ inl (record { value = Batch part.items; spelled = record { kind = refl; body = part.spelled }; leads = part.leads })
   ]
     where
-      no_kind : (value : RecordValue F) → 4 ≡ kind_of value → ⊥
+      no_kind : (value : RecordValue F) → 4 ≡ record_kind value → ⊥
       no_kind (Load text) is = omega (arith, is)
       no_kind (Root name) is = omega (arith, is)
       no_kind (Batch items) is = omega (arith, is)

@@ -1,5 +1,5 @@
 -- What the writing half of a store on two disks does to the records that were sealed.
-use Rattle.std.specs.Prelude.{◌≡◌, ◌⊎◌, ℕ, ◌+◌, ◌<◌, Bool, true, false, List, [], ◌∷◌, ◌++◌, Result, Ok, Err, drop, filter, length, map, take}
+use Rattle.std.specs.Prelude.{◌≡◌, ◌⊎◌, ℕ, ◌+◌, ◌<◌, Bool, true, false, List, [], ◌∷◌, ◌++◌, Result, Ok, Err, drop, filter, length, map, take, OnOk}
 use Rattle.std.specs.Global.{Vec}
 use Rattle.ide_disk.specs.Disk.{DiskState}
 use Rattle.ide_disk.specs.OneCall.{FailsOnce}
@@ -50,6 +50,13 @@ FailsOne {G = G} old new = FailsOnce G old.current new.current ⊎ FailsOnce G o
 -- so it is where the refusal is the disk's
 abbrev pub TellsFault : {D T : Type 0} {G : Ghosts D} → Result T Refused → (old new : SlotJournal D G) → Type 0
 TellsFault result old new = result ≡ Err Disk → FailsOne old new
+
+-- a disk call is made, or one had failed before: none fails at Ok, and one did where the refusal is the disk's
+pub record TellsCall {D : Type 0} {G : Ghosts D} (result : Result Bool Refused) (old new : SlotJournal D G) : Type 0 where
+  pub made : result ≡ Ok false → ⊥
+  pub failures : OnOk result (FailsNone old new)
+  pub fault : TellsFault result old new
+  pub failed : HasFaulted old → result ≡ Err Failed
 
 -- once a disk call failed, that stays so, and a record counts as under way
 abbrev pub StaysFaulted : {D E : Type 0} {G : Ghosts D} → Result Bool E → (old new : SlotJournal D G) → Type 0

@@ -42,7 +42,7 @@ impl<D: Disk> SlotWriterHalf<D> {
     ghost use Rattle.ide_slot_journal.specs.Records.{MayLeaveInRecord};
     ghost use Rattle.ide_slot_journal.specs.Stands.{AreHonest, HasFaulted, HasNoNext, IsCheckpointing, IsFilling, IsTurn, pair_of, records_stored, sides_of};
     ghost use Rattle.ide_store.specs.Table.{IsSameTable};
-    ghost use Rattle.ide_slot_store.specs.Half.{CallsOver, CrashesStep, FailsNone, HasNoCommand, HasStoredAll, IsBeginRefusal, IsNewHalf, IsPlanAllRefusal, IsQuiet, IsSameHalf, KeepsWriting, OpensHalf, PlansAllOver, PlansGiven, Seals, StaysFaulted, StepsOver, TakesAllFrom, TakesFrom, TellsFault, WritesGiven, half_sides_after};
+    ghost use Rattle.ide_slot_store.specs.Half.{CallsOver, CrashesStep, FailsNone, HasNoCommand, HasStoredAll, IsBeginRefusal, IsNewHalf, IsPlanAllRefusal, IsQuiet, IsSameHalf, KeepsWriting, OpensHalf, PlansAllOver, PlansGiven, Seals, StaysFaulted, StepsOver, TakesAllFrom, TakesFrom, TellsCall, TellsFault, WritesGiven, half_sides_after};
 
     /// Makes a store with no record on the disks A and B, whatever they held.
     ///
@@ -279,12 +279,9 @@ impl<D: Disk> SlotWriterHalf<D> {
         requires busy { HasNoNext self.old.journal → ⊥ }
         requires turn { IsTurn self.old.journal }
         ensures calls { AreHonest self.old.journal → CallsOver self.old self.new result }
-        ensures made { result ≡ Ok false → ⊥ }
         ensures honest { AreHonest self.old.journal → AreHonest self.new.journal }
         ensures any_moment { MayLeaveInRecord self.old.journal self.new.journal }
-        ensures failures { OnOk result (FailsNone self.old.journal self.new.journal) }
-        ensures fault { TellsFault result self.old.journal self.new.journal }
-        ensures failed { HasFaulted self.old.journal → result ≡ Err Refused.Failed }
+        ensures told { TellsCall result self.old.journal self.new.journal }
     {
         let number = self.journal.count();
         match self.journal.advance() {
@@ -302,12 +299,9 @@ impl<D: Disk> SlotWriterHalf<D> {
     fn fill(&mut self) -> Result<bool, Refused>
         requires { IsFilling self.old.journal }
         ensures calls { AreHonest self.old.journal → CallsOver self.old self.new result }
-        ensures made { result ≡ Ok false → ⊥ }
         ensures honest { AreHonest self.old.journal → AreHonest self.new.journal }
         ensures any_moment { MayLeaveInCheckpoint self.old.journal self.new.journal }
-        ensures failures { OnOk result (FailsNone self.old.journal self.new.journal) }
-        ensures fault { TellsFault result self.old.journal self.new.journal }
-        ensures failed { HasFaulted self.old.journal → result ≡ Err Refused.Failed }
+        ensures told { TellsCall result self.old.journal self.new.journal }
     {
         match self.journal.advance_checkpoint() {
             Ok(_) => Ok(true),

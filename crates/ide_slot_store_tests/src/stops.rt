@@ -224,39 +224,35 @@ fn expect_ends(rt: &(impl Abort + AllocGlobal), version: Version, end: End, leav
     }
 }
 
+/// The kinds of crash.
+const LEAVES: [Leave; 5] = [
+    Leave::Old,
+    Leave::New,
+    Leave::Half,
+    Leave::Fill(0),
+    Leave::Fill(0x37),
+];
+
 /// Asserts what each end of that kind leaves, with each kind of crash.
 fn expect_all_ends(rt: &(impl Abort + AllocGlobal), version: Version, end: End) {
-    expect_ends(rt, version, end, Leave::Old);
-    expect_ends(rt, version, end, Leave::New);
-    expect_ends(rt, version, end, Leave::Half);
-    expect_ends(rt, version, end, Leave::Fill(0));
-    expect_ends(rt, version, end, Leave::Fill(0x37));
+    for leave in LEAVES {
+        expect_ends(rt, version, end, leave);
+    }
 }
 
 #[test]
-fn crashes_between_calls_leave_stored_records(rt: HostRuntime) {
-    expect_all_ends(&rt, Version::Two, End::Between);
+fn each_end_leaves_stored_records(rt: HostRuntime) {
+    for end in [End::Between, End::Stop, End::Fault] {
+        expect_all_ends(&rt, Version::Two, end);
+    }
 }
 
+// The checkpoint of a store of the first version is of the second: what a call that fails leaves is the same.
 #[test]
-fn stops_leave_stored_records(rt: HostRuntime) {
-    expect_all_ends(&rt, Version::Two, End::Stop);
-}
-
-#[test]
-fn faults_leave_stored_records(rt: HostRuntime) {
-    expect_all_ends(&rt, Version::Two, End::Fault);
-}
-
-// The checkpoint of a store of the first version is of the second: what a stop leaves is the same.
-#[test]
-fn stops_leave_stored_records_of_the_first_version(rt: HostRuntime) {
-    expect_all_ends(&rt, Version::One, End::Stop);
-}
-
-#[test]
-fn faults_leave_stored_records_of_the_first_version(rt: HostRuntime) {
-    expect_all_ends(&rt, Version::One, End::Fault);
+fn failed_calls_leave_stored_records_of_the_first_version(rt: HostRuntime) {
+    for end in [End::Stop, End::Fault] {
+        expect_all_ends(&rt, Version::One, end);
+    }
 }
 
 /// Opens disks of which either stops in the call behind so many more, and crashes them. The opening

@@ -44,8 +44,8 @@ abbrev pub IsReadAt : List ℕ → NumberedRecord × ℕ → Type 0
 IsReadAt bytes pair = IsReadRecord (numbered pair.0) pair.1 bytes
 
 -- it may stand at this place
-abbrev pub StandsAt : SlotHead → ℕ → ℕ → NumberedRecord × ℕ → Type 0
-StandsAt told from place pair = MayStand told from place (numbered pair.0)
+abbrev pub MayStandAt : SlotHead → ℕ → ℕ → NumberedRecord × ℕ → Type 0
+MayStandAt told from place pair = MayStand told from place (numbered pair.0)
 
 -- they begin with no record that may stand at this place
 abbrev pub NoneStands : SlotHead → ℕ → ℕ → List ℕ → Type 0
@@ -62,8 +62,8 @@ pub record IsFrame (number count : ℕ) (bytes : List ℕ) : Type 0 where
   pub inside : 13 + count + padding count < length bytes
 
 -- they begin with none
-abbrev pub IsUnframed : List ℕ → Type 0
-IsUnframed bytes = (r : NumberedEntry) (size : ℕ) → IsReadRecord r size bytes → ⊥
+abbrev pub HasNoRecord : List ℕ → Type 0
+HasNoRecord bytes = (r : NumberedEntry) (size : ℕ) → IsReadRecord r size bytes → ⊥
 
 -- the records up to this gate are whole, and each in its place
 pub record AreReadSo (told : SlotHead) (records : List NumberedEntry) (gate : ℕ) (bytes : List ℕ) : Type 0 where

@@ -1,10 +1,10 @@
 //! Records of a slot.
 ghost use Rattle.std.specs.Prelude.{◌≡◌, ◌↔◌, ◌≤◌, length, IsTrue, IfOk, IfSome, IfNone};
-ghost use Rattle.ide_slots.specs.Records.{IsFrame, IsReadAt, IsUnframed, MayStand, NoneStands, StandsAt, numbered};
+ghost use Rattle.ide_slots.specs.Records.{IsFrame, IsReadAt, HasNoRecord, MayStand, NoneStands, MayStandAt, numbered};
 
 use crate::SlotHead;
 use crate::head::short_number;
-use ide_journal::{RawRecord, are_zeros, number_of, padding};
+use ide_journal::{RawRecord, framed_length, padding};
 use std::alloc::{AllocError, Global};
 
 /// A record with the number that stands in it.
@@ -17,25 +17,10 @@ pub struct NumberedRecord {
 // The number of the record that stands there, of whatever kind, and how many bytes its body has.
 fn read_frame(bytes: &[u8]) -> Option<(u32, usize)>
     ensures whole { IfSome result (λ told. IsFrame told.0 told.1 bytes.now) }
-    ensures none { IfNone result (IsUnframed bytes.now) }
+    ensures none { IfNone result (HasNoRecord bytes.now) }
 {
-    if bytes.len() < 14 {
-        return None;
-    }
+    let count = framed_length(bytes)?;
     let number = short_number(&bytes[1..9])?;
-    let count = number_of(&bytes[9..13]) as usize;
-    if count > 4194304 {
-        return None;
-    }
-    let end = 13 + count;
-    let size = end + padding(count);
-    if size >= bytes.len() {
-        return None;
-    }
-    let filled = are_zeros(&bytes[end..size]);
-    if !filled {
-        return None;
-    }
     Some((number, count))
 }
 
@@ -72,7 +57,7 @@ pub(crate) fn read_record(
     place: u64,
 ) -> Result<Option<(NumberedRecord, usize)>, AllocError>
     ensures whole { IfOk result (λ found. IfSome found (IsReadAt bytes.now)) }
-    ensures place { IfOk result (λ found. IfSome found (StandsAt head.now from place)) }
+    ensures place { IfOk result (λ found. IfSome found (MayStandAt head.now from place)) }
     ensures none { IfOk result (λ found. IfNone found (NoneStands head.now from place bytes.now)) }
 {
     let Some((number, count)) = read_frame(bytes) else {

@@ -39,28 +39,6 @@ impl<P: Problem> Core<P> {
         if work.next().is_some() {
             return Err(Refused::Stale);
         }
-        self.own_finish(hand, work)
-    }
-
-    /// Ends the claim of work that is the hand's as it stands, and of which all parts are done: what
-    /// [`Core::finish`] does once it has told that.
-    ///
-    /// Refusal: `NoMemory`, which never comes where nobody asked for changes.
-    fn own_finish(&mut self, hand: usize, work: &Work<P>) -> Result<(), Refused>
-        requires own { IsCurrent P.F.edge P.targets self.old hand work.now }
-        requires over { work.now.done ≡ length work.now.parts }
-        ensures refused { IsOkUnless result Refused.NoMemory }
-        ensures nobody { self.old.changes ≡ None → IsOk result }
-        ensures notes { OnOk result (Notes self.old self.new (ended_key (claim_at self.old.pile hand))) }
-        ensures remembers { Remembers self.old self.new }
-        ensures finished { OnOk result (EndsDone P.F.edge P.targets hand self.old self.new) }
-        ensures claims { OnOk result (PutsClaim hand None self.old.pile self.new.pile) }
-        ensures count { OnOk result (TakesOut hand self.old.pile self.new.pile) }
-        ensures stays { IsSameProblem self.old self.new }
-        ensures table { self.new.table ≡ self.old.table }
-        ensures unchanged { OnErr result (self.new ≡ self.old) }
-    {
-        let _ = work;
         self.end_claim(hand)?;
         Ok(())
     }

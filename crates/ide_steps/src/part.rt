@@ -48,31 +48,6 @@ impl<P: Problem> Core<P> {
         if !self.is_current(hand, work) {
             return Err(Refused::Stale);
         }
-        self.own_part(hand, work)
-    }
-
-    /// Does the next part of work that is the hand's claim as it stands: what [`Core::part`] does once
-    /// it has told that.
-    ///
-    /// Refusal: `NoMemory`, which comes only where a part is left.
-    fn own_part(&mut self, hand: usize, work: &mut Work<P>) -> Result<Parted, Refused>
-        requires { IsCurrent P.F.edge P.targets self.old hand work.old }
-        ensures refused { IsOkUnless result Refused.NoMemory }
-        ensures left { OnErr result (work.old.done < length work.old.parts) }
-        ensures no_part { result ≡ Ok Parted.NoPart → FindsNone self.old self.new work.old work.new }
-        ensures all_done { work.old.done ≡ length work.old.parts → result ≡ Ok Parted.NoPart }
-        ensures lowered { result ≡ Ok Parted.Lowered → LowersPart P.F.edge P.targets hand self.old self.new work.old work.new }
-        ensures same { result ≡ Ok Parted.Same → SkipsPart P.F.edge P.targets hand self.old self.new work.old work.new }
-        ensures own { OnOk result (IsCurrent P.F.edge P.targets self.new hand work.new) }
-        ensures less { OnOk result (HasNoMore P.F.edge hand self.old self.new) }
-        ensures tasks { OnOk result (KeepTasks hand work.new.done self.old.pile self.new.pile) }
-        ensures free { (h : ℕ) → claim_at self.old.pile h ≡ None → claim_at self.new.pile h ≡ None }
-        ensures notes { result ≡ Ok Parted.Lowered → NotesPart work.old self.old self.new }
-        ensures notes_none { result ≡ Ok Parted.Same → self.new.changes ≡ self.old.changes }
-        ensures remembers { Remembers self.old self.new }
-        ensures stays { IsSameProblem self.old self.new }
-        ensures unchanged { OnErr result (IsUnchanged self.old self.new × (work.new ≡ work.old)) }
-    {
         self.parts_are_inside(hand);
         self.next_part(hand, work)
     }

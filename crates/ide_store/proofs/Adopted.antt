@@ -12,6 +12,7 @@ use Rattle.ide_slots.specs.Two.{SlotWriter}
 use Rattle.ide_text.specs.Value.{ProgramValue}
 use Rattle.ide_theory.specs.Images.{IsSame}
 use Rattle.ide_wire.specs.Form.{IsPrefixFree}
+use Rattle.ide_store.specs.Known.{Known}
 use Rattle.ide_store.specs.Answers.{GraphBy, frame_by}
 use Rattle.ide_store.specs.Hands.{IsSoundWorld}
 use Rattle.ide_store.specs.Machine.{ProgramStep}
@@ -23,7 +24,7 @@ use Rattle.ide_store.specs.TwoDisks.{HoldsTwo}
 use Rattle.ide_store.specs.Versioned.{VersionedEntry, plain}
 use Rattle.ide_store.specs.World.{IsFolded, LeadTo, Rules, Sealed, contents, image_after}
 use Rattle.ide_store.proofs.Good.{IsGood}
-use Rattle.ide_store.proofs.Hands.{IsWhole, Known, all_held, idle_held, some_base, sound}
+use Rattle.ide_store.proofs.Hands.{IsWhole, all_held, idle_held, some_base, sound}
 use Rattle.ide_store.proofs.Marks.{AreMarks, mark_at}
 use Rattle.ide_store.proofs.Places.{does_at, exact_at, laws_at}
 use Rattle.ide_store.proofs.TwoDisksBegin.{two_disks_begin}

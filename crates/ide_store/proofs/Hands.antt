@@ -14,9 +14,7 @@ use Rattle.ide_steps.proofs.Rooted.{entered-present}
 use Rattle.ide_text.specs.Value.{ProgramValue}
 use Rattle.ide_wire.specs.Key.{same_key}
 use Rattle.ide_wire.specs.declared.key.Key.{Key}
-use Rattle.ide_theory.specs.Frame.{IsLawfulFrame}
 use Rattle.ide_theory.specs.Images.{Finish, IsSame, Load, Part, Root, absent_below, is_met, loaded, received, seeded_below, image_state, step}
-use Rattle.ide_theory.specs.Member.{IsIn}
 use Rattle.ide_theory.specs.Members.{not-in-empty}
 use Rattle.ide_theory.specs.Run.{ArePartsOf, Run, begins}
 use Rattle.ide_theory.specs.State.{Claim, State, with_lowered, part_done}
@@ -27,7 +25,8 @@ use Rattle.ide_theory.proofs.Laws.Ranks.{lowerings-few}
 use Rattle.ide_theory.proofs.Laws.Reached.{run-on}
 use Rattle.ide_store.specs.Answers.{GraphBy, IsWorkFew, frame_by}
 use Rattle.ide_store.specs.Hands.{Act, Allowed, AreAllowed, Batches, Roots, CanBatch, CanBegin, CanEnd, CanLoad, CanPart, CanRelease, CanClaim, Claims, Ends, EveryRunAnswers, FitsNext, Hands, Happens, IsOfStore, IsSoundWorld, Loads, Parts, ProgramEvent, Releases, absent_from, absent_in, claims_after, idle, next, state_in, tally_after, worked}
-use Rattle.ide_store.specs.Machine.{Does, IsSpelled, ProgramStep}
+use Rattle.ide_store.specs.Known.{Known}
+use Rattle.ide_store.specs.Machine.{Does, IsRecordOf, ProgramStep}
 use Rattle.ide_store.specs.Store.{Store, StoreLaws}
 use Rattle.ide_store.specs.Tally.{state_with}
 use Rattle.ide_store.specs.Versioned.{VersionedEntry}
@@ -64,14 +63,6 @@ module _ {Image Step R : Type 0} {S : Store R} (rules : Rules Image Step R) (exa
         (subst (λ (xs : List (Sealed R)). IsFolded rules (contents xs) image) (all_pushed sealed r mark n over) all))
     | inr under ↦ inl (subst (λ (xs : List (Sealed R)). IsFolded rules (contents xs) image) (mark_before sealed r mark n under) all)
   ]
-
--- what is known of programs and their graphs
-pub record Known {F L : Type 0} (A : LatticeAlgebra L) (B : EdgeAlgebra F L) (targets : Targets F) : Type 0 where
-  pub lawful : {v : ProgramValue} (by : GraphBy v) → IsLawfulFrame (frame_by A B targets by)
-  pub starts : {v : ProgramValue} (by : GraphBy v) (name : List ℕ) (r : ℕ) → procedures.start v name ≡ Some r → (frame_by A B targets by).graph.start_of r ≡ r
-  pub fits : {v : ProgramValue} (by : GraphBy v) → procedures.entries v ≤ by.graph.facts
-  pub keys : {v : ProgramValue} (by : GraphBy v) → (keys : List Key) × (length keys ≡ key_space by.graph)
-      × ((s : State F) → Run (frame_by A B targets by) s → (key : Key) (f : F) → s.get key ≡ Some f → IsIn key keys)
 
 -- the machine of an analysis whose records do that
 abbrev pub machine_by : {F L : Type 0} → EdgeAlgebra F L → (F → F → Bool) → (VersionedEntry → ProgramImage F → ProgramImage F → Type 0)
@@ -276,7 +267,7 @@ module _ {F L : Type 0} {Leads : VersionedEntry → ProgramImage F → ProgramIm
   -- ---- a procedure becomes a root, where the records give back the image
   root_held : DoAsRecords → (w : Hands F S) (name : List ℕ) (first : Option VersionedEntry) (r : VersionedEntry) (v : ProgramValue) (start : ℕ) → IsWhole w → w.world.mode ≡ Running
       → IsFolded acts_by (contents w.world.sealed) w.world.image → w.world.image.program ≡ Some v → procedures.start v name ≡ Some start
-      → IsSpelled forms (records.Root name) r → FitsNext A B targets same forms acts_by S w.world r
+      → IsRecordOf forms (records.Root name) r → FitsNext A B targets same forms acts_by S w.world r
       → IsWhole (record {
         world = after_event acts_by (after_event acts_by w.world (Steps (Root name))) (Seals r);
         claims = claims_after A B targets same forms acts_by S w (Roots name first r);

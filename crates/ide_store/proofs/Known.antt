@@ -5,7 +5,7 @@ use Rattle.std.specs.Prelude.{slice_index}
 use Rattle.std.specs.Option.{option_map}
 use Rattle.ide_batch.proofs.Imaged.{starts_as}
 use Rattle.ide_batch.specs.Fold.{procedures}
-use Rattle.ide_graph.proofs.PlaceLemmas.{position_within}
+use Rattle.ide_text.proofs.Positions.{position_within}
 use Rattle.ide_graph.specs.Closed.{GraphsOfProgramsAreClosed}
 use Rattle.ide_graph.specs.Ends.{EndsOfProgramsAreNodes}
 use Rattle.ide_graph.specs.Joined.{SitesOfProgramsAreJoined, start_at}
@@ -25,7 +25,7 @@ use Rattle.ide_theory.proofs.Laws.Given.{lawful-frame}
 use Rattle.ide_theory.proofs.Laws.Reached.{run-reached}
 use Rattle.ide_theory.proofs.Laws.Sites.{joined-graph}
 use Rattle.ide_store.specs.Answers.{GraphBy}
-use Rattle.ide_store.proofs.Hands.{Known}
+use Rattle.ide_store.specs.Known.{Known}
 
 module _ (closed : GraphsOfProgramsAreClosed) (joined : SitesOfProgramsAreJoined) where
   is_graph : {v : ProgramValue} (by : GraphBy v) → IsGraph (edges_of by.graph.facts by.graph.sites by.all (start_at by.graph))

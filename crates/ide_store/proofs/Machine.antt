@@ -3,7 +3,7 @@ use Rattle.std.proofs.Common.{◌≡◌, ◌∙◌, ℕ, ◌≤◌, List, [], Bo
 use Rattle.ide_batch.proofs.Apart.{apart}
 use Rattle.ide_batch.specs.Fold.{RecordLeads, ProgramImage, procedures}
 use Rattle.ide_batch.specs.Items.{Functions}
-use Rattle.ide_batch.specs.Records.{RecordValue, Load, Root, Batch, kind_of}
+use Rattle.ide_batch.specs.Records.{RecordValue, Load, Root, Batch, record_kind}
 use Rattle.ide_lattice.specs.Algebra.{EdgeAlgebra}
 use Rattle.ide_text.specs.Parsed.{IsParsed}
 use Rattle.ide_text.specs.Program.{value_of}
@@ -35,7 +35,7 @@ module _ {F L : Type 0} (functions : EdgeAlgebra F L) (same : F → F → Bool) 
       (sym does.spelled.kind ∙ does_other.spelled.kind) does.spelled.body does_other.spelled.body refl refl in
       leads_once does_other.value before now other (subst (λ (value : RecordValue F). RecordLeads functions same value before now) one does.leads) does_other.leads
 
-  kind_below : (value : RecordValue F) → kind_of value ≤ 3
+  kind_below : (value : RecordValue F) → record_kind value ≤ 3
   kind_below (Load text) = omega arith
   kind_below (Root name) = omega arith
   kind_below (Batch items) = omega arith

@@ -1,25 +1,10 @@
 -- What is known of an analysis whose calls are acts, and of the worlds that acts lead to.
-use Rattle.ide_graph.specs.Exits.{ExitsOfProgramsAreOwned}
-use Rattle.ide_graph.specs.Joined.{SitesOfProgramsAreJoined}
-use Rattle.ide_graph.specs.SameGraphs.{GraphsOfOneTextAreSame}
-use Rattle.ide_steps.specs.Owed.{TasksOweTheirParts}
-use Rattle.ide_theory.specs.Images.{IsSame}
-use Rattle.ide_wire.specs.Form.{IsPrefixFree}
 use Rattle.ide_store.proofs.Adopted.{led_whole, start_whole}
-use Rattle.ide_store.proofs.Hands.{IsWhole, Known}
+use Rattle.ide_store.proofs.Hands.{IsWhole}
 use Rattle.ide_store.proofs.Places.{exact_at, laws_at}
+pub use Rattle.ide_store.specs.Known.{Knows}
 use Rattle.ide_store.specs.Places.{Place}
 use Rattle.ide_store.specs.Table.{Analysis, IsReached, IsStart, StoreWorld, forms_of, store_at}
-
--- the laws of its functions, of its records and of the graphs of programs
-pub record Knows {F L : Type 0} (a : Analysis F L) : Type 0 where
-  pub is_same : IsSame a.same
-  pub prefix_free : IsPrefixFree a.proper a.form
-  pub known : Known a.lattice a.functions a.targets
-  pub owed : TasksOweTheirParts a.lattice a.functions a.targets
-  pub joined : SitesOfProgramsAreJoined
-  pub exits : ExitsOfProgramsAreOwned
-  pub same_graphs : GraphsOfOneTextAreSame
 
 module _ {F L : Type 0} (a : Analysis F L) (knows : Knows a) (place : Place) where
   -- what is kept by acts is so of it

@@ -14,7 +14,7 @@ use Rattle.ide_theory.specs.Run.{ArePartsOf}
 use Rattle.ide_theory.specs.State.{Claim, State, finished, new_claim, part_done, with_claim}
 use Rattle.ide_wire.specs.declared.key.Key.{Key}
 use Rattle.ide_store.specs.Answers.{AnswersBest, GraphBy, IsWorkFew, frame_by}
-use Rattle.ide_store.specs.Machine.{IsSpelled, ProgramStep}
+use Rattle.ide_store.specs.Machine.{IsRecordOf, ProgramStep}
 use Rattle.ide_store.specs.Store.{Store}
 use Rattle.ide_store.specs.Tally.{Tally, nothing_since, state_with}
 use Rattle.ide_store.specs.Versioned.{VersionedEntry}
@@ -155,7 +155,7 @@ module _ {F L : Type 0} (A : LatticeAlgebra L) (B : EdgeAlgebra F L) (targets : 
     pub program : Program
     pub parsed : IsParsed text program
     pub says : value_of program ≡ v
-    pub spelled : IsSpelled forms (records.Load text) r
+    pub spelled : IsRecordOf forms (records.Load text) r
     pub fits : FitsNext w.world r
 
   -- the record tells what changed since the last one
@@ -165,7 +165,7 @@ module _ {F L : Type 0} (A : LatticeAlgebra L) (B : EdgeAlgebra F L) (targets : 
     pub folded : IsFolded rules (contents w.world.sealed) base
     pub items : List (Item F)
     pub exact : IsBatch items base w.world.image
-    pub spelled : IsSpelled forms (records.Batch items) r
+    pub spelled : IsRecordOf forms (records.Batch items) r
     pub fits : FitsNext w.world r
 
   -- nothing changed since the last record
@@ -186,7 +186,7 @@ module _ {F L : Type 0} (A : LatticeAlgebra L) (B : EdgeAlgebra F L) (targets : 
     pub start : ℕ
     pub starts : procedures.start program name ≡ Some start
     pub first : CanGoFirst w batch
-    pub spelled : IsSpelled forms (records.Root name) r
+    pub spelled : IsRecordOf forms (records.Root name) r
     pub fits : FitsNext (after_all rules w.world (sealing_first batch [])) r
 
   abbrev pub Allowed : Hands F S → Act F S → Type 0

@@ -4,6 +4,7 @@ pub mod Hands
 pub mod Draining
 pub mod Freezing
 pub mod Handing
+pub mod Known
 pub mod Machine
 pub mod OneDisk
 pub mod Opening

@@ -15,14 +15,14 @@ abbrev pub ProgramStep : Type 0 → Type 0
 ProgramStep F = ImageStep ProgramValue (List ℕ) F
 
 -- a journal's record is this one, in its version
-abbrev pub IsSpelled : {F : Type 0} → Functions F → RecordValue F → VersionedEntry → Type 0
-IsSpelled forms value r = IsEntryOf forms r.0 value r.1
+abbrev pub IsRecordOf : {F : Type 0} → Functions F → RecordValue F → VersionedEntry → Type 0
+IsRecordOf forms value r = IsEntryOf forms r.0 value r.1
 
 -- it does what the record does that it spells
 pub record Does {F L : Type 0} (functions : EdgeAlgebra F L) (same : F → F → Bool) (forms : Functions F)
     (r : VersionedEntry) (before now : ProgramImage F) : Type 0 where
   pub value : RecordValue F
-  pub spelled : IsSpelled forms value r
+  pub spelled : IsRecordOf forms value r
   pub leads : RecordLeads functions same value before now
 
 -- over a store on one disk, from the empty image on

@@ -141,6 +141,10 @@ module _ {F L : Type 0} (B : EdgeAlgebra F L) (targets : Targets F) (core : Core
     end_refused : {refused : Refused} → IsFinishRefusal B targets core hand work refused → IsFinishStop refused
     end_overflows : EndOverflows → IsFinishStop Limit
 
+  -- where the work is the hand's claim, fewer keys are noted than a batch may have
+  abbrev pub HasRoom : Type 0
+  HasRoom = IsCurrent B targets core hand work → noted_count core.changes < 65536
+
   -- the notes after the work's next part, if it changes its key, are few enough for a batch
   abbrev pub HasRoomForPart : Type 0
   HasRoomForPart = IsCurrent B targets core hand work → (part : Key × F) → slice_get work.parts work.done ≡ Some part → FallsBy part

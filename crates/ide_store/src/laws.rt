@@ -1,6 +1,7 @@
 //! Laws of the store. The functions do nothing: their clauses are the laws.
 ghost use Rattle.ide_batch.specs.Items.{functions_by};
 ghost use Rattle.ide_store.specs.Acting.{CallsAreActs};
+ghost use Rattle.ide_store.specs.Known.{Known, Knows};
 ghost use Rattle.ide_store.specs.Opening.{HalvesBegin};
 ghost use Rattle.ide_store.specs.Recovery.{OneDiskAnswers, OneDiskRecovers};
 ghost use Rattle.ide_store.specs.Runs.{ActsLeaveDisks, FrozenImagesAnswer};
@@ -54,10 +55,7 @@ pub fn every_run_recovers_on_two_disks<P: Problem>()
 pub fn every_run_answers<P: Problem>()
     ensures { OneDiskAnswers P.L.algebra P.F.edge P.targets P.F.eq P.F.proper P.F.form }
 {
-    ends_of_programs_are_nodes();
-    graphs_of_programs_are_closed();
-    sites_of_programs_are_joined();
-    keys_stand_at_nodes::<P>();
+    programs_are_known::<P>();
 }
 
 /// As [`every_run_answers`], of a store on two disks, whose slots are of either version, with the
@@ -68,10 +66,7 @@ pub fn every_run_answers<P: Problem>()
 pub fn every_run_answers_on_two_disks<P: Problem>()
     ensures { TwoDisksAnswers ⟦<P as Kept>⟧.analysis }
 {
-    ends_of_programs_are_nodes();
-    graphs_of_programs_are_closed();
-    sites_of_programs_are_joined();
-    keys_stand_at_nodes::<P>();
+    programs_are_known::<P>();
 }
 
 /// Each call of a core is an act of the store whose half that works it is made for, by what the call says
@@ -79,26 +74,14 @@ pub fn every_run_answers_on_two_disks<P: Problem>()
 pub fn calls_are_acts<P: Problem>()
     ensures { CallsAreActs ⟦<P as Kept>⟧.analysis }
 {
-    ends_of_programs_are_nodes();
-    exits_of_programs_are_owned();
-    graphs_of_one_text_have_the_same_edges();
-    graphs_of_programs_are_closed();
-    sites_of_programs_are_joined();
-    keys_stand_at_nodes::<P>();
-    tasks_owe_their_parts::<P>();
+    analyses_are_known::<P>();
 }
 
 /// A half that works begins on each new store, and goes on from each opening.
 pub fn halves_begin<P: Problem>()
     ensures { HalvesBegin ⟦<P as Kept>⟧.analysis }
 {
-    ends_of_programs_are_nodes();
-    exits_of_programs_are_owned();
-    graphs_of_one_text_have_the_same_edges();
-    graphs_of_programs_are_closed();
-    sites_of_programs_are_joined();
-    keys_stand_at_nodes::<P>();
-    tasks_owe_their_parts::<P>();
+    analyses_are_known::<P>();
 }
 
 /// What the half that works does leaves the disks, and what is stored on them, as they are, wherever the
@@ -123,3 +106,24 @@ pub fn frozen_images_answer<P: Problem>()
 pub fn journals_write_stores<D: Disk>()
     ensures { JournalsWriteStores D.Disk }
 {}
+
+// Runs over the graphs of programs are lawful, and have room for their keys.
+fn programs_are_known<P: Problem>()
+    ensures { Known P.L.algebra P.F.edge P.targets }
+{
+    ends_of_programs_are_nodes();
+    graphs_of_programs_are_closed();
+    sites_of_programs_are_joined();
+    keys_stand_at_nodes::<P>();
+}
+
+// All that acts of an analysis stand on: that, and what is so of its tasks and records.
+fn analyses_are_known<P: Problem>()
+    ensures { Knows ⟦<P as Kept>⟧.analysis }
+{
+    exits_of_programs_are_owned();
+    graphs_of_one_text_have_the_same_edges();
+    sites_of_programs_are_joined();
+    tasks_owe_their_parts::<P>();
+    programs_are_known::<P>();
+}

@@ -6,11 +6,11 @@ ghost use Rattle.ide_steps.specs.Claiming.{FindsIdle, FindsQuiet, IfTask};
 ghost use Rattle.ide_steps.specs.CloseRefusal.{IsFreezeRefusal};
 ghost use Rattle.ide_steps.specs.Drain.{HasDonePart};
 ghost use Rattle.ide_steps.specs.Frozen.{graph_in};
-ghost use Rattle.ide_steps.specs.Steps.{FindsNone, HasReceived, LowersPart, SkipsPart};
+ghost use Rattle.ide_steps.specs.Steps.{FindsNone, HasReceived, IsCurrent, LowersPart, SkipsPart};
 ghost use Rattle.ide_image.specs.Worklist.{claim_at};
 ghost use Rattle.ide_store.specs.Freezing.{IsImageOver};
 ghost use Rattle.ide_store.specs.Table.{IsSameTable, KeepsRest};
-ghost use Rattle.ide_store.specs.TableCalls.{DoesPart, EndOverflows, EndsClaim, HasRoomForEnd, HasRoomForPart, PartOverflows, GivesClaimBack, IsFinishStop, IsPartStop, IsRefusal, IsStaleClaim, TakesTask};
+ghost use Rattle.ide_store.specs.TableCalls.{DoesPart, EndOverflows, EndsClaim, HasRoom, HasRoomForEnd, HasRoomForPart, PartOverflows, GivesClaimBack, IsFinishStop, IsFull, IsPartStop, IsRefusal, IsStaleClaim, TakesTask};
 
 use crate::kept::Kept;
 use crate::laws::calls_are_acts;
@@ -167,15 +167,12 @@ impl<P: Problem> TableHalf<P> {
     }
 
     /// Whether as many keys are noted as a batch may have, and the work's next part would change another
-    /// one. Staleness is told first, and only then: it takes time.
+    /// one.
     fn part_overflows(&self, hand: usize, work: &Work<P>) -> bool
         ensures yes { IsTrue result → PartOverflows P.F.edge P.targets self.now.core hand work.now }
         ensures no { result ≡ false → HasRoomForPart P.F.edge P.targets self.now.core hand work.now }
     {
-        if self.core.changed_count() < MOST_CHANGED {
-            return false;
-        }
-        if !self.core.is_current(hand, work) {
+        if !is_full_for(&self.core, hand, work) {
             return false;
         }
         let Some(part) = work.next() else {
@@ -201,13 +198,10 @@ impl<P: Problem> TableHalf<P> {
         ensures yes { IsTrue result → EndOverflows P.F.edge P.targets self.now.core hand work.now }
         ensures no { result ≡ false → HasRoomForEnd P.F.edge P.targets self.now.core hand work.now }
     {
-        if self.core.changed_count() < MOST_CHANGED {
-            return false;
-        }
-        if !self.core.is_current(hand, work) {
-            return false;
-        }
         if work.next().is_some() {
+            return false;
+        }
+        if !is_full_for(&self.core, hand, work) {
             return false;
         }
         match self.core.claim_of(hand) {
@@ -215,4 +209,17 @@ impl<P: Problem> TableHalf<P> {
             None => false,
         }
     }
+}
+
+/// Whether as many keys of the core are noted as a batch may have, and the work is the hand's claim.
+/// That it is stale is told only then: it takes time.
+fn is_full_for<P: Problem>(core: &Core<P>, hand: usize, work: &Work<P>) -> bool
+    ensures full { IsTrue result → IsFull core.now }
+    ensures current { IsTrue result → IsCurrent P.F.edge P.targets core.now hand work.now }
+    ensures room { result ≡ false → HasRoom P.F.edge P.targets core.now hand work.now }
+{
+    if core.changed_count() < MOST_CHANGED {
+        return false;
+    }
+    core.is_current(hand, work)
 }

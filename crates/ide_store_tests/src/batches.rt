@@ -2,7 +2,7 @@
 //!
 //! The program is as wide as a text may be, so that a few tasks change so many keys: the tests are also
 //! run with checks and unproved, where a task costs a thousand times as much.
-use crate::half::given;
+use crate::half::{add_locals, given};
 use ide_engines::{Given, Hand, load, root, seal};
 use ide_instances::CopyConst;
 use ide_journal::Version;
@@ -18,14 +18,6 @@ const WIDE: usize = 16;
 
 /// How many locals each of them has. With `@zero` and `@result` these are 4,096 facts, which begin at its start.
 const LOCALS: usize = 4094;
-
-/// Adds the declarations of so many locals.
-fn add_locals(text: &mut String, count: usize) -> Result<(), AllocError> {
-    for number in 0..count {
-        writeln!(text, "var v{number}")?;
-    }
-    Ok(())
-}
 
 /// Adds so many procedures with locals and no statement.
 fn add_procedures(text: &mut String, count: usize) -> Result<(), AllocError> {
@@ -44,13 +36,6 @@ fn add_wide(text: &mut String, count: usize) -> Result<(), AllocError> {
     Ok(())
 }
 
-/// The text of these procedures.
-fn wide_text(rt: &(impl Abort + AllocGlobal), count: usize) -> String {
-    let mut text = String::new(rt.alloc());
-    assert!(rt; add_wide(&mut text, count).is_ok());
-    text
-}
-
 /// The name of the procedure of that number.
 fn name_of(alloc: Global, number: usize) -> Result<String, Refused> {
     let name = format!(in alloc; "p{number}")?;
@@ -67,7 +52,8 @@ fn root_all<P: Problem>(rt: &(impl Abort + AllocGlobal), table: &mut TableHalf<P
 
 /// Loads the program, and makes each procedure a root.
 fn begin_wide<P: Problem>(rt: &(impl Abort + AllocGlobal), table: &mut TableHalf<P>) {
-    let text = wide_text(rt, WIDE);
+    let mut text = String::new(rt.alloc());
+    assert!(rt; add_wide(&mut text, WIDE).is_ok());
     assert!(rt; load(rt.alloc(), table, text.as_str()) == Ok(0));
     assert!(rt; root(table, "main") == Ok(1));
     root_all(rt, table, WIDE);

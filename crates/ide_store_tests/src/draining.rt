@@ -1,5 +1,5 @@
 //! Draining: all that is left is done by one hand, and batches that are full are sealed on the way.
-use crate::half::{expect_sealed, given};
+use crate::half::{add_locals, expect_sealed, given};
 use ide_engines::{begin, items_of, load, root, seal};
 use ide_instances::{CopyConst, ShiftConst, Uninit};
 use ide_journal::Version;
@@ -20,14 +20,6 @@ fn drain<P: Problem>(table: &mut TableHalf<P>) -> Result<u64, Refused> {
     Ok(tasks)
 }
 
-/// Adds the declarations of so many locals.
-fn add_locals(text: &mut String, count: usize) -> Result<(), AllocError> {
-    for number in 0..count {
-        writeln!(text, "var v{number}")?;
-    }
-    Ok(())
-}
-
 /// Adds so many statements that do nothing.
 fn add_skips(text: &mut String, count: usize) -> Result<(), AllocError> {
     for _ in 0..count {
@@ -43,13 +35,6 @@ fn add_square(text: &mut String, side: usize) -> Result<(), AllocError> {
     add_skips(text, side)?;
     text.push_str("end\n")?;
     Ok(())
-}
-
-/// The text of such a `main`.
-fn square_text(rt: &(impl Abort + AllocGlobal), side: usize) -> String {
-    let mut text = String::new(rt.alloc());
-    assert!(rt; add_square(&mut text, side).is_ok());
-    text
 }
 
 /// Asserts that a drain does the three tasks of an empty main, and that a second one does none: what they
@@ -128,7 +113,8 @@ fn drains_with_no_claim_alone(rt: HostRuntime) {
 
 /// Asserts that a drain of the wide procedure seals one batch, and leaves another to be sealed.
 fn expect_two_batches<P: Problem>(rt: &(impl Abort + AllocGlobal), table: &mut TableHalf<P>) {
-    let text = square_text(rt, SIDE);
+    let mut text = String::new(rt.alloc());
+    assert!(rt; add_square(&mut text, SIDE).is_ok());
     assert!(rt; load(rt.alloc(), table, text.as_str()) == Ok(0));
     assert!(rt; root(table, "main") == Ok(1));
     assert!(rt; drain(table).is_ok());

@@ -2,16 +2,21 @@
 use ide_problem::Problem;
 use ide_store::TableHalf;
 use ide_wire::Refused;
-use std::alloc::AllocGlobal;
+use std::alloc::{AllocError, AllocGlobal};
 use std::collections::VecDeque;
 use std::process::Abort;
 
 /// What a call gave that is not to be refused.
 pub(crate) fn given<T>(rt: &impl Abort, found: Result<T, Refused>) -> T {
-    match found {
-        Ok(value) => value,
-        Err(refused) => panic!(rt; "{refused}"),
+    found.expect(rt, "this is not to be refused")
+}
+
+/// Adds the declarations of so many locals.
+pub(crate) fn add_locals(text: &mut String, count: usize) -> Result<(), AllocError> {
+    for number in 0..count {
+        writeln!(text, "var v{number}")?;
     }
+    Ok(())
 }
 
 /// Asserts that so many records were sealed, and that as many are handed over to a writer.

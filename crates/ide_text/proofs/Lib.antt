@@ -9,6 +9,7 @@ pub mod OneFault
 pub mod OneProgram
 pub mod Parsed
 pub mod PlaceLemmas
+pub mod Positions
 pub mod ProgramLemmas
 pub mod Refusal
 pub mod Repeated

@@ -7,7 +7,7 @@ use Rattle.ide_text.specs.declared.line.Line.TheVariants.{Global, Procedure as B
 use Rattle.ide_text.specs.declared.program.Draft.{Draft}
 use Rattle.ide_text.specs.declared.program.Procedure.{Procedure}
 use Rattle.ide_text.specs.declared.program.Statement.TheVariants.{Assign, Skip, At, Goto, Branch, Call, Return}
-use Rattle.ide_text.specs.Draft.{globals_of, procedures_of}
+use Rattle.ide_text.specs.Draft.{draft_globals, draft_procedures}
 use Rattle.ide_text.specs.FirstFault.{AreTaken, nodes_on}
 use Rattle.ide_text.specs.Grammar.{IsLine, IsName, IsStatement}
 use Rattle.ide_text.specs.Lines.{IsWithinLimits, draft_lines, ended_lines, global_lines, open_lines}
@@ -61,7 +61,7 @@ abbrev program_values : ProgramValue → List LineValue
 program_values v = ended_values v.procedures (values (global_lines v.globals))
 
 lines_are : (d : Draft) → values (draft_lines d) ≡ program_values (draft_value d)
-lines_are d = ended_are (procedures_of d) (global_lines (globals_of d))
+lines_are d = ended_are (draft_procedures d) (global_lines (draft_globals d))
 
 -- ---- and these tell what is taken
 abbrev value_shape : LineValue → Shape

@@ -7,7 +7,7 @@ use Rattle.std.specs.Map.{lookup}
 use Rattle.indexmap.specs.IndexSet.{insert_key}
 use Rattle.indexmap.specs.IndexMap.{insert_entry}
 use Rattle.ide_text.specs.Names.{is_among}
-use Rattle.ide_text.specs.Places.{place_of}
+use Rattle.ide_text.specs.Places.{place_of, with_place}
 
 pub list_any-map : {K B : Type 0} (h : K → B) (p : B → Bool) (xs : List K) → list_any p (map h xs) ≡ list_any (λ x. p (h x)) xs
 list_any-map h p [] = refl
@@ -31,32 +31,46 @@ pub false_from_not : (b : Bool) → not b ≡ true → b ≡ false
 false_from_not true h = sym h
 false_from_not false h = refl
 
--- the places that a map keeps
-abbrev pub places_of : List (Bor (List ℕ) × ℕ) → List (List ℕ × ℕ)
-places_of entries = map (λ e. (e.0.now, e.1)) entries
-
--- the same of a map
-pub place_of-entries : (entries : List (Bor (List ℕ) × ℕ)) (key : Bor (List ℕ)) (name : List ℕ) → key.now ≡ name → lookup (λ k. bytes_eq key.now k.now) entries ≡ place_of (places_of entries) name
-place_of-entries [] key name same = refl
-place_of-entries (e ∷ es) key name same =
-    ap (λ (b : List ℕ). cond (bytes_eq b e.0.now) (Some e.1) (lookup (λ (k : Bor (List ℕ)). bytes_eq key.now k.now) es)) same
-    ∙ ap (λ r. cond (bytes_eq name e.0.now) (Some e.1) r) (place_of-entries es key name same)
-
-insert_entry-cons : (e : Bor (List ℕ) × ℕ) (es : List (Bor (List ℕ) × ℕ)) (key : Bor (List ℕ)) (place : ℕ) (b : Bool) → bytes_eq key.now e.0.now ≡ b → lookup (λ k. bytes_eq key.now k.now) (e ∷ es) ≡ None
-    → (lookup (λ k. bytes_eq key.now k.now) es ≡ None → places_of (insert_entry (λ a b. bytes_eq a.now b.now) es key place) ≡ places_of es ++ (key.now, place) ∷ [])
-    → places_of (insert_entry (λ a b. bytes_eq a.now b.now) (e ∷ es) key place) ≡ places_of (e ∷ es) ++ (key.now, place) ∷ []
-insert_entry-cons e es key place true is none rest =
-    absurd (some_is_not_none (sym (ap (λ b. cond b (Some e.1) (lookup (λ (k : Bor (List ℕ)). bytes_eq key.now k.now) es)) is) ∙ none))
-insert_entry-cons e es key place false is none rest =
-    ap (λ b. places_of (if b then (e.0, place) ∷ es else e ∷ insert_entry (λ (a b : Bor (List ℕ)). bytes_eq a.now b.now) es key place)) is
-    ∙ ap (λ (ps : List (List ℕ × ℕ)). (e.0.now, e.1) ∷ ps) (rest (sym (ap (λ b. cond b (Some e.1) (lookup (λ (k : Bor (List ℕ)). bytes_eq key.now k.now) es)) is) ∙ none))
-
--- a new key goes last in a map too
-pub places_of-insert_entry : (entries : List (Bor (List ℕ) × ℕ)) (key : Bor (List ℕ)) (place : ℕ) → lookup (λ k. bytes_eq key.now k.now) entries ≡ None
-    → places_of (insert_entry (λ a b. bytes_eq a.now b.now) entries key place) ≡ places_of entries ++ (key.now, place) ∷ []
-places_of-insert_entry [] key place none = refl
-places_of-insert_entry (e ∷ es) key place none = insert_entry-cons e es key place (bytes_eq key.now e.0.now) refl none (places_of-insert_entry es key place)
-
 pub none_from_is_some : {X : Type 0} (o : Option X) → is_some o ≡ false → o ≡ None
 none_from_is_some None h = refl
 none_from_is_some (Some x) h = absurd (true≢false h)
+
+module _ {K P : Type 0} (h : K → List ℕ) where
+  -- the places that a map keeps, whose keys hold the names
+  abbrev pub places_of : List (K × P) → List (List ℕ × P)
+  places_of entries = map (λ e. (h e.0, e.1)) entries
+
+  -- a key is looked up as its name is
+  pub place_of-entries : (entries : List (K × P)) (name : List ℕ) → lookup (λ k. bytes_eq name (h k)) entries ≡ place_of (places_of entries) name
+  place_of-entries [] name = refl
+  place_of-entries (e ∷ es) name = ap (λ r. cond (bytes_eq name (h e.0)) (Some e.1) r) (place_of-entries es name)
+
+  places-cons : (e : K × P) (es new : List (K × P)) (key : K) (place : P) (b : Bool) → bytes_eq (h key) (h e.0) ≡ b
+      → cond b (Some e.1) (place_of (places_of es) (h key)) ≡ None
+      → (place_of (places_of es) (h key) ≡ None → places_of new ≡ places_of es ++ (h key, place) ∷ [])
+      → places_of (if b then (e.0, place) ∷ es else e ∷ new) ≡ places_of (e ∷ es) ++ (h key, place) ∷ []
+  places-cons e es new key place true is none rest = let no : Some e.1 ≡ None = none in cc
+  places-cons e es new key place false is none rest = ap (λ r. (h e.0, e.1) ∷ r) (rest none)
+
+  places_of-insert_entry : (entries : List (K × P)) (key : K) (place : P) → place_of (places_of entries) (h key) ≡ None
+      → places_of (insert_entry (λ a b. bytes_eq (h a) (h b)) entries key place) ≡ places_of entries ++ (h key, place) ∷ []
+  places_of-insert_entry [] key place none = refl
+  places_of-insert_entry (e ∷ es) key place none =
+      places-cons e es (insert_entry (λ a b. bytes_eq (h a) (h b)) es key place) key place (bytes_eq (h key) (h e.0)) refl none
+      (places_of-insert_entry es key place)
+
+  module _ (entries : List (K × P)) (key : K) (name : List ℕ) (same : h key ≡ name) (place : P) where
+    -- a name that has no place gets one: a new key goes last
+    pub inserted : is_some (lookup (λ k. bytes_eq name (h k)) entries) ≡ false
+        → places_of (insert_entry (λ a b. bytes_eq (h a) (h b)) entries key place) ≡ with_place (places_of entries) name place
+    inserted new =
+        let none : place_of (places_of entries) name ≡ None = sym (place_of-entries entries name) ∙ none_from_is_some _ new in
+        places_of-insert_entry entries key place (ap (λ n. place_of (places_of entries) n) same ∙ none)
+        ∙ ap (λ (n : List ℕ). places_of entries ++ (n, place) ∷ []) same
+        ∙ sym (ap (λ o. cond (is_some o) (places_of entries) (places_of entries ++ (name, place) ∷ [])) none)
+
+  -- a name that has a place keeps it
+  pub kept : (entries : List (K × P)) (name : List ℕ) (place : P) → is_some (lookup (λ k. bytes_eq name (h k)) entries) ≡ true
+      → places_of entries ≡ with_place (places_of entries) name place
+  kept entries name place there =
+      sym (ap (λ b. cond b (places_of entries) (places_of entries ++ (name, place) ∷ [])) (ap is_some (sym (place_of-entries entries name)) ∙ there))

@@ -15,7 +15,7 @@ use Rattle.ide_text.specs.declared.program.Expression.TheVariants.{Number, Copy,
 use Rattle.ide_text.specs.FirstFault.{lines_text}
 use Rattle.ide_text.specs.Grammar.{IsLine, IsProcedure, IsProgram, Spells}
 use Rattle.ide_text.specs.Lines.{ended_lines, global_lines, open_lines, draft_lines}
-use Rattle.ide_text.specs.Draft.{globals_of, procedures_of}
+use Rattle.ide_text.specs.Draft.{draft_globals, draft_procedures}
 use Rattle.ide_text.specs.Text.{line_text}
 use Rattle.ide_text.specs.Token.{bar_tokens, callee_tokens, line_tokens, name_tokens}
 use Rattle.ide_text.specs.Value.{ProcedureValue, ProgramValue, StatementValue, calling, other, draft_value, value_of_procedure, value_of_statement}
@@ -190,9 +190,9 @@ from_globals globals procedures =
 
 program_from-lines : (p : Draft) → program_from (values (draft_lines p)) [] [] [] [] ≡ draft_value p
 program_from-lines p =
-    from_ended (procedures_of p) (global_lines (globals_of p)) [] []
-    ∙ ap (λ ps. program_from (values (global_lines (globals_of p))) [] [] [] ps) (append-nil (map value_of_procedure (procedures_of p)))
-    ∙ from_globals (globals_of p) (map value_of_procedure (procedures_of p))
+    from_ended (draft_procedures p) (global_lines (draft_globals p)) [] []
+    ∙ ap (λ ps. program_from (values (global_lines (draft_globals p))) [] [] [] ps) (append-nil (map value_of_procedure (draft_procedures p)))
+    ∙ from_globals (draft_globals p) (map value_of_procedure (draft_procedures p))
 
 -- ---- the lines of a program are of the grammar
 all_joined : (xs ys : List Line) → AllByRecursion IsLine xs → AllByRecursion IsLine ys → AllByRecursion IsLine (xs ++ ys)
@@ -215,7 +215,7 @@ ended_are_lines [] h = tt
 ended_are_lines (p ∷ ps) h = all_joined (ended_lines ps) (End ∷ open_lines p) (ended_are_lines ps h.1) (tt, open_are_lines p h.0)
 
 program_are_lines : (p : Draft) → IsProgram p → AllByRecursion IsLine (draft_lines p)
-program_are_lines p h = all_joined (ended_lines (procedures_of p)) (global_lines (globals_of p)) (ended_are_lines (procedures_of p) h.procedures) (all_reversed (λ g. Global g) (globals_of p) h.globals)
+program_are_lines p h = all_joined (ended_lines (draft_procedures p)) (global_lines (draft_globals p)) (ended_are_lines (draft_procedures p) h.procedures) (all_reversed (λ g. Global g) (draft_globals p) h.globals)
 
 -- ---- a text has as many lines as it has LF
 no_feeds : (bytes : List ℕ) → AllByRecursion (λ b. (b == 10) ≡ false) bytes → count_by (λ b. b == 10) bytes ≡ 0

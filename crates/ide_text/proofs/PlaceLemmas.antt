@@ -1,28 +1,15 @@
 -- What the first place of a name in a list says.
 use Rattle.std.proofs.Common.{◌≡◌, ℕ, suc, zero, ◌+◌, ◌<◌, ◌≤◌, Bool, true, false, true≢false, cond, List, [], ◌∷◌, ◌++◌, length, take, get_or, slice_get, Bor, Option, None, Some, is_some, ◌||◌, nat_lt, ◌∙◌, sym, ap, subst, refl, arith}
 use Rattle.std.specs.List.{list_any, find, position, HoldsAt}
-use Rattle.std.specs.Map.{lookup}
-use Rattle.std.specs.Option.{option_map, option_copied, MatchOption}
+use Rattle.std.specs.Option.{option_copied, MatchOption}
 use Rattle.std.specs.Str.{bytes_eq}
 use Rattle.std.proofs.lemmas.Bool.Decides.{nat_tests}
 use Rattle.std.proofs.lemmas.List.{take_more}
 use Rattle.std.proofs.lemmas.Option.{slice_get_past, slice_get-get_or}
 use Rattle.std.proofs.lemmas.Slice.Eq.{bytes_eq-Decides}
 use Rattle.ide_text.proofs.NameLists.{none_from_is_some}
+use Rattle.ide_text.proofs.Positions.{or_else, later, place_in, position-place_in, position-push}
 use Rattle.ide_text.specs.Places.{place_of, with_place, ArePlaces}
-
-abbrev later : Bool → Option ℕ → Option ℕ
-later b o = cond b (Some 0) (option_map suc o)
-
--- the index of the first element that passes, by recursion
-abbrev index_in : {X : Type 0} → (X → Bool) → List X → Option ℕ
-index_in p [] = None
-index_in p (x ∷ xs) = later (p x) (index_in p xs)
-
-is_some-later : (b : Bool) (o : Option ℕ) → is_some (later b o) ≡ (b || is_some o)
-is_some-later true o = refl
-is_some-later false None = refl
-is_some-later false (Some i) = refl
 
 -- the element that is found, and which fronts of the list have one
 abbrev pub IsFirstAt : {X : Type 0} → (X → Bool) → List X → Option ℕ → Type 0
@@ -30,21 +17,6 @@ IsFirstAt p xs None = (find p xs ≡ None) × ((k : ℕ) → list_any p (take k 
 IsFirstAt p xs (Some i) = (find p xs ≡ slice_get xs i) × ((k : ℕ) → i < k → list_any p (take k xs) ≡ true) × ((k : ℕ) → k ≤ i → list_any p (take k xs) ≡ false)
 
 module _ {X : Type 0} (p : X → Bool) where
-  is_some-index_in : (xs : List X) → is_some (index_in p xs) ≡ list_any p xs
-  is_some-index_in [] = refl
-  is_some-index_in (x ∷ xs) = is_some-later (p x) (index_in p xs) ∙ ap (λ b. p x || b) (is_some-index_in xs)
-
-  position-cons : (x : X) (xs : List X) (b : Bool) → p x ≡ b → position p (x ∷ xs) ≡ later b (position p xs)
-  position-cons x xs true e = grind (arith, nat_tests)
-  position-cons x xs false e = grind (arith, nat_tests)
-
-  index_in-position : (xs : List X) → position p xs ≡ index_in p xs
-  index_in-position [] = refl
-  index_in-position (x ∷ xs) = position-cons x xs (p x) refl ∙ ap (later (p x)) (index_in-position xs)
-
-  pub is_some-position : (xs : List X) → is_some (position p xs) ≡ list_any p xs
-  is_some-position xs = ap is_some (index_in-position xs) ∙ is_some-index_in xs
-
   any_here : (x : X) (xs : List X) (k : ℕ) → p x ≡ true → 0 < k → list_any p (take k (x ∷ xs)) ≡ true
   any_here x xs zero e pos = absurd (omega arith)
   any_here x xs (suc k) e pos = ap (λ b. b || list_any p (take k xs)) e
@@ -75,53 +47,42 @@ module _ {X : Type 0} (p : X → Bool) where
   none_in_nothing zero = refl
   none_in_nothing (suc k) = refl
 
-  first_at-index_in : (xs : List X) → IsFirstAt p xs (index_in p xs)
-  first_at-index_in [] = (refl, none_in_nothing)
-  first_at-index_in (x ∷ xs) = first_at-cons x xs (p x) (index_in p xs) refl (first_at-index_in xs)
+  first_at-place_in : (xs : List X) → IsFirstAt p xs (place_in p xs)
+  first_at-place_in [] = (refl, none_in_nothing)
+  first_at-place_in (x ∷ xs) = first_at-cons x xs (p x) (place_in p xs) refl (first_at-place_in xs)
 
-  push-later : (b : Bool) (o r : Option ℕ) (c : Bool) (n : ℕ) → r ≡ cond (is_some o) o (cond c (Some n) None) → later b r ≡ cond (is_some (later b o)) (later b o) (cond c (Some (suc n)) None)
-  push-later true o r c n e = refl
-  push-later false (Some i) r c n e = ap (option_map suc) e
-  push-later false None r true n e = ap (option_map suc) e
-  push-later false None r false n e = ap (option_map suc) e
+module _ {P : Type 0} where
+  place_of-cons : (e : List ℕ × P) (es new : List (List ℕ × P)) (other : List ℕ) (next : Option P) (b : Bool)
+      → place_of new other ≡ or_else (place_of es other) next
+      → cond b (Some e.1) (place_of new other) ≡ or_else (cond b (Some e.1) (place_of es other)) next
+  place_of-cons e es new other next true h = refl
+  place_of-cons e es new other next false h = h
 
-  -- one more element is the first that passes only where none was
-  index_in-push : (xs : List X) (x : X) → index_in p (xs ++ x ∷ []) ≡ cond (is_some (index_in p xs)) (index_in p xs) (cond (p x) (Some (length xs)) None)
-  index_in-push [] x = by (p x)
+  -- one more name finds its place where it had none
+  place_of-push : (places : List (List ℕ × P)) (name other : List ℕ) (place : P)
+      → place_of (places ++ (name, place) ∷ []) other ≡ or_else (place_of places other) (cond (bytes_eq other name) (Some place) None)
+  place_of-push [] name other place = refl
+  place_of-push (e ∷ es) name other place =
+      place_of-cons e es (es ++ (name, place) ∷ []) other (cond (bytes_eq other name) (Some place) None) (bytes_eq other e.0) (place_of-push es name other place)
+
+  -- the place of each name, where one more name may have been given one
+  pub place_of-with_place : (places : List (List ℕ × P)) (name other : List ℕ) (place : P)
+      → place_of (with_place places name place) other ≡ or_else (place_of places other) (cond (bytes_eq other name) (Some place) None)
+  place_of-with_place places name other place = by (is_some (place_of places name)) (is_some (place_of places other)) (bytes_eq other name) refl refl refl
     where
-      by : (b : Bool) → later b None ≡ cond b (Some 0) None
-      by true = refl
-      by false = refl
-  index_in-push (y ∷ xs) x = push-later (p y) (index_in p xs) (index_in p (xs ++ x ∷ [])) (p x) (length xs) (index_in-push xs x)
-
-place_of-cons : (e : List ℕ × ℕ) (es new : List (List ℕ × ℕ)) (other : List ℕ) (next : Option ℕ) (b : Bool) → lookup (bytes_eq other) new ≡ cond (is_some (place_of es other)) (place_of es other) next
-    → cond b (Some e.1) (lookup (bytes_eq other) new) ≡ cond (is_some (cond b (Some e.1) (place_of es other))) (cond b (Some e.1) (place_of es other)) next
-place_of-cons e es new other next true h = refl
-place_of-cons e es new other next false h = h
-
--- a name that was not there finds its place, and any other what it found
-place_of-push : (places : List (List ℕ × ℕ)) (name other : List ℕ) (place : ℕ) → place_of (places ++ (name, place) ∷ []) other ≡ cond (is_some (place_of places other)) (place_of places other) (cond (bytes_eq other name) (Some place) None)
-place_of-push [] name other place = refl
-place_of-push (e ∷ es) name other place =
-    place_of-cons e es (es ++ (name, place) ∷ []) other (cond (bytes_eq other name) (Some place) None) (bytes_eq other e.0) (place_of-push es name other place)
-
--- the place of each name, where one more name may have been given one
-place_of-with_place : (places : List (List ℕ × ℕ)) (name other : List ℕ) (place : ℕ) → place_of (with_place places name place) other ≡ cond (is_some (place_of places other)) (place_of places other) (cond (bytes_eq other name) (Some place) None)
-place_of-with_place places name other place = by (is_some (place_of places name)) (is_some (place_of places other)) (bytes_eq other name) refl refl refl
-  where
-    by : (there found same : Bool) → is_some (place_of places name) ≡ there → is_some (place_of places other) ≡ found → bytes_eq other name ≡ same
-        → place_of (cond there places (places ++ (name, place) ∷ [])) other ≡ cond found (place_of places other) (cond same (Some place) None)
-    by true true same e f s = refl
-    by true false true e f s =
-        absurd (true≢false (sym e ∙ (ap (λ n. is_some (place_of places n)) (sym ((bytes_eq-Decides other name).0 s)) ∙ f)))
-    by true false false e f s = none_from_is_some (place_of places other) f
-    by false found same e f s =
-        place_of-push places name other place
-        ∙ (ap (λ b. cond b (place_of places other) (cond (bytes_eq other name) (Some place) None)) f ∙ ap (λ b. cond found (place_of places other) (cond b (Some place) None)) s)
+      by : (there found same : Bool) → is_some (place_of places name) ≡ there → is_some (place_of places other) ≡ found → bytes_eq other name ≡ same
+          → place_of (cond there places (places ++ (name, place) ∷ [])) other ≡ cond found (place_of places other) (cond same (Some place) None)
+      by true true same e f s = refl
+      by true false true e f s =
+          absurd (true≢false (sym e ∙ (ap (λ n. is_some (place_of places n)) (sym ((bytes_eq-Decides other name).0 s)) ∙ f)))
+      by true false false e f s = none_from_is_some (place_of places other) f
+      by false found same e f s =
+          place_of-push places name other place
+          ∙ (ap (λ b. cond b (place_of places other) (cond (bytes_eq other name) (Some place) None)) f ∙ ap (λ b. cond found (place_of places other) (cond b (Some place) None)) s)
 
 -- the facts on the first place, of the place that a name has
 pub first_at : {X : Type 0} (test : List ℕ → X → Bool) (xs : List X) (places : List (List ℕ × ℕ)) → ArePlaces test xs places → (name : List ℕ) (o : Option ℕ) → place_of places name ≡ o → IsFirstAt (test name) xs o
-first_at test xs places placed name o is = subst (IsFirstAt (test name) xs) (sym (index_in-position (test name) xs) ∙ (sym (placed name) ∙ is)) (first_at-index_in (test name) xs)
+first_at test xs places placed name o is = subst (IsFirstAt (test name) xs) (sym (position-place_in (test name) xs) ∙ (sym (placed name) ∙ is)) (first_at-place_in (test name) xs)
 
 -- whether a found place is before another
 pub before-first_at : {X : Type 0} (p : X → Bool) (xs : List X) (i k : ℕ) → IsFirstAt p xs (Some i) → nat_lt i k ≡ list_any p (take k xs)
@@ -146,17 +107,17 @@ module _ {X : Type 0} (test : List ℕ → X → Bool) (xs : List X) (places : L
   ArePlaces-named name n counted has other =
       ap (λ i. place_of (with_place places name i) other) counted
       ∙ place_of-with_place places name other (length xs)
-      ∙ (ap (λ o. cond (is_some o) o (cond (bytes_eq other name) (Some (length xs)) None)) (old other ∙ index_in-position (test other) xs)
-      ∙ (ap (λ b. cond (is_some (index_in (test other) xs)) (index_in (test other) xs) (cond b (Some (length xs)) None)) (sym (has other))
-      ∙ (sym (index_in-push (test other) xs x) ∙ sym (index_in-position (test other) (xs ++ x ∷ [])))))
+      ∙ ap (λ o. or_else o (cond (bytes_eq other name) (Some (length xs)) None)) (old other)
+      ∙ ap (λ b. or_else (position (test other) xs) (cond b (Some (length xs)) None)) (sym (has other))
+      ∙ sym (position-push (test other) xs x)
 
   -- one more element, that has no name
   pub ArePlaces-unnamed : ((other : List ℕ) → test other x ≡ false) → ArePlaces test (xs ++ x ∷ []) places
   ArePlaces-unnamed none other =
-      old other ∙ index_in-position (test other) xs ∙ (sym (same (index_in (test other) xs))
-      ∙ (ap (λ b. cond (is_some (index_in (test other) xs)) (index_in (test other) xs) (cond b (Some (length xs)) None)) (sym (none other))
-      ∙ (sym (index_in-push (test other) xs x) ∙ sym (index_in-position (test other) (xs ++ x ∷ [])))))
+      old other ∙ sym (same (position (test other) xs))
+      ∙ ap (λ b. or_else (position (test other) xs) (cond b (Some (length xs)) None)) (sym (none other))
+      ∙ sym (position-push (test other) xs x)
     where
-      same : (o : Option ℕ) → cond (is_some o) o None ≡ o
+      same : (o : Option ℕ) → or_else o None ≡ o
       same None = refl
       same (Some i) = refl

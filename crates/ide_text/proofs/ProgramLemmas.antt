@@ -14,7 +14,7 @@ use Rattle.ide_text.specs.declared.program.Procedure.{Procedure}
 use Rattle.ide_text.specs.Names.{IsRepeated, is_named}
 use Rattle.ide_text.specs.First.{IsFirst, TellsFirst, Checked, number_of}
 use Rattle.ide_text.specs.NameFault.{ProcedureFault, NameFault, Global_again, Procedure_again, In_procedure, line_of_procedure}
-use Rattle.ide_text.specs.Draft.{globals_of, procedures_of, lines_of, lines_of_procedure}
+use Rattle.ide_text.specs.Draft.{draft_globals, draft_procedures, draft_line_count, lines_of_procedure}
 use Rattle.ide_text.specs.Refusal.{IsTextRefusal}
 use Rattle.ide_text.proofs.LineLemmas.{NoneBelow, some_same, procedure_lines, procedure_number}
 
@@ -36,26 +36,26 @@ sum_before f (y ∷ ys) (suc j) (suc k) x at less =
 module _ (p : Draft) where
   -- the faults of the j-th procedure, but of its name
   abbrev pub InThe : ℕ → Procedure → ℕ → Fault → Type 0
-  InThe j q = ProcedureFault (globals_of p) (procedures_of p) q (line_of_procedure p j)
+  InThe j q = ProcedureFault (draft_globals p) (draft_procedures p) q (line_of_procedure p j)
 
   abbrev pub IsThe : ℕ → Procedure → Type 0
-  IsThe j q = slice_get (procedures_of p) j ≡ Some q
+  IsThe j q = slice_get (draft_procedures p) j ≡ Some q
 
   abbrev pub IsNamedAgain : ℕ → Procedure → Type 0
-  IsNamedAgain j q = list_any (is_named q.name) (take j (procedures_of p)) ≡ true
+  IsNamedAgain j q = list_any (is_named q.name) (take j (draft_procedures p)) ≡ true
 
   -- the lines of a procedure come before those of the later ones
   line_before : (j k : ℕ) (q : Procedure) → IsThe j q → j < k → line_of_procedure p j + lines_of_procedure q ≤ line_of_procedure p k
   line_before j k q at less =
-      let sums : sum_by lines_of_procedure (take j (procedures_of p)) + lines_of_procedure q ≤ sum_by lines_of_procedure (take k (procedures_of p)) = sum_before lines_of_procedure (procedures_of p) j k q at less in
+      let sums : sum_by lines_of_procedure (take j (draft_procedures p)) + lines_of_procedure q ≤ sum_by lines_of_procedure (take k (draft_procedures p)) = sum_before lines_of_procedure (draft_procedures p) j k q at less in
       omega arith
 
   -- the next procedure's follow at once
   pub next_line : (j : ℕ) (q : Procedure) → IsThe j q → line_of_procedure p (j + 1) ≡ line_of_procedure p j + lines_of_procedure q
   next_line j q at =
-      let inside : j < length (procedures_of p) = slice_get_within (procedures_of p) j q at in
-      let more : sum_by lines_of_procedure (take (j + 1) (procedures_of p)) ≡ sum_by lines_of_procedure (take j (procedures_of p)) + lines_of_procedure (get_or (procedures_of p) j q) = sum_by_more lines_of_procedure (procedures_of p) j q inside in
-      let same : lines_of_procedure (get_or (procedures_of p) j q) ≡ lines_of_procedure q = ap (λ (r : Procedure). lines_of_procedure r) (get_or_from_slice_get (procedures_of p) j q q at) in
+      let inside : j < length (draft_procedures p) = slice_get_within (draft_procedures p) j q at in
+      let more : sum_by lines_of_procedure (take (j + 1) (draft_procedures p)) ≡ sum_by lines_of_procedure (take j (draft_procedures p)) + lines_of_procedure (get_or (draft_procedures p) j q) = sum_by_more lines_of_procedure (draft_procedures p) j q inside in
+      let same : lines_of_procedure (get_or (draft_procedures p) j q) ≡ lines_of_procedure q = ap (λ (r : Procedure). lines_of_procedure r) (get_or_from_slice_get (draft_procedures p) j q q at) in
       omega arith
 
   -- a line belongs to one procedure
@@ -70,22 +70,22 @@ module _ (p : Draft) where
 
   moved_name : (j k : ℕ) (q r : Procedure) → IsThe j q → IsThe k r → k ≡ j → IsNamedAgain k r → IsNamedAgain j q
   moved_name j k q r at_j at_k same again =
-      let one : r ≡ q = some_same (slice_get (procedures_of p) k) r q at_k (ap (slice_get (procedures_of p)) same ∙ at_j) in
+      let one : r ≡ q = some_same (slice_get (draft_procedures p) k) r q at_k (ap (slice_get (draft_procedures p)) same ∙ at_j) in
       subst (λ (i : ℕ). IsNamedAgain i q) same (subst (λ (t : Procedure). IsNamedAgain k t) one again)
 
   moved_fault : (j k : ℕ) (q r : Procedure) (l : ℕ) (f : Fault) → IsThe j q → IsThe k r → k ≡ j → InThe k r l f → InThe j q l f
   moved_fault j k q r l f at_j at_k same fault =
-      let one : r ≡ q = some_same (slice_get (procedures_of p) k) r q at_k (ap (slice_get (procedures_of p)) same ∙ at_j) in
+      let one : r ≡ q = some_same (slice_get (draft_procedures p) k) r q at_k (ap (slice_get (draft_procedures p)) same ∙ at_j) in
       subst (λ (i : ℕ). InThe i q l f) same (subst (λ (t : Procedure). InThe k t l f) one fault)
 
   -- a fault on a procedure's lines is of its name, or another of it
   at_procedure : (j : ℕ) (q : Procedure) → IsThe j q → (l : ℕ) (f : Fault) → NameFault p l f → line_of_procedure p j ≤ l → l < line_of_procedure p j + lines_of_procedure q → IsNamedAgain j q ⊎ InThe j q l f
   at_procedure j q at l f fault = elim fault as (λ m g _. line_of_procedure p j ≤ m → m < line_of_procedure p j + lines_of_procedure q → IsNamedAgain j q ⊎ InThe j q m g) [
-    | Global_again i r ↦ λ low high. let within : i < length (globals_of p) = r.within in absurd (omega arith)
+    | Global_again i r ↦ λ low high. let within : i < length (draft_globals p) = r.within in absurd (omega arith)
     | Procedure_again k r at_k again ↦ λ low high.
         inl (moved_name j k q r at at_k (one_place j k q r (line_of_procedure p k) at at_k low high (omega arith) (omega arith)) again)
     | In_procedure k r at_k m g inner ↦ λ low high.
-        let lines = procedure_lines (globals_of p) (procedures_of p) r (line_of_procedure p k) m g inner in
+        let lines = procedure_lines (draft_globals p) (draft_procedures p) r (line_of_procedure p k) m g inner in
         inr (moved_fault j k q r m g at at_k (one_place j k q r m at at_k low high lines.0 lines.1) inner)
   ]
 
@@ -94,49 +94,49 @@ module _ (p : Draft) where
   name_number l f fault = elim fault as (λ m g _. 5 ≤ number_of g) [
     | Global_again i r ↦ omega arith
     | Procedure_again k r at_k again ↦ omega arith
-    | In_procedure k r at_k m g inner ↦ procedure_number (globals_of p) (procedures_of p) r (line_of_procedure p k) m g inner
+    | In_procedure k r at_k m g inner ↦ procedure_number (draft_globals p) (draft_procedures p) r (line_of_procedure p k) m g inner
   ]
 
   -- each procedure's lines are among the program's
-  within_lines : (k : ℕ) (r : Procedure) → IsThe k r → line_of_procedure p k + lines_of_procedure r ≤ lines_of p + 1
+  within_lines : (k : ℕ) (r : Procedure) → IsThe k r → line_of_procedure p k + lines_of_procedure r ≤ draft_line_count p + 1
   within_lines k r at =
-      let sums : sum_by lines_of_procedure (take k (procedures_of p)) + lines_of_procedure r ≤ sum_by lines_of_procedure (take (k + 1) (procedures_of p)) = sum_before lines_of_procedure (procedures_of p) k (k + 1) r at (omega arith) in
-      let whole : sum_by lines_of_procedure (take (k + 1) (procedures_of p)) ≤ sum_by lines_of_procedure (procedures_of p) = sum_by-take-le lines_of_procedure (procedures_of p) (k + 1) in
+      let sums : sum_by lines_of_procedure (take k (draft_procedures p)) + lines_of_procedure r ≤ sum_by lines_of_procedure (take (k + 1) (draft_procedures p)) = sum_before lines_of_procedure (draft_procedures p) k (k + 1) r at (omega arith) in
+      let whole : sum_by lines_of_procedure (take (k + 1) (draft_procedures p)) ≤ sum_by lines_of_procedure (draft_procedures p) = sum_by-take-le lines_of_procedure (draft_procedures p) (k + 1) in
       omega arith
 
   -- each fault stands on a line of the program
-  pub name_line : (l : ℕ) (f : Fault) → NameFault p l f → (1 ≤ l) × (l ≤ lines_of p)
-  name_line l f fault = elim fault as (λ m g _. (1 ≤ m) × (m ≤ lines_of p)) [
-    | Global_again i r ↦ let within : i < length (globals_of p) = r.within in (omega arith, omega arith)
+  pub name_line : (l : ℕ) (f : Fault) → NameFault p l f → (1 ≤ l) × (l ≤ draft_line_count p)
+  name_line l f fault = elim fault as (λ m g _. (1 ≤ m) × (m ≤ draft_line_count p)) [
+    | Global_again i r ↦ let within : i < length (draft_globals p) = r.within in (omega arith, omega arith)
     | Procedure_again k r at_k again ↦ let whole = within_lines k r at_k in (omega arith, omega arith)
     | In_procedure k r at_k m g inner ↦
         let whole = within_lines k r at_k in
-        let lines = procedure_lines (globals_of p) (procedures_of p) r (line_of_procedure p k) m g inner in
+        let lines = procedure_lines (draft_globals p) (draft_procedures p) r (line_of_procedure p k) m g inner in
         (omega arith, omega arith)
   ]
 
   -- a global is repeated
-  pub global_first : (k : ℕ) → IsRepeated [] (globals_of p) k → ((j : ℕ) → IsRepeated [] (globals_of p) j → k ≤ j) → IsFirst (NameFault p) (k + 1) DeclaredTwice
+  pub global_first : (k : ℕ) → IsRepeated [] (draft_globals p) k → ((j : ℕ) → IsRepeated [] (draft_globals p) j → k ≤ j) → IsFirst (NameFault p) (k + 1) DeclaredTwice
   global_first k again before = record {
     found = Global_again k again;
     least_line = λ l f fault. elim fault as (λ m g _. k + 1 ≤ m) [
       | Global_again j r ↦ let least : k ≤ j = before j r in omega arith
-      | Procedure_again j r at_j twice ↦ let within : k < length (globals_of p) = again.within in omega arith
+      | Procedure_again j r at_j twice ↦ let within : k < length (draft_globals p) = again.within in omega arith
       | In_procedure j r at_j m g inner ↦
-          let within : k < length (globals_of p) = again.within in
-          let lines = procedure_lines (globals_of p) (procedures_of p) r (line_of_procedure p j) m g inner in
+          let within : k < length (draft_globals p) = again.within in
+          let lines = procedure_lines (draft_globals p) (draft_procedures p) r (line_of_procedure p j) m g inner in
           omega arith
     ];
     least_number = name_number (k + 1);
   }
 
   -- no global is repeated
-  pub globals_none : ((k : ℕ) → ¬ IsRepeated [] (globals_of p) k) → NoneBelow (NameFault p) (line_of_procedure p 0)
+  pub globals_none : ((k : ℕ) → ¬ IsRepeated [] (draft_globals p) k) → NoneBelow (NameFault p) (line_of_procedure p 0)
   globals_none distinct l f fault = elim fault as (λ m g _. line_of_procedure p 0 ≤ m) [
     | Global_again j r ↦ absurd (distinct j r)
     | Procedure_again j r at_j twice ↦ omega arith
     | In_procedure j r at_j m g inner ↦
-        let lines = procedure_lines (globals_of p) (procedures_of p) r (line_of_procedure p j) m g inner in
+        let lines = procedure_lines (draft_globals p) (draft_procedures p) r (line_of_procedure p j) m g inner in
         omega arith
   ]
 
@@ -163,7 +163,7 @@ module _ (p : Draft) where
       pub procedure_told : (r : Refused) → TellsFirst (InThe j q) r → TellsFirst (NameFault p) r
       procedure_told NoMemory told = tt
       procedure_told (Text line fault) told =
-          let high = (procedure_lines (globals_of p) (procedures_of p) q (line_of_procedure p j) line fault told.found).1 in
+          let high = (procedure_lines (draft_globals p) (draft_procedures p) q (line_of_procedure p j) line fault told.found).1 in
           record {
             found = In_procedure j q at line fault told.found;
             least_line = least_here line high told.least_line;
@@ -179,19 +179,19 @@ module _ (p : Draft) where
       ]
 
   -- none comes after the last procedure
-  pub procedures_none : (n : ℕ) → n ≡ length (procedures_of p) → NoneBelow (NameFault p) (line_of_procedure p n) → (l : ℕ) (f : Fault) → ¬ NameFault p l f
+  pub procedures_none : (n : ℕ) → n ≡ length (draft_procedures p) → NoneBelow (NameFault p) (line_of_procedure p n) → (l : ℕ) (f : Fault) → ¬ NameFault p l f
   procedures_none n all before l f fault =
       let low : line_of_procedure p n ≤ l = before l f fault in
-      let high : l ≤ lines_of p = (name_line l f fault).1 in
-      let whole : sum_by lines_of_procedure (take n (procedures_of p)) ≡ sum_by lines_of_procedure (procedures_of p) = ap (sum_by lines_of_procedure) (take_all n (procedures_of p) (omega arith)) in
+      let high : l ≤ draft_line_count p = (name_line l f fault).1 in
+      let whole : sum_by lines_of_procedure (take n (draft_procedures p)) ≡ sum_by lines_of_procedure (draft_procedures p) = ap (sum_by lines_of_procedure) (take_all n (draft_procedures p) (omega arith)) in
       omega arith
 
   -- what tells the first fault names a line of the program
-  pub told_within : (r : Refused) → TellsFirst (NameFault p) r → IsTextRefusal 1 (lines_of p) r
+  pub told_within : (r : Refused) → TellsFirst (NameFault p) r → IsTextRefusal 1 (draft_line_count p) r
   told_within NoMemory told = tt
   told_within (Text line fault) told = name_line line fault told.found
   told_within _ told = told
 
-  pub checked_within : (r : Result (Unit {0}) Refused) → Checked (NameFault p) r → IfErr r (IsTextRefusal 1 (lines_of p))
+  pub checked_within : (r : Result (Unit {0}) Refused) → Checked (NameFault p) r → IfErr r (IsTextRefusal 1 (draft_line_count p))
   checked_within (Ok _) checked = tt
   checked_within (Err refused) checked = told_within refused checked

@@ -9,7 +9,7 @@ use Rattle.ide_text.specs.declared.line.Line.{Line}
 use Rattle.ide_text.specs.declared.line.Line.TheVariants.{Global, Procedure as Begin, Local, End, Statement as Step}
 use Rattle.ide_text.specs.declared.program.Statement.TheVariants.{Assign, Skip, At, Goto, Branch, Call, Return}
 use Rattle.ide_text.specs.declared.program.Expression.TheVariants.{Number, Copy, Sum, Difference, Unknown, Mix}
-use Rattle.ide_text.specs.FirstFault.{Fits, MayEnd, MayFollow, StandsAtGlobals, StandsAtVariables, StandsInside, StandsOutside, is_global, is_procedure, last_variables, most_variables, nodes_on, parameters_on}
+use Rattle.ide_text.specs.FirstFault.{Fits, MayEnd, MayFollow, StandsAtGlobals, StandsAtVariables, StandsInside, StandsOutside, is_global, begins_procedure, last_variables, most_variables, nodes_on, parameters_on}
 use Rattle.ide_text.specs.Grammar.{IsLine}
 use Rattle.ide_text.specs.Text.{line_text}
 use Rattle.ide_text.specs.Token.{line_tokens}
@@ -205,13 +205,13 @@ abbrev parameters_at : Shape → ℕ
 parameters_at (at_procedure n) = n
 parameters_at _ = 0
 
-procedures_are : (ls : List Line) → count_by is_procedure ls ≡ procedures_in (shapes ls)
+procedures_are : (ls : List Line) → count_by begins_procedure ls ≡ procedures_in (shapes ls)
 procedures_are [] = refl
-procedures_are (Global g ∷ ls) = sum_by-cons (λ l. cond (is_procedure l) 1 0) (Global g) ls ∙ omega (arith, procedures_are ls)
-procedures_are (Begin p ps ∷ ls) = sum_by-cons (λ l. cond (is_procedure l) 1 0) (Begin p ps) ls ∙ omega (arith, procedures_are ls)
-procedures_are (Local x ∷ ls) = sum_by-cons (λ l. cond (is_procedure l) 1 0) (Local x) ls ∙ omega (arith, procedures_are ls)
-procedures_are (End ∷ ls) = sum_by-cons (λ l. cond (is_procedure l) 1 0) End ls ∙ omega (arith, procedures_are ls)
-procedures_are (Step s ∷ ls) = sum_by-cons (λ l. cond (is_procedure l) 1 0) (Step s) ls ∙ omega (arith, procedures_are ls)
+procedures_are (Global g ∷ ls) = sum_by-cons (λ l. cond (begins_procedure l) 1 0) (Global g) ls ∙ omega (arith, procedures_are ls)
+procedures_are (Begin p ps ∷ ls) = sum_by-cons (λ l. cond (begins_procedure l) 1 0) (Begin p ps) ls ∙ omega (arith, procedures_are ls)
+procedures_are (Local x ∷ ls) = sum_by-cons (λ l. cond (begins_procedure l) 1 0) (Local x) ls ∙ omega (arith, procedures_are ls)
+procedures_are (End ∷ ls) = sum_by-cons (λ l. cond (begins_procedure l) 1 0) End ls ∙ omega (arith, procedures_are ls)
+procedures_are (Step s ∷ ls) = sum_by-cons (λ l. cond (begins_procedure l) 1 0) (Step s) ls ∙ omega (arith, procedures_are ls)
 
 globals_are : (ls : List Line) → count_by is_global ls ≡ globals_in (shapes ls)
 globals_are [] = refl

@@ -7,7 +7,7 @@ use Rattle.ide_text.specs.declared.line.Line.{Line}
 use Rattle.ide_text.specs.declared.line.Line.TheVariants.{Global, Procedure as Begin, Local, End, Statement as Step}
 use Rattle.ide_text.specs.declared.program.Procedure.{Procedure}
 use Rattle.ide_text.specs.declared.program.Statement.{Statement}
-use Rattle.ide_text.specs.FirstFault.{Fits, MayEnd, StandsAtGlobals, StandsAtVariables, StandsInside, StandsOutside, is_global, is_procedure, last_variables, most_variables, nodes_on}
+use Rattle.ide_text.specs.FirstFault.{Fits, MayEnd, StandsAtGlobals, StandsAtVariables, StandsInside, StandsOutside, is_global, begins_procedure, last_variables, most_variables, nodes_on}
 use Rattle.ide_text.specs.declared.reader.Reader.{Reader}
 use Rattle.ide_text.specs.Lines.{open_lines, ended_lines, global_lines, lines_in}
 use Rattle.ide_text.specs.Reader.{IsCounted, taken_lines}
@@ -152,28 +152,28 @@ pub last_le_most : (ls : List Line) → last_variables ls ≤ most_variables ls
 last_le_most [] = omega arith
 last_le_most (l ∷ ls) = omega arith
 
-pub counts_global : (g : List ℕ) (ls : List Line) → (count_by is_procedure (Global g ∷ ls) ≡ count_by is_procedure ls) × (sum_by nodes_on (Global g ∷ ls) ≡ sum_by nodes_on ls) × (count_by is_global (Global g ∷ ls) ≡ count_by is_global ls + 1) × (most_variables (Global g ∷ ls) ≡ most_variables ls)
-counts_global g ls = let low = last_le_most ls in (omega (arith, sum_by-cons (λ l. cond (is_procedure l) 1 0) (Global g) ls), omega (arith, sum_by-cons nodes_on (Global g) ls), omega (arith, sum_by-cons (λ l. cond (is_global l) 1 0) (Global g) ls), omega arith)
+pub counts_global : (g : List ℕ) (ls : List Line) → (count_by begins_procedure (Global g ∷ ls) ≡ count_by begins_procedure ls) × (sum_by nodes_on (Global g ∷ ls) ≡ sum_by nodes_on ls) × (count_by is_global (Global g ∷ ls) ≡ count_by is_global ls + 1) × (most_variables (Global g ∷ ls) ≡ most_variables ls)
+counts_global g ls = let low = last_le_most ls in (omega (arith, sum_by-cons (λ l. cond (begins_procedure l) 1 0) (Global g) ls), omega (arith, sum_by-cons nodes_on (Global g) ls), omega (arith, sum_by-cons (λ l. cond (is_global l) 1 0) (Global g) ls), omega arith)
 
-pub counts_begin : (p : List ℕ) (parameters : _) (ls : List Line) → (count_by is_procedure (Begin p parameters ∷ ls) ≡ count_by is_procedure ls + 1) × (sum_by nodes_on (Begin p parameters ∷ ls) ≡ sum_by nodes_on ls + 2) × (count_by is_global (Begin p parameters ∷ ls) ≡ count_by is_global ls) × (most_variables (Begin p parameters ∷ ls) ≡ max (most_variables ls) (vec_len parameters))
-counts_begin p parameters ls = (omega (arith, sum_by-cons (λ l. cond (is_procedure l) 1 0) (Begin p parameters) ls), omega (arith, sum_by-cons nodes_on (Begin p parameters) ls), omega (arith, sum_by-cons (λ l. cond (is_global l) 1 0) (Begin p parameters) ls), refl)
+pub counts_begin : (p : List ℕ) (parameters : _) (ls : List Line) → (count_by begins_procedure (Begin p parameters ∷ ls) ≡ count_by begins_procedure ls + 1) × (sum_by nodes_on (Begin p parameters ∷ ls) ≡ sum_by nodes_on ls + 2) × (count_by is_global (Begin p parameters ∷ ls) ≡ count_by is_global ls) × (most_variables (Begin p parameters ∷ ls) ≡ max (most_variables ls) (vec_len parameters))
+counts_begin p parameters ls = (omega (arith, sum_by-cons (λ l. cond (begins_procedure l) 1 0) (Begin p parameters) ls), omega (arith, sum_by-cons nodes_on (Begin p parameters) ls), omega (arith, sum_by-cons (λ l. cond (is_global l) 1 0) (Begin p parameters) ls), refl)
 
-pub counts_local : (x : List ℕ) (ls : List Line) → (count_by is_procedure (Local x ∷ ls) ≡ count_by is_procedure ls) × (sum_by nodes_on (Local x ∷ ls) ≡ sum_by nodes_on ls) × (count_by is_global (Local x ∷ ls) ≡ count_by is_global ls) × (most_variables (Local x ∷ ls) ≡ max (most_variables ls) (last_variables ls + 1))
-counts_local x ls = (omega (arith, sum_by-cons (λ l. cond (is_procedure l) 1 0) (Local x) ls), omega (arith, sum_by-cons nodes_on (Local x) ls), omega (arith, sum_by-cons (λ l. cond (is_global l) 1 0) (Local x) ls), refl)
+pub counts_local : (x : List ℕ) (ls : List Line) → (count_by begins_procedure (Local x ∷ ls) ≡ count_by begins_procedure ls) × (sum_by nodes_on (Local x ∷ ls) ≡ sum_by nodes_on ls) × (count_by is_global (Local x ∷ ls) ≡ count_by is_global ls) × (most_variables (Local x ∷ ls) ≡ max (most_variables ls) (last_variables ls + 1))
+counts_local x ls = (omega (arith, sum_by-cons (λ l. cond (begins_procedure l) 1 0) (Local x) ls), omega (arith, sum_by-cons nodes_on (Local x) ls), omega (arith, sum_by-cons (λ l. cond (is_global l) 1 0) (Local x) ls), refl)
 
-pub counts_step : (s : Statement) (ls : List Line) → (count_by is_procedure (Step s ∷ ls) ≡ count_by is_procedure ls) × (sum_by nodes_on (Step s ∷ ls) ≡ sum_by nodes_on ls + nodes_on (Step s)) × (count_by is_global (Step s ∷ ls) ≡ count_by is_global ls) × (most_variables (Step s ∷ ls) ≡ most_variables ls)
-counts_step s ls = let low = last_le_most ls in (omega (arith, sum_by-cons (λ l. cond (is_procedure l) 1 0) (Step s) ls), omega (arith, sum_by-cons nodes_on (Step s) ls), omega (arith, sum_by-cons (λ l. cond (is_global l) 1 0) (Step s) ls), omega arith)
+pub counts_step : (s : Statement) (ls : List Line) → (count_by begins_procedure (Step s ∷ ls) ≡ count_by begins_procedure ls) × (sum_by nodes_on (Step s ∷ ls) ≡ sum_by nodes_on ls + nodes_on (Step s)) × (count_by is_global (Step s ∷ ls) ≡ count_by is_global ls) × (most_variables (Step s ∷ ls) ≡ most_variables ls)
+counts_step s ls = let low = last_le_most ls in (omega (arith, sum_by-cons (λ l. cond (begins_procedure l) 1 0) (Step s) ls), omega (arith, sum_by-cons nodes_on (Step s) ls), omega (arith, sum_by-cons (λ l. cond (is_global l) 1 0) (Step s) ls), omega arith)
 
-pub counts_end : (ls : List Line) → (count_by is_procedure (End ∷ ls) ≡ count_by is_procedure ls) × (sum_by nodes_on (End ∷ ls) ≡ sum_by nodes_on ls) × (count_by is_global (End ∷ ls) ≡ count_by is_global ls) × (most_variables (End ∷ ls) ≡ most_variables ls)
-counts_end ls = let low = last_le_most ls in (omega (arith, sum_by-cons (λ l. cond (is_procedure l) 1 0) End ls), omega (arith, sum_by-cons nodes_on End ls), omega (arith, sum_by-cons (λ l. cond (is_global l) 1 0) End ls), omega arith)
+pub counts_end : (ls : List Line) → (count_by begins_procedure (End ∷ ls) ≡ count_by begins_procedure ls) × (sum_by nodes_on (End ∷ ls) ≡ sum_by nodes_on ls) × (count_by is_global (End ∷ ls) ≡ count_by is_global ls) × (most_variables (End ∷ ls) ≡ most_variables ls)
+counts_end ls = let low = last_le_most ls in (omega (arith, sum_by-cons (λ l. cond (begins_procedure l) 1 0) End ls), omega (arith, sum_by-cons nodes_on End ls), omega (arith, sum_by-cons (λ l. cond (is_global l) 1 0) End ls), omega arith)
 
 -- ---- the reader's counts after one line more
 pub counted_from : (r : Reader) (ls : List Line) → taken_lines r ≡ ls → vec_len r.globals ≡ count_by is_global ls →
-    vec_len r.procedures + length (option_to_list r.open) ≡ count_by is_procedure ls → r.nodes ≡ sum_by nodes_on ls →
+    vec_len r.procedures + length (option_to_list r.open) ≡ count_by begins_procedure ls → r.nodes ≡ sum_by nodes_on ls →
     IfSome r.open (λ p. vec_len p.parameters + vec_len p.locals ≡ last_variables ls) → r.most_variables ≡ most_variables ls → Fits ls → IsCounted r
 counted_from r ls e globals procedures nodes variables most fits = record {
   globals = globals ∙ ap (count_by is_global) (sym e);
-  procedures = procedures ∙ ap (count_by is_procedure) (sym e);
+  procedures = procedures ∙ ap (count_by begins_procedure) (sym e);
   nodes = nodes ∙ ap (sum_by nodes_on) (sym e);
   variables = subst (λ xs. IfSome r.open (λ p. vec_len p.parameters + vec_len p.locals ≡ last_variables xs)) (sym e) variables;
   most = most ∙ ap most_variables (sym e);

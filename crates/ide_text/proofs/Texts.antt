@@ -15,7 +15,7 @@ use Rattle.ide_text.specs.declared.program.Draft.{Draft}
 use Rattle.ide_text.specs.FirstFault.{AreTaken, BeginsNoLine, FirstFault, MayEnd, lines_text}
 use Rattle.ide_text.specs.Grammar.{IsLine, IsProcedure, IsProgram, Spells}
 use Rattle.ide_text.specs.Lines.{ended_lines, global_lines, open_lines, draft_lines}
-use Rattle.ide_text.specs.Draft.{globals_of, lines_of, lines_of_procedure, procedures_of}
+use Rattle.ide_text.specs.Draft.{draft_globals, draft_line_count, lines_of_procedure, draft_procedures}
 use Rattle.ide_text.specs.declared.flaw.Flaw.{Flaw}
 use Rattle.ide_text.specs.declared.flaw.Flaw.TheVariants as flaw
 use Rattle.ide_text.specs.Flaw.{IfFaulty}
@@ -62,9 +62,9 @@ ended_text (p ∷ ps) =
 -- the text of a program is that of its lines
 pub program_text_is : (p : Draft) → lines_text (draft_lines p) ≡ draft_text p
 program_text_is p =
-    lines_text-append (ended_lines (procedures_of p)) (global_lines (globals_of p))
-    ∙ ap (λ t. t ++ lines_text (ended_lines (procedures_of p))) (lines_text_kind (λ g. Global g) (globals_of p))
-    ∙ ap (λ t. globals_text (globals_of p) ++ t) (ended_text (procedures_of p))
+    lines_text-append (ended_lines (draft_procedures p)) (global_lines (draft_globals p))
+    ∙ ap (λ t. t ++ lines_text (ended_lines (draft_procedures p))) (lines_text_kind (λ g. Global g) (draft_globals p))
+    ∙ ap (λ t. globals_text (draft_globals p) ++ t) (ended_text (draft_procedures p))
 
 -- ---- how many lines
 length_kind : {X : Type 0} (f : X → Line) (xs : List X) → length (reverse (map f xs)) ≡ length xs
@@ -80,8 +80,8 @@ length_ended : (ps : List Procedure) → length (ended_lines ps) ≡ sum_by line
 length_ended [] = refl
 length_ended (p ∷ ps) = omega (arith, length-append (ended_lines ps) (End ∷ open_lines p), length_ended ps, length_open p, sum_by-cons lines_of_procedure p ps)
 
-pub length_program_lines : (p : Draft) → length (draft_lines p) ≡ lines_of p
-length_program_lines p = omega (arith, length-append (ended_lines (procedures_of p)) (global_lines (globals_of p)), length_ended (procedures_of p), length_kind (λ g. Global g) (globals_of p))
+pub length_program_lines : (p : Draft) → length (draft_lines p) ≡ draft_line_count p
+length_program_lines p = omega (arith, length-append (ended_lines (draft_procedures p)) (global_lines (draft_globals p)), length_ended (draft_procedures p), length_kind (λ g. Global g) (draft_globals p))
 
 -- ---- a program whose lines were taken is of the grammar
 pub AreTaken-lines : (ls : List Line) → AreTaken ls → AllByRecursion IsLine ls
@@ -117,8 +117,8 @@ ended_proper (p ∷ ps) h = let parts = all_parts (ended_lines ps) (End ∷ open
 
 pub program_proper : (p : Draft) → AllByRecursion IsLine (draft_lines p) → IsProgram p
 program_proper p h =
-    let parts = all_parts (ended_lines (procedures_of p)) (global_lines (globals_of p)) h in
-    record { globals = all_kind (λ g. Global g) (globals_of p) parts.1; procedures = ended_proper (procedures_of p) parts.0 }
+    let parts = all_parts (ended_lines (draft_procedures p)) (global_lines (draft_globals p)) h in
+    record { globals = all_kind (λ g. Global g) (draft_globals p) parts.1; procedures = ended_proper (draft_procedures p) parts.0 }
 
 pub Spells-from_lines : (p : Draft) (text : List ℕ) → AreTaken (draft_lines p) → lines_text (draft_lines p) ≡ text → Spells text p
 Spells-from_lines p text taken e = record { same = sym (program_text_is p) ∙ e; proper = program_proper p (AreTaken-lines (draft_lines p) taken) }
@@ -229,7 +229,7 @@ FirstFault-ended text before rest line f taken at none no_end is on = subst (Fir
 pub lines_fit : (text : List ℕ) (before : List Line) (rest : List ℕ) → text ≡ lines_text before ++ rest → length before ≤ length text
 lines_fit text before rest at = omega (arith, ap length at, length-append (lines_text before) rest, length_lines_le before)
 
-pub program_fits : (text : List ℕ) (before : List Line) (rest : List ℕ) (p : Draft) → text ≡ lines_text before ++ rest → draft_lines p ≡ before → lines_of p ≤ length text
+pub program_fits : (text : List ℕ) (before : List Line) (rest : List ℕ) (p : Draft) → text ≡ lines_text before ++ rest → draft_lines p ≡ before → draft_line_count p ≤ length text
 program_fits text before rest p at e = omega (arith, lines_fit text before rest at, length_program_lines p, ap length e)
 
 pub Spells-at_end : (text : List ℕ) (before : List Line) (rest : List ℕ) (p : Draft) → AreTaken before → text ≡ lines_text before ++ rest → rest ≡ [] → draft_lines p ≡ before → Spells text p

@@ -14,7 +14,7 @@ use Rattle.ide_text.specs.declared.program.Statement.{Statement}
 use Rattle.ide_text.specs.declared.program.Statement.TheVariants.{Assign, Skip, At, Goto, Branch, Call, Return}
 use Rattle.ide_text.specs.NameFault.{IsFirstNameFault, IsWellNamed, NameFault, ProcedureFault, StatementFault, StatementsFault, Global_again, Procedure_again, In_procedure, Parameter_again, Local_again, In_statement, Label_again, No_variable, No_label, No_procedure, Wrong_count, Wrong_list, AreWrongCallees, arguments_passed, callees_of, labels_used, line_of_procedure, variables_in, variables_used}
 use Rattle.ide_text.specs.Names.{IsRepeated, declares, first_named, is_label, is_named}
-use Rattle.ide_text.specs.Draft.{globals_of, lines_of_procedure, procedures_of}
+use Rattle.ide_text.specs.Draft.{draft_globals, lines_of_procedure, draft_procedures}
 use Rattle.ide_text.specs.Text.{call_text, draft_text, globals_text, locals_text, names_text, procedure_text, procedures_text, statement_text, statements_text}
 use Rattle.ide_text.specs.Value.{ProcedureValue, ProgramValue, calling, other, draft_value, value_of_procedure, value_of_statement}
 
@@ -210,17 +210,17 @@ ProcedureFault-same globals ps qs procedures p q e start line fault h =
     ]
 
 -- ---- programs
-globals_same : (p q : Draft) → draft_value p ≡ draft_value q → globals_of p ≡ globals_of q
+globals_same : (p q : Draft) → draft_value p ≡ draft_value q → draft_globals p ≡ draft_globals q
 globals_same p q e = ap (λ (v : ProgramValue). v.globals) e
 
-procedures_same : (p q : Draft) → draft_value p ≡ draft_value q → AreSame (procedures_of p) (procedures_of q)
+procedures_same : (p q : Draft) → draft_value p ≡ draft_value q → AreSame (draft_procedures p) (draft_procedures q)
 procedures_same p q e = ap (λ (v : ProgramValue). v.procedures) e
 
 line_same : (p q : Draft) → draft_value p ≡ draft_value q → (j : ℕ) → line_of_procedure p j ≡ line_of_procedure q j
 line_same p q e j = omega (
   arith,
   ap length (globals_same p q e),
-  sum_same value_of_procedure lines_of_procedure lines_same (take j (procedures_of p)) (take j (procedures_of q)) (take_same value_of_procedure j (procedures_of p) (procedures_of q) (procedures_same p q e)),
+  sum_same value_of_procedure lines_of_procedure lines_same (take j (draft_procedures p)) (take j (draft_procedures q)) (take_same value_of_procedure j (draft_procedures p) (draft_procedures q) (procedures_same p q e)),
 )
 
 pub NameFault-same : (p q : Draft) → draft_value p ≡ draft_value q → (line : ℕ) (fault : Fault) → NameFault p line fault → NameFault q line fault
@@ -230,17 +230,17 @@ NameFault-same p q e line fault h =
     elim h as (λ l f _. NameFault q l f) [
       | Global_again i again ↦ Global_again i (subst (λ names. IsRepeated [] names i) globals again)
       | Procedure_again j r at again ↦
-          let found = get_same value_of_procedure (procedures_of p) (procedures_of q) procedures j r at in
-          let firsts = take_same value_of_procedure j (procedures_of p) (procedures_of q) procedures in
+          let found = get_same value_of_procedure (draft_procedures p) (draft_procedures q) procedures j r at in
+          let firsts = take_same value_of_procedure j (draft_procedures p) (draft_procedures q) procedures in
           let name : r.name ≡ found.0.name = ap (λ (v : ProcedureValue). v.name) found.2 in
-          let any = any_same value_of_procedure (is_named found.0.name) (named_same found.0.name) (take j (procedures_of p)) (take j (procedures_of q)) firsts in
+          let any = any_same value_of_procedure (is_named found.0.name) (named_same found.0.name) (take j (draft_procedures p)) (take j (draft_procedures q)) firsts in
           subst (λ l. NameFault q l DeclaredTwice) (sym (line_same p q e j))
-          (Procedure_again j found.0 found.1 (sym any ∙ ap (λ n. list_any (is_named n) (take j (procedures_of p))) (sym name) ∙ again))
+          (Procedure_again j found.0 found.1 (sym any ∙ ap (λ n. list_any (is_named n) (take j (draft_procedures p))) (sym name) ∙ again))
       | In_procedure j r at l f inner ↦
-          let found = get_same value_of_procedure (procedures_of p) (procedures_of q) procedures j r at in
-          let moved = ProcedureFault-same (globals_of p) (procedures_of p) (procedures_of q) procedures r found.0 found.2 (line_of_procedure p j) l f inner in
-          In_procedure j found.0 found.1 l f (subst (λ n. ProcedureFault (globals_of q) (procedures_of q) found.0 n l f) (line_same p q e j)
-          (subst (λ names. ProcedureFault names (procedures_of q) found.0 (line_of_procedure p j) l f) globals moved))
+          let found = get_same value_of_procedure (draft_procedures p) (draft_procedures q) procedures j r at in
+          let moved = ProcedureFault-same (draft_globals p) (draft_procedures p) (draft_procedures q) procedures r found.0 found.2 (line_of_procedure p j) l f inner in
+          In_procedure j found.0 found.1 l f (subst (λ n. ProcedureFault (draft_globals q) (draft_procedures q) found.0 n l f) (line_same p q e j)
+          (subst (λ names. ProcedureFault names (draft_procedures q) found.0 (line_of_procedure p j) l f) globals moved))
     ]
 
 pub IsFirstNameFault-same : (p q : Draft) → draft_value p ≡ draft_value q → (line : ℕ) (fault : Fault) → IsFirstNameFault p line fault → IsFirstNameFault q line fault
@@ -285,17 +285,17 @@ procedure_text_same p q e =
 -- drafts of one value have one text
 pub draft_text-same : (p q : Draft) → draft_value p ≡ draft_value q → draft_text p ≡ draft_text q
 draft_text-same p q e =
-    ap (λ names. globals_text names ++ procedures_text (procedures_of p)) (globals_same p q e)
-    ∙ ap (λ text. globals_text (globals_of q) ++ text) (flat_same value_of_procedure procedure_text procedure_text_same (procedures_of p) (procedures_of q) (procedures_same p q e))
+    ap (λ names. globals_text names ++ procedures_text (draft_procedures p)) (globals_same p q e)
+    ∙ ap (λ text. globals_text (draft_globals q) ++ text) (flat_same value_of_procedure procedure_text procedure_text_same (draft_procedures p) (draft_procedures q) (procedures_same p q e))
 
 abbrev value_by : List (List ℕ) → List ProcedureValue → ProgramValue
 value_by names values = record { globals = names; procedures = values }
 
 -- a draft of the same globals, and of procedures of the same values
-pub copied_value : (d copy : Draft) → globals_of copy ≡ globals_of d → AreSame (procedures_of copy) (procedures_of d) → draft_value d ≡ draft_value copy
+pub copied_value : (d copy : Draft) → draft_globals copy ≡ draft_globals d → AreSame (draft_procedures copy) (draft_procedures d) → draft_value d ≡ draft_value copy
 copied_value d copy globals procedures =
-    ap (λ (names : List (List ℕ)). value_by names (map value_of_procedure (procedures_of d))) (sym globals)
-    ∙ ap (value_by (globals_of copy)) (sym procedures)
+    ap (λ (names : List (List ℕ)). value_by names (map value_of_procedure (draft_procedures d))) (sym globals)
+    ∙ ap (value_by (draft_globals copy)) (sym procedures)
 
 -- and its text is no longer
 pub short_copy : (d copy : Draft) → draft_value d ≡ draft_value copy → length (draft_text d) ≤ 1048576 → length (draft_text copy) ≤ 1048576

@@ -59,9 +59,9 @@ is_global (Global g) = true
 is_global _ = false
 
 -- a `proc` line
-abbrev pub is_procedure : Line → Bool
-is_procedure (Begin p parameters) = true
-is_procedure _ = false
+abbrev pub begins_procedure : Line → Bool
+begins_procedure (Begin p parameters) = true
+begins_procedure _ = false
 
 -- how many parameters a line has
 abbrev pub parameters_on : Line → ℕ
@@ -89,7 +89,7 @@ most_variables (l ∷ before) = max (most_variables before) (last_variables (l �
 
 -- the lines are within the limits. The zero fact and that of returned values count too
 pub record Fits (lines : List Line) : Type 0 where
-  pub procedures : count_by is_procedure lines ≤ 1000
+  pub procedures : count_by begins_procedure lines ≤ 1000
   pub parameters : AllByRecursion (λ l. parameters_on l ≤ 16) lines
   pub nodes : sum_by nodes_on lines ≤ 65536
   pub facts : 2 + count_by is_global lines + most_variables lines ≤ 4096

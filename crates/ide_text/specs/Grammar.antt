@@ -10,7 +10,7 @@ use Rattle.ide_text.specs.declared.program.Statement.{Statement}
 use Rattle.ide_text.specs.declared.program.Statement.TheVariants.{Assign, Skip, At, Goto, Branch, Call, Return}
 use Rattle.ide_text.specs.declared.program.Expression.{Expression}
 use Rattle.ide_text.specs.declared.program.Expression.TheVariants.{Number, Copy, Sum, Difference, Unknown, Mix}
-use Rattle.ide_text.specs.Draft.{globals_of, procedures_of}
+use Rattle.ide_text.specs.Draft.{draft_globals, draft_procedures}
 use Rattle.ide_text.specs.Text.{draft_text}
 
 -- a byte that a name may begin with: an ASCII letter or `_`
@@ -77,8 +77,8 @@ pub record IsProcedure (p : Procedure) : Type 0 where
 
 -- a draft, each line of it of the grammar
 pub record IsProgram (p : Draft) : Type 0 where
-  pub globals : AllByRecursion IsName (globals_of p)
-  pub procedures : AllByRecursion IsProcedure (procedures_of p)
+  pub globals : AllByRecursion IsName (draft_globals p)
+  pub procedures : AllByRecursion IsProcedure (draft_procedures p)
 
 -- the text is that of the draft, which is of the grammar
 pub record Spells (text : List ℕ) (p : Draft) : Type 0 where

@@ -14,7 +14,7 @@ use Rattle.ide_text.specs.declared.program.Statement.TheVariants.{Assign, Skip, 
 use Rattle.ide_text.specs.FirstFault.{AreTaken, Fits, MayEnd, is_global, last_variables, most_variables, nodes_on}
 use Rattle.ide_text.specs.Grammar.{IsLine, IsProcedure, IsProgram}
 use Rattle.ide_text.specs.Lines.{open_lines, ended_lines, global_lines, draft_lines, IsWithinLimits}
-use Rattle.ide_text.specs.Draft.{globals_of, procedures_of}
+use Rattle.ide_text.specs.Draft.{draft_globals, draft_procedures}
 
 -- how many nodes a statement has
 abbrev pub statement_nodes : Statement → ℕ
@@ -39,9 +39,9 @@ taken_fit : (lines : List Line) → AreTaken lines → MayEnd lines → Fits lin
 taken_fit [] taken ended = absurd ended
 taken_fit (l ∷ before) taken ended = taken.3
 
-taken_lines : (lines : List Line) → AreTaken lines → AllByRecursion IsLine lines
-taken_lines [] taken = tt
-taken_lines (l ∷ before) taken = (taken.1, taken_lines before taken.0)
+taken_are_lines : (lines : List Line) → AreTaken lines → AllByRecursion IsLine lines
+taken_are_lines [] taken = tt
+taken_are_lines (l ∷ before) taken = (taken.1, taken_are_lines before taken.0)
 
 reverse_map : {X : Type 0} (f : X → Line) (x : X) (xs : List X) → reverse (map f (x ∷ xs)) ≡ reverse (map f xs) ++ f x ∷ []
 reverse_map f x xs = reverse-append (f x ∷ []) (map f xs)
@@ -65,8 +65,8 @@ ended_some globals [] ended = absurd (globals_open globals ended)
 ended_some globals (q ∷ procedures) ended = omega arith
 
 -- a draft within the limits has a procedure
-pub limits_procedures : (p : Draft) → IsWithinLimits p → 1 ≤ length (procedures_of p)
-limits_procedures p within = ended_some (globals_of p) (procedures_of p) within.ended
+pub limits_procedures : (p : Draft) → IsWithinLimits p → 1 ≤ length (draft_procedures p)
+limits_procedures p within = ended_some (draft_globals p) (draft_procedures p) within.ended
 
 -- ---- sums
 sum_map : {X : Type 0} (g : Line → ℕ) (f : X → Line) (xs : List X) → sum_by g (reverse (map f xs)) ≡ sum_by (λ x. g (f x)) xs
@@ -121,12 +121,12 @@ ended_nodes (q ∷ ps) =
     omega (arith, ended_nodes ps, open_nodes q))
 
 -- a draft has at most 65,536 nodes
-pub limits_nodes : (p : Draft) → IsWithinLimits p → sum_by procedure_nodes (procedures_of p) ≤ 65536
+pub limits_nodes : (p : Draft) → IsWithinLimits p → sum_by procedure_nodes (draft_procedures p) ≤ 65536
 limits_nodes p limits =
     let fits = taken_fit (draft_lines p) limits.taken limits.ended in
-    let all = sum_by-append nodes_on (ended_lines (procedures_of p)) (global_lines (globals_of p)) in
-    let globals : sum_by nodes_on (global_lines (globals_of p)) ≡ 0 = sum_map nodes_on (λ g. Global g) (globals_of p) ∙ sum_none (globals_of p) in
-    omega (arith, fits.nodes, ended_nodes (procedures_of p))
+    let all = sum_by-append nodes_on (ended_lines (draft_procedures p)) (global_lines (draft_globals p)) in
+    let globals : sum_by nodes_on (global_lines (draft_globals p)) ≡ 0 = sum_map nodes_on (λ g. Global g) (draft_globals p) ∙ sum_none (draft_globals p) in
+    omega (arith, fits.nodes, ended_nodes (draft_procedures p))
 
 -- ---- facts
 globals_below : (lines : List Line) (globals : List (List ℕ)) → length globals ≤ count_by is_global (lines ++ global_lines globals)
@@ -179,16 +179,16 @@ most_ended (r ∷ ps) rest (suc i) q at =
     subst (λ lines. own_count q ≤ most_variables lines) (sym (append_assoc (ended_lines ps) (End ∷ open_lines r) rest)) (most_ended ps ((End ∷ open_lines r) ++ rest) i q at)
 
 -- a draft has at most 4,096 facts: so many for each of its procedures
-pub limits_facts : (p : Draft) → IsWithinLimits p → (i : ℕ) (q : Procedure) → slice_get (procedures_of p) i ≡ Some q → length (globals_of p) + 2 + own_count q ≤ 4096
+pub limits_facts : (p : Draft) → IsWithinLimits p → (i : ℕ) (q : Procedure) → slice_get (draft_procedures p) i ≡ Some q → length (draft_globals p) + 2 + own_count q ≤ 4096
 limits_facts p limits i q at =
     let fits = taken_fit (draft_lines p) limits.taken limits.ended in
-    omega (arith, fits.facts, globals_below (ended_lines (procedures_of p)) (globals_of p), most_ended (procedures_of p) (global_lines (globals_of p)) i q at)
+    omega (arith, fits.facts, globals_below (ended_lines (draft_procedures p)) (draft_globals p), most_ended (draft_procedures p) (global_lines (draft_globals p)) i q at)
 
 -- and where it has no procedure
-pub limits_shared_facts : (p : Draft) → IsWithinLimits p → length (globals_of p) + 2 ≤ 4096
+pub limits_shared_facts : (p : Draft) → IsWithinLimits p → length (draft_globals p) + 2 ≤ 4096
 limits_shared_facts p limits =
     let fits = taken_fit (draft_lines p) limits.taken limits.ended in
-    omega (arith, fits.facts, globals_below (ended_lines (procedures_of p)) (globals_of p))
+    omega (arith, fits.facts, globals_below (ended_lines (draft_procedures p)) (draft_globals p))
 
 -- ---- the grammar
 module _ {X : Type 0} (P : X → Type 0) where
@@ -227,8 +227,8 @@ ended_procedures (q ∷ ps) all =
 -- a draft within the limits is of the grammar
 pub limits_program : (p : Draft) → IsWithinLimits p → IsProgram p
 limits_program p limits =
-    let lines = taken_lines (draft_lines p) limits.taken in
+    let lines = taken_are_lines (draft_lines p) limits.taken in
     record {
-      globals = all_map IsLine (λ g. Global g) (globals_of p) (all_right IsLine (ended_lines (procedures_of p)) (global_lines (globals_of p)) lines);
-      procedures = ended_procedures (procedures_of p) (all_left IsLine (ended_lines (procedures_of p)) (global_lines (globals_of p)) lines);
+      globals = all_map IsLine (λ g. Global g) (draft_globals p) (all_right IsLine (ended_lines (draft_procedures p)) (global_lines (draft_globals p)) lines);
+      procedures = ended_procedures (draft_procedures p) (all_left IsLine (ended_lines (draft_procedures p)) (global_lines (draft_globals p)) lines);
     }

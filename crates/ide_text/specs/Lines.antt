@@ -5,7 +5,7 @@ use Rattle.ide_text.specs.declared.line.Line.TheVariants.{Global, Procedure as B
 use Rattle.ide_text.specs.declared.program.Procedure.{Procedure}
 use Rattle.ide_text.specs.declared.program.Draft.{Draft}
 use Rattle.ide_text.specs.FirstFault.{AreTaken, MayEnd}
-use Rattle.ide_text.specs.Draft.{globals_of, procedures_of}
+use Rattle.ide_text.specs.Draft.{draft_globals, draft_procedures}
 
 -- the lines of a procedure before its `end`
 abbrev pub open_lines : Procedure → List Line
@@ -28,7 +28,7 @@ lines_in globals procedures (Some p) = open_lines p ++ (ended_lines procedures +
 
 -- the lines of a draft
 abbrev pub draft_lines : Draft → List Line
-draft_lines p = lines_in (globals_of p) (procedures_of p) None
+draft_lines p = lines_in (draft_globals p) (draft_procedures p) None
 
 -- each line of the draft is of the grammar, in its place and within the limits
 pub record IsWithinLimits (p : Draft) : Type 0 where

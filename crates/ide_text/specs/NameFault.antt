@@ -12,7 +12,7 @@ use Rattle.ide_text.specs.declared.program.Statement.{Statement}
 use Rattle.ide_text.specs.declared.program.Statement.TheVariants.{Assign, Skip, At, Goto, Branch, Call, Return}
 use Rattle.ide_text.specs.First.{IsFirst}
 use Rattle.ide_text.specs.Names.{is_among, IsRepeated, is_label, is_named, first_named}
-use Rattle.ide_text.specs.Draft.{globals_of, procedures_of, lines_of_procedure}
+use Rattle.ide_text.specs.Draft.{draft_globals, draft_procedures, lines_of_procedure}
 
 -- the variables that an expression uses
 abbrev pub variables_of : Expression → List (List ℕ)
@@ -105,16 +105,16 @@ pub data ProcedureFault (globals : List (List ℕ)) (procedures : List Procedure
 
 -- the line of the j-th procedure's `proc`
 abbrev pub line_of_procedure : Draft → ℕ → ℕ
-line_of_procedure p j = 1 + length (globals_of p) + sum_by lines_of_procedure (take j (procedures_of p))
+line_of_procedure p j = 1 + length (draft_globals p) + sum_by lines_of_procedure (take j (draft_procedures p))
 
 -- a fault of a draft's names, on that line
 pub data NameFault (p : Draft) : ℕ → Fault → Type 0 where
   -- a global stands among those before it
-  Global_again : (i : ℕ) → IsRepeated [] (globals_of p) i → NameFault p (i + 1) DeclaredTwice
+  Global_again : (i : ℕ) → IsRepeated [] (draft_globals p) i → NameFault p (i + 1) DeclaredTwice
   -- a procedure before has the name
-  Procedure_again : (j : ℕ) (q : Procedure) → slice_get (procedures_of p) j ≡ Some q → list_any (is_named q.name) (take j (procedures_of p)) ≡ true → NameFault p (line_of_procedure p j) DeclaredTwice
+  Procedure_again : (j : ℕ) (q : Procedure) → slice_get (draft_procedures p) j ≡ Some q → list_any (is_named q.name) (take j (draft_procedures p)) ≡ true → NameFault p (line_of_procedure p j) DeclaredTwice
   -- a procedure has another fault
-  In_procedure : (j : ℕ) (q : Procedure) → slice_get (procedures_of p) j ≡ Some q → (line : ℕ) (fault : Fault) → ProcedureFault (globals_of p) (procedures_of p) q (line_of_procedure p j) line fault → NameFault p line fault
+  In_procedure : (j : ℕ) (q : Procedure) → slice_get (draft_procedures p) j ≡ Some q → (line : ℕ) (fault : Fault) → ProcedureFault (draft_globals p) (draft_procedures p) q (line_of_procedure p j) line fault → NameFault p line fault
 
 -- the first fault of the names
 abbrev pub IsFirstNameFault : Draft → ℕ → Fault → Type 0

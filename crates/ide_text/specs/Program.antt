@@ -8,15 +8,15 @@ use Rattle.ide_text.specs.Value.{ProgramValue, draft_value}
 
 -- the globals, each as the list of its bytes
 abbrev pub globals_of : Program → List (List ℕ)
-globals_of p = drafts.globals_of p.draft
+globals_of p = drafts.draft_globals p.draft
 
 -- the procedures
 abbrev pub procedures_of : Program → List Procedure
-procedures_of p = drafts.procedures_of p.draft
+procedures_of p = drafts.draft_procedures p.draft
 
 -- how many lines the text has
 abbrev pub lines_of : Program → ℕ
-lines_of p = drafts.lines_of p.draft
+lines_of p = drafts.draft_line_count p.draft
 
 -- the text
 abbrev pub text_of : Program → List ℕ

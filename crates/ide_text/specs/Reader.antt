@@ -4,7 +4,7 @@ use Rattle.ide_text.specs.declared.line.Line.{Line}
 use Rattle.ide_text.specs.declared.reader.Reader.{Reader}
 use Rattle.ide_wire.specs.declared.refused.Fault.{Fault}
 use Rattle.ide_wire.specs.declared.refused.Fault.TheVariants.{NoSuchLine}
-use Rattle.ide_text.specs.FirstFault.{Fits, KeepsOut, MayFollow, is_global, is_procedure, last_variables, most_variables, nodes_on}
+use Rattle.ide_text.specs.FirstFault.{Fits, KeepsOut, MayFollow, is_global, begins_procedure, last_variables, most_variables, nodes_on}
 use Rattle.ide_text.specs.Grammar.{IsLine}
 use Rattle.ide_text.specs.Lines.{lines_in}
 use Rattle.ide_text.specs.Text.{line_text}
@@ -16,7 +16,7 @@ taken_lines r = lines_in r.globals.items r.procedures.items r.open
 -- the reader's counts are those of the lines that it has taken, which are within the limits
 pub record IsCounted (r : Reader) : Type 0 where
   pub globals : vec_len r.globals ≡ count_by is_global (taken_lines r)
-  pub procedures : vec_len r.procedures + length (option_to_list r.open) ≡ count_by is_procedure (taken_lines r)
+  pub procedures : vec_len r.procedures + length (option_to_list r.open) ≡ count_by begins_procedure (taken_lines r)
   pub nodes : r.nodes ≡ sum_by nodes_on (taken_lines r)
   pub variables : IfSome r.open (λ p. vec_len p.parameters + vec_len p.locals ≡ last_variables (taken_lines r))
   pub most : r.most_variables ≡ most_variables (taken_lines r)

@@ -9,7 +9,7 @@ use Rattle.ide_text.specs.declared.program.Statement.{Statement}
 use Rattle.ide_text.specs.declared.program.Statement.TheVariants.{Assign, Skip, At, Goto, Branch, Call, Return}
 use Rattle.ide_text.specs.declared.program.Expression.{Expression}
 use Rattle.ide_text.specs.declared.program.Expression.TheVariants.{Number, Copy, Sum, Difference, Unknown, Mix}
-use Rattle.ide_text.specs.Draft.{globals_of, procedures_of}
+use Rattle.ide_text.specs.Draft.{draft_globals, draft_procedures}
 
 -- names, each after a space
 abbrev pub names_text : List (List ℕ) → List ℕ
@@ -81,7 +81,7 @@ globals_text globals = flat_map (λ g. codes "global " ++ g ++ codes "\n") globa
 
 -- the lines of a draft
 abbrev pub draft_text : Draft → List ℕ
-draft_text p = globals_text (globals_of p) ++ procedures_text (procedures_of p)
+draft_text p = globals_text (draft_globals p) ++ procedures_text (draft_procedures p)
 
 -- what stood there stands there still, before some more
 abbrev pub Extends : List ℕ → List ℕ → Type 0

@@ -4,7 +4,7 @@ use Rattle.ide_text.specs.declared.program.Draft.{Draft}
 use Rattle.ide_text.specs.declared.program.Procedure.{Procedure}
 use Rattle.ide_text.specs.declared.program.Statement.{Statement}
 use Rattle.ide_text.specs.declared.program.Statement.TheVariants.{Assign, Skip, At, Goto, Branch, Call, Return}
-use Rattle.ide_text.specs.Draft.{globals_of, procedures_of}
+use Rattle.ide_text.specs.Draft.{draft_globals, draft_procedures}
 
 -- what a statement says: a call by its target, its callees and its arguments, any other one by itself, as it has no vectors
 pub data StatementValue : Type 0 where
@@ -44,4 +44,4 @@ pub record ProgramValue : Type 0 where
 
 -- the value of a draft
 abbrev pub draft_value : Draft → ProgramValue
-draft_value p = record { globals = globals_of p; procedures = map value_of_procedure (procedures_of p) }
+draft_value p = record { globals = draft_globals p; procedures = map value_of_procedure (draft_procedures p) }

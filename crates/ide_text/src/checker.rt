@@ -6,23 +6,23 @@ ghost use Rattle.std.specs.Prelude.{◌≡◌, ◌+◌, ◌<◌, ◌^◌, ℕ, [
 ghost use Rattle.ide_text.specs.First.{Checked, TellsFirst};
 ghost use Rattle.ide_text.specs.NameFault.{NameFault, ProcedureFault, StatementsFault};
 ghost use Rattle.ide_text.specs.Names.{IsRepeated};
-ghost use Rattle.ide_text.specs.Draft.{globals_of, procedures_of, lines_of, lines_of_procedure};
+ghost use Rattle.ide_text.specs.Draft.{draft_globals, draft_procedures, draft_line_count, lines_of_procedure};
 ghost use Rattle.ide_text.specs.Refusal.{IsTextRefusal};
 ghost use Rattle.ide_text.specs.Scope.{variables_of_scope};
 
 use crate::names::Names;
 use crate::program::{Draft, Procedure};
 use crate::scope::Scope;
-use crate::tables::Procedures;
+use crate::tables::Table;
 use ide_wire::{Fault, Refused};
 use std::alloc::Global;
 
 /// Checks the names of a draft. Refused is the first of the faults F5 to F10 that stands on the
 /// least line.
 pub(crate) fn check(alloc: Global, draft: &Draft) -> Result<(), Refused>
-    requires { lines_of draft.now + 1 < 2 ^ 32 }
+    requires { draft_line_count draft.now + 1 < 2 ^ 32 }
     ensures names { Checked (NameFault draft.now) result }
-    ensures lines { IfErr result (IsTextRefusal 1 (lines_of draft.now)) }
+    ensures lines { IfErr result (IsTextRefusal 1 (draft_line_count draft.now)) }
 {
     // before the globals no name is taken
     let none = Names::new(alloc);
@@ -39,52 +39,35 @@ fn check_lines<'p>(
 ) -> Result<(), Refused>
     requires taken { none.now ≡ [] }
     requires declared { globals.old ≡ [] }
-    requires few { lines_of draft.now + 1 < 2 ^ 32 }
+    requires few { draft_line_count draft.now + 1 < 2 ^ 32 }
     ensures { Checked (NameFault draft.now) result }
 {
-    declare_globals(none, globals, draft)?;
-    let procedures = Procedures::of(alloc, draft.procedures())?;
-    check_procedures(alloc, globals, &procedures, draft)
-}
-
-/// Declares the globals of a draft. Refused is the first that is declared already.
-fn declare_globals<'p>(
-    none: &Names<'_>,
-    globals: &mut Names<'p>,
-    draft: &'p Draft,
-) -> Result<(), Refused>
-    requires taken { none.now ≡ [] }
-    requires declared { globals.old ≡ [] }
-    requires few { lines_of draft.now + 1 < 2 ^ 32 }
-    ensures repeated { IfErr result (TellsFirst (NameFault draft.now)) }
-    ensures distinct { IfOk result (λ _. (k : ℕ) → ¬ IsRepeated [] (globals_of draft.now) k) }
-    ensures declared { OnOk result (globals.new ≡ globals_of draft.now) }
-{
-    match globals.declare(none, draft.globals())? {
-        Some(place) => Err(Refused::Text {
+    if let Some(place) = globals.declare(none, draft.globals())? {
+        return Err(Refused::Text {
             line: place as u32 + 1,
             fault: Fault::DeclaredTwice,
-        }),
-        None => Ok(()),
+        });
     }
+    let procedures = Table::of(alloc, draft.procedures())?;
+    check_procedures(alloc, globals, &procedures, draft)
 }
 
 /// Checks the names of a draft, whose globals and procedures those are, beside the globals.
 fn check_procedures(
     alloc: Global,
     globals: &Names<'_>,
-    procedures: &Procedures<'_>,
+    procedures: &Table<'_, Procedure>,
     draft: &Draft,
 ) -> Result<(), Refused>
-    requires globals { globals.now ≡ globals_of draft.now }
-    requires procedures { procedures.now ≡ procedures_of draft.now }
-    requires distinct { (k : ℕ) → ¬ IsRepeated [] (globals_of draft.now) k }
-    requires few { lines_of draft.now + 1 < 2 ^ 32 }
+    requires globals { globals.now ≡ draft_globals draft.now }
+    requires procedures { procedures.now ≡ draft_procedures draft.now }
+    requires distinct { (k : ℕ) → ¬ IsRepeated [] (draft_globals draft.now) k }
+    requires few { draft_line_count draft.now + 1 < 2 ^ 32 }
     ensures { Checked (NameFault draft.now) result }
 {
     let mut line = draft.globals().len() as u32 + 1;
     for (place, procedure) in draft.procedures().iter().enumerate() {
-        if procedures.is_named_before(&procedure.name, place) {
+        if procedures.has_before(&procedure.name, place) {
             return Err(Refused::Text {
                 line,
                 fault: Fault::DeclaredTwice,
@@ -100,7 +83,7 @@ fn check_procedures(
 fn check_procedure(
     alloc: Global,
     globals: &Names<'_>,
-    procedures: &Procedures<'_>,
+    procedures: &Table<'_, Procedure>,
     procedure: &Procedure,
     line: u32,
 ) -> Result<(), Refused>

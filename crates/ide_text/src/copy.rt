@@ -1,6 +1,5 @@
 //! Copies of programs.
 ghost use Rattle.std.specs.Prelude.{◌≡◌, map, IfOk, IsOkUnless};
-ghost use Rattle.ide_text.specs.Value.{value_of_statement, value_of_procedure};
 
 use crate::name::Name;
 use crate::program::{Draft, Expression, Procedure, Program, Statement};
@@ -16,7 +15,7 @@ impl Program {
         ensures no_memory { IsOkUnless result Refused.NoMemory }
     {
         let globals = copy_names(alloc, self.globals())?;
-        let procedures = copy_procedures(alloc, self.procedures())?;
+        let procedures = copy_each(alloc, self.procedures())?;
         Ok(Program::of(Draft {
             globals,
             procedures,
@@ -24,63 +23,73 @@ impl Program {
     }
 }
 
-/// Copies of these procedures.
-fn copy_procedures(alloc: Global, procedures: &[Procedure]) -> Result<Vec<Procedure>, AllocError>
-    ensures { IfOk result (λ copies. map value_of_procedure copies.items ≡ map value_of_procedure procedures.now) }
+/// What is copied with all that it owns. Contracts compare values, in which no room of vectors stands.
+trait Copied: Sized {
+    ghost Value: { Type 0 };
+
+    ghost value: { Self → Value };
+
+    /// A copy.
+    fn copied(&self, alloc: Global) -> Result<Self, AllocError>
+        ensures { IfOk result (λ copy. value copy ≡ value self.now) };
+}
+
+/// Copies of these.
+fn copy_each<T: Copied + Drop>(alloc: Global, items: &[T]) -> Result<Vec<T>, AllocError>
+    ensures { IfOk result (λ copies. map T.value copies.items ≡ map T.value items.now) }
 {
-    let mut copies = Vec::with_capacity(alloc, procedures.len())?;
-    for procedure in procedures {
-        copies.push(copy_procedure(alloc, procedure)?)?;
+    let mut copies = Vec::with_capacity(alloc, items.len())?;
+    for item in items {
+        copies.push(item.copied(alloc)?)?;
     }
     Ok(copies)
 }
 
-/// A copy of this procedure.
-fn copy_procedure(alloc: Global, procedure: &Procedure) -> Result<Procedure, AllocError>
-    ensures { IfOk result (λ copy. value_of_procedure copy ≡ value_of_procedure procedure.now) }
-{
-    Ok(Procedure {
-        name: procedure.name.copy(),
-        parameters: copy_names(alloc, &procedure.parameters)?,
-        locals: copy_names(alloc, &procedure.locals)?,
-        statements: copy_statements(alloc, &procedure.statements)?,
-    })
-}
+impl Copied for Procedure {
+    ghost use Rattle.ide_text.specs.Value.{ProcedureValue, value_of_procedure};
 
-/// Copies of these statements.
-fn copy_statements(alloc: Global, statements: &[Statement]) -> Result<Vec<Statement>, AllocError>
-    ensures { IfOk result (λ copies. map value_of_statement copies.items ≡ map value_of_statement statements.now) }
-{
-    let mut copies = Vec::with_capacity(alloc, statements.len())?;
-    for statement in statements {
-        copies.push(copy_statement(alloc, statement)?)?;
+    ghost Value = { ProcedureValue };
+
+    ghost value = { value_of_procedure };
+
+    fn copied(&self, alloc: Global) -> Result<Procedure, AllocError> {
+        Ok(Procedure {
+            name: self.name.copy(),
+            parameters: copy_names(alloc, &self.parameters)?,
+            locals: copy_names(alloc, &self.locals)?,
+            statements: copy_each(alloc, &self.statements)?,
+        })
     }
-    Ok(copies)
 }
 
-/// A copy of this statement.
-fn copy_statement(alloc: Global, statement: &Statement) -> Result<Statement, AllocError>
-    ensures { IfOk result (λ copy. value_of_statement copy ≡ value_of_statement statement.now) }
-{
-    match statement {
-        Statement::Assign(target, expression) => Ok(Statement::Assign(
-            target.copy(),
-            copy_expression(expression),
-        )),
-        Statement::Skip => Ok(Statement::Skip),
-        Statement::At(label) => Ok(Statement::At(label.copy())),
-        Statement::Goto(label) => Ok(Statement::Goto(label.copy())),
-        Statement::Branch(label) => Ok(Statement::Branch(label.copy())),
-        Statement::Call {
-            target,
-            callees,
-            arguments,
-        } => Ok(Statement::Call {
-            target: copy_option(target),
-            callees: copy_names(alloc, callees)?,
-            arguments: copy_names(alloc, arguments)?,
-        }),
-        Statement::Return(value) => Ok(Statement::Return(copy_option(value))),
+impl Copied for Statement {
+    ghost use Rattle.ide_text.specs.Value.{StatementValue, value_of_statement};
+
+    ghost Value = { StatementValue };
+
+    ghost value = { value_of_statement };
+
+    fn copied(&self, alloc: Global) -> Result<Statement, AllocError> {
+        match self {
+            Statement::Assign(target, expression) => Ok(Statement::Assign(
+                target.copy(),
+                copy_expression(expression),
+            )),
+            Statement::Skip => Ok(Statement::Skip),
+            Statement::At(label) => Ok(Statement::At(label.copy())),
+            Statement::Goto(label) => Ok(Statement::Goto(label.copy())),
+            Statement::Branch(label) => Ok(Statement::Branch(label.copy())),
+            Statement::Call {
+                target,
+                callees,
+                arguments,
+            } => Ok(Statement::Call {
+                target: copy_option(target),
+                callees: copy_names(alloc, callees)?,
+                arguments: copy_names(alloc, arguments)?,
+            }),
+            Statement::Return(value) => Ok(Statement::Return(copy_option(value))),
+        }
     }
 }
 

@@ -27,5 +27,6 @@ pub use laws::{
 };
 pub use name::Name;
 pub use parser::{MAX_TEXT, parse};
+pub use places::Places;
 pub use printer::print;
 pub use program::{Expression, Procedure, Program, Statement};

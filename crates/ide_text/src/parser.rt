@@ -49,7 +49,7 @@ pub fn parse(alloc: Global, text: &[u8]) -> Result<Program, Refused>
 fn read(alloc: Global, text: &[u8]) -> Result<Draft, Refused>
     requires { length text.now ≤ 1048576 }
     ensures refusals { IfErr result (IsTextRefusal 1 (length text.now + 1)) }
-    ensures lines { IfOk result (λ draft. drafts.lines_of draft ≤ length text.now) }
+    ensures lines { IfOk result (λ draft. drafts.draft_line_count draft ≤ length text.now) }
     ensures spelled { IfOk result (Spells text.now) }
     ensures limits { IfOk result IsWithinLimits }
     ensures faults { IfErr result (IsFirstFault text.now) }

@@ -108,18 +108,18 @@ impl Program {
 }
 
 impl Draft {
-    ghost use Rattle.ide_text.specs.Draft.{globals_of, procedures_of};
+    ghost use Rattle.ide_text.specs.Draft.{draft_globals, draft_procedures};
 
     /// The globals, in the order of their declarations.
     pub fn globals(&self) -> &[Name]
-        ensures { result.now ≡ globals_of self.now }
+        ensures { result.now ≡ draft_globals self.now }
     {
         self.globals.as_slice()
     }
 
     /// The procedures, in the order of the text.
     pub fn procedures(&self) -> &[Procedure]
-        ensures { result.now ≡ procedures_of self.now }
+        ensures { result.now ≡ draft_procedures self.now }
     {
         self.procedures.as_slice()
     }

@@ -9,8 +9,8 @@ ghost use Rattle.ide_text.specs.Scope.{FaultAt, variables_of_scope};
 
 use crate::name::Name;
 use crate::names::Names;
-use crate::program::{Expression, Statement};
-use crate::tables::{Labels, Procedures};
+use crate::program::{Expression, Procedure, Statement};
+use crate::tables::Table;
 use ide_wire::Fault;
 use std::alloc::{AllocError, Global};
 
@@ -21,10 +21,10 @@ const MAX_CALLEES: usize = 8;
 #[derive(Drop)]
 pub(crate) struct Scope<'t, 'p> {
     globals: &'t Names<'p>,
-    procedures: &'t Procedures<'p>,
+    procedures: &'t Table<'p, Procedure>,
     /// The parameters and locals that were declared so far.
     variables: Names<'p>,
-    labels: Labels<'p>,
+    labels: Table<'p, Statement>,
 }
 
 impl<'t, 'p> Scope<'t, 'p> {
@@ -32,7 +32,7 @@ impl<'t, 'p> Scope<'t, 'p> {
     pub(crate) fn new(
         alloc: Global,
         globals: &'t Names<'p>,
-        procedures: &'t Procedures<'p>,
+        procedures: &'t Table<'p, Procedure>,
         statements: &'p [Statement],
     ) -> Result<Scope<'t, 'p>, AllocError>
         ensures globals { IfOk result (λ scope. scope.globals.now ≡ globals.now) }
@@ -44,7 +44,7 @@ impl<'t, 'p> Scope<'t, 'p> {
             globals,
             procedures,
             variables: Names::new(alloc),
-            labels: Labels::of(alloc, statements)?,
+            labels: Table::of(alloc, statements)?,
         })
     }
 
@@ -63,7 +63,7 @@ impl<'t, 'p> Scope<'t, 'p> {
     pub(crate) fn statements(&self) -> &'p [Statement]
         ensures { result.now ≡ self.now.labels }
     {
-        self.labels.statements()
+        self.labels.list()
     }
 
     /// Checks the names of the statement at that place: the first of the faults of its line.

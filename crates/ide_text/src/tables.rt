@@ -1,8 +1,10 @@
-//! Tables of names: the procedures of a program, and the labels of a procedure.
-ghost use Rattle.std.specs.Prelude.{◌≡◌, IfOk, take};
-ghost use Rattle.std.specs.List.{list_any};
+//! Lists that are searched by name: the procedures of a program, and the statements of a procedure by
+//! the labels that they declare.
+ghost use Rattle.std.specs.Prelude.{◌≡◌, ℕ, Bool, List, false, IfNone, IfOk, IfSome, take};
+ghost use Rattle.std.specs.List.{find, list_any};
 ghost use Rattle.std.specs.Option.{option_copied};
-ghost use Rattle.ide_text.specs.Names.{is_label, is_named, first_named};
+ghost use Rattle.std.specs.Str.{bytes_eq};
+ghost use Rattle.ide_text.specs.Names.{declares, is_named};
 
 use crate::name::Name;
 use crate::places::Places;
@@ -10,42 +12,77 @@ use crate::program::{Procedure, Statement};
 use std::alloc::{AllocError, Global};
 use std::marker::Model;
 
-/// The procedures of a program, each found by its name in constant time. Contracts see the list of
-/// them.
-#[derive(Drop)]
-pub(crate) struct Procedures<'p> {
-    list: &'p [Procedure],
-    places: Places<'p>,
+/// What may have a name.
+pub(crate) trait Named {
+    ghost has_name: { List ℕ → Self → Bool };
+
+    /// The name, where it has one.
+    fn name(&self) -> Option<&Name>
+        ensures named { IfSome result (λ name. (x : List ℕ) → has_name x self.now ≡ bytes_eq x name.now) }
+        ensures none { IfNone result ((x : List ℕ) → has_name x self.now ≡ false) };
 }
 
-impl<'p> Model for Procedures<'p> {
+impl Named for Procedure {
+    ghost has_name = { is_named };
+
+    fn name(&self) -> Option<&Name> {
+        Some(&self.name)
+    }
+}
+
+impl Named for Statement {
+    ghost has_name = { declares };
+
+    fn name(&self) -> Option<&Name> {
+        match self {
+            Statement::At(label) => Some(label),
+            _ => None,
+        }
+    }
+}
+
+/// A list, of which each element is found by its name in constant time. Contracts see the list.
+#[derive(Drop)]
+pub(crate) struct Table<'p, T: Named> {
+    list: &'p [T],
+    places: Places<'p, usize>,
+}
+
+impl<'p, T: Named> Model for Table<'p, T> {
     ghost use Rattle.std.specs.Prelude.{List};
-    ghost use Rattle.ide_text.specs.declared.program.Procedure.{Procedure};
-    ghost use Rattle.ide_text.specs.Names.{is_named};
     ghost use Rattle.ide_text.specs.Places.{ArePlaces};
 
-    ghost Value = { List Procedure };
+    ghost Value = { List T };
 
-    ghost view = { λ p. p.list.now };
+    ghost view = { λ t. t.list.now };
 
-    ghost invariant = { λ p. ArePlaces is_named p.list.now p.places };
+    ghost invariant = { λ t. ArePlaces T.has_name t.list.now t.places };
 }
 
-impl<'p> Procedures<'p> {
-    /// The tables of these procedures.
-    pub(crate) fn of(alloc: Global, list: &'p [Procedure]) -> Result<Procedures<'p>, AllocError>
-        ensures { IfOk result (λ procedures. procedures ≡ list.now) }
+impl<'p, T: Named> Table<'p, T> {
+    /// The table of that list.
+    pub(crate) fn of(alloc: Global, list: &'p [T]) -> Result<Table<'p, T>, AllocError>
+        ensures { IfOk result (λ table. table ≡ list.now) }
     {
         let mut places = Places::new(alloc);
-        for (place, procedure) in list.iter().enumerate() {
-            places.add(&procedure.name, place)?;
+        for (place, element) in list.iter().enumerate() {
+            if let Some(name) = element.name() {
+                places.add(name, place)?;
+            }
         }
-        Ok(Procedures { list, places })
+        Ok(Table { list, places })
     }
 
-    /// The first procedure of that name.
-    pub(crate) fn first(&self, name: &Name) -> Option<&Procedure>
-        ensures { option_copied result ≡ first_named self.now name.now }
+    /// The list.
+    pub(crate) fn list(&self) -> &'p [T]
+        ensures { result.now ≡ self.now }
+    {
+        self.list
+    }
+
+    /// The first element of that name.
+    pub(crate) fn first(&self, name: &Name) -> Option<&T>
+        ensures { option_copied result ≡ find (T.has_name name.now) self.now }
     {
         match self.places.find(name) {
             Some(first) => self.list.get(first),
@@ -53,71 +90,18 @@ impl<'p> Procedures<'p> {
         }
     }
 
-    /// Whether a procedure before that place has the name.
-    pub(crate) fn is_named_before(&self, name: &Name, place: usize) -> bool
-        ensures { result ≡ list_any (is_named name.now) (take place self.now) }
+    /// Whether an element has the name.
+    pub(crate) fn has(&self, name: &Name) -> bool
+        ensures { result ≡ list_any (T.has_name name.now) self.now }
+    {
+        self.places.find(name).is_some()
+    }
+
+    /// Whether an element before that place has the name.
+    pub(crate) fn has_before(&self, name: &Name, place: usize) -> bool
+        ensures { result ≡ list_any (T.has_name name.now) (take place self.now) }
     {
         match self.places.find(name) {
-            Some(first) => first < place,
-            None => false,
-        }
-    }
-}
-
-/// The statements of a procedure, whose labels are each found in constant time. Contracts see the
-/// list of the statements.
-#[derive(Drop)]
-pub(crate) struct Labels<'p> {
-    statements: &'p [Statement],
-    places: Places<'p>,
-}
-
-impl<'p> Model for Labels<'p> {
-    ghost use Rattle.std.specs.Prelude.{List};
-    ghost use Rattle.ide_text.specs.declared.program.Statement.{Statement};
-    ghost use Rattle.ide_text.specs.Names.{declares};
-    ghost use Rattle.ide_text.specs.Places.{ArePlaces};
-
-    ghost Value = { List Statement };
-
-    ghost view = { λ l. l.statements.now };
-
-    ghost invariant = { λ l. ArePlaces declares l.statements.now l.places };
-}
-
-impl<'p> Labels<'p> {
-    /// The labels of these statements.
-    pub(crate) fn of(alloc: Global, statements: &'p [Statement]) -> Result<Labels<'p>, AllocError>
-        ensures { IfOk result (λ labels. labels ≡ statements.now) }
-    {
-        let mut places = Places::new(alloc);
-        for (place, statement) in statements.iter().enumerate() {
-            if let Statement::At(label) = statement {
-                places.add(label, place)?;
-            }
-        }
-        Ok(Labels { statements, places })
-    }
-
-    /// The statements.
-    pub(crate) fn statements(&self) -> &'p [Statement]
-        ensures { result.now ≡ self.now }
-    {
-        self.statements
-    }
-
-    /// Whether one of the statements declares the label.
-    pub(crate) fn has(&self, label: &Name) -> bool
-        ensures { result ≡ is_label self.now label.now }
-    {
-        self.places.find(label).is_some()
-    }
-
-    /// Whether a statement before that place declares the label.
-    pub(crate) fn has_before(&self, label: &Name, place: usize) -> bool
-        ensures { result ≡ is_label (take place self.now) label.now }
-    {
-        match self.places.find(label) {
             Some(first) => first < place,
             None => false,
         }

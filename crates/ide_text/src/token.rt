@@ -52,30 +52,19 @@ fn reserved(word: &[u8]) -> Option<Token>
     ensures found { IfSome result (λ token. IsToken token × (token_text token ≡ word.now)) }
     ensures none { IfNone result (AllByRecursion (λ text. word.now ≢ text) reserved_words) }
 {
-    if word == b"global".as_slice() {
-        Some(Token::Global)
-    } else if word == b"proc".as_slice() {
-        Some(Token::Proc)
-    } else if word == b"var".as_slice() {
-        Some(Token::Var)
-    } else if word == b"end".as_slice() {
-        Some(Token::End)
-    } else if word == b"skip".as_slice() {
-        Some(Token::Skip)
-    } else if word == b"at".as_slice() {
-        Some(Token::At)
-    } else if word == b"goto".as_slice() {
-        Some(Token::Goto)
-    } else if word == b"branch".as_slice() {
-        Some(Token::Branch)
-    } else if word == b"call".as_slice() {
-        Some(Token::Call)
-    } else if word == b"return".as_slice() {
-        Some(Token::Return)
-    } else if word == b"mix".as_slice() {
-        Some(Token::Mix)
-    } else {
-        None
+    match word {
+        b"global" => Some(Token::Global),
+        b"proc" => Some(Token::Proc),
+        b"var" => Some(Token::Var),
+        b"end" => Some(Token::End),
+        b"skip" => Some(Token::Skip),
+        b"at" => Some(Token::At),
+        b"goto" => Some(Token::Goto),
+        b"branch" => Some(Token::Branch),
+        b"call" => Some(Token::Call),
+        b"return" => Some(Token::Return),
+        b"mix" => Some(Token::Mix),
+        _ => None,
     }
 }
 

@@ -1,5 +1,5 @@
 -- Values that come of others by steps.
-use Rattle.std.proofs.Common.{◌≡◌, ℕ, ◌<◌, List, [], ◌∷◌, Some, None, true, false, cond, length, refl, subst, sym, arith}
+use Rattle.std.proofs.Common.{◌≡◌, ℕ, ◌<◌, List, [], ◌∷◌, Option, Some, None, true, false, cond, length, refl, subst, sym, arith}
 use Rattle.std.specs.Prelude.{slice_get}
 use Rattle.std.specs.Map.{lookup}
 use Rattle.ide_theory.specs.Member.{Each}
@@ -32,3 +32,10 @@ each_found {F} P (e ∷ es) key f all is =
 -- below the length something stands
 pub none_within : {X : Type 0} (xs : List X) (i : ℕ) → slice_get xs i ≡ None → i < length xs → ⊥
 none_within xs i none within = let past = none_past xs i none in omega (arith, past, within)
+
+pub some_within : {X : Type 0} (xs : List X) (i : ℕ) → i < length xs → (x : X) × (slice_get xs i ≡ Some x)
+some_within {X = X} xs i within = by (slice_get xs i) refl
+  where
+    by : (o : Option X) → slice_get xs i ≡ o → (x : X) × (slice_get xs i ≡ Some x)
+    by (Some x) is = (x, is)
+    by None is = absurd (none_within xs i is within)

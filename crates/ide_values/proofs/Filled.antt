@@ -17,7 +17,7 @@ use Rattle.ide_wire.specs.declared.key.Key.{Key}
 use Rattle.ide_wire.specs.declared.key.Key.TheVariants.{Jump, Summary}
 use Rattle.ide_wire.specs.Key.{node_of, same_key, same_key_laws, same_key_exact}
 use Rattle.ide_graph.specs.Supergraph.{Supergraph}
-use Rattle.ide_image.specs.Tables.{Table, found, nodes_of}
+use Rattle.ide_image.specs.Tables.{Table, found, entry_nodes}
 use Rattle.ide_values.specs.Fill.{Fills, FillsFrom, IsFilledAt, IsFilledBy, IsImage, Meets, lowered, value_from}
 use Rattle.ide_values.specs.Spans.{HasBetween}
 use Rattle.ide_values.specs.declared.spans.Span.{Span}
@@ -156,11 +156,11 @@ proper_at A laws xs all i = elim (inside xs i) [
     inside xs i = grind (arith)
 
 -- there are as many nodes as entries, and each is that of the entry at its index
-pub node_count : {F : Type 0} (es : List (Key × F)) → length (nodes_of es) ≡ length es
+pub node_count : {F : Type 0} (es : List (Key × F)) → length (entry_nodes es) ≡ length es
 node_count [] = refl
 node_count (e ∷ es) = ap suc (node_count es)
 
-pub entry_of_node : {F : Type 0} (es : List (Key × F)) (i node d : ℕ) → i < length (nodes_of es) → node ≡ get_or (nodes_of es) i d
+pub entry_of_node : {F : Type 0} (es : List (Key × F)) (i node d : ℕ) → i < length (entry_nodes es) → node ≡ get_or (entry_nodes es) i d
     → (e : Key × F) × (slice_get es i ≡ Some e) × (node ≡ node_of e.0)
 entry_of_node [] i node d within is = absurd (omega (arith, within))
 entry_of_node (e ∷ es) zero node d within is = (e, refl, is)
@@ -190,7 +190,7 @@ module _ {F L : Type 0} (A : LatticeAlgebra L) (B : EdgeAlgebra F L) (graph : Su
   pub passed_all : (count begin more : ℕ) (rows : List L) → IsDistinct same_key (keys_of table.entries)
       → (0 < graph.facts → length rows < (more + 1) * graph.facts) → begin + count ≤ length table.entries
       → ((i : ℕ) → begin ≤ i → i < begin + count
-      → (first ≤ get_or (nodes_of table.entries) i 0) × (get_or (nodes_of table.entries) i 0 ≤ first + more) → ⊥)
+      → (first ≤ get_or (entry_nodes table.entries) i 0) × (get_or (entry_nodes table.entries) i 0 ≤ first + more) → ⊥)
       → IsFilledBy A B graph table starts first begin rows → IsFilledBy A B graph table starts first (begin + count) rows
   passed_all zero begin more rows distinct few within apart so_far =
       let same : begin ≡ begin + 0 = omega arith in
@@ -198,8 +198,8 @@ module _ {F L : Type 0} (A : LatticeAlgebra L) (B : EdgeAlgebra F L) (graph : Su
   passed_all (suc count) begin more rows distinct few within apart so_far =
       let before : IsFilledBy A B graph table starts first (begin + count) rows =
       passed_all count begin more rows distinct few (omega arith) (λ i from to. apart i from (omega arith)) so_far in
-      let inside : begin + count < length (nodes_of table.entries) = omega (arith, within, node_count table.entries) in
-      let (e, stands, node) = entry_of_node table.entries (begin + count) (get_or (nodes_of table.entries) (begin + count) 0) 0 inside refl in
+      let inside : begin + count < length (entry_nodes table.entries) = omega (arith, within, node_count table.entries) in
+      let (e, stands, node) = entry_of_node table.entries (begin + count) (get_or (entry_nodes table.entries) (begin + count) 0) 0 inside refl in
       let next : begin + count + 1 ≡ begin + suc count = omega arith in
       subst (λ n. IsFilledBy A B graph table starts first n rows) next
       (passed_more (begin + count) more rows distinct few e stands
@@ -208,12 +208,12 @@ module _ {F L : Type 0} (A : LatticeAlgebra L) (B : EdgeAlgebra F L) (graph : Su
   -- so is each block of entries whose span has no node that has a row
   pub passed_span : (count begin more : ℕ) (span : Span) (rows : List L) → IsDistinct same_key (keys_of table.entries)
       → (0 < graph.facts → length rows < (more + 1) * graph.facts) → begin + count ≤ length table.entries
-      → HasBetween (nodes_of table.entries) begin (begin + count) span → ((first ≤ span.greatest) × (span.least ≤ first + more) → ⊥)
+      → HasBetween (entry_nodes table.entries) begin (begin + count) span → ((first ≤ span.greatest) × (span.least ≤ first + more) → ⊥)
       → IsFilledBy A B graph table starts first begin rows → IsFilledBy A B graph table starts first (begin + count) rows
   passed_span count begin more span rows distinct few within has apart so_far =
       passed_all count begin more rows distinct few within
       (λ i from to near.
-      let between : (span.least ≤ get_or (nodes_of table.entries) i 0) × (get_or (nodes_of table.entries) i 0 ≤ span.greatest) =
+      let between : (span.least ≤ get_or (entry_nodes table.entries) i 0) × (get_or (entry_nodes table.entries) i 0 ≤ span.greatest) =
       has i from to (omega (arith, within, to, node_count table.entries)) in
       apart (omega (arith, near.0, between.1), omega (arith, near.1, between.0)))
       so_far

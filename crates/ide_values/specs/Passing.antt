@@ -1,5 +1,5 @@
 -- What passes say of start values before and after them.
-use Rattle.std.specs.Prelude.{◌≡◌, ℕ, ◌+◌, ◌≤◌, false, List, Result, OnOk, length}
+use Rattle.std.specs.Prelude.{◌≡◌, ℕ, ◌+◌, ◌≤◌, false, List, Result, Some, OnOk, length, slice_get}
 use Rattle.ide_graph.specs.Supergraph.{Supergraph}
 use Rattle.ide_graph.specs.declared.edge.EdgeData.{EdgeData}
 use Rattle.ide_lattice.specs.Algebra.{LatticeAlgebra, EdgeAlgebra}
@@ -62,6 +62,10 @@ module _ {P F L : Type 0} (A : LatticeAlgebra L) (B : EdgeAlgebra F L) (targets 
     PassesEach old new =
         Passes (λ values e. by_entry A B graph targets values e.0 e.1) (λ values e. IsSteadyBy A B graph targets values e.0 e.1)
         table.entries old.values.items new.values.items old.has_fallen new.has_fallen
+
+    -- and so is that of the entry at an index, if one stands there
+    abbrev pub PassesAt : ℕ → Starts P L F → Starts P L F → Type 0
+    PassesAt index old new = (e : Key × F) → slice_get table.entries index ≡ Some e → PassesBy e.0 e.1 old new
 
     -- unless memory was wanting, the start values come of those before by what functions of present keys hand on
     abbrev pub Comes : {T E : Type 0} → Result T E → (old new : Starts P L F) → Type 0

@@ -1,6 +1,6 @@
 //! The fill: each jump function lowers the value where it ends.
 ghost use Rattle.std.specs.Prelude.{◌≡◌, ◌+◌, ◌*◌, ◌<◌, ◌≤◌, ◌↔◌, true, IfOk, length};
-ghost use Rattle.ide_image.specs.Tables.{nodes_of};
+ghost use Rattle.ide_image.specs.Tables.{entry_nodes};
 ghost use Rattle.ide_values.specs.Fill.{FillsFrom, FillsRows, IsFilledBy, Meets};
 ghost use Rattle.ide_values.specs.Spans.{AreSpans};
 ghost use Rattle.ide_values.specs.Start.{AreTops};
@@ -40,7 +40,7 @@ pub(crate) fn fill_rows<F: EdgeFn>(
     rows: &mut [F::L],
 )
     requires tops { AreTops F.L.algebra rows.old }
-    requires spans { AreSpans (nodes_of tables.now.entries) spans.now }
+    requires spans { AreSpans (entry_nodes tables.now.entries) spans.now }
     ensures count { length rows.new ≡ length rows.old }
     ensures filled { FillsFrom F.L.algebra F.edge graph.now tables.now starts.now first rows.new }
 {

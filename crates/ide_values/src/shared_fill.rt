@@ -1,6 +1,6 @@
 //! The fill by several threads, of which each fills the rows of a range of nodes.
 ghost use Rattle.std.specs.Prelude.{◌≡◌, ◌*◌, ◌<◌, ◌≤◌, IfOk, length};
-ghost use Rattle.ide_image.specs.Tables.{nodes_of};
+ghost use Rattle.ide_image.specs.Tables.{entry_nodes};
 ghost use Rattle.ide_values.specs.Fill.{FillsRows};
 ghost use Rattle.ide_values.specs.Refusal.{AreWorkers};
 ghost use Rattle.ide_values.specs.SharedFill.{first_node, sharing_of};
@@ -68,7 +68,7 @@ fn spans_for<F: EdgeFn>(
     tables: &Tables<F>,
     workers: usize,
 ) -> Result<Vec<Span>, AllocError>
-    ensures { IfOk result (λ spans. AreSpans (nodes_of tables.now.entries) spans.items) }
+    ensures { IfOk result (λ spans. AreSpans (entry_nodes tables.now.entries) spans.items) }
 {
     if workers == 1 {
         return Ok(Vec::new(alloc));
@@ -85,7 +85,7 @@ struct SharedFill<'a, F: EdgeFn, G> {
     starts: &'a [F::L],
     workers: usize,
     gate: &'a G,
-    ghost spanned: { AreSpans (nodes_of tables.now.entries) spans.now },
+    ghost spanned: { AreSpans (entry_nodes tables.now.entries) spans.now },
     ghost some: { 0 < workers },
     ghost most: { workers ≤ 64 },
 }

@@ -1,7 +1,7 @@
 //! Start values: the value of each fact at each procedure's start.
 ghost use Rattle.std.specs.Prelude.{OnOk, IfOk, false};
 ghost use Rattle.ide_values.specs.Falling.{StartsFall};
-ghost use Rattle.ide_values.specs.Passing.{Comes, Rests, PassesBy, PassesEach, RisesNowhere};
+ghost use Rattle.ide_values.specs.Passing.{Comes, Rests, PassesAt, PassesBy, PassesEach, RisesNowhere};
 ghost use Rattle.ide_values.specs.Settled.{AreStartRows};
 
 use crate::enter::entered_rows;
@@ -111,6 +111,7 @@ impl<P: Problem> Starts<P> {
         index: usize,
         targets: &mut TargetList<P::F>,
     ) -> Result<(), AllocError>
+        ensures passes { OnOk result (PassesAt P.L.algebra P.F.edge P.targets graph.now tables.now index self.old self.new) }
         ensures comes { Comes P.L.algebra P.F.edge P.targets graph.now tables.now result self.old self.new }
         ensures falls { OnOk result (StartsFall P.L.algebra self.old self.new) }
     {
@@ -133,10 +134,7 @@ impl<P: Problem> Starts<P> {
         ensures falls { OnOk result (StartsFall P.L.algebra self.old self.new) }
     {
         for index in 0..tables.key_count() {
-            let Some(entry) = tables.entry_at(index) else {
-                return Ok(());
-            };
-            self.pass_by(graph, entry.0, entry.1, targets)?;
+            self.pass_index(graph, tables, index, targets)?;
         }
         Ok(())
     }

@@ -20,8 +20,8 @@ abbrev pub wanted_among : Bor (List (Bor Text)) → Text → Rule
 wanted_among choices name = record (wanted name) { parser = Some (Names choices) }
 
 -- the word is to be a number from the one up to the other
-abbrev pub numbered : ℕ → ℕ → Rule → Rule
-numbered least most word = record word { parser = Some (Unsigned least most) }
+abbrev pub number_between : ℕ → ℕ → Rule → Rule
+number_between least most word = record word { parser = Some (Unsigned least most) }
 
 -- a word behind an option, and what it is where the option is left out
 abbrev pub defaulted : (name option default : Text) → Rule
@@ -29,7 +29,7 @@ defaulted name option default = record (new_rule name) { long = Some option; act
 
 -- `--workers N`, 1 to 64; where it is left out, 1
 abbrev pub workers : Rule
-workers = numbered 1 64 (defaulted (codes "N") (codes "workers") (codes "1"))
+workers = number_between 1 64 (defaulted (codes "N") (codes "workers") (codes "1"))
 
 -- `--quiet`
 abbrev pub quiet : Rule
@@ -37,7 +37,7 @@ quiet = record (new_rule (codes "quiet")) { long = Some (codes "quiet"); action 
 
 -- `--checkpoint-every RECORDS`, 1 to 4294967295; where it is left out, 1024
 abbrev pub checkpoint_every : Rule
-checkpoint_every = numbered 1 4294967295 (defaulted (codes "RECORDS") (codes "checkpoint-every") (codes "1024"))
+checkpoint_every = number_between 1 4294967295 (defaulted (codes "RECORDS") (codes "checkpoint-every") (codes "1024"))
 
 -- a command and the words that it takes
 abbrev pub command : Text → List Rule → Shape
@@ -97,7 +97,7 @@ migrate = on_store (codes "migrate") []
 
 -- `ask STORE PROC NODE FACT`, `dump STORE` and `status STORE`
 abbrev pub ask : Shape
-ask = on_store (codes "ask") (wanted (codes "PROC") ∷ numbered 0 4294967295 (wanted (codes "NODE")) ∷ wanted (codes "FACT") ∷ [])
+ask = on_store (codes "ask") (wanted (codes "PROC") ∷ number_between 0 4294967295 (wanted (codes "NODE")) ∷ wanted (codes "FACT") ∷ [])
 
 abbrev pub dump : Shape
 dump = on_store (codes "dump") []

@@ -1,7 +1,7 @@
 //! The commands of the program, as `clap` is to read them.
 ghost use Rattle.std.specs.Prelude.{◌≡◌, [], false, IfOk};
 ghost use Rattle.clap.specs.Words.{app_of, rule_of};
-ghost use Rattle.ide_words.specs.Commands.{HasShape, IsCreate, IsExplain, IsIdesolve, IsOnce, IsOnceAlone, ask, check, checkpoint_every, command, defaulted, load, numbered, on_store, quiet, root, wanted, work, workers};
+ghost use Rattle.ide_words.specs.Commands.{HasShape, IsCreate, IsExplain, IsIdesolve, IsOnce, IsOnceAlone, ask, check, checkpoint_every, command, defaulted, load, number_between, on_store, quiet, root, wanted, work, workers};
 
 use crate::words::{INSTANCES, NAMES};
 use clap::builder::ValueParser;
@@ -150,7 +150,7 @@ fn ask<'a>(alloc: Global) -> Result<Command<'a>, Error>
     Ok(
         on_store(alloc, "ask", about)?
             .arg(required(alloc, "PROC", "The procedure"))?
-            .arg(numbered(position, 0, LAST_POSITION))?
+            .arg(number_between(position, 0, LAST_POSITION))?
             .arg(required(alloc, "FACT", "A variable, @zero or @result"))?,
     )
 }
@@ -181,8 +181,8 @@ fn required<'a>(alloc: Global, name: &'a str, help: &'a str) -> Arg<'a>
 }
 
 /// The same, as a number from the one up to the other.
-fn numbered<'a>(word: Arg<'a>, least: u64, most: u64) -> Arg<'a>
-    ensures rule { rule_of result ≡ numbered least most (rule_of word.entry) }
+fn number_between<'a>(word: Arg<'a>, least: u64, most: u64) -> Arg<'a>
+    ensures rule { rule_of result ≡ number_between least most (rule_of word.entry) }
     ensures local { result.global ≡ word.entry.global }
 {
     word.value_parser(ValueParser::unsigned(least, most))
@@ -194,7 +194,7 @@ fn workers<'a>(alloc: Global) -> Arg<'a>
     ensures local { result.global ≡ false }
 {
     let count = defaulted(alloc, "N", "workers", "1").help("How many workers, 1 to 64");
-    numbered(count, 1, MOST_WORKERS)
+    number_between(count, 1, MOST_WORKERS)
 }
 
 /// `--quiet`
@@ -215,7 +215,7 @@ fn checkpoint_every<'a>(alloc: Global) -> Arg<'a>
 {
     let help = "A checkpoint after so many records";
     let records = defaulted(alloc, "RECORDS", "checkpoint-every", "1024").help(help);
-    numbered(records, 1, MOST_RECORDS)
+    number_between(records, 1, MOST_RECORDS)
 }
 
 /// A word behind an option, which is the default where the option is left out.

@@ -108,10 +108,7 @@ pub(crate) fn expect_two_parts(rt: &(impl Abort + AllocGlobal), version: Version
 
 /// What there was memory for.
 pub(crate) fn made<T>(rt: &impl Abort, found: Result<T, AllocError>) -> T {
-    match found {
-        Ok(value) => value,
-        Err(_) => panic!(rt; "no memory"),
-    }
+    found.expect(rt, "there is memory for this")
 }
 
 /// Asserts that a core has an item's entry.
@@ -223,10 +220,6 @@ fn changes_of_an_empty_main(rt: HostRuntime) {
 #[test]
 fn body_of_an_empty_main(rt: HostRuntime) {
     expect_empty_main(&rt, Version::One, &EMPTY_MAIN);
-}
-
-#[test]
-fn replay_of_an_empty_main(rt: HostRuntime) {
     let change = made(&rt, empty_main(rt.alloc()));
     let mut core: Core<Uninit> = Core::new(rt.alloc());
     expect_replayed(&rt, &mut core, EMPTY_RUN, &change, None);
@@ -242,10 +235,6 @@ fn changes_of_two_parts(rt: HostRuntime) {
 #[test]
 fn body_after_two_parts(rt: HostRuntime) {
     expect_two_parts(&rt, Version::One, &TWO_PARTS);
-}
-
-#[test]
-fn replay_after_two_parts(rt: HostRuntime) {
     let change = made(&rt, two_parts(rt.alloc()));
     let mut core: Core<CopyConst> = Core::new(rt.alloc());
     let pending = Some(Key::Jump(1, 0, 1));

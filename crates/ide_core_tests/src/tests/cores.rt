@@ -8,10 +8,7 @@ use std::process::Abort;
 
 /// What a call gave that is not to be refused.
 pub(crate) fn given<T>(rt: &impl Abort, found: Result<T, Refused>) -> T {
-    match found {
-        Ok(value) => value,
-        Err(refused) => panic!(rt; "{refused}"),
-    }
+    found.expect(rt, "this is not to be refused")
 }
 
 /// The program of a text.

@@ -50,28 +50,19 @@ pub(crate) fn body_of(rt: &(impl Abort + AllocGlobal), count: u8, groups: &[&[u8
 fn groups_of_an_empty_main(rt: HostRuntime) {
     let body = body_of(&rt, 2, &[FIRST, SECOND]);
     expect_empty_main(&rt, Version::Two, body.as_slice());
-}
-
-#[test]
-fn groups_after_two_parts(rt: HostRuntime) {
-    expect_two_parts(&rt, Version::Two, &TWO_PARTS);
-}
-
-#[test]
-fn replay_of_groups_of_an_empty_main(rt: HostRuntime) {
-    let change = made(&rt, empty_main(rt.alloc()));
-    let body = body_of(&rt, 2, &[FIRST, SECOND]);
     let run = Run {
         text: EMPTY,
         body: body.as_slice(),
         version: Version::Two,
     };
+    let change = made(&rt, empty_main(rt.alloc()));
     let mut core: Core<Uninit> = Core::new(rt.alloc());
     expect_given_back(&rt, &mut core, run, &change);
 }
 
 #[test]
-fn replay_of_groups_after_two_parts(rt: HostRuntime) {
+fn groups_after_two_parts(rt: HostRuntime) {
+    expect_two_parts(&rt, Version::Two, &TWO_PARTS);
     let change = made(&rt, two_parts(rt.alloc()));
     let mut core: Core<CopyConst> = Core::new(rt.alloc());
     expect_given_back(&rt, &mut core, NUMBER_RUN, &change);

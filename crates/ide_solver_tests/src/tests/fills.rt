@@ -8,7 +8,6 @@ use ide_worked::{EMPTY, TWO_CALLS};
 use std::alloc::Global;
 use std::process::Abort;
 use std::sync::atomic::{AtomicBool, AtomicU64, Ordering};
-use std::test::Fail;
 use std::thread;
 use std::thread::Threads;
 
@@ -87,34 +86,39 @@ fn begun_by<R: Threads + Sync>(
     Ok(gate.begun.load(Ordering::SeqCst))
 }
 
+/// Fills the values of a text's program so, and answers how many began.
+fn begun_on<R: Threads + Sync>(
+    rt: &R,
+    alloc: Global,
+    text: &str,
+    workers: usize,
+    gate: &HoldingFirst,
+) -> Result<u64, Refused> {
+    let image = image_of(alloc, text)?;
+    let begun = begun_by(rt, alloc, &image, workers, gate)?;
+    Ok(begun)
+}
+
 // Worker 0 is held until worker 1 began, so both are at work at once.
 #[test]
-fn two_workers_fill_at_once(rt: HostRuntime) -> Result<(), Fail> {
-    let image = image_of(rt.alloc(), TWO_CALLS)?;
+fn two_workers_fill_at_once(rt: HostRuntime) {
     let gate = HoldingFirst::new();
-    let begun = begun_by(&rt, rt.alloc(), &image, 2, &gate)?;
-    assert!(rt; begun == 2);
+    assert!(rt; begun_on(&rt, rt.alloc(), TWO_CALLS, 2, &gate) == Ok(2));
     assert!(rt; gate.seen.load(Ordering::SeqCst));
-    Ok(())
 }
 
 // The empty main has two nodes, and each of 64 workers begins.
 #[test]
-fn workers_without_nodes_begin(rt: HostRuntime) -> Result<(), Fail> {
-    let image = image_of(rt.alloc(), EMPTY)?;
+fn workers_without_nodes_begin(rt: HostRuntime) {
     let gate = HoldingFirst::new();
-    let begun = begun_by(&rt, rt.alloc(), &image, 64, &gate)?;
-    assert!(rt; begun == 64);
-    Ok(())
+    assert!(rt; begun_on(&rt, rt.alloc(), EMPTY, 64, &gate) == Ok(64));
 }
 
 // No worker, or more than 64, are refused, and none begins.
 #[test]
-fn a_fill_has_a_limit_of_workers(rt: HostRuntime) -> Result<(), Fail> {
-    let image = image_of(rt.alloc(), EMPTY)?;
+fn a_fill_has_a_limit_of_workers(rt: HostRuntime) {
     let gate = HoldingFirst::new();
-    assert!(rt; begun_by(&rt, rt.alloc(), &image, 0, &gate) == Err(Refused::Limit));
-    assert!(rt; begun_by(&rt, rt.alloc(), &image, 65, &gate) == Err(Refused::Limit));
+    assert!(rt; begun_on(&rt, rt.alloc(), EMPTY, 0, &gate) == Err(Refused::Limit));
+    assert!(rt; begun_on(&rt, rt.alloc(), EMPTY, 65, &gate) == Err(Refused::Limit));
     assert!(rt; gate.begun.load(Ordering::SeqCst) == 0);
-    Ok(())
 }

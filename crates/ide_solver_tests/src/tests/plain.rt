@@ -37,38 +37,27 @@ fn expect_of(rt: &(impl Abort + AllocGlobal), text: &[u8], longest: usize) -> Re
     Ok(())
 }
 
-/// Asserts that they agree on a worked program.
-fn expect(rt: &(impl Abort + AllocGlobal), text: &str) -> Result<(), Fail> {
-    expect_of(rt, text.as_bytes(), LONGEST)
+/// Asserts that they agree on each of these worked programs.
+fn expect_each(rt: &(impl Abort + AllocGlobal), texts: &[&str]) -> Result<(), Fail> {
+    for text in texts {
+        expect_of(rt, text.as_bytes(), LONGEST)?;
+    }
+    Ok(())
 }
 
 #[test]
-fn straight_lines_and_branches(rt: HostRuntime) -> Result<(), Fail> {
-    expect(&rt, COPIES)?;
-    expect(&rt, BRANCH_OF_TWO)?;
-    expect(&rt, UNREACHABLE)
+fn programs_of_one_procedure(rt: HostRuntime) -> Result<(), Fail> {
+    expect_each(&rt, &[COPIES, BRANCH_OF_TWO, UNREACHABLE, LOOP])
 }
 
 #[test]
-fn loops(rt: HostRuntime) -> Result<(), Fail> {
-    expect(&rt, LOOP)
+fn programs_with_calls(rt: HostRuntime) -> Result<(), Fail> {
+    expect_each(&rt, &[TWO_CALLS, SUM_OR_NUMBER, CALLEES])
 }
 
 #[test]
-fn calls(rt: HostRuntime) -> Result<(), Fail> {
-    expect(&rt, TWO_CALLS)?;
-    expect(&rt, SUM_OR_NUMBER)
-}
-
-#[test]
-fn calls_of_several_procedures(rt: HostRuntime) -> Result<(), Fail> {
-    expect(&rt, CALLEES)
-}
-
-#[test]
-fn recursion(rt: HostRuntime) -> Result<(), Fail> {
-    expect(&rt, RECURSION)?;
-    expect(&rt, ADDS_IN_CALLEE)
+fn programs_with_recursion(rt: HostRuntime) -> Result<(), Fail> {
+    expect_each(&rt, &[RECURSION, ADDS_IN_CALLEE])
 }
 
 #[test]

@@ -64,36 +64,16 @@ const TEXTS: [(Fault, u32, &str); 37] = [
     (Fault::WrongArguments, 4, FEWER_ARGUMENTS),
 ];
 
-/// That each of the texts that are to be refused for that fault is refused for it.
-fn expect_each(rt: &(impl Abort + AllocGlobal), fault: Fault) {
-    for (own, line, text) in &TEXTS {
-        if *own == fault {
-            expect_fault(rt, text, *line, fault);
-        }
+/// That each of the texts is refused for that fault of that line.
+fn expect_faults(rt: &(impl Abort + AllocGlobal), texts: &[(Fault, u32, &str)]) {
+    for (fault, line, text) in texts {
+        expect_fault(rt, text, *line, *fault);
     }
 }
 
 #[test]
-fn finds_lines_that_are_none_or_out_of_place(rt: HostRuntime) {
-    expect_each(&rt, Fault::NoSuchLine);
-    expect_each(&rt, Fault::OutOfPlace);
-}
-
-#[test]
-fn finds_names_declared_twice(rt: HostRuntime) {
-    expect_each(&rt, Fault::DeclaredTwice);
-}
-
-#[test]
-fn finds_names_that_nothing_declares(rt: HostRuntime) {
-    expect_each(&rt, Fault::NoSuchLabel);
-    expect_each(&rt, Fault::NoSuchVariable);
-}
-
-#[test]
-fn finds_wrong_calls(rt: HostRuntime) {
-    expect_each(&rt, Fault::NoSuchProcedure);
-    expect_each(&rt, Fault::WrongArguments);
+fn finds_each_fault(rt: HostRuntime) {
+    expect_faults(&rt, &TEXTS);
 }
 
 /// That the text with that line of `main` is answered so. It has three procedures, `p` and `q` of one
@@ -109,46 +89,57 @@ fn expect_call(rt: &(impl Abort + AllocGlobal), line: &str) {
     expect_line(rt, line, None);
 }
 
-/// That each of the lines is refused for its fault.
-fn expect_wrong(rt: &(impl Abort + AllocGlobal), lines: &[(Fault, &str)]) {
-    for (fault, line) in lines {
-        expect_line(rt, line, Some((8, *fault)));
+/// That each of the lines is refused for the fault.
+fn expect_wrong(rt: &(impl Abort + AllocGlobal), fault: Fault, lines: &[&str]) {
+    for line in lines {
+        expect_line(rt, line, Some((8, fault)));
     }
 }
 
-/// Calls of several procedures, of which one is wrong.
-const WRONG_CALLEES: [(Fault, &str); 7] = [
-    (Fault::WrongCallees, "call p | p x"),
-    (Fault::WrongCallees, "x = call p | q | p x"),
-    (Fault::NoSuchProcedure, "call p | t x"),
-    (Fault::NoSuchProcedure, "call t | p x"),
-    (Fault::WrongArguments, "call p | q"),
-    (Fault::WrongArguments, "call p | s x"),
-    (Fault::WrongArguments, "call s | p x"),
-];
-
 #[test]
-fn finds_wrong_callees(rt: HostRuntime) {
+fn takes_calls_of_several_procedures(rt: HostRuntime) {
     expect_call(&rt, "call p | q x");
     expect_call(&rt, "x = call q | p x");
-    expect_wrong(&rt, &WRONG_CALLEES);
 }
 
-/// Calls that have the faults from the one that is found on, and none before it.
-const SEVERAL_FAULTS: [(Fault, &str); 8] = [
-    (Fault::NoSuchVariable, "call p | t | s | p y"),
-    (Fault::NoSuchVariable, "y = call p | t | s | p x"),
-    (Fault::NoSuchProcedure, "call p | t | s | p x"),
-    (Fault::NoSuchProcedure, "call p | t | p x"),
-    (Fault::NoSuchProcedure, "call t | t x"),
-    (Fault::WrongArguments, "call p | s | p x"),
-    (Fault::WrongArguments, "call s | s x"),
-    (Fault::WrongCallees, "call p | q | p x"),
+/// Calls of several procedures that are wrong, by the fault that is found: some have others too, and none
+/// of them stands above it here.
+const WRONG_CALLS: [(Fault, &[&str]); 4] = [
+    (
+        Fault::NoSuchVariable,
+        &["call p | t | s | p y", "y = call p | t | s | p x"],
+    ),
+    (
+        Fault::NoSuchProcedure,
+        &[
+            "call p | t x",
+            "call t | p x",
+            "call p | t | s | p x",
+            "call p | t | p x",
+            "call t | t x",
+        ],
+    ),
+    (
+        Fault::WrongArguments,
+        &[
+            "call p | q",
+            "call p | s x",
+            "call s | p x",
+            "call p | s | p x",
+            "call s | s x",
+        ],
+    ),
+    (
+        Fault::WrongCallees,
+        &["call p | p x", "x = call p | q | p x", "call p | q | p x"],
+    ),
 ];
 
 #[test]
 fn finds_the_least_fault_of_a_call(rt: HostRuntime) {
-    expect_wrong(&rt, &SEVERAL_FAULTS);
+    for (fault, lines) in &WRONG_CALLS {
+        expect_wrong(&rt, *fault, lines);
+    }
 }
 
 #[test]
@@ -217,9 +208,7 @@ const SEVERAL: [(Fault, u32, &str); 6] = [
 
 #[test]
 fn finds_the_least_fault(rt: HostRuntime) {
-    for (fault, line, text) in &SEVERAL {
-        expect_fault(&rt, text, *line, *fault);
-    }
+    expect_faults(&rt, &SEVERAL);
 }
 
 /// That the text of many lines is answered so.

@@ -1,7 +1,8 @@
 //! Counts, sites and names of the graphs of small programs.
 use super::graphs::graph_of;
 use super::sites::{
-    Call, expect_call, expect_calls, expect_exit, expect_fork, expect_shared_step, expect_steps,
+    Call, Exit, Idle, expect_calls, expect_exit, expect_exits, expect_idle, expect_shared_step,
+    expect_steps,
 };
 use ide_graph::{Effect, Graph};
 use ide_wire::{Fact, Node, Refused};
@@ -38,8 +39,11 @@ fn examples_have_their_counts(rt: HostRuntime) {
     expect_counts_of(&rt, UNREACHABLE, (1, 6, 3, 1));
     expect_counts_of(&rt, UNINITIALISED, (1, 4, 4, 1));
     expect_counts_of(&rt, WRAPPING_SUM, (1, 4, 4, 1));
+    expect_counts_of(&rt, STATEMENTS, (1, 14, 4, 2));
     expect_counts_of(&rt, RECURSION, (2, 12, 3, 2));
+    expect_counts_of(&rt, PASSES_GLOBAL, (2, 11, 4, 2));
     expect_counts_of(&rt, ADDS_IN_CALLEE, (2, 12, 4, 1));
+    expect_counts_of(&rt, TWO_CALLS, (2, 11, 6, 1));
     expect_counts_of(&rt, CALLEES, (3, 15, 5, 1));
     expect_counts_of(&rt, SUM_OR_NUMBER, (2, 17, 6, 1));
 }
@@ -68,80 +72,59 @@ fn sum(target: Fact, source: Fact, number: u64) -> Effect {
     }
 }
 
-/// That these are the sites of `BRANCH`.
-fn expect_both_ways(rt: &impl Abort, graph: &Graph) {
-    let steps = [
-        (0, 1, enter(2, 3)),
-        (2, 3, number(2, 5)),
-        (3, 6, Effect::Nothing),
-        (4, 5, Effect::Nothing),
-        (5, 6, number(2, 5)),
-        (6, 7, Effect::Nothing),
-    ];
-    expect_counts(rt, graph, (1, 8, 3, 1));
-    expect_steps(rt, graph, &steps);
-    expect_fork(rt, graph, 1, 2, 4);
-    expect_exit(rt, graph, 7, 0, &[]);
+/// That the graph has these steps, idle nodes and exits, and that each call that comes back from one of the exits has
+/// no other callee.
+fn expect_sites(
+    rt: &impl Abort,
+    graph: &Graph,
+    steps: &[(Node, Node, Effect)],
+    idle: &[Idle],
+    exits: &[Exit],
+) {
+    expect_steps(rt, graph, steps);
+    expect_idle(rt, graph, idle);
+    expect_exits(rt, graph, exits);
 }
 
 #[test]
 fn branches_have_both_ways(rt: HostRuntime) {
-    expect_both_ways(&rt, &graph_of(&rt, BRANCH));
-}
-
-/// That these are the sites of `UNREACHABLE`.
-fn expect_unreachable_node(rt: &impl Abort, graph: &Graph) {
     let steps = [
         (0, 1, enter(2, 3)),
-        (1, 2, number(2, 1)),
-        (2, 4, Effect::Nothing),
-        (3, 4, number(2, 2)),
-        (4, 5, Effect::Nothing),
+        (2, 3, number(2, 5)),
+        (5, 6, number(2, 5)),
     ];
-    expect_counts(rt, graph, (1, 6, 3, 1));
-    expect_steps(rt, graph, &steps);
-    expect_exit(rt, graph, 5, 0, &[]);
+    let idle: [Idle; 4] = [(1, &[2, 4]), (3, &[6]), (4, &[5]), (6, &[7])];
+    expect_sites(&rt, &graph_of(&rt, BRANCH), &steps, &idle, &[(7, 0, &[])]);
 }
 
 #[test]
 fn a_node_may_be_unreachable(rt: HostRuntime) {
-    expect_unreachable_node(&rt, &graph_of(&rt, UNREACHABLE));
-}
-
-/// That these are the sites of `RECURSION`.
-fn expect_counted_global(rt: &impl Abort, graph: &Graph) {
-    let (again, first) = (Call::of(3, 0, 4), Call::of(9, 0, 10));
     let steps = [
-        (0, 1, enter(3, 3)),
-        (2, 3, sum(1, 1, 1)),
-        (4, 5, Effect::Nothing),
-        (5, 6, Effect::Nothing),
-        (7, 8, enter(3, 3)),
-        (8, 9, number(1, 0)),
-        (10, 11, Effect::Nothing),
+        (0, 1, enter(2, 3)),
+        (1, 2, number(2, 1)),
+        (3, 4, number(2, 2)),
     ];
-    expect_counts(rt, graph, (2, 12, 3, 2));
-    expect_steps(rt, graph, &steps);
-    expect_fork(rt, graph, 1, 2, 5);
-    expect_called_twice(rt, graph, [again, first]);
-    expect_exit(rt, graph, 6, 0, &[again, first]);
-    expect_exit(rt, graph, 11, 7, &[]);
-}
-
-/// That both calls stand at their nodes, and have no other callee.
-fn expect_called_twice(rt: &impl Abort, graph: &Graph, calls: [Call; 2]) {
-    for call in calls {
-        expect_call(rt, graph, call);
-    }
+    let idle: [Idle; 2] = [(2, &[4]), (4, &[5])];
+    let exits: [Exit; 1] = [(5, 0, &[])];
+    expect_sites(&rt, &graph_of(&rt, UNREACHABLE), &steps, &idle, &exits);
 }
 
 #[test]
 fn a_global_is_counted_in_recursion(rt: HostRuntime) {
-    expect_counted_global(&rt, &graph_of(&rt, RECURSION));
+    let calls = [Call::of(3, 0, 4), Call::of(9, 0, 10)];
+    let steps = [
+        (0, 1, enter(3, 3)),
+        (2, 3, sum(1, 1, 1)),
+        (7, 8, enter(3, 3)),
+        (8, 9, number(1, 0)),
+    ];
+    let idle: [Idle; 4] = [(1, &[2, 5]), (4, &[5]), (5, &[6]), (10, &[11])];
+    let exits: [Exit; 2] = [(6, 0, &calls), (11, 7, &[])];
+    expect_sites(&rt, &graph_of(&rt, RECURSION), &steps, &idle, &exits);
 }
 
-/// That these are the sites of `TWO_CALLS`.
-fn expect_both_calls(rt: &impl Abort, graph: &Graph) {
+#[test]
+fn calls_go_to_starts_and_come_back(rt: HostRuntime) {
     let first = Call::of(6, 0, 7).passing(2, 2).assigning(4);
     let second = Call::of(8, 0, 9).passing(3, 2).assigning(5);
     let steps = [
@@ -150,19 +133,10 @@ fn expect_both_calls(rt: &impl Abort, graph: &Graph) {
         (3, 4, enter(2, 6)),
         (4, 5, number(2, 5)),
         (5, 6, number(3, 6)),
-        (7, 8, Effect::Nothing),
-        (9, 10, Effect::Nothing),
     ];
-    expect_counts(rt, graph, (2, 11, 6, 1));
-    expect_steps(rt, graph, &steps);
-    expect_called_twice(rt, graph, [first, second]);
-    expect_exit(rt, graph, 2, 0, &[first, second]);
-    expect_exit(rt, graph, 10, 3, &[]);
-}
-
-#[test]
-fn calls_go_to_starts_and_come_back(rt: HostRuntime) {
-    expect_both_calls(&rt, &graph_of(&rt, TWO_CALLS));
+    let idle: [Idle; 2] = [(7, &[8]), (9, &[10])];
+    let exits: [Exit; 2] = [(2, 0, &[first, second]), (10, 3, &[])];
+    expect_sites(&rt, &graph_of(&rt, TWO_CALLS), &steps, &idle, &exits);
 }
 
 /// That the call of both procedures and that of one of them are the callers at the exits and the calls
@@ -184,11 +158,9 @@ fn expect_call_of_both(rt: &impl Abort, graph: &Graph) {
         (1, 2, number(3, 5)),
         (5, 6, number(3, 6)),
         (9, 10, number(2, 1)),
-        (11, 12, Effect::Nothing),
-        (13, 14, Effect::Nothing),
     ];
-    expect_counts(rt, graph, (3, 15, 5, 1));
     expect_steps(rt, graph, &steps);
+    expect_idle(rt, graph, &[(11, &[12]), (13, &[14])]);
     expect_callees(rt, graph);
 }
 
@@ -206,8 +178,8 @@ fn calls_ascend_by_start_whatever_the_order(rt: HostRuntime) {
     expect_callees(&rt, &graph_of(&rt, OTHER_ORDER));
 }
 
-/// That these are the sites of `STATEMENTS`.
-fn expect_statements(rt: &impl Abort, graph: &Graph) {
+#[test]
+fn statements_have_their_effects_and_targets(rt: HostRuntime) {
     let mix = Effect::Mix {
         target: 3,
         first: 1,
@@ -220,52 +192,33 @@ fn expect_statements(rt: &impl Abort, graph: &Graph) {
     };
     let steps = [
         (0, 1, enter(3, 4)),
-        (1, 2, Effect::Nothing),
         (3, 4, sum(3, 1, 3)),
-        (4, 1, Effect::Nothing),
         (5, 6, mix),
         (6, 7, Effect::Unknown { target: 3 }),
-        (7, 8, Effect::Nothing),
-        (8, 9, Effect::Nothing),
-        (9, 10, Effect::Nothing),
         (10, 11, copy(3, 1)),
         (11, 12, difference),
-        (12, 13, Effect::Nothing),
     ];
-    expect_counts(rt, graph, (1, 14, 4, 2));
-    expect_steps(rt, graph, &steps);
-    expect_fork(rt, graph, 2, 1, 3);
-    expect_exit(rt, graph, 13, 0, &[]);
-}
-
-#[test]
-fn statements_have_their_effects_and_targets(rt: HostRuntime) {
-    expect_statements(&rt, &graph_of(&rt, STATEMENTS));
-}
-
-/// That these are the sites of `PASSES_GLOBAL`.
-fn expect_recursion(rt: &impl Abort, graph: &Graph) {
-    let again = Call::of(2, 0, 3).passing(3, 3);
-    let first = Call::of(8, 0, 9).passing(1, 3);
-    let steps = [
-        (0, 1, enter(4, 4)),
-        (3, 4, Effect::Nothing),
-        (4, 5, Effect::Nothing),
-        (5, 6, copy(2, 1)),
-        (7, 8, enter(3, 3)),
-        (9, 10, Effect::Nothing),
+    let idle: [Idle; 7] = [
+        (1, &[2]),
+        (2, &[1, 3]),
+        (4, &[1]),
+        (7, &[8]),
+        (8, &[9]),
+        (9, &[10]),
+        (12, &[13]),
     ];
-    expect_counts(rt, graph, (2, 11, 4, 2));
-    expect_steps(rt, graph, &steps);
-    expect_fork(rt, graph, 1, 2, 4);
-    expect_called_twice(rt, graph, [again, first]);
-    expect_exit(rt, graph, 6, 0, &[again, first]);
-    expect_exit(rt, graph, 10, 7, &[]);
+    let exits: [Exit; 1] = [(13, 0, &[])];
+    expect_sites(&rt, &graph_of(&rt, STATEMENTS), &steps, &idle, &exits);
 }
 
 #[test]
 fn a_procedure_may_call_itself(rt: HostRuntime) {
-    expect_recursion(&rt, &graph_of(&rt, PASSES_GLOBAL));
+    let again = Call::of(2, 0, 3).passing(3, 3);
+    let first = Call::of(8, 0, 9).passing(1, 3);
+    let steps = [(0, 1, enter(4, 4)), (5, 6, copy(2, 1)), (7, 8, enter(3, 3))];
+    let idle: [Idle; 4] = [(1, &[2, 4]), (3, &[4]), (4, &[5]), (9, &[10])];
+    let exits: [Exit; 2] = [(6, 0, &[again, first]), (10, 7, &[])];
+    expect_sites(&rt, &graph_of(&rt, PASSES_GLOBAL), &steps, &idle, &exits);
 }
 
 /// That the graph answers so for these names.

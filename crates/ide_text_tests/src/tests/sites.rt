@@ -124,14 +124,16 @@ fn is_step(site: &Site, end: Node, effect: Effect) -> bool {
     }
 }
 
-/// Whether the site has two edges, normal ones to these ends that change nothing.
-fn is_fork(site: &Site, first: Node, second: Node) -> bool {
+/// Whether the site has normal edges to these ends alone, in their order, that change nothing.
+fn is_idle(site: &Site, ends: &[Node]) -> bool {
     match site {
         Site::Normal(edges) => {
             let edges = edges.as_slice();
-            edges.len() == 2
-                && is_normal(&edges[0], first, Effect::Nothing)
-                && is_normal(&edges[1], second, Effect::Nothing)
+            edges.len() == ends.len()
+                && edges
+                    .iter()
+                    .zip(ends)
+                    .all(|(edge, end)| is_normal(edge, *end, Effect::Nothing))
         }
         _ => false,
     }
@@ -162,32 +164,30 @@ fn site_at<'a>(rt: &impl Abort, graph: &'a Graph, node: Node) -> &'a Site {
     graph.site(node)
 }
 
-/// That one edge leaves the node, a normal one to that end with that effect.
-fn expect_step(rt: &impl Abort, graph: &Graph, node: Node, end: Node, effect: Effect) {
-    assert!(rt;
-        is_step(site_at(rt, graph, node), end, effect),
-        "at node {node}"
-    );
-}
-
 /// That one edge leaves each of these nodes, a normal one to that end with that effect.
 pub(crate) fn expect_steps(rt: &impl Abort, graph: &Graph, steps: &[(Node, Node, Effect)]) {
     for (node, end, effect) in steps {
-        expect_step(rt, graph, *node, *end, *effect);
+        let site = site_at(rt, graph, *node);
+        assert!(rt; is_step(site, *end, *effect), "at node {node}");
     }
 }
 
-/// That two edges leave the node, normal ones to these ends that change nothing.
-pub(crate) fn expect_fork(rt: &impl Abort, graph: &Graph, node: Node, first: Node, second: Node) {
-    assert!(rt;
-        is_fork(site_at(rt, graph, node), first, second),
-        "at node {node}"
-    );
+/// A node that changes nothing, and the ends of its edges.
+pub(crate) type Idle<'a> = (Node, &'a [Node]);
+
+/// That normal edges that change nothing leave each of these nodes, to these ends alone.
+pub(crate) fn expect_idle(rt: &impl Abort, graph: &Graph, nodes: &[Idle]) {
+    for (node, ends) in nodes {
+        let site = site_at(rt, graph, *node);
+        assert!(rt; is_idle(site, ends), "at node {node}");
+    }
 }
 
-/// That the call stands at its node, and has no other callee.
-pub(crate) fn expect_call(rt: &impl Abort, graph: &Graph, call: Call) {
-    expect_calls(rt, graph, call.node, &[call]);
+/// That each of the calls stands at its node, and has no other callee.
+fn expect_single_calls(rt: &impl Abort, graph: &Graph, calls: &[Call]) {
+    for call in calls {
+        expect_calls(rt, graph, call.node, &[*call]);
+    }
 }
 
 /// That a call stands at the node which is these calls, one for each callee in the order of the edges.
@@ -201,6 +201,17 @@ pub(crate) fn expect_exit(rt: &impl Abort, graph: &Graph, node: Node, start: Nod
         is_exit(site_at(rt, graph, node), start, calls),
         "at node {node}"
     );
+}
+
+/// An exit: its node, the start of its procedure, and the calls that come back from it.
+pub(crate) type Exit<'a> = (Node, Node, &'a [Call]);
+
+/// That these are exits with these callers alone, each a call with no other callee.
+pub(crate) fn expect_exits(rt: &impl Abort, graph: &Graph, exits: &[Exit]) {
+    for (node, start, calls) in exits {
+        expect_exit(rt, graph, *node, *start, calls);
+        expect_single_calls(rt, graph, calls);
+    }
 }
 
 /// That the site of the node, once it is carried away, is one step.

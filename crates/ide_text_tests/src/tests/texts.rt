@@ -7,18 +7,12 @@ use std::process::Abort;
 
 /// What a call gave that is not to be refused.
 pub(crate) fn given<T>(rt: &impl Abort, found: Result<T, Refused>) -> T {
-    match found {
-        Ok(value) => value,
-        Err(refused) => panic!(rt; "{refused}"),
-    }
+    found.expect(rt, "this is not to be refused")
 }
 
 /// What there was memory for.
 pub(crate) fn made<T>(rt: &impl Abort, found: Result<T, AllocError>) -> T {
-    match found {
-        Ok(value) => value,
-        Err(_) => panic!(rt; "no memory"),
-    }
+    found.expect(rt, "there is memory for this")
 }
 
 /// Whether the text is refused for that fault of that line, or is a program where none is given.

@@ -7,7 +7,7 @@ pub returns : goal.returns
 returns g c =
     record {
       records = c.acked-records.ensures;
-      bytes = bytes_are _ _ _ _ _ c.saturating_add.ensures
+      bytes = bytes_are _ _ _ _ _ c.saturating_add-bytes.ensures
           (c.in_ok-first.ensures.length ∙ ap (λ pair. memory_size pair.0) c.into_disks-a.ensures)
           (c.in_ok-second.ensures.length ∙ ap (λ pair. memory_size pair.1) c.into_disks-a.ensures);
       keys = c.key_count-keys.ensures ∙ ap (λ core. length core.table.entries) c.core.ensures;

@@ -1,30 +1,12 @@
 use Rattle.std.proofs.Common.{[]}
-use Rattle.std.specs.Arc.{arc_value}
+use Rattle.ide_cli.specs.Working.{board_of, switches_of}
 use Rattle.ide_cli.proofs.working.work.Given as goal
 
 -- a file claims no honesty, so nothing is told of a run
-abbrev pub ghosts-work_uninit : goal.ghosts-work_uninit
-ghosts-work_uninit g a = record {
-  board = arc_value a.opened.board;
-  switches = a.opened.switch.board;
-  told = ⊥;
-  first = λ _. [];
-  version = λ no. absurd no;
-}
-
-abbrev pub ghosts-work_copy : goal.ghosts-work_copy
-ghosts-work_copy g a = record {
-  board = arc_value a.opened.board;
-  switches = a.opened.switch.board;
-  told = ⊥;
-  first = λ _. [];
-  version = λ no. absurd no;
-}
-
-abbrev pub ghosts-work_shift : goal.ghosts-work_shift
-ghosts-work_shift g a = record {
-  board = arc_value a.opened.board;
-  switches = a.opened.switch.board;
+abbrev pub ghosts-work_opened : goal.ghosts-work_opened
+ghosts-work_opened g a = record {
+  board = board_of a.opened;
+  switches = switches_of a.opened;
   told = ⊥;
   first = λ _. [];
   version = λ no. absurd no;

@@ -1,8 +1,10 @@
-use Rattle.std.proofs.Common.{◌∙◌, ◌++◌, ℕ, ap, codes}
-use Rattle.ide_commands.specs.Lines.{line_of}
 use Rattle.ide_commands.proofs.calls.checkpoint.Goals as goal
 
-pub returns-clause-prints : goal.returns-clause-prints
-returns-clause-prints g c =
-    c.in_ok-append_line.ensures
-    ∙ ap (λ (n : ℕ). c.args.out.now.items ++ line_of (codes "generation ") n) (c.from.ensures ∙ c.generation.ensures)
+pub returns : goal.returns
+returns g c = record {
+  begun = c.in_ok-checkpoint.field-0;
+  asked = c.checkpoint.new.self;
+  asks = c.in_ok-checkpoint.ensures.asks;
+  stores = c.in_ok-store_all.ensures.stored;
+  rests = c.in_ok-store_all.ensures.rests;
+}

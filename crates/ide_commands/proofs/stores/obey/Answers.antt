@@ -1,6 +1,5 @@
 use Rattle.std.proofs.Common.{sym}
 use Rattle.std.proofs.lemmas.Result.{on_ok_weaker}
-use Rattle.ide_commands.proofs.Told.{both_on_ok}
 use Rattle.ide_commands.proofs.stores.obey.Goals as goal
 
 pub returns-in-Load : goal.returns-in-Load
@@ -16,17 +15,14 @@ returns-in-Work g c = rw c.in-Work.is (on_ok_weaker c.end_work.result (λ prints
 pub returns-in-Ask : goal.returns-in-Ask
 returns-in-Ask g c = rw (c.in-Ask.is, sym c.as_bytes-in-Ask.ensures.value, sym c.as_bytes-in-Ask-2.ensures.value) c.ask.ensures
 
-pub returns-in-Checkpoint : goal.returns-in-Checkpoint
-returns-in-Checkpoint g c =
-    let is = c.checkpoint.ensures in
-    rw c.in-Checkpoint.is (on_ok_weaker c.checkpoint.result (λ told. (c.checkpoint.new.engine, told.0, told.1))
-    (both_on_ok _ _ c.checkpoint.result is.checkpoint is.prints))
+pub returns-in_ok-append_generation-in-Checkpoint : goal.returns-in_ok-append_generation-in-Checkpoint
+returns-in_ok-append_generation-in-Checkpoint g c =
+    rw c.in-Checkpoint.is
+    (c.checkpoint.new.engine, c.in_ok-checkpoint-in-Checkpoint.ensures, c.in_ok-append_generation-in-Checkpoint.ensures)
 
-pub returns-in-Migrate : goal.returns-in-Migrate
-returns-in-Migrate g c =
-    let is = c.migrate.ensures in
-    rw c.in-Migrate.is (on_ok_weaker c.migrate.result (λ told. (c.migrate.new.engine, told.0, told.1))
-    (both_on_ok _ _ c.migrate.result is.migrates is.prints))
+pub returns-in_ok-append_version-in-Migrate : goal.returns-in_ok-append_version-in-Migrate
+returns-in_ok-append_version-in-Migrate g c =
+    rw c.in-Migrate.is (c.migrate.new.engine, c.in_ok-migrate-in-Migrate.ensures, c.in_ok-append_version-in-Migrate.ensures)
 
 pub returns-in-Dump : goal.returns-in-Dump
 returns-in-Dump g c = rw c.in-Dump.is c.dump.ensures

@@ -6,7 +6,7 @@ use Rattle.ide_text.specs.declared.program.Statement.{Statement}
 use Rattle.ide_graph.proofs.RoomLemmas.{room_before, some_spot}
 use Rattle.ide_graph.specs.Numbers.{spots_on, label_among, statement, return_site}
 use Rattle.ide_graph.specs.Numbering.{nodes_at, nodes_in, node_value}
-use Rattle.ide_graph.specs.Naming.{number_of}
+use Rattle.ide_text.specs.Places.{place_of}
 use Rattle.ide_graph.proofs.StatementLemmas.{front_more, nodes_more, next_node, labels_more, labels_same, plain_spots, plain_declares, label_spots, call_spots, call_declares, two_nodes}
 use Rattle.ide_graph.proofs.numbering.add_statements.Goals as goal
 use Rattle.ide_graph.proofs.numbering.add_statements.Goals.{in-At+in_ok-add-in-At, in-Call+in_ok-add_spot-in-Call, in_default}
@@ -52,9 +52,9 @@ loop-statement-preserved c =
             | in_default w ↦ rw w.spots-is (nodes_more k old now next xs s (statement s ∷ []) c.loop-statement.invariant.added c.in_ok-node.ensures.added (plain_spots s w.in_default.not-At w.in_default.not-Call))
           ]);
       labels =
-          front_more (λ xs. (name : List ℕ) → number_of c.match-statement.labels name ≡ label_among begin xs name) statements i s c.loop-statement-test.true c.statement-item.is
+          front_more (λ xs. (name : List ℕ) → place_of c.match-statement.labels name ≡ label_among begin xs name) statements i s c.loop-statement-test.true c.statement-item.is
           (elim c.match-statement.branch [
-            | in-At+in_ok-add-in-At w ↦ rw (w.labels-is, w.in_ok-add-in-At.ensures) (labels_more begin xs s c.loop-statement.labels c.loop-statement.invariant.labels w.in-At.label c.in_ok-node.node number w.in-At.is)
+            | in-At+in_ok-add-in-At w ↦ rw (w.labels-is, w.in_ok-add-in-At.ensures.added) (labels_more begin xs s c.loop-statement.labels c.loop-statement.invariant.labels w.in-At.label c.in_ok-node.node number w.in-At.is)
             | in-Call+in_ok-add_spot-in-Call w ↦ rw w.labels-is (labels_same begin xs s c.loop-statement.labels c.loop-statement.invariant.labels (call_declares s w.in-Call.target w.in-Call.callees w.in-Call.arguments w.in-Call.is))
             | in_default w ↦ rw w.labels-is (labels_same begin xs s c.loop-statement.labels c.loop-statement.invariant.labels (plain_declares s w.in_default.not-At))
           ]);

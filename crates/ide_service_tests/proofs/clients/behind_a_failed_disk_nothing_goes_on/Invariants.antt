@@ -2,8 +2,8 @@ use Rattle.std.proofs.Common.{[]}
 use Rattle.std.specs.Arc.{arc_value}
 use Rattle.ide_service_tests.proofs.clients.behind_a_failed_disk_nothing_goes_on.Given as goal
 
-abbrev pub ghosts-expect_failed : goal.ghosts-expect_failed
-ghosts-expect_failed g a = record {
+abbrev pub ghosts-expect : goal.ghosts-expect
+ghosts-expect g a = record {
   board = arc_value a.opened.board;
   switches = a.opened.switch.board;
   told = ⊥;

@@ -2,9 +2,8 @@ use Rattle.ide_store.specs.Table.{Analysis}
 use Rattle.ide_store.proofs.BatchActs.{forgets_nothing, seals_batch}
 use Rattle.ide_store.proofs.ClaimActs.{hands_claim}
 use Rattle.ide_store.proofs.HandActs.{hands_finish, hands_lower, hands_release, hands_skip}
-use Rattle.ide_store.proofs.Known.{known}
 use Rattle.ide_store.proofs.RecordActs.{seals_load, seals_root}
-use Rattle.ide_store.proofs.Reached.{Knows}
+use Rattle.ide_store.specs.Known.{Knows}
 use Rattle.ide_store.proofs.laws.calls_are_acts.Goals as goal
 
 pub returns : goal.returns
@@ -17,16 +16,7 @@ returns g c =
       proper = g.P.F.Wire.proper;
       form = g.P.F.Wire.form;
     } in
-    let knows : Knows a = record {
-      is_same = record { exact = g.met.P.F.EdgeFn.exact; refl = g.met.P.F.Eq.laws.refl };
-      prefix_free = g.met.P.F.Wire.prefix_free;
-      known = known c.graphs_of_programs_are_closed.ensures c.sites_of_programs_are_joined.ensures a.lattice a.functions a.targets
-          g.met.P.L.Lattice.lawful g.met.P.F.EdgeFn.lawful g.met.P.Problem.lawful c.ends_of_programs_are_nodes.ensures c.keys_stand_at_nodes.ensures;
-      owed = c.tasks_owe_their_parts.ensures;
-      joined = c.sites_of_programs_are_joined.ensures;
-      exits = c.exits_of_programs_are_owned.ensures;
-      same_graphs = c.graphs_of_one_text_have_the_same_edges.ensures;
-    } in
+    let knows : Knows a = c.analyses_are_known.ensures in
     record {
       claim = hands_claim a knows;
       lower = hands_lower a knows;

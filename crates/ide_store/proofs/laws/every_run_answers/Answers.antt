@@ -1,6 +1,5 @@
 use Rattle.ide_batch.specs.Items.{functions_by}
 use Rattle.ide_store.proofs.Hands.{every_run_answers}
-use Rattle.ide_store.proofs.Known.{known}
 use Rattle.ide_store.proofs.Machine.{machine_is_exact}
 use Rattle.ide_store.proofs.OneVersion.{one_disk_in_version}
 use Rattle.ide_store.specs.Machine.{machine}
@@ -18,6 +17,5 @@ returns g c = λ head.
     every_run_answers A B targets same forms (one_version head.version (one_disk head))
     (record { exact = g.met.P.F.EdgeFn.exact; refl = g.met.P.F.Eq.laws.refl })
     (machine_is_exact B same forms g.met.P.F.Wire.prefix_free) (one_disk_in_version (machine B same forms) head)
-    (known c.graphs_of_programs_are_closed.ensures c.sites_of_programs_are_joined.ensures A B targets
-    g.met.P.L.Lattice.lawful g.met.P.F.EdgeFn.lawful g.met.P.Problem.lawful c.ends_of_programs_are_nodes.ensures c.keys_stand_at_nodes.ensures)
+    c.programs_are_known.ensures
     (λ r before now does. does)

@@ -1,5 +1,4 @@
 use Rattle.ide_store.proofs.Adopted.{place_answers}
-use Rattle.ide_store.proofs.Known.{known}
 use Rattle.ide_store.specs.Places.{OnTwoDisks}
 use Rattle.ide_store.specs.Table.{Analysis}
 use Rattle.ide_store.proofs.laws.every_run_answers_on_two_disks.Goals as goal
@@ -15,6 +14,5 @@ returns g c = λ tag.
       form = g.P.F.Wire.form;
     } in
     place_answers a (record { exact = g.met.P.F.EdgeFn.exact; refl = g.met.P.F.Eq.laws.refl }) g.met.P.F.Wire.prefix_free
-    (known c.graphs_of_programs_are_closed.ensures c.sites_of_programs_are_joined.ensures a.lattice a.functions a.targets
-    g.met.P.L.Lattice.lawful g.met.P.F.EdgeFn.lawful g.met.P.Problem.lawful c.ends_of_programs_are_nodes.ensures c.keys_stand_at_nodes.ensures)
+    c.programs_are_known.ensures
     (OnTwoDisks tag)

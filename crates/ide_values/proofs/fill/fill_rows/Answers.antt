@@ -1,5 +1,5 @@
 use Rattle.std.proofs.Common.{ℕ, ◌≡◌, ◌+◌, ◌*◌, ◌<◌, ◌≤◌, ◌∙◌, get_or, length, subst, sym, ap, arith}
-use Rattle.ide_image.specs.Tables.{nodes_of}
+use Rattle.ide_image.specs.Tables.{entry_nodes}
 use Rattle.ide_values.specs.Fill.{IsFilledBy}
 use Rattle.ide_values.specs.Spans.{HasBetween}
 use Rattle.ide_values.specs.declared.spans.Span.{Span}
@@ -29,9 +29,9 @@ loop-span-preserved g c =
         count = ap length w.rows-is ∙ c.loop-span.invariant.count;
         begin = omega (arith, w.begin-is, c.min.ensures, c.loop-span.invariant.begin);
         filled =
-            let block : HasBetween (nodes_of entries) (c.loop-span.span-index * 64) (c.loop-span.span-index * 64 + 64) span =
+            let block : HasBetween (entry_nodes entries) (c.loop-span.span-index * 64) (c.loop-span.span-index * 64 + 64) span =
             c.requires.spans.each c.loop-span.span-index (record { least = 0; greatest = 0 }) c.loop-span-test.true in
-            let has : HasBetween (nodes_of entries) begin (begin + size) span =
+            let has : HasBetween (entry_nodes entries) begin (begin + size) span =
             λ i from to inside. block i
             (omega (arith, from, inside, all, node_count entries, c.loop-span.invariant.begin))
             (omega (arith, to, inside, all, node_count entries, c.min.ensures, c.loop-span.invariant.begin)) inside in

@@ -1,6 +1,6 @@
 use Rattle.std.proofs.Common.{rules, ◌≡◌, ◌+◌, ◌*◌, ◌<◌, ◌≤◌, ◌∙◌, None, get_or, length, subst, sym, ap, arith}
 use Rattle.ide_wire.specs.Key.{node_of}
-use Rattle.ide_image.specs.Tables.{nodes_of}
+use Rattle.ide_image.specs.Tables.{entry_nodes}
 use Rattle.ide_values.specs.Fill.{IsFilledBy}
 use Rattle.ide_values.proofs.Filled.{filled_more, passed_more, entry_of_node, node_count}
 use Rattle.ide_values.proofs.fill.fill_some.Goals as goal
@@ -11,7 +11,7 @@ loop-index-preserved g c =
     let entries = c.args.tables.now.entries in
     let nodes = c.nodes-nodes.ensures.nodes in
     let index = c.loop-index.index in
-    let within : index < length (nodes_of entries) = omega (arith, c.loop-index-test.true, c.requires.end, node_count entries) in
+    let within : index < length (entry_nodes entries) = omega (arith, c.loop-index-test.true, c.requires.end, node_count entries) in
     let (e, stands, node) = entry_of_node entries index (get_or c.nodes-nodes.result.now index 0) 0 within (ap (λ ns. get_or ns index 0) nodes) in
     elim c.if-is_near.branch [
       | then-is_near+in-Some w ↦ record {

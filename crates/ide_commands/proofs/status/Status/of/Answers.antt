@@ -1,7 +1,7 @@
 use Rattle.std.proofs.Common.{rules, ◌≡◌, ◌∙◌, ℕ, List, ap, length}
 use Rattle.std.specs.Prelude.{is_some}
 use Rattle.ide_text.specs.Program.{value_of}
-use Rattle.ide_commands.specs.Lines.{number_of}
+use Rattle.ide_commands.specs.Lines.{version_number}
 use Rattle.ide_slot_store.proofs.Sizes.{bytes_are}
 use Rattle.ide_commands.proofs.Told.{is_there}
 use Rattle.ide_commands.proofs.status.Status.of.Goals as goal
@@ -20,5 +20,5 @@ returns g c =
           (c.in_ok-second.ensures ∙ ap (λ pair. g.D.Disk.size pair.1) c.into_disks-a.ensures);
       generation = c.from-generation.ensures ∙ c.generation.ensures;
       base = c.from-base.ensures ∙ c.base.ensures;
-      version = c.number_of-version.ensures ∙ ap number_of c.version.ensures;
+      version = c.version_number-version.ensures ∙ ap version_number c.version.ensures;
     }

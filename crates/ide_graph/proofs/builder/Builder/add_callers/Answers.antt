@@ -18,8 +18,7 @@ use Rattle.ide_graph.proofs.builder.Builder.add_callers.Goals as goal
 
 pub loop-callee-init : goal.loop-callee-init
 loop-callee-init c = record {
-  whole = c.requires.whole;
-  within = c.requires.within;
+  lists = c.requires.callers;
   exact = λ p is call before. amid_none p c.args.call.now.node c.args.callers.now.items before;
 }
 
@@ -34,17 +33,19 @@ loop-callee-preserved c =
     let in_callees : k < length c.args.call.now.callees.items = omega (arith, c.loop-callee-test.true, ap length items) in
     let is_callee : callee ≡ get_or c.args.call.now.callees.items k callee = ap (λ xs. get_or xs k 0) items ∙ get_or_default c.args.call.now.callees.items k 0 callee in_callees in
     let below = c.requires.callees k 0 in_callees in
-    let in_lists : callee < length lists = omega (arith, ap (λ xs. get_or xs k 0) items, below, c.loop-callee.invariant.whole) in
+    let in_lists : callee < length lists = omega (arith, ap (λ xs. get_or xs k 0) items, below, c.loop-callee.invariant.lists.whole) in
     let old : slice_get lists callee ≡ Some c.index_mut.result.now = slice_get_read lists (length lists) callee c.index_mut.result.now refl in_lists c.index_mut.ensures.value in
     let pushed : c.push.new.self.items ≡ c.index_mut.result.now.items ++ caller ∷ [] = c.in_ok-push.ensures.items in
     let n : ℕ = node_count c.args.self.now in
     let within_old : All (IsCallerWithin n) c.index_mut.result.now.items =
-    subst (λ (v : Vec Caller). All (IsCallerWithin n) v.items) (sym c.index_mut.ensures.value) (c.loop-callee.invariant.within callee c.index_mut.result.now in_lists) in
+    subst (λ (v : Vec Caller). All (IsCallerWithin n) v.items) (sym c.index_mut.ensures.value) (c.loop-callee.invariant.lists.within callee c.index_mut.result.now in_lists) in
     let within_new : All (IsCallerWithin n) c.push.new.self.items =
     rw pushed (All-push (IsCallerWithin n) c.index_mut.result.now.items caller within_old (c.requires.node, c.in_ok-call_edge.ensures.within, c.edge.ensures.within)) in
     record {
-      whole = length-set lists callee c.push.new.self ∙ c.loop-callee.invariant.whole;
-      within = All-set (λ (calls : Vec Caller). All (IsCallerWithin n) calls.items) lists callee c.push.new.self within_new c.loop-callee.invariant.within;
+      lists = record {
+        whole = length-set lists callee c.push.new.self ∙ c.loop-callee.invariant.lists.whole;
+        within = All-set (λ (calls : Vec Caller). All (IsCallerWithin n) calls.items) lists callee c.push.new.self within_new c.loop-callee.invariant.lists.within;
+      };
       exact = λ p is call before.
           let called : IsCallee p call.at.callees.items callee =
           subst (λ n. IsCallee p call.at.callees.items n) (sym (ap (λ xs. get_or xs k 0) items)) (call.callees.each k 0 in_callees) in

@@ -8,15 +8,13 @@ use Rattle.ide_graph.proofs.builder.Builder.callers.Goals as goal
 
 pub loop-node-init : goal.loop-node-init
 loop-node-init c = record {
-  whole = c.in_ok-callers.ensures.whole;
-  within = c.in_ok-callers.ensures.within;
+  lists = c.in_ok-callers.ensures.lists;
   exact = λ p is. before_none p c.in_ok-callers.callers.items c.in_ok-callers.ensures.empty;
 }
 
 pub loop-node-preserved : goal.loop-node-preserved
 loop-node-preserved c = record {
-  whole = c.in_ok-add_call_at.ensures.whole;
-  within = c.in_ok-add_call_at.ensures.within;
+  lists = c.in_ok-add_call_at.ensures.callers;
   exact = λ p is.
       let spots = c.args.self.now.numbering.now.spots.items in
       let items = c.deref-spot-items.ensures.value in

@@ -14,8 +14,7 @@ use Rattle.ide_graph.proofs.builder.Builder.sites.Goals as goal
 
 pub loop-node-init : goal.loop-node-init
 loop-node-init c = record {
-  called = c.in_ok-callers.ensures.whole;
-  callers = c.in_ok-callers.ensures.within;
+  callers = c.in_ok-callers.ensures.lists;
   whole = ap length c.in_ok-sites.ensures.items;
   within = rw c.in_ok-sites.ensures.items (λ k d within. absurd (omega arith));
   exact = λ p is. rw c.in_ok-sites.ensures.items (λ node site e. let none : ⊥ = cc in absurd none);
@@ -32,8 +31,7 @@ loop-node-preserved c =
     let at : slice_get spots c.loop-node.node ≡ Some c.spot-item.result =
     slice_get_read spots (length spots) c.loop-node.node c.spot-item.result refl before (subst (λ xs. c.spot-item.result ≡ get_or xs c.loop-node.node c.spot-item.result) items c.spot-item.is) in
     record {
-      called = c.in_ok-site.ensures.whole;
-      callers = c.in_ok-site.ensures.within;
+      callers = c.in_ok-site.ensures.callers;
       whole = ap length pushed ∙ (length_push c.loop-node.sites.items c.in_ok-new.field-0 ∙ ap (λ n. n + 1) c.loop-node.invariant.whole);
       within = rw pushed
           (All-push (λ site. EdgesWithin (node_count c.args.self.now) (arc_value site)) c.loop-node.sites.items c.in_ok-new.field-0 c.loop-node.invariant.within

@@ -3,16 +3,15 @@ use Rattle.std.specs.Prelude.{slice_get}
 use Rattle.std.specs.Arc.{arc_value}
 use Rattle.std.specs.List.{All}
 use Rattle.ide_text.specs.declared.program.Program.{Program}
-use Rattle.ide_graph.specs.Building.{AllCallersFrom, IsBuilderOf, node_count, procedure_count}
-use Rattle.ide_graph.specs.Edges.{EdgesWithin, AllCallersWithin}
+use Rattle.ide_graph.specs.Building.{AllCallersFrom, IsBuilderOf, ListsCallers, node_count}
+use Rattle.ide_graph.specs.Edges.{EdgesWithin}
 use Rattle.ide_graph.specs.declared.site.Site.{Site}
 use Rattle.ide_graph.specs.ProgramEdges.{IsSiteOf}
 use Rattle.ide_graph.proofs.builder.Builder.sites.Given as goal
 
 abbrev pub invariant-loop-node : goal.invariant-loop-node
 invariant-loop-node l = record {
-  called : length l.callers.items ≡ procedure_count l.self;
-  callers : AllCallersWithin (node_count l.self) l.callers.items;
+  callers : ListsCallers l.self l.callers.items;
   whole : length l.sites.items ≡ l.node;
   within : All (λ site. EdgesWithin (node_count l.self) (arc_value site)) l.sites.items;
   exact : (p : Program) → IsBuilderOf p l.self → (node : ℕ) (site : Site) → slice_get (map arc_value l.sites.items) node ≡ Some site → IsSiteOf p node site;

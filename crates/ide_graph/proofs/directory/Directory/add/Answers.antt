@@ -1,8 +1,9 @@
-use Rattle.std.proofs.Common.{◌≡◌, ◌<◌, ◌++◌, ◌∷◌, [], List, ℕ, true, None, is_some, ◌∙◌, sym, ap, subst}
+use Rattle.std.proofs.Common.{◌≡◌, ◌<◌, ◌++◌, List, ℕ, true, false, is_some, ◌∙◌, sym, ap, subst}
+use Rattle.std.specs.Map.{lookup}
 use Rattle.std.specs.Str.{bytes_eq}
-use Rattle.ide_graph.specs.Naming.{number_of}
+use Rattle.ide_text.specs.Places.{with_place}
+use Rattle.ide_text.proofs.NameLists.{inserted, kept, places_of}
 use Rattle.ide_graph.proofs.DirectoryLemmas.{All-insert_entry}
-use Rattle.ide_graph.proofs.NameLemmas.{none_from_is_some, lookup-names, numbers_in, numbers-insert_entry, with_new, with_old}
 use Rattle.ide_graph.proofs.directory.Directory.add.Goals as goal
 
 pub invariant_of-self-in_ok-insert : goal.invariant_of-self-in_ok-insert
@@ -15,22 +16,16 @@ pub returns-in_ok-insert-clause-added : goal.returns-in_ok-insert-clause-added
 returns-in_ok-insert-clause-added c =
     let name = c.args.name.now in
     let entries = c.self.inside.indices.entries in
-    let key = c.in_ok-to_vec.field-0 in
-    let same : key.items ≡ name = c.in_ok-to_vec.ensures.items_if_clones_equal (λ x y h. h) in
-    let kept : numbers_in (λ v. v.items) entries ≡ c.args.self.now.procedures = ap (λ d. d.procedures) c.self.view_is in
-    let none : number_of (numbers_in (λ v. v.items) entries) name ≡ None =
-    none_from_is_some _ (sym (ap is_some (lookup-names (λ v. v.items) entries (bytes_eq name))) ∙ sym c.contains_key.ensures ∙ cc) in
+    let has_none : is_some (lookup (λ k. bytes_eq name k.items) entries) ≡ false = sym c.contains_key.ensures ∙ cc in
+    let same = c.in_ok-to_vec.ensures.items_if_clones_equal (λ x y h. h) in
     rw c.in_ok-insert.ensures.entries
-    (numbers-insert_entry (λ v. v.items) entries key c.args.index (ap (number_of (numbers_in (λ v. v.items) entries)) same ∙ none)
-    ∙ ap (λ (n : List ℕ). numbers_in (λ v. v.items) entries ++ (n, c.args.index) ∷ []) same
-    ∙ ap (λ numbers. numbers ++ (name, c.args.index) ∷ []) kept
-    ∙ with_new c.args.self.now.procedures name c.args.index (ap (λ (numbers : List (List ℕ × ℕ)). number_of numbers name) (sym kept) ∙ none))
+    (inserted (λ v. v.items) entries c.in_ok-to_vec.field-0 name same c.args.index has_none
+    ∙ ap (λ d. with_place d.procedures name c.args.index) c.self.view_is)
 
 pub returns-else-not-contains_key-clause-added : goal.returns-else-not-contains_key-clause-added
 returns-else-not-contains_key-clause-added c =
     let name = c.args.name.now in
     let entries = c.self.inside.indices.entries in
-    let kept : numbers_in (λ v. v.items) entries ≡ c.args.self.now.procedures = ap (λ d. d.procedures) c.self.view_is in
-    let there : is_some (number_of (numbers_in (λ v. v.items) entries) name) ≡ true =
-    sym (ap is_some (lookup-names (λ v. v.items) entries (bytes_eq name))) ∙ sym c.contains_key.ensures ∙ cc in
-    with_old c.args.self.now.procedures name c.args.index (ap (λ (numbers : List (List ℕ × ℕ)). is_some (number_of numbers name)) (sym kept) ∙ there)
+    let has_one : is_some (lookup (λ k. bytes_eq name k.items) entries) ≡ true = sym c.contains_key.ensures ∙ cc in
+    let stood : places_of (λ v. v.items) entries ≡ c.args.self.now.procedures = ap (λ d. d.procedures) c.self.view_is in
+    sym stood ∙ kept (λ v. v.items) entries name c.args.index has_one ∙ ap (λ places. with_place places name c.args.index) stood

@@ -1,23 +1,24 @@
-use Rattle.std.proofs.Common.{◌≡◌, ◌++◌, ◌∷◌, [], true, List, ℕ, None, is_some, cond, ◌∙◌, sym, ap}
-use Rattle.ide_text.specs.Places.{place_of}
-use Rattle.ide_text.proofs.NameLists.{places_of, place_of-entries, places_of-insert_entry, none_from_is_some}
+use Rattle.std.proofs.Common.{◌≡◌, List, ℕ, true, false, is_some, ◌∙◌, sym, ap}
+use Rattle.std.specs.Map.{lookup}
+use Rattle.std.specs.Str.{bytes_eq}
+use Rattle.ide_text.specs.Places.{with_place}
+use Rattle.ide_text.proofs.NameLists.{inserted, kept}
 use Rattle.ide_text.proofs.places.Places.add.Goals as goal
 
-pub returns-in_ok-insert : goal.returns-in_ok-insert
-returns-in_ok-insert c =
+pub returns-in_ok-insert-clause-added : goal.returns-in_ok-insert-clause-added
+returns-in_ok-insert-clause-added g c =
     let name = c.args.name.now in
-    let same = place_of-entries c.self.inside.firsts.entries c.as_bytes-name.result name c.as_bytes-name.ensures.value in
-    let old = same ∙ ap (λ places. place_of places name) c.self.view_is in
-    let none : place_of c.args.self.now name ≡ None = none_from_is_some _ (ap is_some (sym old) ∙ sym c.contains_key.ensures ∙ cc) in
+    let entries = c.self.inside.firsts.entries in
+    let has_none : is_some (lookup (λ k. bytes_eq name k.now) entries) ≡ false =
+    ap (λ (n : List ℕ). is_some (lookup (λ k. bytes_eq n k.now) entries)) (sym c.as_bytes-name.ensures.value) ∙ sym c.contains_key.ensures ∙ cc in
     rw c.in_ok-insert.ensures.entries
-    (places_of-insert_entry c.self.inside.firsts.entries c.as_bytes-name.result c.args.place (old ∙ none)
-    ∙ ap (λ (n : List ℕ). places_of c.self.inside.firsts.entries ++ (n, c.args.place) ∷ []) c.as_bytes-name.ensures.value
-    ∙ ap (λ places. places ++ (name, c.args.place) ∷ []) c.self.view_is
-    ∙ sym (ap (λ o. cond (is_some o) c.args.self.now (c.args.self.now ++ (name, c.args.place) ∷ [])) none))
+    (inserted (λ k. k.now) entries c.as_bytes-name.result name c.as_bytes-name.ensures.value c.args.place has_none
+    ∙ ap (λ places. with_place places name c.args.place) c.self.view_is)
 
-pub returns-else-not-contains_key : goal.returns-else-not-contains_key
-returns-else-not-contains_key c =
+pub returns-else-not-contains_key-clause-added : goal.returns-else-not-contains_key-clause-added
+returns-else-not-contains_key-clause-added g c =
     let name = c.args.name.now in
-    let same = place_of-entries c.self.inside.firsts.entries c.as_bytes-name.result name c.as_bytes-name.ensures.value in
-    let there : is_some (place_of c.args.self.now name) ≡ true = ap is_some (sym (same ∙ ap (λ places. place_of places name) c.self.view_is)) ∙ sym c.contains_key.ensures ∙ cc in
-    sym (ap (λ b. cond b c.args.self.now (c.args.self.now ++ (name, c.args.place) ∷ [])) there)
+    let entries = c.self.inside.firsts.entries in
+    let has_one : is_some (lookup (λ k. bytes_eq name k.now) entries) ≡ true =
+    ap (λ (n : List ℕ). is_some (lookup (λ k. bytes_eq n k.now) entries)) (sym c.as_bytes-name.ensures.value) ∙ sym c.contains_key.ensures ∙ cc in
+    sym c.self.view_is ∙ kept (λ k. k.now) entries name c.args.place has_one ∙ ap (λ places. with_place places name c.args.place) c.self.view_is

@@ -1,8 +1,8 @@
-use Rattle.std.proofs.Common.{◌≡◌, Some, sym, subst, take_all, length, ◌<◌, ◌≤◌, ◌∙◌, arith}
+use Rattle.std.proofs.Common.{◌≡◌, Some, sym, subst, take_all, length, ◌<◌, ◌≤◌, arith}
 use Rattle.std.proofs.lemmas.Option.{get_or_from_slice_get}
 use Rattle.ide_image.specs.Tables.{found}
 use Rattle.ide_values.specs.Pass.{IsSteadyBy, Passes, by_entry, stays}
-use Rattle.ide_values.proofs.Coming.{goes_by, none_within}
+use Rattle.ide_values.proofs.Coming.{goes_trans, some_within}
 use Rattle.ide_values.proofs.Falling.{falls_not, falls_then}
 use Rattle.ide_values.proofs.Passing.{passes_none, passes_more}
 use Rattle.ide_values.proofs.passes.Starts.pass_each.Goals as goal
@@ -17,28 +17,20 @@ loop-index-init g c = record {
 
 pub loop-index-preserved : goal.loop-index-preserved
 loop-index-preserved g c =
-    let stands = sym c.entry_at.ensures.entry ∙ c.in-Some.is in
     let within : c.loop-index.index < length c.args.tables.now.entries = omega arith in
-    let passes = c.in_ok-pass_by.ensures.passes in
+    let there = some_within c.args.tables.now.entries c.loop-index.index within in
+    let passes = c.in_ok-pass_index.ensures.passes there.0 there.1 in
     record {
-      comes = goes_by (λ values e. by_entry g.P.L.Lattice.algebra g.P.F.EdgeFn.edge c.args.graph.now g.P.Problem.targets values e.0 e.1) (λ e. found c.args.tables.now e.0 ≡ Some e.1) c.loop-index.invariant.comes
-          c.in-Some.entry c.in-Some.ensures.present passes.passed;
+      comes = goes_trans (λ values e. by_entry g.P.L.Lattice.algebra g.P.F.EdgeFn.edge c.args.graph.now g.P.Problem.targets values e.0 e.1) (λ e. found c.args.tables.now e.0 ≡ Some e.1) c.loop-index.invariant.comes
+          c.in_ok-pass_index.ensures.comes;
       passes = passes_more (λ values e. by_entry g.P.L.Lattice.algebra g.P.F.EdgeFn.edge c.args.graph.now g.P.Problem.targets values e.0 e.1) (λ values e. IsSteadyBy g.P.L.Lattice.algebra g.P.F.EdgeFn.edge c.args.graph.now g.P.Problem.targets values e.0 e.1)
-          c.args.tables.now.entries c.loop-index.index c.in-Some.entry
-          c.args.self.now.values.items c.loop-index.self.values.items c.pass_by.new.self.values.items
-          c.args.self.now.has_fallen c.loop-index.self.has_fallen c.pass_by.new.self.has_fallen
-          within (sym (get_or_from_slice_get c.args.tables.now.entries c.loop-index.index c.in-Some.entry c.in-Some.entry stands))
+          c.args.tables.now.entries c.loop-index.index there.0
+          c.args.self.now.values.items c.loop-index.self.values.items c.pass_index.new.self.values.items
+          c.args.self.now.has_fallen c.loop-index.self.has_fallen c.pass_index.new.self.has_fallen
+          within (sym (get_or_from_slice_get c.args.tables.now.entries c.loop-index.index there.0 there.0 there.1))
           c.loop-index.invariant.passes passes.passed passes.same passes.before passes.steady;
-      falls = falls_then g.P.L.Lattice.algebra c.loop-index.invariant.falls c.in_ok-pass_by.ensures.falls;
+      falls = falls_then g.P.L.Lattice.algebra c.loop-index.invariant.falls c.in_ok-pass_index.ensures.falls;
     }
-
-pub returns-in_default-clause-comes : goal.returns-in_default-clause-comes
-returns-in_default-clause-comes g c = c.loop-index.invariant.comes
-
-pub returns-in_default-clause-passes : goal.returns-in_default-clause-passes
-returns-in_default-clause-passes g c =
-    let within : c.loop-index.index < length c.args.tables.now.entries = omega arith in
-    elim (none_within c.args.tables.now.entries c.loop-index.index (sym c.entry_at.ensures.entry ∙ c.in_default.is) within) [ ]
 
 pub returns-clause-comes : goal.returns-clause-comes
 returns-clause-comes g c = c.loop-index.invariant.comes
@@ -52,6 +44,3 @@ returns-clause-passes g c =
 
 pub returns-clause-falls : goal.returns-clause-falls
 returns-clause-falls g c = c.loop-index.invariant.falls
-
-pub returns-in_default-clause-falls : goal.returns-in_default-clause-falls
-returns-in_default-clause-falls g c = c.loop-index.invariant.falls
