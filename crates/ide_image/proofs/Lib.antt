@@ -3,6 +3,7 @@ pub mod Before
 pub mod Defaults
 pub mod Falls
 pub mod Held
+pub mod Kept
 pub mod Keys
 pub mod Left
 pub mod Marked

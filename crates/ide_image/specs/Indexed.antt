@@ -13,9 +13,9 @@ pub record Indexed (F : Type 0) : Type 0 where
   pub places : Numbers
   pub room : ℕ
 
--- how many more there is room for, in two columns of these lengths and capacities
-abbrev pub entry_room : (len capacity node_len node_capacity : ℕ) → ℕ
-entry_room len capacity node_len node_capacity = min (capacity - len) (node_capacity - node_len)
+-- how many more there is room for, in a row of entries and a column of nodes of this length and capacity
+abbrev pub entry_room : (row_room node_len node_capacity : ℕ) → ℕ
+entry_room row_room node_len node_capacity = min row_room (node_capacity - node_len)
 
 module _ {F : Type 0} where
   -- one more than the index of the key's entry: 0, if it has none

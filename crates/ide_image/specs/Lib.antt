@@ -1,4 +1,5 @@
 pub mod ChangeLog
+pub mod Entries
 pub mod Indexed
 pub mod KeyedImage
 pub mod Left

@@ -1,15 +1,13 @@
 //! Entries in the order in which their keys came, and where each stands.
-ghost use Rattle.std.specs.Prelude.{◌≡◌, ◌≢◌, ℕ, ◌+◌, ◌-◌, ◌<◌, ◌≤◌, ◌^◌, ◌↔◌, [], None, Some, length, slice_get, IfOk, IfSome, IfNone, OnOk, OnErr, IsOkUnless, IsSome, vec_capacity, vec_len};
-ghost use Rattle.std.specs.List.{IsDistinct};
-ghost use Rattle.std.specs.Map.{keys_of, lookup};
+ghost use Rattle.std.specs.Prelude.{◌≡◌, ℕ, ◌+◌, ◌-◌, ◌<◌, ◌≤◌, ◌↔◌, [], None, Some, length, slice_get, IfOk, IfSome, OnOk, IsOkUnless, IsSome, vec_capacity, vec_len};
 ghost use Rattle.ide_pages.specs.Pages.{KeepsCells, cell_of};
 ghost use Rattle.ide_wire.specs.declared.key.Key.{Key};
 ghost use Rattle.ide_wire.specs.declared.refused.Refused.TheVariants.{NoMemory};
-ghost use Rattle.ide_wire.specs.Key.{same_key};
 ghost use Rattle.ide_wire.specs.KeyOrder.{key_cmp};
-ghost use Rattle.ide_image.specs.Tables.{AreJumpsTo, AreKeys, AreSummariesFrom, HaveCells, IsIndexed, found, function_at, entry_nodes, or_top, partner_at, partners_at, place_in, with_entry};
+ghost use Rattle.ide_image.specs.Tables.{AreJumpsTo, AreKeys, AreSummariesFrom, HaveCells, IsIndexed, found, function_at, entry_nodes, partner_at, partners_at, place_in, with_entry};
 ghost use Rattle.ide_image.specs.Indexed.{ForKeyAt, HasDistinctKeys, IsSpot, MayTake, PutsEntry, place_of_key};
 
+use crate::entries::Entries;
 use ide_lattice::EdgeFn;
 use ide_pages::Pages;
 use ide_wire::{Fact, Key, Node, Refused};
@@ -23,7 +21,7 @@ const MOST_ENTRIES: usize = 4_294_967_295;
 /// stays.
 #[derive(Drop)]
 pub(crate) struct Indexed<F: EdgeFn> {
-    entries: Vec<(Key, F)>,
+    entries: Entries<F>,
     /// The node of each entry's key: a walk over some nodes reads these, and the entries there alone.
     nodes: Vec<Node>,
     /// For each key one more than the index of its entry.
@@ -44,7 +42,7 @@ impl<F: EdgeFn> Model for Indexed<F> {
 
     ghost Value = { Indexed F };
 
-    ghost view = { λ t. record { table = record { entries = t.entries.items }; places = t.places; room = entry_room (vec_len t.entries) (vec_capacity t.entries) (vec_len t.nodes) (vec_capacity t.nodes) } };
+    ghost view = { λ t. record { table = record { entries = t.entries.items }; places = t.places; room = entry_room t.entries.room (vec_len t.nodes) (vec_capacity t.nodes) } };
 
     ghost invariant = { λ t. IsIndexed t.places t.nodes.items t.entries.items };
 }
@@ -55,7 +53,7 @@ impl<F: EdgeFn> Indexed<F> {
         ensures entries { result.table.entries ≡ [] }
     {
         Indexed {
-            entries: Vec::new(alloc),
+            entries: Entries::new(alloc),
             nodes: Vec::new(alloc),
             places: Pages::new(alloc),
         }
@@ -77,7 +75,7 @@ impl<F: EdgeFn> Indexed<F> {
         if place == 0 {
             return None;
         }
-        match entry_at(&self.entries, place as usize - 1) {
+        match self.entries.get(place as usize - 1) {
             Some(entry) => Some(entry.1),
             None => None,
         }
@@ -108,7 +106,7 @@ impl<F: EdgeFn> Indexed<F> {
         ensures present { IfSome result (λ entry. found self.now.table entry.0 ≡ Some entry.1) }
         ensures place { IfSome result (λ entry. place_of_key self.now entry.0 ≡ index + 1) }
     {
-        entry_at(&self.entries, index)
+        self.entries.get(index)
     }
 
     /// The node of each entry's key, in the order of the entries.
@@ -124,7 +122,7 @@ impl<F: EdgeFn> Indexed<F> {
         ensures keys { IfOk result (λ keys. AreKeys key_cmp self.now.table keys.items) }
         ensures refused { IsOkUnless result NoMemory }
     {
-        let mut keys = keys_of(alloc, &self.entries)?;
+        let mut keys = self.entries.keys(alloc)?;
         keys.sort_unstable();
         Ok(keys)
     }
@@ -164,7 +162,7 @@ impl<F: EdgeFn> Indexed<F> {
         ensures table { IfOk result (λ copy. copy.table ≡ self.now.table) }
         ensures refused { IsOkUnless result NoMemory }
     {
-        let entries = Vec::from_slice(alloc, &self.entries)?;
+        let entries = self.entries.copy(alloc)?;
         let nodes = Vec::from_slice(alloc, &self.nodes)?;
         let places = self.places.copy(alloc)?;
         Ok(Indexed {
@@ -242,38 +240,24 @@ impl<F: EdgeFn> Indexed<F> {
     {
         if spot.place != 0 {
             let index = spot.place as usize - 1;
-            self.entries[index] = (key, function);
+            self.entries.replace(index, key, function);
             return index;
         }
         let index = self.entries.len();
-        self.entries.push_reserved((key, function));
+        self.entries.push_reserved(key, function);
         self.nodes.push_reserved(key.node());
         self.places.set(spot.cell, key, self.entries.len() as u32);
         index
     }
 }
 
-/// The entry at an index.
-fn entry_at<F: EdgeFn>(entries: &[(Key, F)], index: usize) -> Option<(Key, F)>
-    ensures { result ≡ slice_get entries.now index }
-{
-    entries.get(index).copied()
-}
-
-/// The keys, in the order of the entries.
-fn keys_of<F: EdgeFn>(alloc: Global, entries: &[(Key, F)]) -> Result<Vec<Key>, AllocError>
-    ensures { IfOk result (λ keys. keys.items ≡ keys_of entries.now) }
-{
-    entries.iter().map(|entry| entry.0).collect(alloc)
-}
-
 /// The facts of a row, each with the function at its place.
 fn partners_of<F: EdgeFn>(
     alloc: Global,
-    entries: &[(Key, F)],
+    entries: &Entries<F>,
     row: &[(Fact, u32)],
 ) -> Result<Vec<(Fact, F)>, AllocError>
-    ensures { IfOk result (λ partners. partners.items ≡ partners_at F.edge entries.now row.now) }
+    ensures { IfOk result (λ partners. partners.items ≡ partners_at F.edge entries.now.items row.now) }
 {
     row.iter()
         .map(|listed| partner_at(entries, *listed))
@@ -281,10 +265,10 @@ fn partners_of<F: EdgeFn>(
 }
 
 /// A fact of a row with the function at its place.
-fn partner_at<F: EdgeFn>(entries: &[(Key, F)], listed: (Fact, u32)) -> (Fact, F)
-    ensures { result ≡ partner_at F.edge.all_top entries.now listed }
+fn partner_at<F: EdgeFn>(entries: &Entries<F>, listed: (Fact, u32)) -> (Fact, F)
+    ensures { result ≡ partner_at F.edge.all_top entries.now.items listed }
 {
-    match entry_at(entries, (listed.1 as usize).saturating_sub(1)) {
+    match entries.get((listed.1 as usize).saturating_sub(1)) {
         Some(entry) => (listed.0, entry.1),
         None => (listed.0, F::all_top()),
     }

@@ -13,6 +13,7 @@ mod change;
 mod change_log;
 mod claim;
 mod claims;
+mod entries;
 mod entry;
 mod indexed;
 mod keyed_image;

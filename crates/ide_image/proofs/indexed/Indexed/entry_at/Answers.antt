@@ -7,11 +7,11 @@ use Rattle.ide_image.proofs.indexed.Indexed.entry_at.Goals as goal
 pub returns-clause-present : goal.returns-clause-present
 returns-clause-present g c =
     rw (← c.self.view_is)
-    (present-at {F = g.row.F.Denot} c.self.inside.entries.items c.args.index c.entry_at.result
-    (c.entry_at.ensures ∙ ap (λ es. slice_get es c.args.index) c.deref.ensures.value) c.self.invariant.distinct)
+    (present-at {F = g.row.F.Denot} c.self.inside.entries.items c.args.index c.get.result
+    (c.get.ensures) c.self.invariant.distinct)
 
 pub returns-clause-place : goal.returns-clause-place
 returns-clause-place g c =
     rw (← c.self.view_is)
-    (place-at {F = g.row.F.Denot} c.self.inside.entries.items c.args.index c.entry_at.result
-    (c.entry_at.ensures ∙ ap (λ es. slice_get es c.args.index) c.deref.ensures.value) c.self.invariant.distinct)
+    (place-at {F = g.row.F.Denot} c.self.inside.entries.items c.args.index c.get.result
+    (c.get.ensures) c.self.invariant.distinct)

@@ -10,13 +10,13 @@ returns-then-place-eq0 g c =
 pub returns-in-Some : goal.returns-in-Some
 returns-in-Some g c =
     let above = c.if-place-eq0.false in
-    let there = sym c.in-Some.is ∙ c.entry_at.ensures ∙ ap (λ es. slice_get es (c.args.place - 1)) c.deref.ensures.value in
+    let there = sym c.in-Some.is ∙ c.get.ensures in
     rw (← c.self.view_is)
     (λ key is. found-some {F = g.row.F.Denot} key c.self.inside.entries.items c.args.place c.in-Some.entry there is (omega (arith, above)))
 
 pub returns-in-None : goal.returns-in-None
 returns-in-None g c =
     let above = c.if-place-eq0.false in
-    let there = sym c.in-None.is ∙ c.entry_at.ensures ∙ ap (λ es. slice_get es (c.args.place - 1)) c.deref.ensures.value in
+    let there = sym c.in-None.is ∙ c.get.ensures in
     rw (← c.self.view_is)
     (λ key is. found-none {F = g.row.F.Denot} key c.self.inside.entries.items c.args.place there is (omega (arith, above)))

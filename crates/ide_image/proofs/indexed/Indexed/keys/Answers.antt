@@ -8,4 +8,4 @@ returns-clause-keys g c =
     rw (← c.self.view_is)
     (are_keys {F = g.row.F.Denot} (record { entries = c.self.inside.entries.items })
     c.in_ok-keys.keys.items c.sort_unstable.new.self.items
-    (c.in_ok-keys.ensures ∙ ap keys_of c.deref.ensures.value) c.self.invariant.distinct c.sort_unstable.ensures.permutation c.sort_unstable.ensures.sorted)
+    c.in_ok-keys.ensures c.self.invariant.distinct c.sort_unstable.ensures.permutation c.sort_unstable.ensures.sorted)

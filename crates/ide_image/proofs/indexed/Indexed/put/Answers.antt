@@ -1,4 +1,5 @@
 use Rattle.std.proofs.Common.{◌≡◌, ◌+◌, ◌++◌, ◌∷◌, [], ap, cond, length, sym, subst, ◌∙◌, arith}
+use Rattle.std.proofs.lemmas.List.{length-append}
 use Rattle.ide_pages.specs.Pages.{number_at}
 use Rattle.ide_wire.specs.Key.{same_key}
 use Rattle.ide_image.specs.Tables.{IsIndexed}
@@ -6,13 +7,12 @@ use Rattle.ide_image.proofs.Places.{indexed-before, indexed-last, put-before, pu
 use Rattle.ide_image.proofs.Spots.{spot-before, spot-last}
 use Rattle.ide_image.proofs.indexed.Indexed.put.Goals as goal
 
-pub index_mut-requires : goal.index_mut-requires
-index_mut-requires g c =
+pub replace-requires-clause-there : goal.replace-requires-clause-there
+replace-requires-clause-there g c =
     let spot = rw (← c.self.view_is) at c.requires.spot in
     let above = c.if-spot-ne0.true in
-    let ok = c.self.inside.entries.ok in
     let stands = stands-before {F = g.row.F.Denot} c.args.key c.self.inside.entries.items c.args.spot.place spot.stands (omega (arith, above)) in
-    omega (arith, stands, ok)
+    stands
 
 pub invariant_of-self : goal.invariant_of-self
 invariant_of-self g c =
@@ -20,7 +20,7 @@ invariant_of-self g c =
     let spot = rw (← c.self.view_is) at c.requires.spot in
     let above = c.if-spot-ne0.true in
     subst (IsIndexed {F = g.row.F.Denot} c.self.inside.places c.self.inside.nodes.items)
-    (sym (put-before {F = g.row.F.Denot} c.args.key entries c.args.spot.place c.args.function spot.stands (omega (arith, above))))
+    (sym (c.replace.ensures.items ∙ put-before {F = g.row.F.Denot} c.args.key entries c.args.spot.place c.args.function spot.stands (omega (arith, above))))
     (indexed-before {F = g.row.F.Denot} c.args.key c.self.inside.places c.self.inside.nodes.items entries c.args.spot.place c.args.function c.self.invariant spot.stands (omega (arith, above)))
 
 pub returns-then-spot-ne0-clause-entries : goal.returns-then-spot-ne0-clause-entries
@@ -28,7 +28,7 @@ returns-then-spot-ne0-clause-entries g c =
     let spot = rw (← c.self.view_is) at c.requires.spot in
     let above = c.if-spot-ne0.true in
     rw (← c.self.view_is)
-    (put-before {F = g.row.F.Denot} c.args.key c.self.inside.entries.items c.args.spot.place c.args.function spot.stands (omega (arith, above)))
+    (c.replace.ensures.items ∙ put-before {F = g.row.F.Denot} c.args.key c.self.inside.entries.items c.args.spot.place c.args.function spot.stands (omega (arith, above)))
 
 pub returns-then-spot-ne0-clause-index : goal.returns-then-spot-ne0-clause-index
 returns-then-spot-ne0-clause-index g c =
@@ -40,10 +40,7 @@ invariant_of-self-2 g c =
     let entries = c.self.inside.entries.items in
     let spot = rw (← c.self.view_is) at c.requires.spot in
     let none = sym spot.stands ∙ c.if-spot-ne0.false in
-    let ok = c.self.inside.entries.ok in
-    let longer = c.push_reserved.ensures.len in
-    let len = c.len.ensures in
-    let count : c.len.result ≡ length entries + 1 = omega (arith, ok, longer, len) in
+    let count : c.len.result ≡ length entries + 1 = c.len.ensures ∙ ap length c.push_reserved.ensures.items ∙ length-append entries ((c.args.key, c.args.function) ∷ []) in
     subst (IsIndexed {F = g.row.F.Denot} c.set.new.self c.push_reserved-2.new.self.items)
     (sym (c.push_reserved.ensures.items ∙ sym (put-last {F = g.row.F.Denot} c.args.key entries c.args.function none)))
     (indexed-last {F = g.row.F.Denot} c.args.key c.self.inside.places c.set.new.self c.self.inside.nodes.items c.push_reserved-2.new.self.items entries c.args.function
@@ -61,6 +58,6 @@ pub returns-clause-index : goal.returns-clause-index
 returns-clause-index g c =
     let entries = c.self.inside.entries.items in
     let spot = rw (← c.self.view_is) at c.requires.spot in
-    let count : c.len-index.result ≡ length entries = omega (arith, c.len-index.ensures, c.self.inside.entries.ok) in
+    let count : c.len-index.result ≡ length entries = c.len-index.ensures in
     rw (← c.self.view_is)
     (ap (λ n. n + 1) count ∙ spot-last {F = g.row.F.Denot} c.args.key entries c.args.function (sym spot.stands ∙ c.if-spot-ne0.false))

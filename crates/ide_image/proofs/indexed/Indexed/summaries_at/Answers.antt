@@ -9,8 +9,7 @@ returns-clause-partners g c =
     let entries = c.self.inside.entries.items in
     let top = g.F.EdgeFn.edge.all_top in
     let listed = c.in_ok-partners.ensures
-    ∙ ap (λ es. map (partner_at top es) c.deref-2.result.now) c.deref.ensures.value
-    ∙ ap (map (partner_at top entries)) c.deref-2.ensures.value in
+    ∙ ap (map (partner_at top entries)) c.deref.ensures.value in
     rw (← c.self.view_is)
     (subst (ArePartners (Summary c.args.call c.args.fact) (record { entries = entries })) (sym listed)
     (are-partners {F = g.row.F.Denot} top entries (Summary c.args.call c.args.fact) c.self.inside.places c.self.inside.nodes.items c.in_ok-row.row.items c.self.invariant c.in_ok-row.ensures.row))

@@ -1,0 +1,151 @@
+//! Entries in a row, which share the functions that came last.
+ghost use Rattle.std.specs.Prelude.{◌≡◌, ◌+◌, ◌++◌, ◌∷◌, ◌<◌, ◌≤◌, ◌^◌, [], Some, length, slice_get, slice_set, IfOk, IfSome, OnOk, vec_capacity, vec_len};
+ghost use Rattle.std.specs.Map.{keys_of};
+ghost use Rattle.ide_image.specs.Entries.{MayKeep};
+
+use ide_lattice::EdgeFn;
+use ide_wire::Key;
+use std::alloc::{AllocError, Global};
+use std::marker::Model;
+
+/// The most functions that are kept: the last has this number as its index.
+const MOST_KEPT: usize = 4_294_967_295;
+
+/// With how many of the functions that were kept last one that comes is compared.
+const RECENT: usize = 4;
+
+/// Keys with their functions, in a row. An entry has the index of its function, which takes 4 bytes, and a
+/// function that is one of the last few is not kept again: entries that follow each other along a procedure
+/// mostly have one function. A function that no entry has any more stays.
+#[derive(Drop)]
+pub(crate) struct Entries<F: EdgeFn> {
+    list: Vec<(Key, u32)>,
+    functions: Vec<F>,
+}
+
+impl<F: EdgeFn> Model for Entries<F> {
+    ghost use Rattle.std.specs.Prelude.{vec_capacity, vec_len};
+    ghost use Rattle.ide_image.specs.Entries.{AreKept, EntryRow, entries_of, row_room};
+
+    ghost Value = { EntryRow F };
+
+    ghost view = { λ e. record { items = entries_of F.edge.all_top e.functions.items e.list.items; room = row_room (vec_len e.list) (vec_capacity e.list) (vec_len e.functions) (vec_capacity e.functions) } };
+
+    ghost invariant = { λ e. AreKept e.functions.items e.list.items };
+}
+
+impl<F: EdgeFn> Entries<F> {
+    /// No entries. It allocates nothing.
+    pub(crate) fn new(alloc: Global) -> Self
+        ensures { result.items ≡ [] }
+    {
+        Entries {
+            list: Vec::new(alloc),
+            functions: Vec::new(alloc),
+        }
+    }
+
+    /// How many entries there are.
+    pub(crate) fn len(&self) -> usize
+        ensures { result ≡ length self.now.items }
+    {
+        self.list.len()
+    }
+
+    /// The entry at an index.
+    pub(crate) fn get(&self, index: usize) -> Option<(Key, F)>
+        ensures { result ≡ slice_get self.now.items index }
+    {
+        let (key, kept) = *self.list.get(index)?;
+        Some((key, self.functions[kept as usize]))
+    }
+
+    /// The keys, in the order of the entries.
+    pub(crate) fn keys(&self, alloc: Global) -> Result<Vec<Key>, AllocError>
+        ensures { IfOk result (λ keys. keys.items ≡ keys_of self.now.items) }
+    {
+        listed_keys(alloc, &self.list)
+    }
+
+    /// The same entries, in the same order.
+    pub(crate) fn copy(&self, alloc: Global) -> Result<Entries<F>, AllocError>
+        ensures { IfOk result (λ copy. copy.items ≡ self.now.items) }
+    {
+        Ok(Entries {
+            list: Vec::from_slice(alloc, &self.list)?,
+            functions: Vec::from_slice(alloc, &self.functions)?,
+        })
+    }
+
+    /// Makes room for so many more entries.
+    pub(crate) fn reserve(&mut self, additional: usize) -> Result<(), AllocError>
+        ensures items { self.new.items ≡ self.old.items }
+        ensures room { OnOk result (additional ≤ self.new.room) }
+    {
+        self.list.reserve(additional)?;
+        self.functions.reserve(additional)?;
+        if self.functions.len() > MOST_KEPT || additional > MOST_KEPT - self.functions.len() {
+            return Err(AllocError);
+        }
+        Ok(())
+    }
+
+    /// Puts an entry behind the others, for which there is room.
+    pub(crate) fn push_reserved(&mut self, key: Key, function: F)
+        requires room { 0 < self.old.room }
+        ensures items { self.new.items ≡ self.old.items ++ (key, function) ∷ [] }
+        ensures room { self.old.room ≤ self.new.room + 1 }
+    {
+        let kept = keep(&mut self.functions, function);
+        self.list.push_reserved((key, kept));
+    }
+
+    /// Puts an entry in the place of another, for which there is room.
+    pub(crate) fn replace(&mut self, index: usize, key: Key, function: F)
+        requires there { index < length self.old.items }
+        requires room { 0 < self.old.room }
+        ensures items { self.new.items ≡ slice_set self.old.items index (key, function) }
+        ensures room { self.old.room ≤ self.new.room + 1 }
+    {
+        let kept = keep(&mut self.functions, function);
+        self.list[index] = (key, kept);
+    }
+}
+
+/// The keys, in their order.
+fn listed_keys(alloc: Global, list: &[(Key, u32)]) -> Result<Vec<Key>, AllocError>
+    ensures { IfOk result (λ keys. keys.items ≡ keys_of list.now) }
+{
+    list.iter().map(|entry| entry.0).collect(alloc)
+}
+
+/// The index of the function among those that are kept. It is kept behind the others, unless it is one of
+/// the last few.
+fn keep<F: EdgeFn>(functions: &mut Vec<F>, function: F) -> u32
+    requires room { vec_len functions.old < vec_capacity functions.old }
+    requires few { vec_len functions.old < 2 ^ 32 }
+    ensures kept { slice_get functions.new.items result ≡ Some function }
+    ensures others { MayKeep function functions.old.items functions.new.items }
+    ensures len { vec_len functions.new ≤ vec_len functions.old + 1 }
+    ensures capacity { vec_capacity functions.new ≡ vec_capacity functions.old }
+{
+    let count = functions.len();
+    if let Some(kept) = recent(functions, function) {
+        return kept as u32;
+    }
+    functions.push_reserved(function);
+    count as u32
+}
+
+/// The index of the function, if it is one of the last few.
+fn recent<F: EdgeFn>(functions: &[F], function: F) -> Option<usize>
+    ensures { IfSome result (λ index. slice_get functions.now index ≡ Some function) }
+{
+    let count = functions.len();
+    for index in count.saturating_sub(RECENT)..count {
+        if functions[index] == function {
+            return Some(index);
+        }
+    }
+    None
+}
