@@ -18,7 +18,7 @@ use Rattle.ide_wire.specs.declared.key.Key.TheVariants.{Jump, Summary}
 use Rattle.ide_wire.specs.Key.{node_of, same_key, same_key_laws, same_key_exact}
 use Rattle.ide_graph.specs.Supergraph.{Supergraph}
 use Rattle.ide_image.specs.Tables.{Table, found, entry_nodes}
-use Rattle.ide_values.specs.Fill.{Fills, FillsFrom, IsFilledAt, IsFilledBy, IsImage, Meets, lowered, value_from}
+use Rattle.ide_values.specs.Fill.{Fills, FillsFrom, IsFilledAt, IsFilledBy, Meets, lowered, value_from}
 use Rattle.ide_values.specs.Spans.{HasBetween}
 use Rattle.ide_values.specs.declared.spans.Span.{Span}
 use Rattle.ide_values.specs.Start.{value_before}

@@ -9,6 +9,7 @@ pub mod Follows
 pub mod Halves
 pub mod Lines
 pub mod Lowered
+pub mod Nowhere
 pub mod Passing
 pub mod Places
 pub mod Refused

@@ -1,21 +1,26 @@
 -- What passes say of start values before and after them.
-use Rattle.std.specs.Prelude.{◌≡◌, ℕ, ◌+◌, ◌≤◌, false, List, Result, Some, OnOk, length, slice_get}
+use Rattle.std.specs.Prelude.{◌≡◌, ℕ, ◌+◌, ◌≤◌, false, List, [], Result, Some, OnOk, length, slice_get}
 use Rattle.ide_graph.specs.Supergraph.{Supergraph}
 use Rattle.ide_graph.specs.declared.edge.EdgeData.{EdgeData}
 use Rattle.ide_lattice.specs.Algebra.{LatticeAlgebra, EdgeAlgebra}
 use Rattle.ide_problem.specs.Flow.{Targets}
 use Rattle.ide_image.specs.Tables.{Table}
+use Rattle.ide_wire.specs.Key.{node_of}
 use Rattle.ide_wire.specs.declared.key.Key.{Key}
 use Rattle.ide_values.specs.declared.passes.JumpAt.{JumpAt}
 use Rattle.ide_values.specs.declared.passes.Starts.{Starts}
 use Rattle.ide_values.specs.Falling.{ranks}
-use Rattle.ide_values.specs.Pass.{IsSteadyBy, IsSteadyOver, Passes, by_entry, lowered_at, over_edge, to_target}
+use Rattle.ide_values.specs.Pass.{IsSteadyBy, IsSteadyOver, Passes, by_entry, calls_of, lowered_at, over_edge, to_target}
 use Rattle.ide_values.specs.Settled.{ComesTo, IsSteady}
 
 -- where no fall is marked after it, nothing changed, and none was marked before
 pub record Marks {P L F : Type 0} (old new : Starts P L F) : Type 0 where
   pub same : new.has_fallen ≡ false → new.values.items ≡ old.values.items
   pub before : new.has_fallen ≡ false → old.has_fallen ≡ false
+
+-- no call edge leaves the node of the entry at an index, if one stands there
+abbrev pub PassesNowhere : {F : Type 0} → Supergraph → Table F → ℕ → Type 0
+PassesNowhere {F} graph table index = (e : Key × F) → slice_get table.entries index ≡ Some e → calls_of graph (node_of e.0) ≡ []
 
 -- one place less waits
 abbrev pub WaitsLess : {P L F : Type 0} → (old new : Starts P L F) → Type 0

@@ -1,10 +1,10 @@
 //! Handing values on from call nodes to callees' starts.
-ghost use Rattle.std.specs.Prelude.{◌≡◌, ◌<◌, ◌≤◌, ◌+◌, ℕ, Some, OnOk, IfOk, IfSome, false, length, slice_get, map};
-ghost use Rattle.std.specs.List.{All, range_with_len};
+ghost use Rattle.std.specs.Prelude.{◌≡◌, ◌<◌, ◌≤◌, ◌+◌, Some, OnOk, IfOk, IfSome, false, length};
+ghost use Rattle.std.specs.List.{All};
 ghost use Rattle.ide_graph.specs.Edges.{EndsWithin};
 ghost use Rattle.ide_values.specs.Falling.{StartsFall};
 ghost use Rattle.ide_values.specs.Pass.{calls_of};
-ghost use Rattle.ide_values.specs.Passing.{LowersAt, Marks, PassesAll, PassesOver, PassesTo, WaitsLess};
+ghost use Rattle.ide_values.specs.Passing.{LowersAt, Marks, PassesAll, PassesNowhere, PassesOver, PassesTo, WaitsLess};
 
 use crate::rows::{procedure_at, start_place, value_at_place, value_before};
 use ide_graph::{EdgeData, Graph, Site};
@@ -178,6 +178,16 @@ impl<P: Problem> Starts<P> {
             self.pass_over(graph, jump, edge, targets)?;
         }
         Ok(())
+    }
+}
+
+/// Whether a call has edges at the node of the entry at an index. It reads no more of the entry than the node.
+pub(crate) fn is_at_call<F: EdgeFn>(graph: &Graph, tables: &Tables<F>, index: usize) -> bool
+    ensures { result ≡ false → PassesNowhere graph.now tables.now index }
+{
+    match tables.nodes().get(index) {
+        Some(node) => !calls_at(graph, *node).is_empty(),
+        None => false,
     }
 }
 

@@ -5,7 +5,7 @@ ghost use Rattle.ide_values.specs.Passing.{Comes, Rests, PassesAt, PassesBy, Pas
 ghost use Rattle.ide_values.specs.Settled.{AreStartRows};
 
 use crate::enter::entered_rows;
-use crate::passes::{JumpAt, Starts, calls_at};
+use crate::passes::{JumpAt, Starts, calls_at, is_at_call};
 use crate::rows::{procedure_at, start_place};
 use ide_graph::Graph;
 use ide_image::Tables;
@@ -103,7 +103,7 @@ impl<P: Problem> Starts<P> {
         Ok(())
     }
 
-    /// Hands on by the entry of the tables at an index.
+    /// Hands on by the entry of the tables at an index. Of one that is not at a call it reads the node alone.
     fn pass_index(
         &mut self,
         graph: &Graph,
@@ -115,6 +115,9 @@ impl<P: Problem> Starts<P> {
         ensures comes { Comes P.L.algebra P.F.edge P.targets graph.now tables.now result self.old self.new }
         ensures falls { OnOk result (StartsFall P.L.algebra self.old self.new) }
     {
+        if !is_at_call(graph, tables, index) {
+            return Ok(());
+        }
         let Some(entry) = tables.entry_at(index) else {
             return Ok(());
         };
@@ -174,8 +177,8 @@ fn jumps_at_calls<F: EdgeFn>(
 ) -> Result<Vec<CallJump>, AllocError> {
     let mut jumps = Vec::new(alloc);
     for index in 0..tables.key_count() {
-        if let Some((Key::Jump(node, from, _), _)) = tables.entry_at(index)
-            && !calls_at(graph, node).is_empty()
+        if is_at_call(graph, tables, index)
+            && let Some((Key::Jump(node, from, _), _)) = tables.entry_at(index)
         {
             let from = start_place(graph, procedure_at(graph, node), from);
             jumps.push(CallJump { from, index })?;

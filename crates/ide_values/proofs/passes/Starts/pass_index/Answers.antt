@@ -5,7 +5,17 @@ use Rattle.ide_image.specs.Tables.{found}
 use Rattle.ide_values.specs.Pass.{by_entry, stays}
 use Rattle.ide_values.proofs.Coming.{goes_by}
 use Rattle.ide_values.proofs.Falling.{falls_not}
+use Rattle.ide_values.proofs.Nowhere.{passes-nowhere}
 use Rattle.ide_values.proofs.passes.Starts.pass_index.Goals as goal
+
+pub returns-then-not-is_at_call-clause-comes : goal.returns-then-not-is_at_call-clause-comes
+returns-then-not-is_at_call-clause-comes g c = stays
+
+pub returns-then-not-is_at_call-clause-passes : goal.returns-then-not-is_at_call-clause-passes
+returns-then-not-is_at_call-clause-passes g c =
+    λ e is.
+    passes-nowhere g.P.L.Lattice.algebra g.P.F.EdgeFn.edge g.P.Problem.targets c.args.graph.now c.args.self.now e.0 e.1
+    (c.is_at_call.ensures c.if-not-is_at_call.true e is)
 
 pub returns-in_default-clause-comes : goal.returns-in_default-clause-comes
 returns-in_default-clause-comes g c = stays
