@@ -1,5 +1,6 @@
 -- What each analysis prints of a text.
-use Rattle.std.specs.Prelude.{ℕ, List, [], ◌∷◌}
+use Rattle.std.specs.Io.KnownBytes.{Appends}
+use Rattle.std.specs.Prelude.{ℕ, List, [], ◌∷◌, Option, Result, OnOk}
 use Rattle.ide_instances.specs.ConstFn.{const_edge}
 use Rattle.ide_instances.specs.ConstValue.{const_algebra, shown_constant}
 use Rattle.ide_instances.specs.Received.{copy_targets, shift_targets, uninit_targets}
@@ -14,3 +15,9 @@ abbrev pub IsDump : Instance → List ℕ → List ℕ → List ℕ → Type 0
 IsDump Uninit text root dump = IsSolution uninit_algebra uninit_edge uninit_targets shown_uninit text (root ∷ []) dump
 IsDump Copy text root dump = IsSolution const_algebra const_edge copy_targets shown_constant text (root ∷ []) dump
 IsDump Shift text root dump = IsSolution const_algebra const_edge shift_targets shown_constant text (root ∷ []) dump
+
+-- there is such a dump, and where the output did not fail it is written behind what that had
+pub record WritesDump (instance : Instance) (text root : List ℕ) {T E : Type 0} (end : Result T E) (before after : Option (List ℕ)) : Type 0 where
+  pub dump : List ℕ
+  pub is : IsDump instance text root dump
+  pub written : OnOk end (Appends before after dump)

@@ -1,11 +1,11 @@
 //! Commands: what each does, and what it prints.
-ghost use Rattle.std.specs.Prelude.{◌≡◌, ◌⊎◌, ◌++◌, ℕ, List, IsErr, IsOk, IsTrue, OnOk, map};
+ghost use Rattle.std.specs.Prelude.{◌≡◌, ◌⊎◌, ◌++◌, ℕ, List, false, IfOk, IsErr, IsOk, IsTrue, OnErr, OnOk, map};
 ghost use Rattle.std.specs.Io.KnownBytes.{Appends};
-ghost use Rattle.ide_cli.specs.Dump.{IsDump};
+ghost use Rattle.ide_cli.specs.Dump.{WritesDump};
 ghost use Rattle.ide_cli.specs.Ended.{IsDone, IsRefused};
 ghost use Rattle.ide_cli.specs.Explained.{explained};
 ghost use Rattle.ide_cli.specs.Help.{AsksForHelp, is_help_word};
-ghost use Rattle.ide_cli.specs.Printed.{AppendsAnswer};
+ghost use Rattle.ide_cli.specs.Printed.{AppendsAnswer, is_once};
 
 use crate::explain::meaning_of;
 use crate::failure::{Failure, read_file};
@@ -13,7 +13,7 @@ use crate::stores::{SECOND, adopt, create, obey};
 use clap::error::ErrorKind;
 use ide_commands::check;
 use ide_instances::{CopyConst, ShiftConst, Uninit};
-use ide_solver::solve_shared;
+use ide_solver::solve_onto;
 use ide_wire::Refused;
 use ide_words::{Instance, Words, read_words};
 use std::convert::AsStr;
@@ -32,8 +32,8 @@ const REFUSED: u8 = 1;
 const WRONG_WORDS: u8 = 2;
 
 /// Runs the command of a line, whose first word is the program's name, and answers the status.
-/// Nothing is written to `out` but the answer of the command, and that not before it is whole. A command that takes
-/// long tells on the terminal, if there is one, how far it has come.
+/// Nothing is written to `out` but the answer of the command, and that not before all of it is known: a dump is written in
+/// pieces once each value is. A command that takes long tells on the terminal, if there is one, how far it has come.
 pub(crate) fn run<R, S: AsStr, O: Write, E: Write>(
     rt: &R,
     line: &[S],
@@ -55,14 +55,35 @@ where
         Ok(words) => words,
         Err(error) => return refuse_words(&error, line, out, err),
     };
+    if let Words::Once {
+        instance,
+        file,
+        procedure,
+        workers,
+    } = words
+    {
+        return match once(rt, instance, file, procedure, workers, out) {
+            Ok(written) => status_of(DONE, written),
+            Err(failure) => refuse(&failure, err),
+        };
+    }
     let mut text = Vec::new(rt.alloc());
     match answer(rt, words, terminal, &mut text) {
         Ok(()) => print(out, text.as_slice()),
-        Err(Failure::CannotRead(file)) => status_of(REFUSED, writeln!(err, "cannot read {file}")),
-        Err(Failure::CannotReadSecond(store)) => {
+        Err(failure) => refuse(&failure, err),
+    }
+}
+
+/// Prints on the standard error why a command has no answer.
+fn refuse<E: Write>(failure: &Failure, err: &mut E) -> u8
+    ensures { result ≡ REFUSED }
+{
+    match failure {
+        Failure::CannotRead(file) => status_of(REFUSED, writeln!(err, "cannot read {file}")),
+        Failure::CannotReadSecond(store) => {
             status_of(REFUSED, writeln!(err, "cannot read {store}{SECOND}"))
         }
-        Err(Failure::Refused(refused)) => status_of(REFUSED, writeln!(err, "{refused}")),
+        Failure::Refused(refused) => status_of(REFUSED, writeln!(err, "{refused}")),
     }
 }
 
@@ -140,27 +161,18 @@ fn write_out<O: Write>(out: &mut O, text: &[u8]) -> io::Result<()>
     out.flush()
 }
 
-/// Appends what the command prints.
+/// Appends what a command prints that is not `once`.
 fn answer<'a, R: Files<File = File> + AllocGlobal + Threads + Wait + Clock + Sync>(
     rt: &R,
     words: Words<'a>,
     terminal: Option<Stderr>,
     out: &mut Vec<u8>,
 ) -> Result<(), Failure<'a>>
+    requires { is_once words ≡ false }
     ensures { OnOk result (AppendsAnswer words.entry out.old out.new) }
 {
     match words {
-        Words::Once {
-            instance,
-            file,
-            procedure,
-            workers,
-        } => {
-            let text = read_file(rt, file)?;
-            let root = procedure.as_bytes();
-            solve_by(rt, instance, text.as_slice(), root, workers, out)?;
-            Ok(())
-        }
+        Words::Once { .. } => unreachable!(),
         Words::Check { file } => {
             let text = read_file(rt, file)?;
             check(rt.alloc(), text.as_slice(), out)?;
@@ -182,23 +194,42 @@ fn explain(name: &str, out: &mut Vec<u8>) -> Result<(), Refused>
     Ok(())
 }
 
-/// Appends the dump of the program that the text spells, by that analysis and with that root. So many
-/// workers fill the values.
-fn solve_by<R: AllocGlobal + Threads + Sync>(
+/// Writes the dump of the program that the file spells, by that analysis and with that root. Inside is how
+/// the output did.
+fn once<'a, R: Files<File = File> + AllocGlobal + Threads + Sync, O: Write>(
+    rt: &R,
+    instance: Instance,
+    file: &'a str,
+    procedure: &str,
+    workers: usize,
+    out: &mut O,
+) -> Result<io::Result<()>, Failure<'a>>
+    ensures written { IfOk result (λ end. (text : List ℕ) × WritesDump instance text procedure.now end (O.contents out.old) (O.contents out.new)) }
+    ensures unchanged { OnErr result (out.new ≡ out.old) }
+{
+    let text = read_file(rt, file)?;
+    let root = procedure.as_bytes();
+    Ok(solve_by(rt, instance, text.as_slice(), root, workers, out)?)
+}
+
+/// Writes the dump of the program that the text spells, by that analysis and with that root. So many
+/// workers fill the values. Inside is how the output did.
+fn solve_by<R: AllocGlobal + Threads + Sync, O: Write>(
     rt: &R,
     instance: Instance,
     text: &[u8],
     root: &[u8],
     workers: usize,
-    out: &mut Vec<u8>,
-) -> Result<(), Refused>
-    ensures { OnOk result ((dump : List ℕ) × (out.new.items ≡ out.old.items ++ dump) × IsDump instance text.now root.now dump) }
+    out: &mut O,
+) -> Result<io::Result<()>, Refused>
+    ensures written { IfOk result (λ end. WritesDump instance text.now root.now end (O.contents out.old) (O.contents out.new)) }
+    ensures unchanged { OnErr result (out.new ≡ out.old) }
 {
     let alloc = rt.alloc();
     let roots = [root];
     match instance {
-        Instance::Uninit => solve_shared::<R, Uninit>(rt, alloc, text, &roots, workers, out),
-        Instance::Copy => solve_shared::<R, CopyConst>(rt, alloc, text, &roots, workers, out),
-        Instance::Shift => solve_shared::<R, ShiftConst>(rt, alloc, text, &roots, workers, out),
+        Instance::Uninit => solve_onto::<R, Uninit, O>(rt, alloc, text, &roots, workers, out),
+        Instance::Copy => solve_onto::<R, CopyConst, O>(rt, alloc, text, &roots, workers, out),
+        Instance::Shift => solve_onto::<R, ShiftConst, O>(rt, alloc, text, &roots, workers, out),
     }
 }

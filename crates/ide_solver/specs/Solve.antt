@@ -1,6 +1,7 @@
 -- What is answered of a text and the names of roots: the dump of the best values.
 use Rattle.std.specs.Borrow.{Bor}
-use Rattle.std.specs.Prelude.{◌≡◌, ℕ, ◌<◌, List, [], ◌∷◌, ◌++◌, Result, OnOk, map}
+use Rattle.std.specs.Io.KnownBytes.{Appends as WritesOut}
+use Rattle.std.specs.Prelude.{◌≡◌, ℕ, ◌<◌, List, [], ◌∷◌, ◌++◌, Option, Result, OnOk, map}
 use Rattle.std.specs.Global.{Vec}
 use Rattle.ide_graph.specs.GraphOfText.{IsGraphOfText}
 use Rattle.ide_graph.specs.Supergraph.{Supergraph}
@@ -67,3 +68,9 @@ module _ {F L : Type 0} (a : ShownAnalysis F L) (text : List ℕ) (roots : List 
 -- a call that is not refused appends the dump of that solution
 abbrev pub SolvesFor : {F L : Type 0} → ShownAnalysis F L → {T E : Type 0} → Result T E → List ℕ → List (Bor (List ℕ)) → (old new : Vec ℕ) → Type 0
 SolvesFor a result text roots old new = OnOk result (AppendsSolution a.lattice a.functions a.targets a.shown text (names_of roots) old new)
+
+-- there is a dump of that solution, and where the output did not fail it is written behind what that had
+pub record WritesFor {F L : Type 0} (a : ShownAnalysis F L) (text : List ℕ) (roots : List (Bor (List ℕ))) {T E : Type 0} (end : Result T E) (before after : Option (List ℕ)) : Type 0 where
+  pub dump : List ℕ
+  pub solution : IsSolution a.lattice a.functions a.targets a.shown text (names_of roots) dump
+  pub written : OnOk end (WritesOut before after dump)

@@ -10,4 +10,4 @@ mod shown;
 mod solver;
 
 pub use shown::Shown;
-pub use solver::{solve, solve_shared, values_of, values_shared};
+pub use solver::{solve, solve_onto, solve_shared, values_of, values_shared};

@@ -2,7 +2,7 @@
 ghost use Rattle.std.specs.Prelude.{◌≡◌, IfErr, IfOk, OnErr, OnOk};
 ghost use Rattle.ide_solver.specs.Begun.{AreBegunFor};
 ghost use Rattle.ide_solver.specs.Refusal.{BarsRoots, IsSharedRefusal, IsSolveRefusal};
-ghost use Rattle.ide_solver.specs.Solve.{AreSolvedFor, LeadsToSolved, SolvesFor, names_of};
+ghost use Rattle.ide_solver.specs.Solve.{AreSolvedFor, LeadsToSolved, SolvesFor, WritesFor, names_of};
 ghost use Rattle.ide_solver.specs.Started.{IsPreparedFor};
 ghost use Rattle.ide_values.specs.Refusal.{AreWorkers};
 
@@ -18,6 +18,8 @@ use ide_theory::{graphs_are_supergraphs, runs_go_on, sites_make_a_graph};
 use ide_values::{ValuePhase, Values};
 use ide_wire::Refused;
 use std::alloc::Global;
+use std::io;
+use std::io::Write;
 use std::thread::Threads;
 
 /// Appends the dump of the program that the text spells, with the procedures of these names as
@@ -63,6 +65,29 @@ where
 {
     let values = values_shared::<R, P>(rt, alloc, text, roots, workers)?;
     values.dump(out)
+}
+
+/// Writes the dump that [`solve_shared`] appends, in pieces ([`Values::write_dump`]): it never stands in
+/// memory whole. Nothing is written before each value is known. Inside is how the output did.
+///
+/// Refusals: those of [`solve_shared`]. After each nothing is written.
+pub fn solve_onto<R: Threads + Sync, P: Problem, W: Write>(
+    rt: &R,
+    alloc: Global,
+    text: &[u8],
+    roots: &[&[u8]],
+    workers: usize,
+    out: &mut W,
+) -> Result<io::Result<()>, Refused>
+where
+    P::F: Sync,
+    P::L: Send + Sync,
+    ensures solution { IfOk result (λ end. WritesFor ⟦<P as Shown>⟧.analysis text.now roots.now end (W.contents out.old) (W.contents out.new)) }
+    ensures refused { IfErr result (IsSharedRefusal workers text.now (names_of roots.now)) }
+    ensures unchanged { OnErr result (out.new ≡ out.old) }
+{
+    let solved = values_shared::<R, P>(rt, alloc, text, roots, workers)?;
+    Ok(solved.write_dump(alloc, out))
 }
 
 /// The values of the program that the text spells, with the procedures of these names as roots.

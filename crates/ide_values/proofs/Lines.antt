@@ -1,6 +1,6 @@
 -- The lines of a dump, by how far it came.
 use Rattle.std.proofs.Common.{◌≡◌, ◌++◌, ℕ, zero, suc, ◌+◌, ◌-◌, ◌≤◌, List, [], Option, None, Some, Result, Ok, Err, ap, sym, refl, ◌∙◌, append_assoc, arith}
-use Rattle.std.specs.Prelude.{OnErr, slice_get}
+use Rattle.std.specs.Prelude.{OnErr, OnOk, slice_get}
 use Rattle.std.specs.List.{flat_map, range_with_len}
 use Rattle.std.specs.Option.{option_and_then}
 use Rattle.std.proofs.lemmas.List.{append-nil}
@@ -59,7 +59,11 @@ no_line_after graph shown node n k none le = ap (λ o. line_if node k o (shown n
 pub Extends-more : (old text mid new : List ℕ) → mid ≡ old ++ text → Extends mid new → Extends old new
 Extends-more old text mid new e (rest, h) = (text ++ rest, h ∙ ap (λ xs. xs ++ rest) e ∙ append_assoc old text rest)
 
--- what holds anyway holds at an error
+-- what holds anyway holds at no error, and at one
+pub OnOk-always : {T E : Type 0} (r : Result T E) (P : Type 0) → P → OnOk r P
+OnOk-always (Ok x) P p = p
+OnOk-always (Err e) P p = tt
+
 pub OnErr-always : {T E : Type 0} (r : Result T E) (P : Type 0) → P → OnErr r P
 OnErr-always (Ok x) P p = tt
 OnErr-always (Err e) P p = p

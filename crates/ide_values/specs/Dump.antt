@@ -1,12 +1,19 @@
 -- The lines of a dump.
 use Rattle.std.specs.Global.{Vec}
 use Rattle.std.specs.Prelude.{◌≡◌, ℕ, ◌-◌, List, [], ◌++◌, Option, Some, None, codes, decimal, length, replicate}
+use Rattle.std.specs.Io.KnownBytes.{Appends as WritesOut}
 use Rattle.std.specs.List.{flat_map, range_with_len}
 use Rattle.ide_graph.specs.Supergraph.{Supergraph, name_at}
 
 -- the text is appended
 abbrev pub Appends : List ℕ → (old new : Vec ℕ) → Type 0
 Appends text old new = new.items ≡ old.items ++ text
+
+-- a beginning of the bytes is written, and the rest of them is left
+pub record Moves (old new : List ℕ) (before after : Option (List ℕ)) : Type 0 where
+  pub written : List ℕ
+  pub split : old ≡ written ++ new
+  pub appends : WritesOut before after written
 
 -- a text at the right end of a column, and a space
 abbrev pub right : ℕ → List ℕ → List ℕ

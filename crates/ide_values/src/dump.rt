@@ -1,15 +1,18 @@
 //! The dump: a line for each node and each fact that has a name there.
 ghost use Rattle.std.specs.Prelude.{◌≡◌, ◌<◌, ◌≤◌, OnOk, OnErr, replicate, IsOkUnless};
+ghost use Rattle.std.specs.Io.KnownBytes.{Appends as WritesOut};
 ghost use Rattle.ide_text.specs.Text.{Extends};
-ghost use Rattle.ide_values.specs.Dump.{Appends, columns_of, left, line_of, right};
-ghost use Rattle.ide_values.specs.Values.{AppendsDump, AppendsLines};
+ghost use Rattle.ide_values.specs.Dump.{Appends, Moves, columns_of, left, line_of, right};
+ghost use Rattle.ide_values.specs.Values.{AppendsDump, AppendsLines, dump_of_values};
 
 use crate::values::Values;
 use ide_lattice::Lattice;
 use ide_problem::Problem;
 use ide_wire::{Fact, Node, Refused};
 use itoa::Buffer;
-use std::alloc::AllocError;
+use std::alloc::{AllocError, Global};
+use std::io;
+use std::io::Write;
 
 /// The columns of the node's number.
 const NODE_WIDTH: usize = 6;
@@ -17,6 +20,9 @@ const NODE_WIDTH: usize = 6;
 const FACT_WIDTH: usize = 4;
 /// The columns of the fact's name.
 const NAME_WIDTH: usize = 31;
+
+/// At how many bytes a piece of the dump is written.
+const PIECE: usize = 262_144;
 
 /// As many spaces as the widest column has.
 const SPACES: [u8; NAME_WIDTH] = [b' '; NAME_WIDTH];
@@ -38,6 +44,24 @@ impl<P: Problem> Values<P> {
             return Err(Refused::NoMemory);
         }
         Ok(())
+    }
+
+    /// Writes the dump, as [`Values::dump`] makes it, in pieces of some 256 KiB. It takes memory for one
+    /// piece and the lines of one node, however long the dump is, and most of it before it writes anything.
+    ///
+    /// It fails where the output does, and with `OutOfMemory` where the lines of a node want memory: then
+    /// a beginning of the dump may have been written.
+    pub fn write_dump<W: Write>(&self, alloc: Global, out: &mut W) -> io::Result<()>
+        ensures { OnOk result (WritesOut (W.contents out.old) (W.contents out.new) (dump_of_values P.L.algebra P.L.shown self.now)) }
+    {
+        let mut piece = Vec::with_capacity(alloc, 2 * PIECE)?;
+        let count = self.loaded.graph.node_count();
+        for index in 0..count {
+            self.append_node(index as Node, &mut piece)?;
+            write_full(&mut piece, out)?;
+        }
+        out.write_all(&piece)?;
+        out.flush()
     }
 
     /// Appends the lines of all nodes.
@@ -69,6 +93,17 @@ impl<P: Problem> Values<P> {
         }
         Ok(())
     }
+}
+
+/// Writes the piece and empties it, if it is long enough.
+fn write_full<W: Write>(piece: &mut Vec<u8>, out: &mut W) -> io::Result<()>
+    ensures { OnOk result (Moves piece.old.items piece.new.items (W.contents out.old) (W.contents out.new)) }
+{
+    if piece.len() >= PIECE {
+        out.write_all(piece)?;
+        piece.clear();
+    }
+    Ok(())
 }
 
 /// Appends the line of a fact at a node.
