@@ -20,7 +20,7 @@ module _ (line : List Text) where
     helped : AsksForHelp line → IsDone old new
 
   -- one that was refused: nothing was written to the output; or the answer was whole, or help was asked for, the output failed,
-  -- and nothing was written to the other writer. Of what a writer has that failed no clause says anything
+  -- or memory for its text was wanting, and nothing was written to the other writer. Of what a writer has that failed no clause says anything
   pub data IsRefused {O E : Type 0} (out_old out_new : O) (err_old err_new : E) : Type 0 where
     unwritten : out_new ≡ out_old → IsRefused out_old out_new err_old err_new
     cut_off : (text : List ℕ) → IsAnswer text → err_new ≡ err_old → IsRefused out_old out_new err_old err_new

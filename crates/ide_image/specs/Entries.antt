@@ -25,6 +25,6 @@ module _ {F : Type 0} where
   abbrev pub MayKeep : F → (old new : List F) → Type 0
   MayKeep function old new = (new ≡ old) ⊎ (new ≡ old ++ function ∷ [])
 
--- for how many more entries there is room, each of which may have another function: 2^32 of these are kept at most
+-- for how many more entries there is room, each of which may have another function: 2^32 - 1 of these are kept at most
 abbrev pub row_room : (len capacity kept kept_capacity : ℕ) → ℕ
 row_room len capacity kept kept_capacity = min (capacity - len) (min (kept_capacity - kept) (2 ^ 32 - 1 - kept))

@@ -8,7 +8,7 @@ use ide_wire::Key;
 use std::alloc::{AllocError, Global};
 use std::marker::Model;
 
-/// The most functions that are kept: the last has this number as its index.
+/// The most functions that are kept, so that each has an index of 32 bits.
 const MOST_KEPT: usize = 4_294_967_295;
 
 /// With how many of the functions that were kept last one that comes is compared.

@@ -29,8 +29,9 @@ use std::alloc::Global;
 use std::marker::Model;
 
 /// What an image has at each key: its function, whether it is pending, the claim of a hand on it, and
-/// the entry that it had when changes were last asked for. It has at most 4,294,967,295 keys: one
-/// more is refused as `NoMemory`. Each call on one key makes one look-up.
+/// the entry that it had when changes were last asked for. It has at most 4,294,967,295 keys, and keeps
+/// as many functions at most, those that no key has any more among them: one more is refused as
+/// `NoMemory`. Each call on one key makes one look-up.
 #[derive(Drop)]
 pub struct KeyedImage<F: EdgeFn, T> {
     indexed: Indexed<F>,

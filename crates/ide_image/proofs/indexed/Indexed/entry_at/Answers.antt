@@ -8,10 +8,10 @@ pub returns-clause-present : goal.returns-clause-present
 returns-clause-present g c =
     rw (← c.self.view_is)
     (present-at {F = g.row.F.Denot} c.self.inside.entries.items c.args.index c.get.result
-    (c.get.ensures) c.self.invariant.distinct)
+    c.get.ensures c.self.invariant.distinct)
 
 pub returns-clause-place : goal.returns-clause-place
 returns-clause-place g c =
     rw (← c.self.view_is)
     (place-at {F = g.row.F.Denot} c.self.inside.entries.items c.args.index c.get.result
-    (c.get.ensures) c.self.invariant.distinct)
+    c.get.ensures c.self.invariant.distinct)
