@@ -16,6 +16,9 @@
 //!   does so many tasks in one hold of the store's lock, and one that writes;
 //! - `dear FILE WORKERS KEYS AHEAD` does so by an analysis whose functions are dear: half a microsecond a part, ten parts
 //!   a task;
+//! - `run FILE ANALYSIS` does the tasks of the text by that analysis, `uninit`, `copy` or `shift`, each with a claim, and prints
+//!   how many keys, tasks and parts there were;
+//! - `scatter LENGTH COUNT` writes to so many places of a table of that many bytes, each picked by chance;
 //! - `append LENGTH COUNT` stores so many records with bodies of that length in a journal on a disk
 //!   in memory, and prints how many there are and how long the file is;
 //! - `reopen LENGTH COUNT` does so and reads them back;
@@ -31,8 +34,10 @@ mod counts;
 mod dear;
 mod figures;
 mod fills;
+mod pace;
 mod phases;
 mod records;
+mod runs;
 mod stores;
 
 use anyhow::{Context, Result, bail};
@@ -41,8 +46,10 @@ use figures::print_figures;
 use fills::{Steps, time_fill};
 use ide_graph::Graph;
 use ide_journal::Version;
+use pace::scatter;
 use phases::{count_procedures, graph_of, measure_dump, solve, tabulate};
 use records::{Sizes, append, copy, reopen};
+use runs::{RunCounts, run_by};
 use std::fs::Files;
 use std::sync::Wait;
 use std::thread::Threads;
@@ -94,6 +101,8 @@ fn pace_of(words: &[String]) -> Result<Pace> {
 /// Does what the words ask for, and prints what it came to.
 fn run(rt: &HostRuntime, words: &[String]) -> Result<()> {
     match word(words, 1)? {
+        "run" => print_figures(rt, &run_analysis(rt, words)?.figures()),
+        "scatter" => print_figures(rt, &scatter(rt.alloc(), sizes_of(words)?)?.figures()),
         "append" => print_figures(rt, &append(rt.alloc(), sizes_of(words)?)?.figures()),
         "reopen" => print_figures(rt, &reopen(rt.alloc(), sizes_of(words)?)?.figures()),
         "copy" => print_bytes(rt, copy(rt.alloc(), sizes_of(words)?)?),
@@ -102,6 +111,11 @@ fn run(rt: &HostRuntime, words: &[String]) -> Result<()> {
         "recopy" => print_bytes(rt, copy_each(rt.alloc(), batches_of(words)?)?),
         phase => run_phase(rt, phase, text_of(rt, words)?.as_slice()),
     }
+}
+
+/// Runs a text as the words ask for.
+fn run_analysis(rt: &HostRuntime, words: &[String]) -> Result<RunCounts> {
+    run_by(rt.alloc(), word(words, 3)?, text_of(rt, words)?.as_slice())
 }
 
 /// Does the work on a text up to the phase of that name, and prints what it came to.
@@ -117,7 +131,7 @@ fn run_phase(rt: &HostRuntime, phase: &str, text: &[u8]) -> Result<()> {
         "checkpoint" => print_figures(rt, &checkpoint(rt.alloc(), text)?.figures()),
         "bytes" => print_bytes(rt, copy_disk(rt.alloc(), text)?),
         _ => bail!(
-            "parse, graph, tabulate, solve, print, fill, keep, resume, checkpoint, bytes, work, dear, append, reopen, copy, spell, read or recopy is wanted"
+            "parse, graph, tabulate, solve, print, fill, keep, resume, checkpoint, bytes, work, dear, run, scatter, append, reopen, copy, spell, read or recopy is wanted"
         ),
     }
 }

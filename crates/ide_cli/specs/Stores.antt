@@ -3,6 +3,7 @@ use Rattle.std.specs.Global.{Vec}
 use Rattle.std.specs.Prelude.{ℕ, Bool, List, codes}
 use Rattle.std.specs.contracts.fs.File.{the_row as file_row}
 use Rattle.std.specs.declared.fs.File.{File}
+use Rattle.ide_commands.specs.Asked.{Dumps}
 use Rattle.ide_commands.specs.Obeyed.{Obeys}
 use Rattle.ide_commands.specs.Stored.{PrintsQuiet, WorksAll}
 use Rattle.ide_commands.specs.declared.stores.Store.{Store}
@@ -39,6 +40,12 @@ abbrev pub ObeysOver : OpenStore → StoreCommand → List ℕ → (old new : Ve
 ObeysOver (Uninit engine) command text old new = Obeys uninit_analysis shown_uninit engine command text old new
 ObeysOver (Copy engine) command text old new = Obeys copy_analysis shown_constant engine command text old new
 ObeysOver (Shift engine) command text old new = Obeys shift_analysis shown_constant engine command text old new
+
+-- the text is the dump of the store's values
+abbrev pub DumpsOver : OpenStore → List ℕ → Type 0
+DumpsOver (Uninit engine) text = Dumps uninit_analysis shown_uninit engine.table text
+DumpsOver (Copy engine) text = Dumps copy_analysis shown_constant engine.table text
+DumpsOver (Shift engine) text = Dumps shift_analysis shown_constant engine.table text
 
 -- over some open store, and some text where one is to be loaded. Of `work` it is the store that the hands left
 abbrev pub IsObeyed : StoreCommand → (old new : Vec ℕ) → Type 0

@@ -9,13 +9,13 @@ ghost use Rattle.ide_cli.specs.Printed.{AppendsAnswer, is_once};
 
 use crate::explain::meaning_of;
 use crate::failure::{Failure, read_file};
-use crate::stores::{SECOND, adopt, create, obey};
+use crate::stores::{SECOND, adopt, create, dump, obey};
 use clap::error::ErrorKind;
 use ide_commands::check;
 use ide_instances::{CopyConst, ShiftConst, Uninit};
 use ide_solver::solve_onto;
 use ide_wire::Refused;
-use ide_words::{Instance, Words, read_words};
+use ide_words::{Instance, StoreCommand, Words, read_words};
 use std::convert::AsStr;
 use std::fs::{File, Files};
 use std::io;
@@ -32,8 +32,9 @@ const REFUSED: u8 = 1;
 const WRONG_WORDS: u8 = 2;
 
 /// Runs the command of a line, whose first word is the program's name, and answers the status.
-/// Nothing is written to `out` but the answer of the command, and that not before all of it is known: a dump is written in
-/// pieces once each value is. A command that takes long tells on the terminal, if there is one, how far it has come.
+/// Nothing is written to `out` but the answer of the command, and that not before it can be refused no more: a dump
+/// is written in pieces, while its values are filled. A command that takes long tells on the terminal, if there is
+/// one, how far it has come.
 pub(crate) fn run<R, S: AsStr, O: Write, E: Write>(
     rt: &R,
     line: &[S],
@@ -63,6 +64,16 @@ where
     } = words
     {
         return match once(rt, instance, file, procedure, workers, out) {
+            Ok(written) => status_of(DONE, written),
+            Err(failure) => refuse(&failure, err),
+        };
+    }
+    if let Words::On {
+        store,
+        command: StoreCommand::Dump,
+    } = words
+    {
+        return match dump(rt, store, out) {
             Ok(written) => status_of(DONE, written),
             Err(failure) => refuse(&failure, err),
         };

@@ -1,10 +1,11 @@
 //! Commands on a store in two files: how they are opened, and what is read before any call.
-ghost use Rattle.std.specs.Prelude.{◌≡◌, ◌++◌, OnOk};
-ghost use Rattle.ide_cli.specs.Stores.{IsObeyed, ObeysOver, adopted_line, created_line};
+ghost use Rattle.std.specs.Prelude.{◌≡◌, ◌++◌, IfOk, OnErr, OnOk};
+ghost use Rattle.ide_commands.specs.Asked.{WritesText};
+ghost use Rattle.ide_cli.specs.Stores.{DumpsOver, IsObeyed, ObeysOver, OpenStore, adopted_line, created_line};
 
 use crate::failure::{Failure, read_file};
 use crate::working::{Asked, work};
-use ide_commands::{Store, adopt as adopt_on, call, create as create_on, open};
+use ide_commands::{Store, adopt as adopt_on, call, create as create_on, open, write_dump};
 use ide_file::{FileDisk, FileFault};
 use ide_instances::{CopyConst, ShiftConst, Uninit};
 use ide_journal::tag;
@@ -13,7 +14,8 @@ use ide_wire::Refused;
 use ide_words::{Instance, StoreCommand};
 use std::alloc::Global;
 use std::fs::{File, Files};
-use std::io::Stderr;
+use std::io;
+use std::io::{Stderr, Write};
 use std::path::Path;
 use std::sync::Wait;
 use std::thread::Threads;
@@ -138,6 +140,50 @@ fn adopt_of(alloc: Global, a: Disk, b: Disk) -> Result<(), Refused> {
     match adopt_on(alloc, a, b) {
         Ok(_) => Ok(()),
         Err(refused) => Err(refused),
+    }
+}
+
+/// Writes the dump of the store in the files of that name, which are opened first. Inside is how the output did.
+pub(crate) fn dump<'a, R: Files<File = File> + AllocGlobal + Threads + Sync, O: Write>(
+    rt: &R,
+    store: &'a str,
+    out: &mut O,
+) -> Result<io::Result<()>, Failure<'a>>
+    ensures written { IfOk result (λ end. (store : OpenStore) × WritesText (DumpsOver store) end (O.contents out.old) (O.contents out.new)) }
+    ensures unchanged { OnErr result (out.new ≡ out.old) }
+{
+    let (a, b) = both_of(rt, store, Reach::Open)?;
+    Ok(dump_on(rt, a, b, out)?)
+}
+
+/// Opens the store on the disks, and writes its dump. Inside is how the output did.
+fn dump_on<R: AllocGlobal + Threads + Sync, O: Write>(
+    rt: &R,
+    a: Disk,
+    b: Disk,
+    out: &mut O,
+) -> Result<io::Result<()>, Refused>
+    ensures written { IfOk result (λ end. (store : OpenStore) × WritesText (DumpsOver store) end (O.contents out.old) (O.contents out.new)) }
+    ensures unchanged { OnErr result (out.new ≡ out.old) }
+{
+    let store = open(rt.alloc(), a, b)?;
+    dump_of(rt, &store, out)
+}
+
+/// Writes the dump of the store. Inside is how the output did.
+fn dump_of<R: AllocGlobal + Threads + Sync, O: Write>(
+    rt: &R,
+    store: &Store<Disk>,
+    out: &mut O,
+) -> Result<io::Result<()>, Refused>
+    ensures written { IfOk result (λ end. WritesText (DumpsOver store.now) end (O.contents out.old) (O.contents out.new)) }
+    ensures unchanged { OnErr result (out.new ≡ out.old) }
+{
+    let alloc = rt.alloc();
+    match store {
+        Store::Uninit(engine) => write_dump(rt, alloc, &engine.table, out),
+        Store::Copy(engine) => write_dump(rt, alloc, &engine.table, out),
+        Store::Shift(engine) => write_dump(rt, alloc, &engine.table, out),
     }
 }
 

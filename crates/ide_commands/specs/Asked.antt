@@ -1,15 +1,31 @@
 -- What is printed of the values of a store.
 use Rattle.std.specs.Global.{Vec}
-use Rattle.std.specs.Prelude.{◌≡◌, ◌++◌, ℕ, List, [], Some, codes}
+use Rattle.std.specs.Io.KnownBytes.{Appends as WritesOut}
+use Rattle.std.specs.Prelude.{◌≡◌, ◌++◌, ℕ, List, [], Option, Some, Result, OnOk, codes}
 use Rattle.ide_graph.specs.Supergraph.{IsFoundAt}
+use Rattle.ide_steps.specs.CloseRefusal.{IsFreezeRefusal}
 use Rattle.ide_store.specs.Table.{Analysis, TableData}
+use Rattle.ide_store.specs.TableCalls.{IsRefusal}
 use Rattle.ide_values.specs.Closed.{FollowFrom}
 use Rattle.ide_values.specs.Frozen.{AreBestOf}
 use Rattle.ide_values.specs.Values.{ValuesData, dump_of_values, value_there}
+use Rattle.ide_wire.specs.declared.refused.Refused.{Refused}
+use Rattle.ide_wire.specs.declared.refused.Refused.TheVariants.{NoMemory}
 
 -- a text of which that holds is appended
 abbrev pub Prints : (List ℕ → Type 0) → (old new : Vec ℕ) → Type 0
 Prints Holds old new = (text : List ℕ) × (new.items ≡ old.items ++ text) × Holds text
+
+-- there is a text of which that holds, and where the output did not fail it is written behind what that had
+pub record WritesText (Holds : List ℕ → Type 0) {T E : Type 0} (end : Result T E) (before after : Option (List ℕ)) : Type 0 where
+  pub text : List ℕ
+  pub is : Holds text
+  pub written : OnOk end (WritesOut before after text)
+
+-- why no dump is written: the image is not frozen; or memory is wanting
+pub data IsDumpRefusal {F : Type 0} (table : TableData F) : Refused → Type 0 where
+  not_frozen : {refused : Refused} → IsRefusal table (IsFreezeRefusal table.core) refused → IsDumpRefusal table refused
+  no_memory : IsDumpRefusal table NoMemory
 
 module _ {F L : Type 0} (a : Analysis F L) where
   -- nothing is pending, and the values follow from the tables, for the program and its roots; each is best where a run over

@@ -1,6 +1,6 @@
 //! What each command on a store does, over any disk, and what it prints.
-ghost use Rattle.std.specs.Prelude.{◌≡◌, ◌++◌, ℕ, List, OnOk, IfOk};
-ghost use Rattle.ide_commands.specs.Asked.{Answers, AreNow, Prints, PrintsDump};
+ghost use Rattle.std.specs.Prelude.{◌≡◌, ◌++◌, ℕ, List, OnErr, OnOk, IfErr, IfOk};
+ghost use Rattle.ide_commands.specs.Asked.{Answers, AreNow, Dumps, IsDumpRefusal, Prints, PrintsDump, WritesText};
 ghost use Rattle.ide_commands.specs.Lines.{stored_line};
 ghost use Rattle.ide_commands.specs.Stored.{EndsQuiet, MakesCheckpoint, MakesRoot, Migrates, PrintsGeneration, PrintsStored, PrintsVersion, StoresText, WorksAll};
 
@@ -15,6 +15,9 @@ use ide_text::parse;
 use ide_values::{ValuePhase, Values};
 use ide_wire::Refused;
 use std::alloc::{AllocError, Global};
+use std::io;
+use std::io::Write;
+use std::thread::Threads;
 
 /// Loads the program that the text spells, and appends its record's number once it is stored.
 pub(crate) fn load<P: Problem, D: Disk>(
@@ -153,6 +156,29 @@ pub(crate) fn dump<P: Problem>(
 {
     let values = values_of(alloc, table)?;
     values.dump(out)
+}
+
+/// Writes the dump of all values of the image as it stands: neither it nor all values stand in memory whole
+/// ([`ValuePhase::write_values`]). Inside is how the output did.
+///
+/// Refusals, in this order: those of [`TableHalf::freeze`]; `NoMemory`. Nothing is written then.
+pub fn write_dump<R: Threads + Sync, P: Problem, W: Write>(
+    rt: &R,
+    alloc: Global,
+    table: &TableHalf<P>,
+    out: &mut W,
+) -> Result<io::Result<()>, Refused>
+where
+    P::F: Sync,
+    P::L: Send + Sync,
+    ensures written { IfOk result (λ end. WritesText (Dumps ⟦<P as Kept>⟧.analysis P.L.shown table.now) end (W.contents out.old) (W.contents out.new)) }
+    ensures refused { IfErr result (IsDumpRefusal table.now) }
+    ensures unchanged { OnErr result (out.new ≡ out.old) }
+{
+    match table.freeze() {
+        Ok(closed) => closed.write_values(rt, alloc, 1, out),
+        Err(refused) => Err(refused),
+    }
 }
 
 /// The values of the image as it stands.

@@ -19,8 +19,8 @@ use Rattle.ide_image.specs.KeyedImage.{AreParts, Covers, SameParts, marked_at, h
 use Rattle.ide_image.specs.Indexed.{Indexed, IsSpot, place_of_key}
 use Rattle.ide_image.specs.Notes.{noted, with_note}
 use Rattle.ide_image.specs.Queue.{SlotMarks, SameMarks, SetsMark, held_at, is_held, is_pending_mark, mark_in, pending_at, pending_count}
-use Rattle.ide_image.specs.declared.queue.Mark.{Mark}
-use Rattle.ide_image.specs.declared.queue.Mark.TheVariants.{Settled, Waiting, Held}
+use Rattle.ide_image.specs.declared.marks.Mark.{Mark}
+use Rattle.ide_image.specs.declared.marks.Mark.TheVariants.{Settled, Waiting, Held}
 use Rattle.ide_image.proofs.Marked.{any-where, at-put, at-same, at-set, count-where, covers-put, covers-same, covers-set, keys-same}
 
 -- a slot that is not pending is of no claim

@@ -11,8 +11,8 @@ use Rattle.ide_image.specs.Tables.{Table, found, function_at, is_kept, lowered_b
 use Rattle.ide_image.specs.declared.claim.Claim.{Claim}
 use Rattle.ide_image.specs.Worklist.{ends, ends_key, is_claim_of, put_hand, with_done}
 use Rattle.ide_image.specs.declared.entry.Entry.{Entry}
-use Rattle.ide_image.specs.declared.queue.Mark.{Mark}
-use Rattle.ide_image.specs.declared.queue.Mark.TheVariants.{Settled, Waiting, Held}
+use Rattle.ide_image.specs.declared.marks.Mark.{Mark}
+use Rattle.ide_image.specs.declared.marks.Mark.TheVariants.{Settled, Waiting, Held}
 use Rattle.ide_image.specs.ChangeLog.{ChangeLog}
 use Rattle.ide_image.specs.KeyedImage.{AreParts, SameParts, marked_at, entry_by, keys_where, pending_by_slot}
 use Rattle.ide_image.specs.Indexed.{Indexed, place_of_key}

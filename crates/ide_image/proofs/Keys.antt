@@ -1,5 +1,8 @@
 -- A table's keys, sorted.
-use Rattle.std.proofs.Common.{◌≡◌, ◌+◌, sym, ap, ◌∙◌, arith, List, get_or, false, subst}
+use Rattle.std.proofs.Common.{◌≡◌, ℕ, ◌+◌, ◌++◌, ◌∷◌, [], sym, ap, ◌∙◌, arith, List, Some, get_or, false, subst, take}
+use Rattle.std.specs.Prelude.{slice_get}
+use Rattle.std.proofs.lemmas.List.{take_more}
+use Rattle.std.proofs.lemmas.Option.{get_or_from_slice_get, slice_get_within}
 use Rattle.std.specs.List.{IsDistinct, list_any}
 use Rattle.std.specs.List.Sorted.{IsPermutation, IsSorted, IsStrictlySortedBy}
 use Rattle.std.specs.Map.{keys_of}
@@ -40,3 +43,9 @@ are_keys table keys sorted is distinct moved ascends = record {
       sym (list_any-IsPermutation (same_key key) keys sorted moved)
       ∙ (ap (list_any (same_key key)) is ∙ sym (is_some-lookup (same_key key) table.entries));
 }
+
+-- one more of the keys is listed
+pub next-key : {X : Type 0} (xs done : List X) (index : ℕ) (x : X) → slice_get xs index ≡ Some x → done ≡ take index xs → done ++ x ∷ [] ≡ take (index + 1) xs
+next-key xs done index x is before =
+    ap (λ ys. ys ++ x ∷ []) before
+    ∙ sym (take_more xs index x (slice_get_within xs index x is) ∙ ap (λ y. take index xs ++ y ∷ []) (get_or_from_slice_get xs index x x is))

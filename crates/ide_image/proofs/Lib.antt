@@ -1,5 +1,7 @@
 pub mod Agree
 pub mod Before
+pub mod Cells
+pub mod Codes
 pub mod Defaults
 pub mod Falls
 pub mod Held
@@ -8,6 +10,7 @@ pub mod Keys
 pub mod Left
 pub mod Marked
 pub mod Places
+pub mod Ranks
 pub mod Rest
 pub mod Rows
 pub mod Sets

@@ -11,7 +11,7 @@ use Rattle.ide_wire.specs.Key.{same_key, same_key_exact, same_key_refl}
 use Rattle.ide_image.specs.Tables.{behind, place_in, with_entry}
 use Rattle.ide_image.proofs.Places.{place-put, place_then}
 use Rattle.ide_image.proofs.Falls.{count-with}
-use Rattle.ide_image.specs.declared.queue.Mark.{Mark}
+use Rattle.ide_image.specs.declared.marks.Mark.{Mark}
 use Rattle.ide_image.specs.KeyedImage.{Covers, marked_at, keys_where}
 use Rattle.ide_image.specs.Queue.{SetsMark, is_pending_mark, one_if, pending_at, pending_count}
 use Rattle.ide_image.proofs.Spots.{place-few}

@@ -1,6 +1,6 @@
 -- Where entries stand: what is found at the place of a key, and which places there are once an entry is put in.
 use Rattle.std.proofs.Common.{◌≡◌, ℕ, zero, suc, ◌+◌, ◌-◌, ◌<◌, refl, sym, ap, subst, ◌∙◌, arith, List, [], ◌∷◌, ◌++◌, get_or, length, Option, None, Some, Bool, true, false, cond}
-use Rattle.std.specs.Prelude.{IfSome, IsSome, nat_eq, slice_get, slice_set, unwrap_or}
+use Rattle.std.specs.Prelude.{IfSome, nat_eq, slice_get, slice_set, unwrap_or}
 use Rattle.std.proofs.lemmas.Bool.Decides.{nat_tests}
 use Rattle.std.proofs.lemmas.List.{get_or_default}
 use Rattle.std.proofs.lemmas.Option.{same_Some}
@@ -8,10 +8,10 @@ use Rattle.std.specs.List.{AllByRecursion, IsDistinct}
 use Rattle.std.specs.Map.{keys_of, lookup}
 use Rattle.std.specs.Option.{option_map}
 use Rattle.std.proofs.lemmas.Map.Keys.{IsDistinct-cons, IsDistinct-head, IsDistinct-tail}
-use Rattle.ide_pages.specs.Pages.{KeepsCells, Numbers, cell_of, entries, number_at}
+use Rattle.ide_pages.specs.Pages.{KeepsCells, Numbers, entries, number_at}
 use Rattle.ide_wire.specs.declared.key.Key.{Key}
 use Rattle.ide_wire.specs.Key.{node_of, same_key, same_key_exact, same_key_refl, same_key_symm}
-use Rattle.ide_image.specs.Tables.{IsIndexed, behind, entry_nodes, place_in, with_entry}
+use Rattle.ide_image.specs.Tables.{HasCell, IsIndexed, behind, entry_nodes, place_in, with_entry}
 
 behind-zero : (p : ℕ) → behind p ≡ 0 → p ≡ 0
 behind-zero zero is = refl
@@ -259,25 +259,20 @@ indexed-same old new nodes es same indexed = record {
 }
 
 -- ---- cells of a list's keys
-pub kept-cell : (old new : Numbers) (key : Key) → KeepsCells old new → IsSome (cell_of old key) → IsSome (cell_of new key)
-kept-cell old new key keeps has =
-    at (cell_of old key) refl has
-  where
-    at : (o : Option ℕ) → cell_of old key ≡ o → IsSome o → IsSome (cell_of new key)
-    at None is some = absurd (cc (some))
-    at (Some cell) is some = subst IsSome (sym (keeps key cell is)) refl
+pub kept-cell : (old new : Numbers) (key : Key) → KeepsCells old new → HasCell old key → HasCell new key
+kept-cell old new key keeps has = record { cell = has.cell; is = keeps key has.cell has.is; few = has.few }
 
 -- the first keys of the list have cells, and so has the next one
 pub cells-more : {F : Type 0} (old new : Numbers) (list : List (Key × F)) (index : ℕ) (e : Key × F) → index < length list → e ≡ get_or list index e
-    → KeepsCells old new → IsSome (cell_of new e.0)
-    → ((k : ℕ) (d : Key × F) → k < index → IsSome (cell_of old (get_or list k d).0))
-    → (k : ℕ) (d : Key × F) → k < index + 1 → IsSome (cell_of new (get_or list k d).0)
+    → KeepsCells old new → HasCell new e.0
+    → ((k : ℕ) (d : Key × F) → k < index → HasCell old (get_or list k d).0)
+    → (k : ℕ) (d : Key × F) → k < index + 1 → HasCell new (get_or list k d).0
 cells-more old new list index e within is keeps made before k d less =
     at (nat_eq k index) refl
   where
-    next : k ≡ index → IsSome (cell_of new (get_or list k d).0)
-    next same = subst (λ x. IsSome (cell_of new x.0)) (is ∙ get_or_default list index e d within ∙ ap (λ i. get_or list i d) (sym same)) made
+    next : k ≡ index → HasCell new (get_or list k d).0
+    next same = subst (λ x. HasCell new x.0) (is ∙ get_or_default list index e d within ∙ ap (λ i. get_or list i d) (sym same)) made
 
-    at : (b : Bool) → nat_eq k index ≡ b → IsSome (cell_of new (get_or list k d).0)
+    at : (b : Bool) → nat_eq k index ≡ b → HasCell new (get_or list k d).0
     at true same = next (grind (arith, nat_tests, same))
     at false other = kept-cell old new (get_or list k d).0 keeps (before k d (grind (arith, nat_tests, other, less)))

@@ -5,8 +5,8 @@ use Rattle.std.specs.List.{sum_by}
 use Rattle.std.proofs.lemmas.Bool.{cases_eq, eq-eqb, ne_eqb}
 use Rattle.std.proofs.lemmas.List.{get_or-set_other, get_or-set_same}
 use Rattle.std.proofs.lemmas.List.Sums.{sum_by-cons, sum_by-set}
-use Rattle.ide_image.specs.declared.queue.Mark.{Mark}
-use Rattle.ide_image.specs.declared.queue.Mark.TheVariants.{Settled, Waiting, Held}
+use Rattle.ide_image.specs.declared.marks.Mark.{Mark}
+use Rattle.ide_image.specs.declared.marks.Mark.TheVariants.{Settled, Waiting, Held}
 use Rattle.ide_image.specs.Queue.{AreStacked, IsStacked, is_held, is_pending_mark, is_waiting_mark, held_count, mark_in, one_if, pending_count, waiting_count}
 
 -- a mark that does not wait stands at no position

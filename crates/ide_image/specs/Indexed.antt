@@ -1,9 +1,9 @@
 -- What contracts say of entries in the order in which their keys came, and of where each stands.
-use Rattle.std.specs.Prelude.{◌≡◌, ℕ, ◌+◌, ◌-◌, ◌<◌, ◌≤◌, ◌^◌, List, length, min, Some}
-use Rattle.std.specs.List.{IsDistinct}
+use Rattle.std.specs.Prelude.{◌≡◌, ℕ, ◌+◌, ◌-◌, ◌<◌, ◌≤◌, ◌^◌, List, length, map, min, Some}
+use Rattle.std.specs.List.{AllByRecursion, IsDistinct}
 use Rattle.std.specs.Map.{keys_of}
-use Rattle.ide_pages.specs.Pages.{Numbers, cell_of}
-use Rattle.ide_image.specs.Tables.{Table, place_in, with_all, with_entry}
+use Rattle.ide_pages.specs.Pages.{Numbers, cell_of, key_at}
+use Rattle.ide_image.specs.Tables.{IsIndexed, Table, place_in, with_all, with_entry}
 use Rattle.ide_wire.specs.Key.{same_key}
 use Rattle.ide_wire.specs.declared.key.Key.{Key}
 
@@ -18,6 +18,23 @@ abbrev pub entry_room : (row_room node_len node_capacity : ℕ) → ℕ
 entry_room row_room node_len node_capacity = min row_room (node_capacity - node_len)
 
 module _ {F : Type 0} where
+  -- the entry of an item, which has a cell in the pages: the key of the cell with the function
+  abbrev pub entry_in : (pages : List Key) → ℕ × F → Key × F
+  entry_in pages item = (key_at pages item.0, item.1)
+
+  -- the same of each of a list
+  abbrev pub entries_in : (pages : List Key) → List (ℕ × F) → List (Key × F)
+  entries_in pages items = map (entry_in pages) items
+
+  -- the cell of each item is there, and it is its key's
+  abbrev pub HaveTheirCells : Numbers → List (ℕ × F) → Type 0
+  HaveTheirCells places items = AllByRecursion (λ (item : ℕ × F). cell_of places (key_at places.pages item.0) ≡ Some item.0) items
+
+  -- the items have the cells of their keys, and the places and the nodes are those of their entries
+  pub record AreIndexed (places : Numbers) (nodes : List ℕ) (items : List (ℕ × F)) : Type 0 where
+    pub cells_are : HaveTheirCells places items
+    pub indexed : IsIndexed places nodes (entries_in places.pages items)
+
   -- one more than the index of the key's entry: 0, if it has none
   abbrev pub place_of_key : Indexed F → Key → ℕ
   place_of_key indexed key = place_in key indexed.table.entries

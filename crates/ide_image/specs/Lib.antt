@@ -3,8 +3,10 @@ pub mod Entries
 pub mod Indexed
 pub mod KeyedImage
 pub mod Left
+pub mod Marks
 pub mod Notes
 pub mod Queue
+pub mod Ranks
 pub mod Spent
 pub mod Tables
 pub mod Worklist

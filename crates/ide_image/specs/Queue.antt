@@ -1,8 +1,8 @@
 -- What contracts say of the slots' marks: which slots are pending, and which of these a hand has claimed.
-use Rattle.std.specs.Prelude.{◌≡◌, ℕ, ◌+◌, ◌<◌, ◌≤◌, ◌^◌, Bool, true, false, List, length, nat_eq, slice_index, if◌then◌else◌}
+use Rattle.std.specs.Prelude.{◌≡◌, ℕ, ◌+◌, ◌-◌, ◌<◌, ◌≤◌, ◌^◌, Bool, true, false, List, length, min, nat_eq, slice_index, if◌then◌else◌}
 use Rattle.std.specs.List.{slice_index_or, sum_by}
-use Rattle.ide_image.specs.declared.queue.Mark.{Mark}
-use Rattle.ide_image.specs.declared.queue.Mark.TheVariants.{Settled, Waiting, Held}
+use Rattle.ide_image.specs.declared.marks.Mark.{Mark}
+use Rattle.ide_image.specs.declared.marks.Mark.TheVariants.{Settled, Waiting, Held}
 
 -- the marks of slots, in the order of these, and for how many more pending slots there is room
 pub record SlotMarks : Type 0 where
@@ -75,6 +75,14 @@ SetsHeldSlot slot b old new = SetsMark slot b (held_at old) (held_at new)
 abbrev pub SameMarks : (old new : ℕ → Bool) → Type 0
 SameMarks old new = (n : ℕ) → new n ≡ old n
 
+-- a hand has claimed the slot now, or has given it back: what is pending stays, and the room for more
+pub record MarksHeld (slot : ℕ) (is : Bool) (old new : SlotMarks) : Type 0 where
+  pub pending : SameMarks (pending_at old.list) (pending_at new.list)
+  pub held : SetsHeldSlot slot is old.list new.list
+  pub count : pending_count new.list ≡ pending_count old.list
+  pub covered : length new.list ≡ length old.list
+  pub room : new.spare ≡ old.spare
+
 -- one slot more is pending, unless this one was
 abbrev pub CountsPushed : ℕ → (old new : List Mark) → Type 0
 CountsPushed slot old new = pending_count new + one_if (pending_at old slot) ≡ pending_count old + 1
@@ -109,11 +117,15 @@ pub record IsStacked (mark : ℕ → Mark) (at : ℕ → ℕ) (count : ℕ) : Ty
 abbrev pub AreStacked : List Mark → List ℕ → Type 0
 AreStacked marks stack = IsStacked (mark_in marks) (slice_index stack) (length stack)
 
+-- for how many pending slots there is room: 2^32 - 2 at most, so that the mark of each has a code of 32 bits
+abbrev pub stack_room : (capacity : ℕ) → ℕ
+stack_room capacity = min capacity (2 ^ 32 - 2)
+
 -- what holds of the fields: marks and stack agree, the counts are those of the marks, and there is room to put each slot that
 -- a hand has claimed back on the stack
 pub record IsQueue (marks : List Mark) (stack : List ℕ) (capacity held : ℕ) : Type 0 where
   pub stacked : AreStacked marks stack
   pub waiting : waiting_count marks ≡ length stack
   pub holding : held_count marks ≡ held
-  pub room : length stack + held ≤ capacity
+  pub room : length stack + held ≤ stack_room capacity
   pub few : length marks < 2 ^ 32

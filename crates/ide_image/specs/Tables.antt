@@ -1,5 +1,5 @@
 -- What a table says in contracts: the function of each present key.
-use Rattle.std.specs.Prelude.{◌≡◌, ℕ, zero, suc, ◌+◌, ◌-◌, ◌<◌, ◌≤◌, ◌^◌, Bool, length, map, slice_get, unwrap_or, List, [], ◌∷◌, Option, None, Some, IsSome, if◌then◌else◌}
+use Rattle.std.specs.Prelude.{◌≡◌, ℕ, zero, suc, ◌+◌, ◌-◌, ◌<◌, ◌≤◌, ◌^◌, Bool, length, map, slice_get, unwrap_or, List, [], ◌∷◌, Option, None, Some, if◌then◌else◌}
 use Rattle.std.specs.List.{All, AllByRecursion, IsDistinct, list_any}
 use Rattle.std.specs.List.Sorted.{IsStrictlySortedBy}
 use Rattle.std.specs.Map.{lookup, keys_of}
@@ -118,14 +118,20 @@ pub record IsIndexed {F : Type 0} (places : Numbers) (nodes : List ℕ) (entries
   pub nodes_are : nodes ≡ entry_nodes entries
   pub distinct : IsDistinct same_key (keys_of entries)
 
--- each key of the list has a cell
+-- the key has a cell, and its number has 32 bits
+pub record HasCell (places : Numbers) (key : Key) : Type 0 where
+  pub cell : ℕ
+  pub is : cell_of places key ≡ Some cell
+  pub few : cell < 2 ^ 32
+
+-- each key of the list has one
 abbrev pub HaveCells : {F : Type 0} → Numbers → List (Key × F) → Type 0
-HaveCells places list = All (λ entry. IsSome (cell_of places entry.0)) list
+HaveCells places list = All (λ entry. HasCell places entry.0) list
 
 -- the fact with the function of the entry at the place, or with f where there is none
-abbrev pub partner_at : {F : Type 0} → F → List (Key × F) → ℕ × ℕ → ℕ × F
+abbrev pub partner_at : {X F : Type 0} → F → List (X × F) → ℕ × ℕ → ℕ × F
 partner_at f entries listed = (listed.0, unwrap_or (option_map (λ entry. entry.1) (slice_get entries (listed.1 - 1))) f)
 
 -- the same of each fact of a row, where there is none always top
-abbrev pub partners_at : {F L : Type 0} → EdgeAlgebra F L → List (Key × F) → List (ℕ × ℕ) → List (ℕ × F)
+abbrev pub partners_at : {X F L : Type 0} → EdgeAlgebra F L → List (X × F) → List (ℕ × ℕ) → List (ℕ × F)
 partners_at edge entries row = map (partner_at edge.all_top entries) row

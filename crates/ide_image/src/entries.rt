@@ -1,10 +1,8 @@
 //! Entries in a row, which share the functions that came last.
 ghost use Rattle.std.specs.Prelude.{◌≡◌, ◌+◌, ◌++◌, ◌∷◌, ◌<◌, ◌≤◌, ◌^◌, [], Some, length, slice_get, slice_set, IfOk, IfSome, OnOk, vec_capacity, vec_len};
-ghost use Rattle.std.specs.Map.{keys_of};
 ghost use Rattle.ide_image.specs.Entries.{MayKeep};
 
 use ide_lattice::EdgeFn;
-use ide_wire::Key;
 use std::alloc::{AllocError, Global};
 use std::marker::Model;
 
@@ -14,27 +12,27 @@ const MOST_KEPT: usize = 4_294_967_295;
 /// With how many of the functions that were kept last one that comes is compared.
 const RECENT: usize = 4;
 
-/// Keys with their functions, in a row. An entry has the index of its function, which takes 4 bytes, and a
-/// function that is one of the last few is not kept again: entries that follow each other along a procedure
-/// mostly have one function. A function that no entry has any more stays.
+/// Functions in a row, each beside what it is the function of. An entry has the index of its function, which
+/// takes 4 bytes, and a function that is one of the last few is not kept again: entries that follow each
+/// other along a procedure mostly have one function. A function that no entry has any more stays.
 #[derive(Drop)]
-pub(crate) struct Entries<F: EdgeFn> {
-    list: Vec<(Key, u32)>,
+pub(crate) struct Entries<X: Copy, F: EdgeFn> {
+    list: Vec<(X, u32)>,
     functions: Vec<F>,
 }
 
-impl<F: EdgeFn> Model for Entries<F> {
+impl<X: Copy, F: EdgeFn> Model for Entries<X, F> {
     ghost use Rattle.std.specs.Prelude.{vec_capacity, vec_len};
     ghost use Rattle.ide_image.specs.Entries.{AreKept, EntryRow, entries_of, row_room};
 
-    ghost Value = { EntryRow F };
+    ghost Value = { EntryRow X F };
 
     ghost view = { λ e. record { items = entries_of F.edge.all_top e.functions.items e.list.items; room = row_room (vec_len e.list) (vec_capacity e.list) (vec_len e.functions) (vec_capacity e.functions) } };
 
     ghost invariant = { λ e. AreKept e.functions.items e.list.items };
 }
 
-impl<F: EdgeFn> Entries<F> {
+impl<X: Copy, F: EdgeFn> Entries<X, F> {
     /// No entries. It allocates nothing.
     pub(crate) fn new(alloc: Global) -> Self
         ensures { result.items ≡ [] }
@@ -53,22 +51,15 @@ impl<F: EdgeFn> Entries<F> {
     }
 
     /// The entry at an index.
-    pub(crate) fn get(&self, index: usize) -> Option<(Key, F)>
+    pub(crate) fn get(&self, index: usize) -> Option<(X, F)>
         ensures { result ≡ slice_get self.now.items index }
     {
-        let (key, kept) = *self.list.get(index)?;
-        Some((key, self.functions[kept as usize]))
-    }
-
-    /// The keys, in the order of the entries.
-    pub(crate) fn keys(&self, alloc: Global) -> Result<Vec<Key>, AllocError>
-        ensures { IfOk result (λ keys. keys.items ≡ keys_of self.now.items) }
-    {
-        listed_keys(alloc, &self.list)
+        let (beside, kept) = *self.list.get(index)?;
+        Some((beside, self.functions[kept as usize]))
     }
 
     /// The same entries, in the same order.
-    pub(crate) fn copy(&self, alloc: Global) -> Result<Entries<F>, AllocError>
+    pub(crate) fn copy(&self, alloc: Global) -> Result<Entries<X, F>, AllocError>
         ensures { IfOk result (λ copy. copy.items ≡ self.now.items) }
     {
         Ok(Entries {
@@ -91,32 +82,25 @@ impl<F: EdgeFn> Entries<F> {
     }
 
     /// Puts an entry behind the others, for which there is room.
-    pub(crate) fn push_reserved(&mut self, key: Key, function: F)
+    pub(crate) fn push_reserved(&mut self, beside: X, function: F)
         requires room { 0 < self.old.room }
-        ensures items { self.new.items ≡ self.old.items ++ (key, function) ∷ [] }
+        ensures items { self.new.items ≡ self.old.items ++ (beside, function) ∷ [] }
         ensures room { self.old.room ≤ self.new.room + 1 }
     {
         let kept = keep(&mut self.functions, function);
-        self.list.push_reserved((key, kept));
+        self.list.push_reserved((beside, kept));
     }
 
     /// Puts an entry in the place of another, for which there is room.
-    pub(crate) fn replace(&mut self, index: usize, key: Key, function: F)
+    pub(crate) fn replace(&mut self, index: usize, beside: X, function: F)
         requires there { index < length self.old.items }
         requires room { 0 < self.old.room }
-        ensures items { self.new.items ≡ slice_set self.old.items index (key, function) }
+        ensures items { self.new.items ≡ slice_set self.old.items index (beside, function) }
         ensures room { self.old.room ≤ self.new.room + 1 }
     {
         let kept = keep(&mut self.functions, function);
-        self.list[index] = (key, kept);
+        self.list[index] = (beside, kept);
     }
-}
-
-/// The keys, in their order.
-fn listed_keys(alloc: Global, list: &[(Key, u32)]) -> Result<Vec<Key>, AllocError>
-    ensures { IfOk result (λ keys. keys.items ≡ keys_of list.now) }
-{
-    list.iter().map(|entry| entry.0).collect(alloc)
 }
 
 /// The index of the function among those that are kept. It is kept behind the others, unless it is one of

@@ -1,10 +1,11 @@
 //! Entries in the order in which their keys came, and where each stands.
-ghost use Rattle.std.specs.Prelude.{◌≡◌, ℕ, ◌+◌, ◌-◌, ◌<◌, ◌≤◌, ◌↔◌, [], None, Some, length, slice_get, IfOk, IfSome, OnOk, IsOkUnless, IsSome, vec_capacity, vec_len};
-ghost use Rattle.ide_pages.specs.Pages.{KeepsCells, cell_of};
+ghost use Rattle.std.specs.Prelude.{◌≡◌, ℕ, ◌+◌, ◌-◌, ◌<◌, ◌≤◌, ◌↔◌, [], None, Some, length, slice_get, IfOk, IfSome, OnOk, IsOkUnless, vec_capacity, vec_len};
+ghost use Rattle.std.specs.Map.{keys_of};
+ghost use Rattle.ide_pages.specs.Pages.{KeepsCells, cell_of, key_at, number_at};
 ghost use Rattle.ide_wire.specs.declared.key.Key.{Key};
 ghost use Rattle.ide_wire.specs.declared.refused.Refused.TheVariants.{NoMemory};
 ghost use Rattle.ide_wire.specs.KeyOrder.{key_cmp};
-ghost use Rattle.ide_image.specs.Tables.{AreJumpsTo, AreKeys, AreSummariesFrom, HaveCells, IsIndexed, found, function_at, entry_nodes, partner_at, partners_at, place_in, with_entry};
+ghost use Rattle.ide_image.specs.Tables.{AreJumpsTo, AreKeys, AreSummariesFrom, HasCell, HaveCells, found, function_at, entry_nodes, partner_at, partners_at, place_in, with_entry};
 ghost use Rattle.ide_image.specs.Indexed.{ForKeyAt, HasDistinctKeys, IsSpot, MayTake, PutsEntry, place_of_key};
 
 use crate::entries::Entries;
@@ -17,11 +18,16 @@ use std::marker::Model;
 /// The most entries: the last has this number as its place.
 const MOST_ENTRIES: usize = 4_294_967_295;
 
+/// The last cell that an entry can have, so that its number has 32 bits.
+const LAST_CELL: usize = 4_294_967_295;
+
 /// A finite map from keys to functions, where the function of each present key has an index that
 /// stays.
 #[derive(Drop)]
 pub(crate) struct Indexed<F: EdgeFn> {
-    entries: Entries<F>,
+    /// Each function beside its key's cell, which takes 4 bytes where the key takes 12: the page of the
+    /// cell tells the key.
+    entries: Entries<u32, F>,
     /// The node of each entry's key: a walk over some nodes reads these, and the entries there alone.
     nodes: Vec<Node>,
     /// For each key one more than the index of its entry.
@@ -31,20 +37,19 @@ pub(crate) struct Indexed<F: EdgeFn> {
 /// Where a key stands: its cell, and one more than the index of its entry, or 0 where it has none.
 #[derive(Clone, Copy, Debug)]
 pub(crate) struct KeySpot {
-    pub(crate) cell: usize,
+    pub(crate) cell: u32,
     pub(crate) place: u32,
 }
 
 impl<F: EdgeFn> Model for Indexed<F> {
     ghost use Rattle.std.specs.Prelude.{vec_capacity, vec_len};
-    ghost use Rattle.ide_image.specs.Tables.{IsIndexed};
-    ghost use Rattle.ide_image.specs.Indexed.{Indexed, entry_room};
+    ghost use Rattle.ide_image.specs.Indexed.{AreIndexed, Indexed, entries_in, entry_room};
 
     ghost Value = { Indexed F };
 
-    ghost view = { λ t. record { table = record { entries = t.entries.items }; places = t.places; room = entry_room t.entries.room (vec_len t.nodes) (vec_capacity t.nodes) } };
+    ghost view = { λ t. record { table = record { entries = entries_in t.places.pages t.entries.items }; places = t.places; room = entry_room t.entries.room (vec_len t.nodes) (vec_capacity t.nodes) } };
 
-    ghost invariant = { λ t. IsIndexed t.places t.nodes.items t.entries.items };
+    ghost invariant = { λ t. AreIndexed t.places t.nodes.items t.entries.items };
 }
 
 impl<F: EdgeFn> Indexed<F> {
@@ -99,14 +104,15 @@ impl<F: EdgeFn> Indexed<F> {
         self.entries.len()
     }
 
-    /// The entry at an index.
+    /// The entry at an index. No look-up.
     pub(crate) fn entry_at(&self, index: usize) -> Option<(Key, F)>
         ensures entry { result ≡ slice_get self.now.table.entries index }
         ensures end { (result ≡ None) ↔ (length self.now.table.entries ≤ index) }
         ensures present { IfSome result (λ entry. found self.now.table entry.0 ≡ Some entry.1) }
         ensures place { IfSome result (λ entry. place_of_key self.now entry.0 ≡ index + 1) }
     {
-        self.entries.get(index)
+        let entry = self.entries.get(index)?;
+        Some((key_in(&self.places, entry.0), entry.1))
     }
 
     /// The node of each entry's key, in the order of the entries.
@@ -122,9 +128,33 @@ impl<F: EdgeFn> Indexed<F> {
         ensures keys { IfOk result (λ keys. AreKeys key_cmp self.now.table keys.items) }
         ensures refused { IsOkUnless result NoMemory }
     {
-        let mut keys = self.entries.keys(alloc)?;
+        let mut keys = self.listed_keys(alloc)?;
         keys.sort_unstable();
         Ok(keys)
+    }
+
+    /// The keys, in the order of the entries. No look-up.
+    fn listed_keys(&self, alloc: Global) -> Result<Vec<Key>, AllocError>
+        ensures keys { IfOk result (λ keys. keys.items ≡ keys_of self.now.table.entries) }
+        ensures distinct { HasDistinctKeys self.now }
+    {
+        let count = self.len();
+        let mut keys = Vec::with_capacity(alloc, count)?;
+        for index in 0..count {
+            keys.push(self.key_at(index))?;
+        }
+        Ok(keys)
+    }
+
+    /// The key of the entry at an index. No look-up.
+    fn key_at(&self, index: usize) -> Key
+        requires there { index < length self.now.table.entries }
+        ensures { slice_get (keys_of self.now.table.entries) index ≡ Some result }
+    {
+        match self.entry_at(index) {
+            Some(entry) => entry.0,
+            None => unreachable!(),
+        }
     }
 
     /// The jumps at the node to the fact. It takes a look-up for each.
@@ -172,27 +202,35 @@ impl<F: EdgeFn> Indexed<F> {
         })
     }
 
-    /// Where the key stands, for which there is a cell then. One look-up.
+    /// Where the key stands, for which there is a cell then. A cell whose number takes more than 32 bits
+    /// is refused as `NoMemory`. One look-up.
     pub(crate) fn spot(&mut self, key: Key) -> Result<KeySpot, Refused>
         ensures spot { IfOk result (λ spot. IsSpot self.new key spot.cell spot.place) }
+        ensures made { OnOk result (HasCell self.new.places key) }
         ensures table { self.new.table ≡ self.old.table }
         ensures room { self.new.room ≡ self.old.room }
         ensures cells { KeepsCells self.old.places self.new.places }
         ensures refused { IsOkUnless result NoMemory }
     {
         let cell = self.places.make_room(key)?;
+        if cell > LAST_CELL {
+            return Err(Refused::NoMemory);
+        }
         let place = self.places.number_in(cell);
-        Ok(KeySpot { cell, place })
+        Ok(KeySpot {
+            cell: cell as u32,
+            place,
+        })
     }
 
     /// Where the key stands, which has a cell. One look-up.
     pub(crate) fn spot_of(&self, key: Key) -> KeySpot
-        requires cell { IsSome (cell_of self.now.places key) }
+        requires cell { HasCell self.now.places key }
         ensures { IsSpot self.now key result.cell result.place }
     {
         match self.places.cell(key) {
             Some(cell) => KeySpot {
-                cell,
+                cell: cell as u32,
                 place: self.places.number_in(cell),
             },
             None => unreachable!(),
@@ -240,21 +278,38 @@ impl<F: EdgeFn> Indexed<F> {
     {
         if spot.place != 0 {
             let index = spot.place as usize - 1;
-            self.entries.replace(index, key, function);
+            self.entries.replace(index, spot.cell, function);
             return index;
         }
         let index = self.entries.len();
-        self.entries.push_reserved(key, function);
+        self.entries.push_reserved(spot.cell, function);
         self.nodes.push_reserved(key.node());
-        self.places.set(spot.cell, key, self.entries.len() as u32);
+        self.places
+            .set(spot.cell as usize, key, self.entries.len() as u32);
         index
+    }
+}
+
+/// The key of a cell, whose number is not 0. No look-up.
+fn key_in(places: &Pages, cell: u32) -> Key
+    requires own { cell_of places.now (key_at places.now.pages cell) ≡ Some cell }
+    requires number { 0 < number_at places.now (key_at places.now.pages cell) }
+    ensures { result ≡ key_at places.now.pages cell }
+{
+    match places.key_in(cell as usize) {
+        Some(key) => key,
+        None => {
+            // Behind the last cell each number is 0, and this one's is not.
+            let _ = places.number_in(cell as usize);
+            unreachable!()
+        }
     }
 }
 
 /// The facts of a row, each with the function at its place.
 fn partners_of<F: EdgeFn>(
     alloc: Global,
-    entries: &Entries<F>,
+    entries: &Entries<u32, F>,
     row: &[(Fact, u32)],
 ) -> Result<Vec<(Fact, F)>, AllocError>
     ensures { IfOk result (λ partners. partners.items ≡ partners_at F.edge entries.now.items row.now) }
@@ -265,7 +320,7 @@ fn partners_of<F: EdgeFn>(
 }
 
 /// A fact of a row with the function at its place.
-fn partner_at<F: EdgeFn>(entries: &Entries<F>, listed: (Fact, u32)) -> (Fact, F)
+fn partner_at<F: EdgeFn>(entries: &Entries<u32, F>, listed: (Fact, u32)) -> (Fact, F)
     ensures { result ≡ partner_at F.edge.all_top entries.now.items listed }
 {
     match entries.get((listed.1 as usize).saturating_sub(1)) {

@@ -1,6 +1,7 @@
 //! What an image has at each key.
-ghost use Rattle.std.specs.Prelude.{◌≡◌, ◌≢◌, ℕ, ◌+◌, ◌<◌, ◌≤◌, ◌^◌, ◌&&◌, ◌||◌, ◌↔◌, [], None, Some, Ok, Err, true, false, filter, length, nat_eq, not, slice_get, unwrap_or, if◌then◌else◌, IsOk, IsSome, IsTrue, IfOk, IfSome, IfNone, OnOk, OnErr, IsOkUnless};
+ghost use Rattle.std.specs.Prelude.{◌≡◌, ◌≢◌, ℕ, Bool, ◌+◌, ◌<◌, ◌≤◌, ◌^◌, ◌&&◌, ◌||◌, ◌↔◌, [], None, Some, Ok, Err, true, false, filter, length, nat_eq, not, unwrap_or, if◌then◌else◌, IsOk, IsSome, IsTrue, IfOk, IfSome, IfNone, OnOk, OnErr, IsOkUnless};
 ghost use Rattle.std.specs.List.{IsDistinct, list_any};
+ghost use Rattle.std.specs.List.Sorted.{IsPermutation, IsSortedByKey};
 ghost use Rattle.std.specs.Map.{keys_of};
 ghost use Rattle.std.specs.Option.{is_some, option_copied, option_map};
 ghost use Rattle.ide_image.specs.Spent.{Spends, spent};
@@ -12,7 +13,7 @@ ghost use Rattle.ide_wire.specs.KeyOrder.{key_cmp};
 ghost use Rattle.ide_image.specs.declared.claim.Claim.{Claim};
 ghost use Rattle.ide_image.specs.Worklist.{PutsClaim, IsFree, IsWorklist, begun, claim_at, ends, ends_key, is_claimed, is_pending, marked, with_done};
 ghost use Rattle.ide_image.specs.KeyedImage.{CountsPending, entry_now, marked_all};
-ghost use Rattle.ide_image.specs.Left.{left_item, left_items};
+ghost use Rattle.ide_image.specs.Left.{left_items};
 ghost use Rattle.ide_image.specs.Notes.{NotesAll, ended_key, entry_at, noted, noted_count, with_change, with_note};
 
 use crate::change::Change;
@@ -20,6 +21,7 @@ use crate::change_log::ChangeLog;
 use crate::claim::Claim;
 use crate::entry::Entry;
 use crate::indexed::Indexed;
+use crate::ordered::Left;
 use crate::queue::Queue;
 use crate::tables::Tables;
 use crate::{claims, parts};
@@ -29,9 +31,10 @@ use std::alloc::Global;
 use std::marker::Model;
 
 /// What an image has at each key: its function, whether it is pending, the claim of a hand on it, and
-/// the entry that it had when changes were last asked for. It has at most 4,294,967,295 keys, and keeps
-/// as many functions at most, those that no key has any more among them: one more is refused as
-/// `NoMemory`. Each call on one key makes one look-up.
+/// the entry that it had when changes were last asked for. It has at most 4,294,967,295 keys, on 67,108,864
+/// pages at most, and keeps as many functions as keys at most, those that no key has any more among them;
+/// 4,294,967,294 keys are pending at most. One more is refused as `NoMemory`. Each call on one key makes
+/// one look-up.
 #[derive(Drop)]
 pub struct KeyedImage<F: EdgeFn, T> {
     indexed: Indexed<F>,
@@ -182,30 +185,25 @@ impl<F: EdgeFn, T: Drop> KeyedImage<F, T> {
         Some(entry)
     }
 
-    /// The noted keys that are present and have another entry now, each with its function and whether it
-    /// is pending, in the order of the notes: none where nobody asked. It takes no look-up.
+    /// The noted keys that are present and have another entry now, ascending, each with its function and
+    /// whether it is pending: none where nobody asked. It takes no look-up.
     pub fn changed_items(&self, alloc: Global) -> Result<Vec<(Key, F, bool)>, Refused>
-        ensures items { IfOk result (λ items. items.items ≡ left_items F.eq self.now) }
+        ensures same { IfOk result (λ items. IsPermutation (left_items F.eq self.now) items.items) }
+        ensures sorted { IfOk result (λ items. IsSortedByKey (λ (item : Key × F × Bool). item.0) key_cmp items.items) }
         ensures once { IsDistinct same_key (keys_of (unwrap_or self.now.changes [])) }
         ensures refused { IsOkUnless result NoMemory }
     {
-        let count = self.changed_count();
-        let mut items = Vec::with_capacity(alloc, count)?;
-        for index in 0..count {
-            if let Some(item) = self.left_at(index) {
-                items.push_reserved(item);
-            }
-        }
+        let Some(notes) = self.changes.notes() else {
+            return Ok(Vec::new(alloc));
+        };
+        let left = Left {
+            indexed: &self.indexed,
+            queue: &self.queue,
+            notes,
+            slots: self.changes.slots(),
+        };
+        let items = left.items(alloc)?;
         Ok(items)
-    }
-
-    /// What is left of the note at an index: nothing behind the last one.
-    fn left_at(&self, index: usize) -> Option<(Key, F, bool)>
-        ensures { (note : Key × Entry F) → slice_get (unwrap_or self.now.changes []) index ≡ Some note → result ≡ left_item F.eq self.now note }
-    {
-        let (key, before) = *self.changes.notes()?.get(index)?;
-        let slot = *self.changes.slots().get(index)?;
-        parts::left_at(&self.indexed, &self.queue, slot, key, before)
     }
 
     /// How many keys are noted to have changed.

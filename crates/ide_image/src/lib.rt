@@ -17,6 +17,8 @@ mod entries;
 mod entry;
 mod indexed;
 mod keyed_image;
+mod marks;
+mod ordered;
 mod parts;
 mod queue;
 mod tables;

@@ -1,5 +1,5 @@
 //! Steps of the parts that an image is made of, after which they agree again.
-ghost use Rattle.std.specs.Prelude.{◌≡◌, ℕ, ◌+◌, None, Some, false, true, length, IsOk, OnOk, OnErr, IsOkUnless};
+ghost use Rattle.std.specs.Prelude.{◌≡◌, ℕ, ◌+◌, None, Some, false, true, length, IfSome, IsOk, OnOk, OnErr, IsOkUnless};
 ghost use Rattle.std.specs.Option.{is_some};
 ghost use Rattle.ide_pages.specs.Pages.{KeepsCells};
 ghost use Rattle.ide_image.specs.Tables.{HaveCells};
@@ -10,6 +10,7 @@ ghost use Rattle.ide_image.specs.KeyedImage.{AddsAllBySlot, AddsBySlot, AreParts
 ghost use Rattle.ide_image.specs.Indexed.{IsSpot, MayTake, PutsEntries, PutsEntry, place_of_key};
 ghost use Rattle.ide_image.specs.Left.{is_left, left_by_slot};
 ghost use Rattle.ide_image.specs.Queue.{pending_at, pending_count};
+ghost use Rattle.ide_image.specs.Ranks.{item_in};
 
 use crate::change_log::ChangeLog;
 use crate::claim::Claim;
@@ -43,7 +44,8 @@ pub(crate) fn left_at<F: EdgeFn>(
     before: Entry<F>,
 ) -> Option<(Key, F, bool)>
     requires slot { place_of_key indexed.now key ≡ slot + 1 }
-    ensures { result ≡ left_by_slot F.eq indexed.now queue.now key before }
+    ensures left { result ≡ left_by_slot F.eq indexed.now queue.now key before }
+    ensures item { IfSome result (λ item. item_in indexed.now queue.now slot ≡ Some item) }
 {
     let (_, now) = indexed.entry_at(slot as usize)?;
     let pending = queue.is_pending(slot as usize);

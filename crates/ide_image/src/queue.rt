@@ -1,27 +1,21 @@
 //! Which slots are pending, and which of these a hand has claimed: a mark for each slot, and a stack of
 //! those that wait for a hand.
 ghost use Rattle.std.specs.Prelude.{◌≡◌, ◌≢◌, ℕ, ◌+◌, ◌-◌, ◌<◌, ◌≤◌, ◌^◌, ◌||◌, [], true, false, length, slice_get, Some, IfSome, IfNone, OnOk, vec_capacity, vec_len};
-ghost use Rattle.ide_image.specs.declared.queue.Mark.TheVariants.{Waiting};
-ghost use Rattle.ide_image.specs.Queue.{AreStacked, CountsHeldMark, CountsPendingMark, CountsPushed, CountsReleased, CountsSettled, SameMarks, SameSums, SetsHeldSlot, SetsPendingSlot, held_at, is_held, is_pending_mark, is_waiting_mark, mark_in, pending_at, pending_count, waiting_at, waiting_count};
+ghost use Rattle.ide_image.specs.declared.marks.Mark.TheVariants.{Waiting};
+ghost use Rattle.ide_image.specs.Queue.{AreStacked, CountsHeldMark, CountsPendingMark, CountsPushed, CountsReleased, CountsSettled, MarksHeld, SameMarks, SameSums, SetsHeldSlot, SetsPendingSlot, held_at, is_held, is_pending_mark, is_waiting_mark, mark_in, pending_at, pending_count, stack_room, waiting_at, waiting_count};
 
+use crate::marks::{Mark, Marks};
 use std::alloc::{AllocError, Global};
 use std::marker::Model;
 
-/// How a slot stands.
-#[derive(Clone, Copy, PartialEq, Eq, Debug)]
-pub(crate) enum Mark {
-    /// Its key is not pending.
-    Settled,
-    /// Its key is pending, and no hand has claimed it: where it stands on the stack.
-    Waiting(u32),
-    /// Its key is pending, and a hand has claimed it.
-    Held,
-}
+/// The most pending slots, so that the mark of each has a code of 32 bits.
+const MOST_PENDING: usize = 4_294_967_294;
 
-/// A mark for each slot, and the slots that wait. A slot behind the last mark is settled.
+/// A mark for each slot, in 4 bytes, and the slots that wait. A slot behind the last mark is settled, and
+/// 4,294,967,294 are pending at most.
 #[derive(Drop)]
 pub(crate) struct Queue {
-    marks: Vec<Mark>,
+    marks: Marks,
     /// The slots that wait, each once. It has room for those that hands have claimed.
     stack: Vec<u32>,
     /// How many slots hands have claimed.
@@ -30,13 +24,13 @@ pub(crate) struct Queue {
 
 impl Model for Queue {
     ghost use Rattle.std.specs.Prelude.{◌+◌, ◌-◌, vec_capacity, vec_len};
-    ghost use Rattle.ide_image.specs.Queue.{SlotMarks, IsQueue};
+    ghost use Rattle.ide_image.specs.Queue.{SlotMarks, IsQueue, stack_room};
 
     ghost Value = { SlotMarks };
 
-    ghost view = { λ q. record { list = q.marks.items; spare = vec_capacity q.stack - (vec_len q.stack + q.held) } };
+    ghost view = { λ q. record { list = q.marks; spare = stack_room (vec_capacity q.stack) - (vec_len q.stack + q.held) } };
 
-    ghost invariant = { λ q. IsQueue q.marks.items q.stack.items (vec_capacity q.stack) q.held };
+    ghost invariant = { λ q. IsQueue q.marks q.stack.items (vec_capacity q.stack) q.held };
 }
 
 impl Queue {
@@ -45,7 +39,7 @@ impl Queue {
         ensures { result.list ≡ [] }
     {
         Queue {
-            marks: Vec::new(alloc),
+            marks: Marks::new(alloc),
             stack: Vec::new(alloc),
             held: 0,
         }
@@ -55,7 +49,7 @@ impl Queue {
     pub(crate) fn is_pending(&self, slot: usize) -> bool
         ensures { result ≡ pending_at self.now.list slot }
     {
-        match mark_in(&self.marks, slot) {
+        match self.marks.get(slot) {
             Mark::Settled => false,
             Mark::Waiting(_) | Mark::Held => true,
         }
@@ -65,7 +59,7 @@ impl Queue {
     pub(crate) fn is_held(&self, slot: usize) -> bool
         ensures { result ≡ held_at self.now.list slot }
     {
-        match mark_in(&self.marks, slot) {
+        match self.marks.get(slot) {
             Mark::Held => true,
             Mark::Settled | Mark::Waiting(_) => false,
         }
@@ -86,12 +80,16 @@ impl Queue {
         self.stack.last().copied()
     }
 
-    /// Makes room for so many more pending slots.
+    /// Makes room for so many more pending slots. It is refused where there would be more than 4,294,967,294.
     pub(crate) fn reserve(&mut self, additional: usize) -> Result<(), AllocError>
         requires few { additional < 2 ^ 32 }
         ensures room { OnOk result (additional ≤ self.new.spare) }
         ensures same { self.new.list ≡ self.old.list }
     {
+        let pending = self.stack.len() + self.held;
+        if additional > MOST_PENDING - pending {
+            return Err(AllocError);
+        }
         self.stack.reserve(additional + self.held)
     }
 
@@ -117,7 +115,7 @@ impl Queue {
         ensures covered { length self.new.list ≡ length self.old.list }
         ensures room { self.old.spare ≤ self.new.spare + 1 }
     {
-        if self.marks[slot] == Mark::Settled {
+        if self.marks.at(slot) == Mark::Settled {
             stack_up(&mut self.marks, &mut self.stack, slot);
         }
     }
@@ -131,7 +129,7 @@ impl Queue {
         ensures covered { length self.new.list ≡ length self.old.list }
         ensures room { self.old.spare ≤ self.new.spare }
     {
-        match self.marks[slot] {
+        match self.marks.at(slot) {
             Mark::Settled => {}
             Mark::Waiting(position) => {
                 take_off(
@@ -144,7 +142,7 @@ impl Queue {
             }
             Mark::Held => {
                 self.held -= 1;
-                self.marks[slot] = Mark::Settled;
+                self.marks.set(slot, Mark::Settled);
             }
         }
     }
@@ -167,13 +165,9 @@ impl Queue {
     /// Gives the slot, which waits, to a hand.
     pub(crate) fn hold(&mut self, slot: usize)
         requires waits { waiting_at self.old.list slot ≡ true }
-        ensures pending { SameMarks (pending_at self.old.list) (pending_at self.new.list) }
-        ensures held { SetsHeldSlot slot true self.old.list self.new.list }
-        ensures count { pending_count self.new.list ≡ pending_count self.old.list }
-        ensures covered { length self.new.list ≡ length self.old.list }
-        ensures room { self.new.spare ≡ self.old.spare }
+        ensures { MarksHeld slot true self.old self.new }
     {
-        if let Mark::Waiting(position) = mark_in(&self.marks, slot) {
+        if let Mark::Waiting(position) = self.marks.get(slot) {
             take_off(&mut self.marks, &mut self.stack, slot, position, Mark::Held);
             self.held += 1;
         }
@@ -182,11 +176,7 @@ impl Queue {
     /// Takes the slot, which a hand has claimed, back: it waits then. It takes no memory.
     pub(crate) fn release(&mut self, slot: usize)
         requires held { held_at self.old.list slot ≡ true }
-        ensures pending { SameMarks (pending_at self.old.list) (pending_at self.new.list) }
-        ensures held { SetsHeldSlot slot false self.old.list self.new.list }
-        ensures count { pending_count self.new.list ≡ pending_count self.old.list }
-        ensures covered { length self.new.list ≡ length self.old.list }
-        ensures room { self.new.spare ≡ self.old.spare }
+        ensures { MarksHeld slot false self.old self.new }
     {
         self.held -= 1;
         stack_up(&mut self.marks, &mut self.stack, slot);
@@ -202,71 +192,62 @@ impl Queue {
     }
 }
 
-/// The mark of the slot.
-fn mark_in(marks: &[Mark], slot: usize) -> Mark
-    ensures { result ≡ mark_in marks.now slot }
-{
-    match marks.get(slot) {
-        Some(mark) => *mark,
-        None => Mark::Settled,
-    }
-}
-
 /// Makes a mark for each of the first slots, up to this count: those that are new are settled.
-fn grow(marks: &mut Vec<Mark>, count: usize) -> Result<(), AllocError>
+fn grow(marks: &mut Marks, count: usize) -> Result<(), AllocError>
     requires few { count < 2 ^ 32 }
-    requires marks { length marks.old.items < 2 ^ 32 }
-    ensures covered { OnOk result (count ≤ length marks.new.items) }
-    ensures few { length marks.new.items < 2 ^ 32 }
-    ensures same { (n : ℕ) → mark_in marks.new.items n ≡ mark_in marks.old.items n }
-    ensures counts { SameSums marks.old.items marks.new.items }
+    requires marks { length marks.old < 2 ^ 32 }
+    ensures covered { OnOk result (count ≤ length marks.new) }
+    ensures few { length marks.new < 2 ^ 32 }
+    ensures same { (n : ℕ) → mark_in marks.new n ≡ mark_in marks.old n }
+    ensures counts { SameSums marks.old marks.new }
 {
     for _ in marks.len()..count {
-        marks.push(Mark::Settled)?;
+        marks.push_settled()?;
     }
     Ok(())
 }
 
 /// Puts the slot, which does not wait, on the stack.
-fn stack_up(marks: &mut Vec<Mark>, stack: &mut Vec<u32>, slot: usize)
-    requires there { slot < length marks.old.items }
-    requires off { waiting_at marks.old.items slot ≡ false }
-    requires few { length marks.old.items < 2 ^ 32 }
-    requires counted { waiting_count marks.old.items ≡ length stack.old.items }
-    requires room { vec_len stack.old < vec_capacity stack.old }
-    requires stacked { AreStacked marks.old.items stack.old.items }
-    ensures stacked { AreStacked marks.new.items stack.new.items }
-    ensures pending { SetsPendingSlot slot true marks.old.items marks.new.items }
-    ensures held { SetsHeldSlot slot false marks.old.items marks.new.items }
-    ensures pending_count { CountsPushed slot marks.old.items marks.new.items }
-    ensures waiting { waiting_count marks.new.items ≡ length stack.new.items }
-    ensures held_count { CountsReleased slot marks.old.items marks.new.items }
-    ensures covered { length marks.new.items ≡ length marks.old.items }
+fn stack_up(marks: &mut Marks, stack: &mut Vec<u32>, slot: usize)
+    requires there { slot < length marks.old }
+    requires off { waiting_at marks.old slot ≡ false }
+    requires few { length marks.old < 2 ^ 32 }
+    requires counted { waiting_count marks.old ≡ length stack.old.items }
+    requires room { vec_len stack.old < stack_room (vec_capacity stack.old) }
+    requires stacked { AreStacked marks.old stack.old.items }
+    ensures stacked { AreStacked marks.new stack.new.items }
+    ensures pending { SetsPendingSlot slot true marks.old marks.new }
+    ensures held { SetsHeldSlot slot false marks.old marks.new }
+    ensures pending_count { CountsPushed slot marks.old marks.new }
+    ensures waiting { waiting_count marks.new ≡ length stack.new.items }
+    ensures held_count { CountsReleased slot marks.old marks.new }
+    ensures covered { length marks.new ≡ length marks.old }
     ensures len { vec_len stack.new ≡ vec_len stack.old + 1 }
     ensures capacity { vec_capacity stack.new ≡ vec_capacity stack.old }
 {
-    marks[slot] = Mark::Waiting(stack.len() as u32);
+    marks.set(slot, Mark::Waiting(stack.len() as u32));
     stack.push_reserved(slot as u32);
 }
 
 /// Takes the slot, which waits at this position, off the stack, and gives it the mark.
-fn take_off(marks: &mut Vec<Mark>, stack: &mut Vec<u32>, slot: usize, position: u32, mark: Mark)
-    requires at { mark_in marks.old.items slot ≡ Waiting position }
+fn take_off(marks: &mut Marks, stack: &mut Vec<u32>, slot: usize, position: u32, mark: Mark)
+    requires at { mark_in marks.old slot ≡ Waiting position }
     requires off { is_waiting_mark mark ≡ false }
-    requires counted { waiting_count marks.old.items ≡ length stack.old.items }
-    requires stacked { AreStacked marks.old.items stack.old.items }
-    ensures stacked { AreStacked marks.new.items stack.new.items }
-    ensures pending { SetsPendingSlot slot (is_pending_mark mark) marks.old.items marks.new.items }
-    ensures held { SetsHeldSlot slot (is_held mark) marks.old.items marks.new.items }
-    ensures pending_count { CountsPendingMark mark marks.old.items marks.new.items }
-    ensures waiting { waiting_count marks.new.items ≡ length stack.new.items }
-    ensures held_count { CountsHeldMark mark marks.old.items marks.new.items }
-    ensures covered { length marks.new.items ≡ length marks.old.items }
+    requires room { vec_len stack.old ≤ stack_room (vec_capacity stack.old) }
+    requires counted { waiting_count marks.old ≡ length stack.old.items }
+    requires stacked { AreStacked marks.old stack.old.items }
+    ensures stacked { AreStacked marks.new stack.new.items }
+    ensures pending { SetsPendingSlot slot (is_pending_mark mark) marks.old marks.new }
+    ensures held { SetsHeldSlot slot (is_held mark) marks.old marks.new }
+    ensures pending_count { CountsPendingMark mark marks.old marks.new }
+    ensures waiting { waiting_count marks.new ≡ length stack.new.items }
+    ensures held_count { CountsHeldMark mark marks.old marks.new }
+    ensures covered { length marks.new ≡ length marks.old }
     ensures len { vec_len stack.new + 1 ≡ vec_len stack.old }
     ensures capacity { vec_capacity stack.new ≡ vec_capacity stack.old }
 {
     let last = stack[stack.len() - 1];
     let _ = stack.swap_remove(position as usize);
-    marks[last as usize] = Mark::Waiting(position);
-    marks[slot] = mark;
+    marks.set(last as usize, Mark::Waiting(position));
+    marks.set(slot, mark);
 }

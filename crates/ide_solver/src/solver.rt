@@ -12,10 +12,10 @@ use ide_graph::{
     sites_of_programs_are_joined,
 };
 use ide_problem::Problem;
-use ide_steps::{Closed, Core, HANDS};
+use ide_steps::{Closed, Core};
 use ide_text::parse;
 use ide_theory::{graphs_are_supergraphs, runs_go_on, sites_make_a_graph};
-use ide_values::{ValuePhase, Values};
+use ide_values::{ValuePhase, Values, check_workers};
 use ide_wire::Refused;
 use std::alloc::Global;
 use std::io;
@@ -67,8 +67,9 @@ where
     values.dump(out)
 }
 
-/// Writes the dump that [`solve_shared`] appends, in pieces ([`Values::write_dump`]): it never stands in
-/// memory whole. Nothing is written before each value is known. Inside is how the output did.
+/// Writes the dump that [`solve_shared`] appends: neither it nor all values stand in memory whole
+/// ([`ValuePhase::write_values`]). Nothing is written before the image is whole, of which each value follows.
+/// Inside is how the output did.
 ///
 /// Refusals: those of [`solve_shared`]. After each nothing is written.
 pub fn solve_onto<R: Threads + Sync, P: Problem, W: Write>(
@@ -86,8 +87,9 @@ where
     ensures refused { IfErr result (IsSharedRefusal workers text.now (names_of roots.now)) }
     ensures unchanged { OnErr result (out.new ≡ out.old) }
 {
-    let solved = values_shared::<R, P>(rt, alloc, text, roots, workers)?;
-    Ok(solved.write_dump(alloc, out))
+    check_workers(workers)?;
+    let closed = closed_of::<P>(alloc, text, roots)?;
+    closed.write_values(rt, alloc, workers, out)
 }
 
 /// The values of the program that the text spells, with the procedures of these names as roots.
@@ -120,9 +122,7 @@ where
     ensures solved { IfOk result (AreSolvedFor ⟦<P as Shown>⟧.analysis text.now roots.now) }
     ensures refused { IfErr result (IsSharedRefusal workers text.now (names_of roots.now)) }
 {
-    if workers == 0 || workers > HANDS {
-        return Err(Refused::Limit);
-    }
+    check_workers(workers)?;
     let closed = closed_of::<P>(alloc, text, roots)?;
     closed.values(rt, alloc, workers)
 }

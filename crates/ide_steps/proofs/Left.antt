@@ -221,14 +221,13 @@ module _ {F L : Type 0} (same : F → F → Bool) (B : EdgeAlgebra F L) (core : 
       let next = get_or-map (λ (item : Key × F × Bool). item.0) items (k + 1) e d (omega (arith, less, long)) in
       (λ i. is_lt (key_cmp (next i) (here i))) ∙ ascends k e from (omega (arith, less, long))
 
-  -- what is left of the notes, sorted by key, is what changed
-  pub changed-in-order : (exact : (f g : F) → same f g ≡ true → f ≡ g) (alike : (f : F) → same f f ≡ true) (items sorted : List (Key × F × Bool))
-      → IsDistinct same_key (keys_of (unwrap_or core.changes [])) → items ≡ left_items same (image_of core.pile) → IsPermutation items sorted
+  -- what is left of the notes, in the order of keys, is what changed
+  pub changed-in-order : (exact : (f g : F) → same f g ≡ true → f ≡ g) (alike : (f : F) → same f f ≡ true) (sorted : List (Key × F × Bool))
+      → IsDistinct same_key (keys_of (unwrap_or core.changes [])) → IsPermutation (left_items same (image_of core.pile)) sorted
       → IsSortedByKey (λ item. item.0) key_cmp sorted → AreChangedItems core sorted
-  changed-in-order exact alike items sorted once is moved ascends =
+  changed-in-order exact alike sorted once moved ascends =
       let keys = left_keys same core (unwrap_or core.changes []) in
-      let listed : items ≡ map (item_of B core) keys = is ∙ left-listed (unwrap_or core.changes []) in
-      let moves : IsPermutation (map (item_of B core) keys) sorted = subst (λ xs. IsPermutation xs sorted) listed moved in
+      let moves : IsPermutation (map (item_of B core) keys) sorted = subst (λ xs. IsPermutation xs sorted) (left-listed (unwrap_or core.changes [])) moved in
       let in_order = map (λ (item : Key × F × Bool). item.0) sorted in
       let keyed : IsPermutation keys in_order =
       subst (λ ks. IsPermutation ks in_order) (keys-of-items B core keys) (IsPermutation-map (λ (item : Key × F × Bool). item.0) (map (item_of B core) keys) sorted moves) in
@@ -243,10 +242,10 @@ passed-few f (x ∷ xs) = by (f x) (passed-few f xs)
     by None rest = omega (arith, rest)
     by (Some y) rest = omega (arith, rest)
 
-pub few-left : {F T : Type 0} (same : F → F → Bool) (image : KeyedImageData F T) (items sorted : List (Key × F × Bool)) → items ≡ left_items same image
-    → IsPermutation items sorted → length sorted ≤ noted_count image.changes
-few-left same image items sorted is moved =
-    let long = length_permutation items sorted moved in
+pub few-left : {F T : Type 0} (same : F → F → Bool) (image : KeyedImageData F T) (sorted : List (Key × F × Bool))
+    → IsPermutation (left_items same image) sorted → length sorted ≤ noted_count image.changes
+few-left same image sorted moved =
+    let long = length_permutation (left_items same image) sorted moved in
     let few = passed-few (left_item same image) (unwrap_or image.changes []) in
     let count = count-notes image.changes in
-    omega (arith, long, ap length is, few, count)
+    omega (arith, long, few, count)

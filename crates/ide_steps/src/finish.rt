@@ -1,8 +1,8 @@
 //! The end of a claim: finished or released.
 ghost use Rattle.std.specs.Prelude.{◌≡◌, ◌≢◌, [], filter, ◌↔◌, None, Err, IfErr, IsOk, OnErr, OnOk, length, IsOkUnless};
 ghost use Rattle.std.specs.Option.{is_some};
-ghost use Rattle.ide_image.specs.Worklist.{PutsClaim, claim_at};
 ghost use Rattle.ide_image.specs.Notes.{ended_key};
+ghost use Rattle.ide_image.specs.Worklist.{PutsClaim, claim_at};
 ghost use Rattle.ide_steps.specs.Changed.{Notes, Remembers};
 ghost use Rattle.ide_steps.specs.Core.{IsSameProblem};
 ghost use Rattle.ide_steps.specs.Drain.{TakesOut};

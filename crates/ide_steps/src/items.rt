@@ -1,13 +1,10 @@
 //! The image as a list, and an image made from one.
-ghost use Rattle.std.specs.Prelude.{◌≡◌, ◌<◌, ◌≤◌, ℕ, ◌↔◌, Some, false, true, length, slice_get, Bool, IfErr, IfOk, IsTrue, OnErr, OnOk, map};
-ghost use Rattle.std.specs.List.Sorted.{IsPermutation, IsSortedByKey};
+ghost use Rattle.std.specs.Prelude.{◌≡◌, ◌<◌, ◌≤◌, ℕ, ◌↔◌, Some, false, true, length, slice_get, IfErr, IfOk, IsTrue, OnErr, OnOk, map};
 ghost use Rattle.std.specs.Option.{IsSomeAnd};
-ghost use Rattle.ide_image.specs.Tables.{Sets};
 ghost use Rattle.ide_theory.specs.Within.{is_some_call};
-ghost use Rattle.ide_wire.specs.KeyOrder.{key_cmp};
-ghost use Rattle.ide_wire.specs.declared.key.Key.{Key};
-ghost use Rattle.ide_image.specs.Worklist.{claim_at, IsFree};
 ghost use Rattle.ide_image.specs.Notes.{noted_count};
+ghost use Rattle.ide_image.specs.Tables.{Sets};
+ghost use Rattle.ide_image.specs.Worklist.{claim_at, IsFree};
 ghost use Rattle.ide_steps.specs.Changed.{Notes, Remembers};
 ghost use Rattle.ide_steps.specs.Core.{IsSameProblem, IsUnchanged};
 ghost use Rattle.ide_steps.specs.Items.{AreChangedItems, AreItems, IsKeyOf, SetsPending, item_of};
@@ -15,7 +12,6 @@ ghost use Rattle.ide_steps.specs.Items.{AreChangedItems, AreItems, IsKeyOf, Sets
 use crate::loaded::is_call;
 use crate::machine::Core;
 use ide_graph::Graph;
-use ide_lattice::EdgeFn;
 use ide_problem::Problem;
 use ide_wire::{Fact, Key, Node, Refused};
 use std::alloc::AllocError;
@@ -43,8 +39,7 @@ impl<P: Problem> Core<P> {
         ensures few { IfOk result (λ items. length items.items ≤ noted_count self.now.changes) }
         ensures refused { IfErr result (λ e. e ≡ Refused.NoMemory) }
     {
-        let mut items = self.image.changed_items(self.alloc)?;
-        sort_items(&mut items);
+        let items = self.image.changed_items(self.alloc)?;
         Ok(items)
     }
 
@@ -93,14 +88,6 @@ impl<P: Problem> Core<P> {
         self.image.set(key, function, pending)?;
         Ok(())
     }
-}
-
-/// Puts items in the order of their keys.
-fn sort_items<F: EdgeFn>(items: &mut Vec<(Key, F, bool)>)
-    ensures same { IsPermutation items.old.items items.new.items }
-    ensures sorted { IsSortedByKey (λ (item : Key × F × Bool). item.0) key_cmp items.new.items }
-{
-    items.sort_unstable_by_key(|item| item.0);
 }
 
 /// Whether the key stands at a node of the graph, a summary at a call node, and its facts are facts

@@ -10,7 +10,9 @@ pub mod Halves
 pub mod Lines
 pub mod Lowered
 pub mod Nowhere
+pub mod Parts
 pub mod Passing
+pub mod Pieces
 pub mod Places
 pub mod Refused
 pub mod Workers

@@ -1,5 +1,6 @@
 pub mod Best
 pub mod BestDump
+pub mod Chunks
 pub mod Dump
 pub mod Closed
 pub mod Enter
@@ -8,6 +9,7 @@ pub mod Fill
 pub mod Frozen
 pub mod Pass
 pub mod Passing
+pub mod Rows
 pub mod Refusal
 pub mod Settled
 pub mod Share

@@ -1,11 +1,14 @@
 //! The dump: a line for each node and each fact that has a name there.
-ghost use Rattle.std.specs.Prelude.{◌≡◌, ◌<◌, ◌≤◌, OnOk, OnErr, replicate, IsOkUnless};
+ghost use Rattle.std.specs.Prelude.{◌≡◌, ◌+◌, ◌<◌, ◌≤◌, ◌^◌, OnOk, OnErr, replicate, IsOkUnless};
 ghost use Rattle.std.specs.Io.KnownBytes.{Appends as WritesOut};
 ghost use Rattle.ide_text.specs.Text.{Extends};
 ghost use Rattle.ide_values.specs.Dump.{Appends, Moves, columns_of, left, line_of, right};
+ghost use Rattle.ide_values.specs.Rows.{MovesRows, lines_in_row};
 ghost use Rattle.ide_values.specs.Values.{AppendsDump, AppendsLines, dump_of_values};
 
+use crate::rows::{place_of, value_at_place};
 use crate::values::Values;
+use ide_graph::Graph;
 use ide_lattice::Lattice;
 use ide_problem::Problem;
 use ide_wire::{Fact, Node, Refused};
@@ -22,7 +25,7 @@ const FACT_WIDTH: usize = 4;
 const NAME_WIDTH: usize = 31;
 
 /// At how many bytes a piece of the dump is written.
-const PIECE: usize = 262_144;
+pub(crate) const PIECE: usize = 262_144;
 
 /// As many spaces as the widest column has.
 const SPACES: [u8; NAME_WIDTH] = [b' '; NAME_WIDTH];
@@ -55,13 +58,16 @@ impl<P: Problem> Values<P> {
         ensures { OnOk result (WritesOut (W.contents out.old) (W.contents out.new) (dump_of_values P.L.algebra P.L.shown self.now)) }
     {
         let mut piece = Vec::with_capacity(alloc, 2 * PIECE)?;
-        let count = self.loaded.graph.node_count();
-        for index in 0..count {
-            self.append_node(index as Node, &mut piece)?;
-            write_full(&mut piece, out)?;
-        }
-        out.write_all(&piece)?;
-        out.flush()
+        let graph = &self.loaded.graph;
+        write_nodes(
+            graph,
+            0,
+            graph.node_count() as Node,
+            self.values.as_slice(),
+            &mut piece,
+            out,
+        )?;
+        write_rest(&piece, out)
     }
 
     /// Appends the lines of all nodes.
@@ -81,18 +87,60 @@ impl<P: Problem> Values<P> {
         ensures text { OnOk result (AppendsLines P.L.algebra P.L.shown self.now node out.old out.new) }
         ensures extends { OnErr result (Extends out.old.items out.new.items) }
     {
-        for index in 0..self.loaded.graph.fact_count() {
-            let fact = index as Fact;
-            let Some(name) = self.loaded.graph.fact_name(node, fact) else {
-                break;
-            };
-            let Ok(value) = self.at(node, fact) else {
-                break;
-            };
-            append_line(node, fact, name, value, out)?;
-        }
-        Ok(())
+        append_lines(&self.loaded.graph, node, self.values.as_slice(), node, out)
     }
+}
+
+/// Writes the lines of so many nodes from the first on, whose rows of values these are, behind what the
+/// piece has, whenever that is a whole piece.
+pub(crate) fn write_nodes<L: Lattice, W: Write>(
+    graph: &Graph,
+    first: Node,
+    count: Node,
+    rows: &[L],
+    piece: &mut Vec<u8>,
+    out: &mut W,
+) -> io::Result<()>
+    requires nodes { first + count ≤ graph.now.nodes }
+    requires few { first + count < 2 ^ 32 }
+    ensures { OnOk result (MovesRows L.algebra L.shown graph.now first count rows.now piece.old piece.new (W.contents out.old) (W.contents out.new)) }
+{
+    for row in 0..count {
+        append_lines(graph, first + row, rows, row, piece)?;
+        write_full(piece, out)?;
+    }
+    Ok(())
+}
+
+/// Writes what is left of the last piece.
+pub(crate) fn write_rest<W: Write>(rest: &[u8], out: &mut W) -> io::Result<()>
+    ensures { OnOk result (WritesOut (W.contents out.old) (W.contents out.new) rest.now) }
+{
+    out.write_all(rest)?;
+    out.flush()
+}
+
+/// Appends the lines of a node, whose values are a row of these.
+fn append_lines<L: Lattice>(
+    graph: &Graph,
+    node: Node,
+    rows: &[L],
+    row: Node,
+    out: &mut Vec<u8>,
+) -> Result<(), AllocError>
+    requires { node < graph.now.nodes }
+    ensures text { OnOk result (Appends (lines_in_row L.algebra L.shown graph.now rows.now row node) out.old out.new) }
+    ensures extends { OnErr result (Extends out.old.items out.new.items) }
+{
+    for index in 0..graph.fact_count() {
+        let fact = index as Fact;
+        let Some(name) = graph.fact_name(node, fact) else {
+            break;
+        };
+        let value = value_at_place(rows, place_of(graph, row, fact));
+        append_line(node, fact, name, value, out)?;
+    }
+    Ok(())
 }
 
 /// Writes the piece and empties it, if it is long enough.

@@ -6,6 +6,7 @@
 //! value where it ends. This fill may be shared by several threads, and the values are the same.
 #![tactic(auto)]
 
+mod chunks;
 mod dump;
 mod enter;
 mod fill;
@@ -20,4 +21,4 @@ mod values;
 
 pub use laws::{dumps_of_best_are_best, following_values_are_best};
 pub use shared_fill::FillGate;
-pub use values::{ValuePhase, Values};
+pub use values::{ValuePhase, Values, check_workers};

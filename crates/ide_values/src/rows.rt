@@ -19,6 +19,16 @@ pub(crate) fn tops<L: Lattice>(alloc: Global, count: usize) -> Result<Vec<L>, Al
     Ok(values)
 }
 
+/// Makes each value top.
+pub(crate) fn blank<L: Lattice>(values: &mut [L])
+    ensures count { length values.new ≡ length values.old }
+    ensures tops { AreTops L.algebra values.new }
+{
+    for place in 0..values.len() {
+        values[place] = L::top();
+    }
+}
+
 /// The value of a fact at the start of a node's procedure.
 pub(crate) fn value_before<L: Lattice>(graph: &Graph, starts: &[L], node: Node, fact: Fact) -> L
     ensures { node < graph.now.nodes → result ≡ value_before L.algebra graph.now starts.now node fact }

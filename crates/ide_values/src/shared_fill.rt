@@ -1,10 +1,11 @@
 //! The fill by several threads, of which each fills the rows of a range of nodes.
-ghost use Rattle.std.specs.Prelude.{◌≡◌, ◌*◌, ◌<◌, ◌≤◌, IfOk, length};
+ghost use Rattle.std.specs.Prelude.{◌≡◌, ◌+◌, ◌*◌, ◌<◌, ◌≤◌, ◌^◌, IfOk, length};
 ghost use Rattle.ide_image.specs.Tables.{entry_nodes};
-ghost use Rattle.ide_values.specs.Fill.{FillsRows};
+ghost use Rattle.ide_values.specs.Fill.{FillsFrom, FillsRows};
 ghost use Rattle.ide_values.specs.Refusal.{AreWorkers};
-ghost use Rattle.ide_values.specs.SharedFill.{first_node, sharing_of};
+ghost use Rattle.ide_values.specs.SharedFill.{nodes_before, sharing_of};
 ghost use Rattle.ide_values.specs.Spans.{AreSpans};
+ghost use Rattle.ide_values.specs.Start.{AreTops};
 
 use crate::fill::fill_rows;
 use crate::rows::tops;
@@ -48,18 +49,59 @@ where
     ensures filled { IfOk result (FillsRows F.L.algebra F.edge graph.now tables.now starts.now) }
     ensures count { IfOk result (λ values. length values.items ≡ graph.now.nodes * graph.now.facts) }
 {
+    let nodes = graph.node_count() as Node;
     let mut values = tops(alloc, graph.node_count() * graph.fact_count())?;
     let spans = spans_for(alloc, tables, workers)?;
+    fill_nodes(
+        rt,
+        graph,
+        tables,
+        spans.as_slice(),
+        starts,
+        0,
+        nodes,
+        workers,
+        gate,
+        values.as_mut_slice(),
+    );
+    Ok(values)
+}
+
+/// Fills rows of tops, those of so many nodes from the first on, by so many workers, as
+/// [`fill_rows`] does.
+pub(crate) fn fill_nodes<R: Threads + Sync, F: EdgeFn + Sync, G: FillGate + Sync>(
+    rt: &R,
+    graph: &Graph,
+    tables: &Tables<F>,
+    spans: &[Span],
+    starts: &[F::L],
+    first: Node,
+    nodes: Node,
+    workers: usize,
+    gate: &G,
+    rows: &mut [F::L],
+)
+where
+    F::L: Send + Sync,
+    requires workers { AreWorkers workers }
+    requires few { first + nodes < 2 ^ 32 }
+    requires count { length rows.old ≡ nodes * graph.now.facts }
+    requires tops { AreTops F.L.algebra rows.old }
+    requires spans { AreSpans (entry_nodes tables.now.entries) spans.now }
+    ensures count { length rows.new ≡ length rows.old }
+    ensures filled { FillsFrom F.L.algebra F.edge graph.now tables.now starts.now first rows.new }
+{
     let shared = SharedFill {
         graph,
         tables,
-        spans: spans.as_slice(),
+        spans,
         starts,
+        first,
+        nodes,
         workers,
         gate,
     };
-    fill_shared(rt, &shared, 0, workers, values.as_mut_slice());
-    Ok(values)
+    fill_shared(rt, &shared, 0, workers, rows);
 }
 
 /// The spans by which so many workers pass over blocks of entries: none for one, who reads them all.
@@ -76,40 +118,45 @@ fn spans_for<F: EdgeFn>(
     spans_of(alloc, tables.nodes())
 }
 
-/// A fill that workers share: what it reads, and how many they are.
+/// A fill that workers share: what it reads, the nodes whose rows it fills, so many from the first on,
+/// and how many workers they are.
 #[derive(Drop)]
 struct SharedFill<'a, F: EdgeFn, G> {
     graph: &'a Graph,
     tables: &'a Tables<F>,
     spans: &'a [Span],
     starts: &'a [F::L],
+    first: Node,
+    nodes: Node,
     workers: usize,
     gate: &'a G,
     ghost spanned: { AreSpans (entry_nodes tables.now.entries) spans.now },
     ghost some: { 0 < workers },
     ghost most: { workers ≤ 64 },
+    ghost few: { first + nodes < 2 ^ 32 },
 }
 
 impl<'a, F: EdgeFn, G: FillGate> SharedFill<'a, F, G> {
-    /// The first node of a worker, or how many nodes there are behind the last.
-    fn first_node(&self, worker: usize) -> Node
+    /// How many of the nodes are those of the workers before this one.
+    fn nodes_before(&self, worker: usize) -> Node
         requires { worker ≤ self.now.workers }
-        ensures node { result ≡ first_node self.now.graph.now.nodes self.now.workers worker }
+        ensures nodes { result ≡ nodes_before self.now.nodes self.now.workers worker }
+        ensures few { result ≤ self.now.nodes }
     {
-        (worker * self.graph.node_count() / self.workers) as Node
+        (worker * self.nodes as usize / self.workers) as Node
     }
 }
 
 impl<'a, F: EdgeFn, G: FillGate> Ranges<F::L> for SharedFill<'a, F, G> {
-    ghost sharing = { λ s. sharing_of F.L.algebra F.edge s.graph.now s.tables.now s.starts.now s.workers };
+    ghost sharing = { λ s. sharing_of F.L.algebra F.edge s.graph.now s.tables.now s.starts.now s.first s.nodes s.workers };
 
     fn start(&self, worker: usize) -> usize {
-        self.first_node(worker) as usize * self.graph.fact_count()
+        self.nodes_before(worker) as usize * self.graph.fact_count()
     }
 
     fn fill(&self, worker: usize, rows: &mut [F::L]) {
         self.gate.begin(worker);
-        let first = self.first_node(worker);
+        let first = self.first + self.nodes_before(worker);
         fill_rows(
             self.graph,
             self.tables,

@@ -1,18 +1,22 @@
 //! The values of a program.
-ghost use Rattle.std.specs.Prelude.{◌≡◌, ◌↔◌, Err, IfErr, IfOk, OnOk, IsOkUnless};
+ghost use Rattle.std.specs.Prelude.{◌≡◌, ◌↔◌, Err, IfErr, IfOk, OnErr, OnOk, IsOkUnless};
 ghost use Rattle.ide_steps.specs.Frozen.{graph_in, program_in};
 ghost use Rattle.ide_steps.specs.declared.closed.Closed.{Closed};
 ghost use Rattle.ide_text.specs.Program.{value_of as program_value};
+ghost use Rattle.ide_values.specs.Chunks.{WritesDumpOf};
 ghost use Rattle.ide_values.specs.Closed.{FollowFrom, LeadOn};
 ghost use Rattle.ide_values.specs.Frozen.{AreBestOf, AreValuesOf, FollowClosed};
 ghost use Rattle.ide_values.specs.Refusal.{AreWorkers, IsValuesRefusal};
 ghost use Rattle.ide_values.specs.Settled.{AreStartRows};
 ghost use Rattle.ide_values.specs.Values.{AreValues, IsOutside, value_there};
 
+use crate::chunks::{chunk_size, write_chunks};
+use crate::dump::PIECE;
 use crate::fill::fill;
 use crate::laws::following_values_are_best;
-use crate::rows::{place_of, value_at_place};
+use crate::rows::{place_of, tops, value_at_place};
 use crate::shared_fill::{FillGate, NoGate, fill_by};
+use crate::spans::spans_of;
 use crate::starts::start_values;
 use ide_graph::Graph;
 use ide_image::Tables;
@@ -22,6 +26,8 @@ use ide_text::Program;
 use ide_theory::sites_make_a_graph;
 use ide_wire::{Fact, Node, Refused};
 use std::alloc::{AllocError, Global};
+use std::io;
+use std::io::Write;
 use std::marker::Model;
 use std::sync::Arc;
 use std::thread::Threads;
@@ -32,7 +38,7 @@ pub struct Values<P: Problem> {
     pub(crate) loaded: Arc<Loaded<P>>,
     roots: Vec<usize>,
     /// Rows by node, one value for each fact.
-    values: Vec<P::L>,
+    pub(crate) values: Vec<P::L>,
 }
 
 impl<P: Problem> Model for Values<P> {
@@ -122,10 +128,57 @@ pub trait ValuePhase<P: Problem> {
         ensures values { IfOk result (AreValuesOf P.L.algebra P.F.edge P.targets (image self.now)) }
         ensures best { IfOk result (AreBestOf P.L.algebra P.F.edge P.targets (image self.now).tables) }
     {
-        if workers == 0 || workers > HANDS {
-            return Err(Refused::Limit);
-        }
+        check_workers(workers)?;
         Ok(values_by(rt, alloc, self.image(), workers, gate)?)
+    }
+
+    /// Writes the dump of the image's values, as [`Values::write_dump`] does, by so many workers, with no more
+    /// of the values in memory than those of a sixteenth of the nodes, or 65,536 of them, if these are more: rows
+    /// are filled and written, and then the next ones. Start values are found before anything is written.
+    /// Inside is how the output did, or the lines of a node for want of memory.
+    ///
+    /// It passes over the tables as often as there are chunks, sixteen times at most, by the spans of blocks
+    /// of entries and the nodes of blocks that may have one of the chunk.
+    ///
+    /// Refusals, in this order: `Limit` where there are no workers or more than 64; `NoMemory`. Nothing is
+    /// written then.
+    final fn write_values<R: Threads + Sync, W: Write>(
+        &self,
+        rt: &R,
+        alloc: Global,
+        workers: usize,
+        out: &mut W,
+    ) -> Result<io::Result<()>, Refused>
+    where
+        P::F: Sync,
+        P::L: Send + Sync,
+        ensures workers { OnOk result (AreWorkers workers) }
+        ensures refused { IfErr result (IsValuesRefusal workers) }
+        ensures written { WritesDumpOf P.L.algebra P.F.edge P.targets P.L.shown (image self.now) result (W.contents out.old) (W.contents out.new) }
+        ensures unchanged { OnErr result (out.new ≡ out.old) }
+    {
+        check_workers(workers)?;
+        following_values_are_best::<P>();
+        let closed = self.image();
+        let graph = &closed.loaded.graph;
+        let tables = &closed.tables;
+        let starts = leading_starts::<P>(alloc, graph, tables, closed.roots.as_slice())?;
+        let spans = spans_of(alloc, tables.nodes())?;
+        let size = chunk_size(graph);
+        let mut rows = tops(alloc, size as usize * graph.fact_count())?;
+        let mut piece = Vec::with_capacity(alloc, 2 * PIECE)?;
+        Ok(write_chunks(
+            rt,
+            graph,
+            tables,
+            spans.as_slice(),
+            starts.as_slice(),
+            workers,
+            size,
+            rows.as_mut_slice(),
+            &mut piece,
+            out,
+        ))
     }
 }
 
@@ -135,6 +188,20 @@ impl<P: Problem> ValuePhase<P> for Closed<P> {
     fn image(&self) -> &Closed<P> {
         self
     }
+}
+
+/// Tests that so many workers may share a fill.
+///
+/// Refusal: `Limit` where there are no workers or more than 64.
+pub fn check_workers(workers: usize) -> Result<(), Refused>
+    ensures workers { OnOk result (AreWorkers workers) }
+    ensures refused { IfErr result (IsValuesRefusal workers) }
+    ensures limit { IsOkUnless result Refused.Limit }
+{
+    if workers == 0 || workers > HANDS {
+        return Err(Refused::Limit);
+    }
+    Ok(())
 }
 
 /// The values of an image, by the calling thread.
@@ -247,7 +314,7 @@ where
 }
 
 /// The start values of a graph, from which a fill leads to the values that follow.
-fn leading_starts<P: Problem>(
+pub(crate) fn leading_starts<P: Problem>(
     alloc: Global,
     graph: &Graph,
     tables: &Tables<P::F>,

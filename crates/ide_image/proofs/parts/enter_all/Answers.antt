@@ -1,12 +1,11 @@
 use Rattle.std.proofs.Common.{◌≡◌, ◌+◌, ◌∷◌, ap, drop, length, subst, sym, ◌∙◌, arith}
-use Rattle.std.specs.Prelude.{IsSome, ◌||◌}
+use Rattle.std.specs.Prelude.{◌||◌}
 use Rattle.std.specs.List.{list_any}
 use Rattle.std.specs.Map.{keys_of}
 use Rattle.std.specs.Option.{is_some}
 use Rattle.std.proofs.lemmas.List.{drop_all, drop_more}
-use Rattle.ide_pages.specs.Pages.{cell_of}
 use Rattle.ide_wire.specs.Key.{same_key}
-use Rattle.ide_image.specs.Tables.{with_all}
+use Rattle.ide_image.specs.Tables.{HasCell, with_all}
 use Rattle.ide_image.proofs.Places.{kept-cell}
 use Rattle.ide_image.specs.Worklist.{claim_in}
 use Rattle.ide_image.specs.KeyedImage.{HasRoomFor, entry_by, marked_all, pending_by_slot}
@@ -17,7 +16,7 @@ use Rattle.ide_image.proofs.parts.enter_all.Goals as goal
 pub spot_of-spot-requires : goal.spot_of-spot-requires
 spot_of-spot-requires g c =
     record {
-      cell = subst (λ e. IsSome (cell_of c.loop-entry.indexed.places e.0)) (sym c.entry-item.is)
+      cell = subst (λ e. HasCell c.loop-entry.indexed.places e.0) (sym c.entry-item.is)
           (c.loop-entry.invariant.cells c.loop-entry.entry-index c.entry-item.result c.loop-entry-test.true);
     }
 

@@ -1,19 +1,20 @@
-use Rattle.std.proofs.Common.{map, arith, rules}
+use Rattle.std.proofs.Common.{map}
 use Rattle.std.proofs.lemmas.Result.{IfErr-weaker, err_from_is_err_and}
 use Rattle.ide_solver.specs.Refusal.{IsSharedRefusal, not_shared, not_solved}
-use Rattle.ide_solver.proofs.Refused.{not_workers}
 use Rattle.ide_solver.proofs.Results.{refused-on, if-ok}
 use Rattle.ide_solver.proofs.solver.values_shared.Goals as goal
 
-pub returns-then-workers-eq0-clause-refused : goal.returns-then-workers-eq0-clause-refused
-returns-then-workers-eq0-clause-refused g c =
-    not_shared (not_workers c.args.workers (search rules))
+pub returns-in_err-check_workers-clause-refused : goal.returns-in_err-check_workers-clause-refused
+returns-in_err-check_workers-clause-refused g c =
+    let p = err_from_is_err_and c.from_residual.result c.from_residual.ensures.1 in
+    refused-on (IsSharedRefusal c.args.workers c.args.text.now (map (λ name. name.now) c.args.roots.now)) c.from_residual.result c.in_err-check_workers.field-0.0 p.0 p.1 p.2
+    (not_shared c.in_err-check_workers.ensures.refused)
 
 pub returns-in_err-closed-clause-refused : goal.returns-in_err-closed-clause-refused
 returns-in_err-closed-clause-refused g c =
-    let p = err_from_is_err_and c.from_residual.result c.from_residual.ensures.1 in
-    refused-on (IsSharedRefusal c.args.workers c.args.text.now (map (λ name. name.now) c.args.roots.now)) c.from_residual.result c.in_err-closed.field-0.0 p.0 p.1 p.2
-    (not_solved (record { some = omega arith; most = omega arith }) c.in_err-closed.ensures.refused)
+    let p = err_from_is_err_and c.from_residual-in_err-closed.result c.from_residual-in_err-closed.ensures.1 in
+    refused-on (IsSharedRefusal c.args.workers c.args.text.now (map (λ name. name.now) c.args.roots.now)) c.from_residual-in_err-closed.result c.in_err-closed.field-0.0 p.0 p.1 p.2
+    (not_solved c.in_ok-check_workers.ensures.workers c.in_err-closed.ensures.refused)
 
 pub returns-clause-solved : goal.returns-clause-solved
 returns-clause-solved g c =

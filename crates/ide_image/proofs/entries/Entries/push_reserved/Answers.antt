@@ -7,9 +7,9 @@ pub returns-clause-items : goal.returns-clause-items
 returns-clause-items g c =
     let top = g.F.EdgeFn.edge.all_top in
     ap (entries_of top c.keep-kept.new.functions.items) c.push_reserved.ensures.items
-    ∙ pushed {F = g.row.F.Denot} top c.self.inside.functions.items c.keep-kept.new.functions.items c.args.function c.self.inside.list.items
-    c.keep-kept.ensures.others c.self.invariant c.args.key c.keep-kept.result c.keep-kept.ensures.kept
-    ∙ ap (λ row. row.items ++ (c.args.key, c.args.function) ∷ []) c.self.view_is
+    ∙ pushed {X = g.row.X.Denot} {F = g.row.F.Denot} top c.self.inside.functions.items c.keep-kept.new.functions.items c.args.function c.self.inside.list.items
+    c.keep-kept.ensures.others c.self.invariant c.args.beside c.keep-kept.result c.keep-kept.ensures.kept
+    ∙ ap (λ row. row.items ++ (c.args.beside, c.args.function) ∷ []) c.self.view_is
 
 pub returns-clause-room : goal.returns-clause-room
 returns-clause-room g c =

@@ -1,5 +1,4 @@
-use Rattle.std.proofs.Common.{◌∙◌, refl, subst, sym}
-use Rattle.std.specs.Prelude.{IsSome}
+use Rattle.std.proofs.Common.{◌∙◌}
 use Rattle.ide_image.proofs.Places.{cells-more}
 use Rattle.ide_image.proofs.indexed.Indexed.make_cells.Goals as goal
 
@@ -10,5 +9,5 @@ loop-entry-preserved g c = record {
   cells = λ q cell is. c.spot.ensures.cells q cell (c.loop-entry.invariant.cells q cell is);
   made =
       cells-more {F = g.row.F.Denot} c.loop-entry.self.places c.spot.new.self.places c.args.list.now c.loop-entry.entry-index c.entry-item.result c.loop-entry-test.true c.entry-item.is
-      c.spot.ensures.cells (subst IsSome (sym c.in_ok-spot.ensures.spot.has_cell) refl) c.loop-entry.invariant.made;
+      c.spot.ensures.cells c.in_ok-spot.ensures.made c.loop-entry.invariant.made;
 }

@@ -1,7 +1,7 @@
 use Rattle.std.proofs.Common.{◌≡◌, ◌<◌, ℕ, get_or}
-use Rattle.std.specs.Prelude.{IsSome}
-use Rattle.ide_pages.specs.Pages.{KeepsCells, cell_of}
+use Rattle.ide_pages.specs.Pages.{KeepsCells}
 use Rattle.ide_wire.specs.declared.key.Key.{Key}
+use Rattle.ide_image.specs.Tables.{HasCell}
 use Rattle.ide_image.proofs.indexed.Indexed.make_cells.Given as goal
 
 -- no entry changed, each cell stays, and the keys of the first entries have cells
@@ -10,5 +10,5 @@ invariant-loop-entry g l = record {
   table : l.self.table ≡ l.initial.self.table;
   room : l.self.room ≡ l.initial.self.room;
   cells : KeepsCells l.initial.self.places l.self.places;
-  made : (k : ℕ) (d : Key × g.row.F.Denot) → k < l.entry-index → IsSome (cell_of l.self.places (get_or l.list k d).0);
+  made : (k : ℕ) (d : Key × g.row.F.Denot) → k < l.entry-index → HasCell l.self.places (get_or l.list k d).0;
 }

@@ -1,52 +1,35 @@
-use Rattle.std.proofs.Common.{◌+◌, ◌<◌, ◌≤◌, ◌++◌, [], sym, ap, ◌∙◌, arith, drop, length}
-use Rattle.std.specs.Prelude.{unwrap_or, vec_capacity, vec_len}
-use Rattle.std.specs.Global.{Vec}
-use Rattle.std.specs.List.{cons_option, filter_map}
-use Rattle.std.proofs.lemmas.List.{append-nil, drop_all}
-use Rattle.ide_image.specs.Left.{left_item}
-use Rattle.ide_image.proofs.Left.{count-notes, next-listed}
+use Rattle.std.proofs.Common.{◌≡◌, Bool, List, Option, Some, [], sym, ap, subst, ◌∙◌}
+use Rattle.std.specs.Prelude.{unwrap_or}
+use Rattle.std.specs.List.{filter_map}
+use Rattle.std.specs.List.Sorted.{IsPermutation}
+use Rattle.ide_wire.specs.declared.key.Key.{Key}
+use Rattle.ide_image.specs.declared.claim.Claim.{Claim}
+use Rattle.ide_image.specs.declared.entry.Entry.{Entry}
+use Rattle.ide_image.specs.ChangeLog.{ChangeLog}
+use Rattle.ide_image.specs.Indexed.{Indexed}
+use Rattle.ide_image.specs.KeyedImage.{AreParts, image_by}
+use Rattle.ide_image.specs.Left.{left_by_slot, left_item, left_items, left_of}
+use Rattle.ide_image.specs.Queue.{SlotMarks}
+use Rattle.ide_image.specs.Ranks.{left_by_slots}
+use Rattle.ide_image.specs.Tables.{found}
+use Rattle.ide_image.proofs.Agree.{is-pending}
 use Rattle.ide_image.proofs.keyed_image.KeyedImage.changed_items.Goals as goal
-use Rattle.ide_image.proofs.keyed_image.KeyedImage.changed_items.Goals.{in-Some, in_default}
 
-pub loop-index-preserved : goal.loop-index-preserved
-loop-index-preserved g c =
-    let image = c.args.self.now in
-    let notes = unwrap_or image.changes [] in
-    let index = c.loop-index.index in
-    let done = c.loop-index.items.items in
-    let rest = filter_map (left_item g.F.PartialEq.eq image) (drop (index + 1) notes) in
-    let long = count-notes image.changes in
-    let within : index < length notes = omega (arith, long, c.changed_count-count.ensures.count, c.loop-index-test.true) in
-    let next = next-listed (left_item g.F.PartialEq.eq image) done notes index c.left_at.result within c.left_at.ensures in
-    let listed = next ∙ c.loop-index.invariant.listed in
-    record {
-      listed = elim c.match-left_at.branch [
-        | in-Some w ↦
-            ap (λ (v : Vec _). v.items ++ rest) w.items-is
-            ∙ ap (λ xs. xs ++ rest) w.push_reserved.ensures.items
-            ∙ ap (λ o. (done ++ cons_option o []) ++ rest) (sym w.in-Some.is)
-            ∙ listed
-        | in_default w ↦
-            ap (λ (v : Vec _). v.items ++ rest) w.items-is
-            ∙ ap (λ xs. xs ++ rest) (sym (append-nil done))
-            ∙ ap (λ o. (done ++ cons_option o []) ++ rest) (sym w.in_default.is)
-            ∙ listed
-      ];
-      few = elim c.match-left_at.branch [
-        | in-Some w ↦ (let len = ap vec_len w.items-is in omega (arith, len, w.push_reserved.ensures.len, c.loop-index.invariant.few))
-        | in_default w ↦ (let len = ap vec_len w.items-is in omega (arith, len, c.loop-index.invariant.few))
-      ];
-      room = elim c.match-left_at.branch [
-        | in-Some w ↦ (let kept = ap vec_capacity w.items-is in omega (arith, kept, w.push_reserved.ensures.capacity, c.loop-index.invariant.room))
-        | in_default w ↦ (let kept = ap vec_capacity w.items-is in omega (arith, kept, c.loop-index.invariant.room))
-      ];
-    }
+-- what is left by the slots of notes is what is left of the image's
+left-same : {F T : Type 0} (same : F → F → Bool) (indexed : Indexed F) (marks : SlotMarks) (claims : List (Option (Claim T))) (changes : ChangeLog F)
+    → AreParts indexed marks claims changes → (notes : List (Key × Entry F)) → Some notes ≡ changes.list
+    → left_by_slots same indexed marks notes ≡ left_items same (image_by indexed marks claims changes)
+left-same {F} same indexed marks claims changes whole notes listed =
+    let each : (note : Key × Entry F) → left_by_slot same indexed marks note.0 note.1 ≡ left_item same (image_by indexed marks claims changes) note =
+    λ note. ap (λ b. left_of same note.0 (found indexed.table note.0) b note.1) (sym (is-pending indexed marks claims changes whole note.0)) in
+    (λ i. filter_map (λ note. each note i) notes)
+    ∙ ap (λ list. filter_map (left_item same (image_by indexed marks claims changes)) (unwrap_or list [])) listed
 
-pub returns-clause-items : goal.returns-clause-items
-returns-clause-items g c =
-    let notes = unwrap_or c.args.self.now.changes [] in
-    let long = count-notes c.args.self.now.changes in
-    let all : length notes ≤ c.loop-index.index = omega (arith, long, c.changed_count-count.ensures.count, c.loop-index-test.false) in
-    sym (append-nil c.loop-index.items.items)
-    ∙ ap (λ xs. c.loop-index.items.items ++ filter_map (left_item g.F.PartialEq.eq c.args.self.now) xs) (sym (drop_all c.loop-index.index notes all))
-    ∙ c.loop-index.invariant.listed
+pub returns-clause-same : goal.returns-clause-same
+returns-clause-same g c =
+    let inside = c.self.inside in
+    let left = left-same g.F.PartialEq.eq inside.indexed inside.queue inside.claims.items inside.changes c.self.invariant c.in-Some.notes.now c.in-Some.ensures in
+    subst (λ xs. IsPermutation xs c.in_ok-items.items.items) (left ∙ ap (left_items g.F.PartialEq.eq) c.self.view_is) c.in_ok-items.ensures.same
+
+pub returns-clause-sorted : goal.returns-clause-sorted
+returns-clause-sorted g c = c.in_ok-items.ensures.sorted

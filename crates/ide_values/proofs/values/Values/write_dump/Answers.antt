@@ -1,39 +1,22 @@
-use Rattle.std.proofs.Common.{◌≡◌, ◌++◌, [], List, ℕ, arith, ap, refl, subst, sym, ◌∙◌, append_assoc}
-use Rattle.std.proofs.KnownBytes.{Appends-kept, Appends-trans}
-use Rattle.std.specs.Io.KnownBytes.{Appends as WritesOut}
-use Rattle.std.specs.List.{flat_map, range_with_len}
-use Rattle.ide_values.specs.Values.{lines_of_values}
-use Rattle.ide_values.proofs.Lines.{OnOk-always, appended}
+use Rattle.std.proofs.Common.{◌≡◌, ◌++◌, ap, subst, ◌∙◌}
+use Rattle.ide_values.specs.Dump.{Moves}
+use Rattle.ide_values.specs.Rows.{lines_of_rows}
+use Rattle.ide_values.specs.Values.{dump_of_values}
+use Rattle.ide_values.proofs.Pieces.{rest_written, values_lines}
 use Rattle.ide_values.proofs.values.Values.write_dump.Goals as goal
-
-pub loop-index-preserved : goal.loop-index-preserved
-loop-index-preserved g c =
-    let lines = lines_of_values g.P.L.Lattice.algebra g.P.L.Lattice.shown c.args.self.now in
-    let written = c.loop-index.invariant.written in
-    let piece = c.loop-index.piece.items in
-    let index = c.loop-index.index in
-    let moves = c.in_ok-write_full.ensures in
-    record {
-      written = written ++ moves.written;
-      appends = Appends-trans (g.W.Write.contents c.args.out.now) (g.W.Write.contents c.loop-index.out) (g.W.Write.contents c.write_full.new.out) written moves.written c.loop-index.invariant.appends moves.appends;
-      lines =
-          append_assoc written moves.written c.write_full.new.piece.items
-          ∙ ap (λ xs. written ++ xs) (sym moves.split ∙ c.in_ok-append_node.ensures.text)
-          ∙ sym (append_assoc written piece (lines index))
-          ∙ appended lines [] (written ++ piece) ((written ++ piece) ++ lines index) index c.loop-index.invariant.lines refl;
-    }
 
 pub returns : goal.returns
 returns g c =
-    let lines = lines_of_values g.P.L.Lattice.algebra g.P.L.Lattice.shown c.args.self.now in
+    let lines = lines_of_rows g.P.L.Lattice.algebra g.P.L.Lattice.shown in
     let contents = g.W.Write.contents in
-    let written = c.loop-index.invariant.written in
-    let count = c.node_count-count.ensures.count ∙ ap (λ loaded. loaded.graph.nodes) c.deref.ensures ∙ ap (λ values. values.graph.nodes) c.self.view_is in
-    let all : c.loop-index.index ≡ c.args.self.now.graph.nodes = omega (arith, c.loop-index-test.false, c.loop-index.auto.index-end, count) in
-    let text = c.loop-index.invariant.lines ∙ ap (λ n. flat_map lines (range_with_len 0 n)) all in
-    let piece = ap (λ xs. written ++ xs) c.deref-2.ensures.value in
-    OnOk-always c.flush.result _
-    (Appends-kept (contents c.args.out.now) (contents c.write_all.new.self) (contents c.flush.new.self) (flat_map lines (range_with_len 0 c.args.self.now.graph.nodes))
-    (subst (WritesOut (contents c.args.out.now) (contents c.write_all.new.self)) (piece ∙ text)
-    (Appends-trans (contents c.args.out.now) (contents c.loop-index.out) (contents c.write_all.new.self) written c.deref-2.result.now c.loop-index.invariant.appends c.in_ok-write_all.ensures.bytes))
-    c.flush.ensures.bytes)
+    let text = dump_of_values g.P.L.Lattice.algebra g.P.L.Lattice.shown c.args.self.now in
+    let all : c.in_ok-piece.piece.items ++ lines c.deref.result.now.graph 0 c.node_count.result c.as_slice.result.now ≡ text =
+    ap (λ piece. piece ++ lines c.deref.result.now.graph 0 c.node_count.result c.as_slice.result.now) c.in_ok-piece.ensures.items
+    ∙ values_lines g.P.L.Lattice.algebra g.P.L.Lattice.shown c.args.self.now c.deref.result.now.graph c.node_count.result c.as_slice.result.now
+    (ap (λ loaded. loaded.graph) c.deref.ensures ∙ ap (λ values. values.graph) c.self.view_is)
+    c.node_count.ensures.count
+    (c.as_slice.ensures.value ∙ ap (λ values. values.values) c.self.view_is) in
+    rest_written c.write_rest.result text c.write_nodes.new.piece.items c.deref-2.result.now
+    (contents c.args.out.now) (contents c.write_nodes.new.out) (contents c.write_rest.new.out)
+    (subst (λ moved. Moves moved c.write_nodes.new.piece.items (contents c.args.out.now) (contents c.write_nodes.new.out)) all c.in_ok-write_nodes.ensures)
+    c.deref-2.ensures.value c.write_rest.ensures

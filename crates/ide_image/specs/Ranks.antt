@@ -1,0 +1,74 @@
+-- Numbers by which what is left of notes is put in the order of keys: each has the place of a key among keys, and the index of a note.
+use Rattle.std.specs.Prelude.{◌≡◌, ℕ, suc, ◌+◌, ◌*◌, ◌/◌, ◌%◌, ◌<◌, Bool, List, Option, Some, None, map, slice_get, IfSome}
+use Rattle.std.specs.Global.{Vec}
+use Rattle.std.specs.List.{All, filter_map}
+use Rattle.std.specs.Option.{option_map}
+use Rattle.ide_wire.specs.declared.key.Key.{Key}
+use Rattle.ide_wire.specs.declared.key.Key.TheVariants.{Jump, Summary}
+use Rattle.ide_image.specs.Indexed.{Indexed}
+use Rattle.ide_image.specs.Left.{left_by_slot}
+use Rattle.ide_image.specs.Queue.{SlotMarks, pending_at}
+use Rattle.ide_image.specs.declared.entry.Entry.{Entry}
+
+-- the kind, the node and the facts in one number, the kind's bit the highest
+abbrev pub joined_rank : (kind node first second : ℕ) → ℕ
+joined_rank kind node first second = ((kind * 8388608 + node) * 4096 + first) * 4096 + second
+
+-- the key's place among keys
+abbrev pub key_rank : Key → ℕ
+key_rank (Jump n a b) = joined_rank 0 n a b
+key_rank (Summary n a b) = joined_rank 1 n a b
+
+-- the node is a number of 23 bits, and the facts are of 12
+abbrev pub HasRank : Key → Type 0
+HasRank (Jump n a b) = (n < 8388608) × (a < 4096) × (b < 4096)
+HasRank (Summary n a b) = (n < 8388608) × (a < 4096) × (b < 4096)
+
+-- the number has the key's place, and the index
+pub record IsNumberOf (key : Key) (index number : ℕ) : Type 0 where
+  pub ranked : HasRank key
+  pub rank : number / 65536 ≡ key_rank key
+  pub low : number % 65536 ≡ index
+
+module _ {F : Type 0} where
+  -- the key and the function of the slot, and whether it is pending
+  abbrev pub item_in : Indexed F → SlotMarks → (slot : ℕ) → Option (Key × F × Bool)
+  item_in indexed marks slot = option_map (λ entry. (entry.0, entry.1, pending_at marks.list slot)) (slice_get indexed.table.entries slot)
+
+  -- the same, if there is a slot
+  abbrev pub item_of : Indexed F → SlotMarks → (slot : Option ℕ) → Option (Key × F × Bool)
+  item_of indexed marks None = None
+  item_of indexed marks (Some slot) = item_in indexed marks slot
+
+  -- that of the note whose index the number has
+  abbrev pub item_told : Indexed F → SlotMarks → (slots : List ℕ) → (number : ℕ) → Option (Key × F × Bool)
+  item_told indexed marks slots number = item_of indexed marks (slice_get slots (number % 65536))
+
+  -- the slots are those of the notes' keys
+  abbrev pub AreSlots : (Key → ℕ) → List (Key × Entry F) → (slots : List ℕ) → Type 0
+  AreSlots place notes slots = map (λ note. place note.0) notes ≡ map suc slots
+
+  -- what is left of the notes, in their order
+  abbrev pub left_by_slots : (F → F → Bool) → Indexed F → SlotMarks → List (Key × Entry F) → List (Key × F × Bool)
+  left_by_slots same indexed marks notes = filter_map (λ note. left_by_slot same indexed marks note.0 note.1) notes
+
+  -- it is what is left of the note at the index, if there is one
+  abbrev pub IsLeftAt : (F → F → Bool) → Indexed F → SlotMarks → List (Key × Entry F) → (index : ℕ) → Option (Key × F × Bool) → Type 0
+  IsLeftAt same indexed marks notes index left = (note : Key × Entry F) → slice_get notes index ≡ Some note → left ≡ left_by_slot same indexed marks note.0 note.1
+
+  -- the number tells an item, and has the place of its key
+  pub record IsNumber (told : ℕ → Option (Key × F × Bool)) (number : ℕ) : Type 0 where
+    pub item : Key × F × Bool
+    pub is : told number ≡ Some item
+    pub ranked : HasRank item.0
+    pub rank : number / 65536 ≡ key_rank item.0
+
+  -- the numbers are those of the items, in the order of these
+  pub record AreNumbers (told : ℕ → Option (Key × F × Bool)) (items : List (Key × F × Bool)) (numbers : List ℕ) : Type 0 where
+    pub listed : filter_map told numbers ≡ items
+    pub each : All (IsNumber told) numbers
+
+  -- if there are numbers, they are those of what is left of the notes, told by the slots of these
+  abbrev pub AreNumbersLeft : (F → F → Bool) → Indexed F → SlotMarks → List (Key × Entry F) → (slots : List ℕ) → Option (Vec ℕ) → Type 0
+  AreNumbersLeft same indexed marks notes slots told =
+      IfSome told (λ numbers. AreNumbers (item_told indexed marks slots) (left_by_slots same indexed marks notes) numbers.items)
