@@ -1,6 +1,6 @@
 -- What each analysis prints of a text.
 use Rattle.std.specs.Io.KnownBytes.{Appends}
-use Rattle.std.specs.Prelude.{ℕ, List, [], ◌∷◌, Option, Result, OnOk}
+use Rattle.std.specs.Prelude.{ℕ, List, [], ◌∷◌, Option, Result, IfOk, OnOk}
 use Rattle.ide_instances.specs.ConstFn.{const_edge}
 use Rattle.ide_instances.specs.ConstValue.{const_algebra, shown_constant}
 use Rattle.ide_instances.specs.Received.{copy_targets, shift_targets, uninit_targets}
@@ -21,3 +21,15 @@ pub record WritesDump (instance : Instance) (text root : List ℕ) {T E : Type 0
   pub dump : List ℕ
   pub is : IsDump instance text root dump
   pub written : OnOk end (Appends before after dump)
+
+-- where that was not refused, and with what an output has had written to it at each moment
+abbrev pub WritesBest : {T E X O : Type 0} → Instance → (text root : List ℕ) → Result (Result T E) X → (O → Option (List ℕ))
+    → (before after : O) → Type 0
+WritesBest instance text root result contents before after =
+    IfOk result (λ end. WritesDump instance text root end (contents before) (contents after))
+
+-- and so of some text
+abbrev pub WritesSomeBest : {T E X O : Type 0} → Instance → (root : List ℕ) → Result (Result T E) X → (O → Option (List ℕ))
+    → (before after : O) → Type 0
+WritesSomeBest instance root result contents before after =
+    IfOk result (λ end. (text : List ℕ) × WritesDump instance text root end (contents before) (contents after))

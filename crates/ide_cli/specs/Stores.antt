@@ -1,9 +1,9 @@
 -- What a command on a store in two files prints.
 use Rattle.std.specs.Global.{Vec}
-use Rattle.std.specs.Prelude.{ℕ, Bool, List, codes}
+use Rattle.std.specs.Prelude.{ℕ, Bool, List, Option, Result, IfOk, codes}
 use Rattle.std.specs.contracts.fs.File.{the_row as file_row}
 use Rattle.std.specs.declared.fs.File.{File}
-use Rattle.ide_commands.specs.Asked.{Dumps}
+use Rattle.ide_commands.specs.Asked.{Dumps, WritesText}
 use Rattle.ide_commands.specs.Obeyed.{Obeys}
 use Rattle.ide_commands.specs.Stored.{PrintsQuiet, WorksAll}
 use Rattle.ide_commands.specs.declared.stores.Store.{Store}
@@ -46,6 +46,17 @@ abbrev pub DumpsOver : OpenStore → List ℕ → Type 0
 DumpsOver (Uninit engine) text = Dumps uninit_analysis shown_uninit engine.table text
 DumpsOver (Copy engine) text = Dumps copy_analysis shown_constant engine.table text
 DumpsOver (Shift engine) text = Dumps shift_analysis shown_constant engine.table text
+
+-- where that was not refused, the dump of the store is written, if the output did not fail. What that has had written to it is
+-- known at each moment
+abbrev pub WritesDumpOver : {T E X O : Type 0} → OpenStore → Result (Result T E) X → (O → Option (List ℕ)) → (before after : O) → Type 0
+WritesDumpOver store result contents before after =
+    IfOk result (λ end. WritesText (DumpsOver store) end (contents before) (contents after))
+
+-- and so is that of some open store
+abbrev pub WritesStoreDump : {T E X O : Type 0} → Result (Result T E) X → (O → Option (List ℕ)) → (before after : O) → Type 0
+WritesStoreDump result contents before after =
+    IfOk result (λ end. (store : OpenStore) × WritesText (DumpsOver store) end (contents before) (contents after))
 
 -- over some open store, and some text where one is to be loaded. Of `work` it is the store that the hands left
 abbrev pub IsObeyed : StoreCommand → (old new : Vec ℕ) → Type 0

@@ -1,7 +1,7 @@
 //! Commands: what each does, and what it prints.
-ghost use Rattle.std.specs.Prelude.{◌≡◌, ◌⊎◌, ◌++◌, ℕ, List, false, IfOk, IsErr, IsOk, IsTrue, OnErr, OnOk, map};
+ghost use Rattle.std.specs.Prelude.{◌≡◌, ◌⊎◌, ◌++◌, false, IsErr, IsOk, IsTrue, OnErr, OnOk, map};
 ghost use Rattle.std.specs.Io.KnownBytes.{Appends};
-ghost use Rattle.ide_cli.specs.Dump.{WritesDump};
+ghost use Rattle.ide_cli.specs.Dump.{WritesBest, WritesSomeBest};
 ghost use Rattle.ide_cli.specs.Ended.{IsDone, IsRefused};
 ghost use Rattle.ide_cli.specs.Explained.{explained};
 ghost use Rattle.ide_cli.specs.Help.{AsksForHelp, is_help_word};
@@ -215,7 +215,7 @@ fn once<'a, R: Files<File = File> + AllocGlobal + Threads + Sync, O: Write>(
     workers: usize,
     out: &mut O,
 ) -> Result<io::Result<()>, Failure<'a>>
-    ensures written { IfOk result (λ end. (text : List ℕ) × WritesDump instance text procedure.now end (O.contents out.old) (O.contents out.new)) }
+    ensures written { WritesSomeBest instance procedure.now result O.contents out.old out.new }
     ensures unchanged { OnErr result (out.new ≡ out.old) }
 {
     let text = read_file(rt, file)?;
@@ -233,7 +233,7 @@ fn solve_by<R: AllocGlobal + Threads + Sync, O: Write>(
     workers: usize,
     out: &mut O,
 ) -> Result<io::Result<()>, Refused>
-    ensures written { IfOk result (λ end. WritesDump instance text.now root.now end (O.contents out.old) (O.contents out.new)) }
+    ensures written { WritesBest instance text.now root.now result O.contents out.old out.new }
     ensures unchanged { OnErr result (out.new ≡ out.old) }
 {
     let alloc = rt.alloc();

@@ -1,7 +1,6 @@
 //! Commands on a store in two files: how they are opened, and what is read before any call.
-ghost use Rattle.std.specs.Prelude.{◌≡◌, ◌++◌, IfOk, OnErr, OnOk};
-ghost use Rattle.ide_commands.specs.Asked.{WritesText};
-ghost use Rattle.ide_cli.specs.Stores.{DumpsOver, IsObeyed, ObeysOver, OpenStore, adopted_line, created_line};
+ghost use Rattle.std.specs.Prelude.{◌≡◌, ◌++◌, OnErr, OnOk};
+ghost use Rattle.ide_cli.specs.Stores.{IsObeyed, ObeysOver, WritesDumpOver, WritesStoreDump, adopted_line, created_line};
 
 use crate::failure::{Failure, read_file};
 use crate::working::{Asked, work};
@@ -149,7 +148,7 @@ pub(crate) fn dump<'a, R: Files<File = File> + AllocGlobal + Threads + Sync, O: 
     store: &'a str,
     out: &mut O,
 ) -> Result<io::Result<()>, Failure<'a>>
-    ensures written { IfOk result (λ end. (store : OpenStore) × WritesText (DumpsOver store) end (O.contents out.old) (O.contents out.new)) }
+    ensures written { WritesStoreDump result O.contents out.old out.new }
     ensures unchanged { OnErr result (out.new ≡ out.old) }
 {
     let (a, b) = both_of(rt, store, Reach::Open)?;
@@ -163,7 +162,7 @@ fn dump_on<R: AllocGlobal + Threads + Sync, O: Write>(
     b: Disk,
     out: &mut O,
 ) -> Result<io::Result<()>, Refused>
-    ensures written { IfOk result (λ end. (store : OpenStore) × WritesText (DumpsOver store) end (O.contents out.old) (O.contents out.new)) }
+    ensures written { WritesStoreDump result O.contents out.old out.new }
     ensures unchanged { OnErr result (out.new ≡ out.old) }
 {
     let store = open(rt.alloc(), a, b)?;
@@ -176,7 +175,7 @@ fn dump_of<R: AllocGlobal + Threads + Sync, O: Write>(
     store: &Store<Disk>,
     out: &mut O,
 ) -> Result<io::Result<()>, Refused>
-    ensures written { IfOk result (λ end. WritesText (DumpsOver store.now) end (O.contents out.old) (O.contents out.new)) }
+    ensures written { WritesDumpOver store.now result O.contents out.old out.new }
     ensures unchanged { OnErr result (out.new ≡ out.old) }
 {
     let alloc = rt.alloc();

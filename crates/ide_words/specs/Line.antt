@@ -3,14 +3,20 @@ use Rattle.std.specs.Prelude.{◌≡◌, ℕ, List, [], Some, codes, unwrap_or}
 use Rattle.std.specs.Str.{bytes_eq}
 use Rattle.std.specs.Str.Parse.{IsNumeral, digits_value, without_leading_plus}
 use Rattle.clap.specs.Faults.{fault_of}
+use Rattle.clap.specs.Matches.{found_of}
 use Rattle.clap.specs.Simple.{App, subcommand_of}
-use Rattle.clap.specs.Walk.{Row, Text, first_of}
+use Rattle.clap.specs.Walk.{Row, Text, first_of, rows_of}
+use Rattle.clap.specs.declared.parser.matches.ArgMatches.{ArgMatches}
 use Rattle.ide_words.specs.Commands.{IsIdesolve, name_of}
 use Rattle.ide_words.specs.declared.words.Instance.{Instance}
 use Rattle.ide_words.specs.declared.words.Words.{Words}
 use Rattle.ide_words.specs.declared.words.Words.TheVariants.{Once, Check, Explain, Create, Adopt, On}
 use Rattle.ide_words.specs.declared.words.StoreCommand.{StoreCommand}
 use Rattle.ide_words.specs.declared.words.StoreCommand.TheVariants.{Load, Root, Work, Checkpoint, Migrate, Ask, Dump, Status}
+
+-- the words that were given with their texts, as clap lists them
+abbrev pub given_rows : ArgMatches → List Row
+given_rows given = rows_of (found_of given)
 
 -- the text that was given for a word
 abbrev pub given_words : Text → List Row → Text

@@ -1,8 +1,7 @@
 //! The words of the command line.
 ghost use Rattle.std.specs.Prelude.{◌≡◌, IfOk, IfSome, map};
-ghost use Rattle.clap.specs.Words.{found_of, rows_of};
 ghost use Rattle.ide_words.specs.Commands.{name_of};
-ghost use Rattle.ide_words.specs.Line.{IsCommand, IsOfLine, IsStoreCommand, SpellsNumber, given_words};
+ghost use Rattle.ide_words.specs.Line.{IsCommand, IsOfLine, IsStoreCommand, SpellsNumber, given_rows, given_words};
 ghost use Rattle.ide_words.specs.declared.words.Instance.{Instance};
 
 use crate::commands::idesolve;
@@ -130,7 +129,7 @@ pub fn read_words<'a, S: AsStr>(alloc: Global, line: &'a [S]) -> Result<Words<'a
 /// The command of that name with the words that were given for it. There is always one where `clap`
 /// found no fault.
 fn words_of<'a>(name: &str, given: &ArgMatches<'a>) -> Option<Words<'a>>
-    ensures { IfSome result (λ words. IsCommand words name.now (rows_of (found_of given.now))) }
+    ensures { IfSome result (λ words. IsCommand words name.now (given_rows given.now)) }
 {
     let words = match name {
         "once" => Words::Once {
@@ -162,7 +161,7 @@ fn words_of<'a>(name: &str, given: &ArgMatches<'a>) -> Option<Words<'a>>
 
 /// The same of the commands on a store that is there.
 fn store_command<'a>(name: &str, given: &ArgMatches<'a>) -> Option<StoreCommand<'a>>
-    ensures { IfSome result (λ command. IsStoreCommand command name.now (rows_of (found_of given.now))) }
+    ensures { IfSome result (λ command. IsStoreCommand command name.now (given_rows given.now)) }
 {
     let command = match name {
         "load" => StoreCommand::Load {
@@ -192,14 +191,14 @@ fn store_command<'a>(name: &str, given: &ArgMatches<'a>) -> Option<StoreCommand<
 
 /// The text of a word that was given.
 fn text_of<'a>(matches: &ArgMatches<'a>, name: &str) -> &'a str
-    ensures { result.now ≡ given_words name.now (rows_of (found_of matches.now)) }
+    ensures { result.now ≡ given_words name.now (given_rows matches.now) }
 {
     matches.get_str(name).unwrap_or("")
 }
 
 /// The number that a word spells.
 fn number_of<'a>(matches: &ArgMatches<'a>, name: &str) -> Option<u32>
-    ensures { IfSome result (SpellsNumber (given_words name.now (rows_of (found_of matches.now)))) }
+    ensures { IfSome result (SpellsNumber (given_words name.now (given_rows matches.now))) }
 {
     text_of(matches, name).parse::<u32>().ok()
 }
