@@ -9,11 +9,13 @@ pub mod Kept
 pub mod Keys
 pub mod Left
 pub mod Marked
+pub mod Picked
 pub mod Places
 pub mod Ranks
 pub mod Rest
 pub mod Rows
 pub mod Sets
+pub mod Slotted
 pub mod Spots
 pub mod Stack
 pub mod Stamps

@@ -1,10 +1,12 @@
 pub mod ChangeLog
 pub mod Entries
+pub mod Grid
 pub mod Indexed
 pub mod KeyedImage
 pub mod Left
 pub mod Marks
 pub mod Notes
+pub mod Ordered
 pub mod Queue
 pub mod Ranks
 pub mod Spent

@@ -1,6 +1,5 @@
 -- Numbers by which what is left of notes is put in the order of keys: each has the place of a key among keys, and the index of a note.
-use Rattle.std.specs.Prelude.{◌≡◌, ℕ, suc, ◌+◌, ◌*◌, ◌/◌, ◌%◌, ◌<◌, Bool, List, Option, Some, None, map, slice_get, IfSome}
-use Rattle.std.specs.Global.{Vec}
+use Rattle.std.specs.Prelude.{◌≡◌, ℕ, suc, ◌+◌, ◌*◌, ◌/◌, ◌%◌, ◌<◌, Bool, List, Option, Some, None, map, slice_get}
 use Rattle.std.specs.List.{All, filter_map}
 use Rattle.std.specs.Option.{option_map}
 use Rattle.ide_wire.specs.declared.key.Key.{Key}
@@ -67,8 +66,3 @@ module _ {F : Type 0} where
   pub record AreNumbers (told : ℕ → Option (Key × F × Bool)) (items : List (Key × F × Bool)) (numbers : List ℕ) : Type 0 where
     pub listed : filter_map told numbers ≡ items
     pub each : All (IsNumber told) numbers
-
-  -- if there are numbers, they are those of what is left of the notes, told by the slots of these
-  abbrev pub AreNumbersLeft : (F → F → Bool) → Indexed F → SlotMarks → List (Key × Entry F) → (slots : List ℕ) → Option (Vec ℕ) → Type 0
-  AreNumbersLeft same indexed marks notes slots told =
-      IfSome told (λ numbers. AreNumbers (item_told indexed marks slots) (left_by_slots same indexed marks notes) numbers.items)

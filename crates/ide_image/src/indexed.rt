@@ -115,6 +115,24 @@ impl<F: EdgeFn> Indexed<F> {
         Some((key_in(&self.places, entry.0), entry.1))
     }
 
+    /// How many pages the keys are on.
+    pub(crate) fn page_count(&self) -> usize {
+        self.places.cell_count() / 64
+    }
+
+    /// The first key of a page, whether it has an entry or not. No look-up.
+    pub(crate) fn first_key(&self, page: u32) -> Option<Key> {
+        self.places.key_in(64 * page as usize)
+    }
+
+    /// The cell of the key of the entry at an index, or 0 where there is none. No look-up.
+    pub(crate) fn cell_at(&self, index: usize) -> u32 {
+        match self.entries.get(index) {
+            Some(entry) => entry.0,
+            None => 0,
+        }
+    }
+
     /// The node of each entry's key, in the order of the entries.
     pub(crate) fn nodes(&self) -> &[Node]
         ensures nodes { result.now ≡ entry_nodes self.now.table.entries }

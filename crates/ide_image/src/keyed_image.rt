@@ -21,7 +21,7 @@ use crate::change_log::ChangeLog;
 use crate::claim::Claim;
 use crate::entry::Entry;
 use crate::indexed::Indexed;
-use crate::ordered::Left;
+use crate::noted_slots::NotedSlots;
 use crate::queue::Queue;
 use crate::tables::Tables;
 use crate::{claims, parts};
@@ -196,13 +196,13 @@ impl<F: EdgeFn, T: Drop> KeyedImage<F, T> {
         let Some(notes) = self.changes.notes() else {
             return Ok(Vec::new(alloc));
         };
-        let left = Left {
+        let noted = NotedSlots {
             indexed: &self.indexed,
             queue: &self.queue,
             notes,
             slots: self.changes.slots(),
         };
-        let items = left.items(alloc)?;
+        let items = noted.items(alloc)?;
         Ok(items)
     }
 

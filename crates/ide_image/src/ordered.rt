@@ -1,20 +1,21 @@
 //! What is left of notes, in the order of keys.
 //!
-//! Each item is told by one number of 64 bits, which has its key's place among keys and the index of its
-//! note. These are sorted in place of the items, which are five times as long; so there is one list of
-//! items alone, which is written once.
-ghost use Rattle.std.specs.Prelude.{◌≡◌, ◌<◌, Bool, Some, slice_get, IfOk, IfSome};
+//! Where its keys fill their pages well, a grid finds an order with no sort of keys, and the items are
+//! listed in it while they are seen to ascend. Elsewhere each item is told by one number of 64 bits, which
+//! has its key's place among keys and the index of its note. These are sorted in place of the items, which
+//! are five times as long; so there is one list of items alone, which is written once.
+ghost use Rattle.std.specs.Prelude.{◌≡◌, ◌<◌, Bool, true, IfOk, IfSome};
 ghost use Rattle.std.specs.List.{filter_map};
 ghost use Rattle.std.specs.List.Sorted.{IsPermutation, IsSortedByKey};
 ghost use Rattle.ide_wire.specs.KeyOrder.{key_cmp};
 ghost use Rattle.ide_wire.specs.declared.key.Key.{Key};
-ghost use Rattle.ide_image.specs.Indexed.{place_of_key};
-ghost use Rattle.ide_image.specs.Ranks.{AreNumbersLeft, AreSlots, HasRank, IsLeftAt, IsNumberOf, item_of, item_told, key_rank, left_by_slots};
+ghost use Rattle.ide_image.specs.Grid.{IsAboveLast};
+ghost use Rattle.ide_image.specs.Ordered.{AreLeft, AreNumbersOf, AreToldBy, AscendByKey, HasLeft, IsItemAt, IsLeftOf, items_left, told_by};
+ghost use Rattle.ide_image.specs.Ranks.{HasRank, IsNumberOf, item_in, key_rank};
 
-use crate::entry::Entry;
-use crate::indexed::Indexed;
+use crate::grid::Grid;
+use crate::noted_slots::NotedSlots;
 use crate::parts;
-use crate::queue::Queue;
 use ide_lattice::EdgeFn;
 use ide_wire::{Fact, Key, Node};
 use std::alloc::{AllocError, Global};
@@ -28,21 +29,28 @@ const FACTS: Fact = 4_096;
 /// The indices that a number may have.
 const INDICES: usize = 65_536;
 
-/// Notes, each with the slot of its key, and what has the entries of these as they stand.
-#[derive(Drop)]
-pub(crate) struct Left<'a, F: EdgeFn> {
-    pub(crate) indexed: &'a Indexed<F>,
-    pub(crate) queue: &'a Queue,
-    pub(crate) notes: &'a [(Key, Entry<F>)],
-    pub(crate) slots: &'a [u32],
-    ghost stand: { AreSlots (place_of_key indexed.now) notes.now slots.now },
-}
+/// How many pages there may be for each note, for a grid: it has a number for each of them.
+const PAGES: usize = 16;
 
-impl<'a, F: EdgeFn> Left<'a, F> {
+/// How many notes there have to be for each page that has the key of one, for a grid.
+const FILLED: usize = 8;
+
+impl<'a, F: EdgeFn> NotedSlots<'a, F> {
     /// What is left of the notes, ascending by key.
     pub(crate) fn items(&self, alloc: Global) -> Result<Vec<(Key, F, bool)>, AllocError>
-        ensures same { IfOk result (λ items. IsPermutation (left_by_slots F.eq self.now.indexed.now self.now.queue.now self.now.notes.now) items.items) }
-        ensures sorted { IfOk result (λ items. IsSortedByKey (λ (item : Key × F × Bool). item.0) key_cmp items.items) }
+        ensures same { IfOk result (AreLeft F.eq self.now) }
+        ensures sorted { IfOk result AscendByKey }
+    {
+        match self.paged_items(alloc)? {
+            Some(items) => Ok(items),
+            None => self.sorted_items(alloc),
+        }
+    }
+
+    /// The same by a sort of numbers, or of items where keys have none.
+    fn sorted_items(&self, alloc: Global) -> Result<Vec<(Key, F, bool)>, AllocError>
+        ensures same { IfOk result (AreLeft F.eq self.now) }
+        ensures sorted { IfOk result AscendByKey }
     {
         if let Some(mut numbers) = self.numbers(alloc)? {
             numbers.sort_unstable();
@@ -54,10 +62,78 @@ impl<'a, F: EdgeFn> Left<'a, F> {
         }
     }
 
+    /// The same by pages: `None` where there are few notes for the pages, or where the order that the grid
+    /// finds is not that of keys, which is seen here.
+    fn paged_items(&self, alloc: Global) -> Result<Option<Vec<(Key, F, bool)>>, AllocError>
+        ensures same { IfOk result (λ told. IfSome told (AreLeft F.eq self.now)) }
+        ensures sorted { IfOk result (λ told. IfSome told AscendByKey) }
+    {
+        let Some(grid) = self.grid(alloc)? else {
+            return Ok(None);
+        };
+        let Some(order) = grid.order(alloc, self.indexed)? else {
+            return Ok(None);
+        };
+        let Some(items) = self.ascending_items(alloc, &order)? else {
+            return Ok(None);
+        };
+        if items.len() != grid.count() {
+            return Ok(None);
+        }
+        Ok(Some(items))
+    }
+
+    /// The slots of what is left of the notes, on a grid: `None` where these are few for all pages that there
+    /// are, or for those of their keys, so that a sort takes less.
+    fn grid(&self, alloc: Global) -> Result<Option<Grid>, AllocError>
+        ensures { IfOk result (λ found. IfSome found (HasLeft F.eq self.now)) }
+    {
+        let count = self.notes.len();
+        let pages = self.indexed.page_count();
+        if count > INDICES || count < pages / PAGES {
+            return Ok(None);
+        }
+        let mut grid = Grid::new(alloc, pages)?;
+        for index in 0..count {
+            if self.left_at(index).is_some() {
+                let Some(slot) = self.slots.get(index) else {
+                    return Ok(None);
+                };
+                grid.put(self.indexed.cell_at(*slot as usize), *slot)?;
+            }
+        }
+        if grid.page_count() > count / FILLED {
+            return Ok(None);
+        }
+        Ok(Some(grid))
+    }
+
+    /// The items that the slots tell, in the order of these: `None` where their keys do not ascend.
+    fn ascending_items(
+        &self,
+        alloc: Global,
+        order: &[u32],
+    ) -> Result<Option<Vec<(Key, F, bool)>>, AllocError>
+        ensures { IfOk result (λ told. IfSome told (AreToldBy self.now order.now)) }
+    {
+        let count = order.len();
+        let mut items = Vec::with_capacity(alloc, count)?;
+        for index in 0..count {
+            let Some(item) = self.item_at(order[index]) else {
+                return Ok(None);
+            };
+            if !is_above(&items, item.0) {
+                return Ok(None);
+            }
+            items.push_reserved(item);
+        }
+        Ok(Some(items))
+    }
+
     /// The number of each item that is left of the notes, in the order of these: `None` where a key has no
     /// rank, or there are more notes than indices.
     fn numbers(&self, alloc: Global) -> Result<Option<Vec<u64>>, AllocError>
-        ensures { IfOk result (AreNumbersLeft F.eq self.now.indexed.now self.now.queue.now self.now.notes.now self.now.slots.now) }
+        ensures { IfOk result (λ told. IfSome told (AreNumbersOf F.eq self.now)) }
     {
         let count = self.notes.len();
         if count > INDICES {
@@ -77,7 +153,7 @@ impl<'a, F: EdgeFn> Left<'a, F> {
 
     /// The items that the numbers tell, in the order of these. It reads no note.
     fn told_items(&self, alloc: Global, numbers: &[u64]) -> Result<Vec<(Key, F, bool)>, AllocError>
-        ensures { IfOk result (λ items. items.items ≡ filter_map (item_told self.now.indexed.now self.now.queue.now self.now.slots.now) numbers.now) }
+        ensures { IfOk result (λ items. items.items ≡ filter_map (told_by self.now) numbers.now) }
     {
         let count = numbers.len();
         let mut items = Vec::with_capacity(alloc, count)?;
@@ -91,7 +167,7 @@ impl<'a, F: EdgeFn> Left<'a, F> {
 
     /// What is left of the notes, in their order.
     fn listed_items(&self, alloc: Global) -> Result<Vec<(Key, F, bool)>, AllocError>
-        ensures { IfOk result (λ items. items.items ≡ left_by_slots F.eq self.now.indexed.now self.now.queue.now self.now.notes.now) }
+        ensures { IfOk result (λ items. items.items ≡ items_left F.eq self.now) }
     {
         let count = self.notes.len();
         let mut items = Vec::with_capacity(alloc, count)?;
@@ -105,8 +181,8 @@ impl<'a, F: EdgeFn> Left<'a, F> {
 
     /// What is left of the note at an index: nothing behind the last one.
     fn left_at(&self, index: usize) -> Option<(Key, F, bool)>
-        ensures left { IsLeftAt F.eq self.now.indexed.now self.now.queue.now self.now.notes.now index result }
-        ensures item { IfSome result (λ item. item_of self.now.indexed.now self.now.queue.now (slice_get self.now.slots.now index) ≡ Some item) }
+        ensures left { IsLeftOf F.eq self.now index result }
+        ensures item { IfSome result (IsItemAt self.now index) }
     {
         let (key, before) = *self.notes.get(index)?;
         let slot = *self.slots.get(index)?;
@@ -115,11 +191,28 @@ impl<'a, F: EdgeFn> Left<'a, F> {
 
     /// The item of the note whose index the number has, as it stands.
     fn item_told(&self, number: u64) -> Option<(Key, F, bool)>
-        ensures { result ≡ item_told self.now.indexed.now self.now.queue.now self.now.slots.now number }
+        ensures { result ≡ told_by self.now number }
     {
         let slot = *self.slots.get((number % 0x1_0000) as usize)?;
+        self.item_at(slot)
+    }
+
+    /// The item of a slot, as it stands.
+    fn item_at(&self, slot: u32) -> Option<(Key, F, bool)>
+        ensures { result ≡ item_in self.now.indexed.now self.now.queue.now slot }
+    {
         let (key, function) = self.indexed.entry_at(slot as usize)?;
         Some((key, function, self.queue.is_pending(slot as usize)))
+    }
+}
+
+/// Whether the key is above that of the last item, if there is one.
+fn is_above<F: EdgeFn>(items: &[(Key, F, bool)], key: Key) -> bool
+    ensures { result ≡ true → IsAboveLast items.now key }
+{
+    match items.last() {
+        Some(last) => last.0 < key,
+        None => true,
     }
 }
 
@@ -131,9 +224,8 @@ fn sort_items<F: EdgeFn>(items: &mut Vec<(Key, F, bool)>)
     items.sort_unstable_by_key(|item| item.0);
 }
 
-/// The number of an item of the key, which is left of the note at an index: `None` where the key has no
-/// rank.
-fn number_of(key: Key, index: usize) -> Option<u64>
+/// The number of the key and an index: `None` where the key has no rank.
+pub(crate) fn number_of(key: Key, index: usize) -> Option<u64>
     requires few { index < 65536 }
     ensures { IfSome result (IsNumberOf key index) }
 {

@@ -7,8 +7,8 @@ use Rattle.ide_wire.specs.declared.key.Key.{Key}
 use Rattle.ide_image.specs.declared.entry.Entry.{Entry}
 use Rattle.ide_image.specs.Left.{left_by_slot}
 use Rattle.ide_image.proofs.Left.{next-listed}
-use Rattle.ide_image.proofs.ordered.Left.listed_items.Goals as goal
-use Rattle.ide_image.proofs.ordered.Left.listed_items.Goals.{in-Some, in_default}
+use Rattle.ide_image.proofs.noted_slots.NotedSlots.listed_items.Goals as goal
+use Rattle.ide_image.proofs.noted_slots.NotedSlots.listed_items.Goals.{in-Some, in_default}
 
 pub loop-index-preserved : goal.loop-index-preserved
 loop-index-preserved g c =

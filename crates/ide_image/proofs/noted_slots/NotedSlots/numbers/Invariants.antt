@@ -2,7 +2,7 @@ use Rattle.std.proofs.Common.{◌≡◌, ◌≤◌, ◌++◌, drop}
 use Rattle.std.specs.Prelude.{vec_capacity, vec_len}
 use Rattle.std.specs.List.{All, filter_map}
 use Rattle.ide_image.specs.Ranks.{IsNumber, item_told, left_by_slots}
-use Rattle.ide_image.proofs.ordered.Left.numbers.Given as goal
+use Rattle.ide_image.proofs.noted_slots.NotedSlots.numbers.Given as goal
 
 -- the items of the numbers so far, and what is left of the notes from here on, for which there is room
 abbrev pub invariant-loop-index : goal.invariant-loop-index

@@ -1,7 +1,7 @@
 use Rattle.std.proofs.Common.{◌≡◌, ◌≤◌, ◌++◌, drop}
 use Rattle.std.specs.Prelude.{vec_capacity, vec_len}
 use Rattle.ide_image.specs.Ranks.{left_by_slots}
-use Rattle.ide_image.proofs.ordered.Left.listed_items.Given as goal
+use Rattle.ide_image.proofs.noted_slots.NotedSlots.listed_items.Given as goal
 
 -- what is listed, and what is left of the notes from here on, for which there is room
 abbrev pub invariant-loop-index : goal.invariant-loop-index

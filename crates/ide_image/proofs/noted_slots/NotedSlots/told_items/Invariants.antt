@@ -2,7 +2,7 @@ use Rattle.std.proofs.Common.{◌≡◌, ◌≤◌, ◌++◌, drop}
 use Rattle.std.specs.Prelude.{vec_capacity, vec_len}
 use Rattle.std.specs.List.{filter_map}
 use Rattle.ide_image.specs.Ranks.{item_told}
-use Rattle.ide_image.proofs.ordered.Left.told_items.Given as goal
+use Rattle.ide_image.proofs.noted_slots.NotedSlots.told_items.Given as goal
 
 -- the items of the numbers so far, and those of the numbers from here on, for which there is room
 abbrev pub invariant-loop-index : goal.invariant-loop-index

@@ -5,8 +5,8 @@ use Rattle.std.specs.List.{cons_option, filter_map}
 use Rattle.std.proofs.lemmas.List.{append-nil}
 use Rattle.ide_image.specs.Ranks.{item_told}
 use Rattle.ide_image.proofs.Left.{got, next-listed}
-use Rattle.ide_image.proofs.ordered.Left.told_items.Goals as goal
-use Rattle.ide_image.proofs.ordered.Left.told_items.Goals.{in-Some, in_default}
+use Rattle.ide_image.proofs.noted_slots.NotedSlots.told_items.Goals as goal
+use Rattle.ide_image.proofs.noted_slots.NotedSlots.told_items.Goals.{in-Some, in_default}
 
 pub loop-index-preserved : goal.loop-index-preserved
 loop-index-preserved g c =

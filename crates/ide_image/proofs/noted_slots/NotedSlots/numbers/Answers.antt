@@ -9,8 +9,8 @@ use Rattle.ide_image.specs.declared.entry.Entry.{Entry}
 use Rattle.ide_image.specs.Left.{left_by_slot}
 use Rattle.ide_image.specs.Ranks.{IsNumber, item_of, item_told, left_by_slots}
 use Rattle.ide_image.proofs.Left.{next-listed}
-use Rattle.ide_image.proofs.ordered.Left.numbers.Goals as goal
-use Rattle.ide_image.proofs.ordered.Left.numbers.Goals.{in-Some+in-Some-number_of, in_default}
+use Rattle.ide_image.proofs.noted_slots.NotedSlots.numbers.Goals as goal
+use Rattle.ide_image.proofs.noted_slots.NotedSlots.numbers.Goals.{in-Some+in-Some-number_of, in_default}
 
 pub loop-index-preserved : goal.loop-index-preserved
 loop-index-preserved g c =

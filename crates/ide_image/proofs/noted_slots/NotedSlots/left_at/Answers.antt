@@ -8,7 +8,7 @@ use Rattle.ide_image.specs.Left.{left_by_slot}
 use Rattle.ide_image.specs.Ranks.{item_of}
 use Rattle.ide_image.proofs.Left.{got, slot-beside}
 use Rattle.ide_image.proofs.Ranks.{stands}
-use Rattle.ide_image.proofs.ordered.Left.left_at.Goals as goal
+use Rattle.ide_image.proofs.noted_slots.NotedSlots.left_at.Goals as goal
 
 pub left_at-requires : goal.left_at-requires
 left_at-requires g c =

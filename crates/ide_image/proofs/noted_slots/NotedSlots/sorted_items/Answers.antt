@@ -6,7 +6,7 @@ use Rattle.ide_wire.specs.declared.key.Key.{Key}
 use Rattle.ide_wire.specs.declared.key.Key.TheVariants.{Jump}
 use Rattle.ide_image.specs.Ranks.{AreNumbers, item_told, left_by_slots}
 use Rattle.ide_image.proofs.Ranks.{told-items, told-same, told-up}
-use Rattle.ide_image.proofs.ordered.Left.items.Goals as goal
+use Rattle.ide_image.proofs.noted_slots.NotedSlots.sorted_items.Goals as goal
 
 pub returns-in-Some-clause-same : goal.returns-in-Some-clause-same
 returns-in-Some-clause-same g c =

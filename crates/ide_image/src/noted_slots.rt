@@ -1,0 +1,22 @@
+//! Notes, and what has the entries of their keys as they stand.
+//!
+//! What is left of them is told in `ordered`, by clauses that name this struct: a file that declares one
+//! with a ghost field may not have such.
+ghost use Rattle.ide_image.specs.Indexed.{place_of_key};
+ghost use Rattle.ide_image.specs.Ranks.{AreSlots};
+
+use crate::entry::Entry;
+use crate::indexed::Indexed;
+use crate::queue::Queue;
+use ide_lattice::EdgeFn;
+use ide_wire::Key;
+
+/// Notes, each with the slot of its key, and what has the entries of these keys as they stand.
+#[derive(Drop)]
+pub(crate) struct NotedSlots<'a, F: EdgeFn> {
+    pub(crate) indexed: &'a Indexed<F>,
+    pub(crate) queue: &'a Queue,
+    pub(crate) notes: &'a [(Key, Entry<F>)],
+    pub(crate) slots: &'a [u32],
+    ghost stand: { AreSlots (place_of_key indexed.now) notes.now slots.now },
+}
