@@ -167,7 +167,8 @@ fn append_line<L: Lattice>(
 {
     append_place(node, fact, name, out)?;
     value.show(out)?;
-    out.extend_from_slice(b"\n")
+    out.push(b'\n')?;
+    Ok(())
 }
 
 /// Appends the columns of a line before its value.
@@ -189,7 +190,8 @@ fn append_right(text: &[u8], width: usize, out: &mut Vec<u8>) -> Result<(), Allo
 {
     append_spaces(width.saturating_sub(text.len()), out)?;
     out.extend_from_slice(text)?;
-    out.extend_from_slice(b" ")
+    out.push(b' ')?;
+    Ok(())
 }
 
 /// Appends a text at the left end of a column, and a space.
@@ -200,7 +202,8 @@ fn append_left(text: &[u8], width: usize, out: &mut Vec<u8>) -> Result<(), Alloc
 {
     out.extend_from_slice(text)?;
     append_spaces(width.saturating_sub(text.len()), out)?;
-    out.extend_from_slice(b" ")
+    out.push(b' ')?;
+    Ok(())
 }
 
 /// Appends so many spaces.
