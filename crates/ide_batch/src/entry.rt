@@ -30,6 +30,7 @@ impl<F: EdgeFn> Coded for (F, bool) {
         }
     }
 
+    #[inline(always)]
     fn put(&self, out: &mut Vec<u8>) -> Result<(), AllocError> {
         let (function, pending) = *self;
         function.put(out)?;
@@ -57,6 +58,7 @@ impl<F: EdgeFn> Coded for (Key, F, bool) {
         Some(((key, function, pending), rest))
     }
 
+    #[inline(always)]
     fn put(&self, out: &mut Vec<u8>) -> Result<(), AllocError> {
         let (key, function, pending) = *self;
         key.put(out)?;

@@ -81,6 +81,7 @@ impl<F: Copy + Drop> ChangeLog<F> {
     }
 
     /// Makes room for so many notes more, of keys at the first slots, where changes are noted.
+    #[inline(always)]
     pub(crate) fn make_room(&mut self, additional: usize, slots: usize) -> Result<(), AllocError>
         ensures list { self.new.list ≡ self.old.list }
         ensures slots { self.new.slots ≡ self.old.slots }
@@ -98,6 +99,7 @@ impl<F: Copy + Drop> ChangeLog<F> {
 
     /// Notes the entry that the slot's key had before its change, if changes are noted and the key is
     /// not yet.
+    #[inline(always)]
     pub(crate) fn note(&mut self, slot: usize, key: Key, before: Entry<F>)
         requires room { MayNote 1 (slot + 1) self.old }
         requires mark { noted_at self.old slot ≡ is_some (noted self.old.list key) }
@@ -166,6 +168,7 @@ fn stamp_in(stamps: &[u32], slot: usize) -> u32
 }
 
 /// Makes a stamp for each of the first slots, up to this count: those that are new are of no list.
+#[inline(always)]
 fn grow(stamps: &mut Vec<u32>, count: usize) -> Result<(), AllocError>
     ensures covered { OnOk result (count ≤ length stamps.new.items) }
     ensures same { (n : ℕ) → slice_index stamps.new.items n ≡ slice_index stamps.old.items n }

@@ -69,6 +69,7 @@ impl<X: Copy, F: EdgeFn> Entries<X, F> {
     }
 
     /// Makes room for so many more entries.
+    #[inline(always)]
     pub(crate) fn reserve(&mut self, additional: usize) -> Result<(), AllocError>
         ensures items { self.new.items ≡ self.old.items }
         ensures room { OnOk result (additional ≤ self.new.room) }

@@ -65,6 +65,7 @@ impl<F: EdgeFn> Indexed<F> {
     }
 
     /// One more than the index of the key's entry, or 0 where it has none. One look-up.
+    #[inline(always)]
     pub(crate) fn place(&self, key: Key) -> u32
         ensures place { result ≡ place_of_key self.now key }
         ensures within { result ≤ length self.now.table.entries }
@@ -74,6 +75,7 @@ impl<F: EdgeFn> Indexed<F> {
     }
 
     /// The function of the entry at a place, if it is one. No look-up.
+    #[inline(always)]
     pub(crate) fn function_at(&self, place: u32) -> Option<F>
         ensures { ForKeyAt place self.now (λ key. result ≡ found self.now.table key) }
     {
@@ -222,6 +224,7 @@ impl<F: EdgeFn> Indexed<F> {
 
     /// Where the key stands, for which there is a cell then. A cell whose number takes more than 32 bits
     /// is refused as `NoMemory`. One look-up.
+    #[inline(always)]
     pub(crate) fn spot(&mut self, key: Key) -> Result<KeySpot, Refused>
         ensures spot { IfOk result (λ spot. IsSpot self.new key spot.cell spot.place) }
         ensures made { OnOk result (HasCell self.new.places key) }
@@ -270,6 +273,7 @@ impl<F: EdgeFn> Indexed<F> {
     }
 
     /// Makes room for so many more entries.
+    #[inline(always)]
     pub(crate) fn reserve(&mut self, additional: usize) -> Result<(), AllocError>
         ensures table { self.new.table ≡ self.old.table }
         ensures places { self.new.places ≡ self.old.places }
@@ -285,6 +289,7 @@ impl<F: EdgeFn> Indexed<F> {
 
     /// Makes the function that of the key, which stands there, and answers the index of its entry. No
     /// look-up.
+    #[inline(always)]
     pub(crate) fn put(&mut self, spot: KeySpot, key: Key, function: F) -> usize
         requires spot { IsSpot self.old key spot.cell spot.place }
         requires room { MayTake 1 self.old }

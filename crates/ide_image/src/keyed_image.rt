@@ -227,6 +227,7 @@ impl<F: EdgeFn, T: Drop> KeyedImage<F, T> {
     /// Meets the key's function with `f`, and says whether that changed it. An entry that changed is
     /// pending then, a claim of its key is marked as lowered, and the entry of before is noted where
     /// changes are noted. `NoMemory` leaves all as it was. One look-up.
+    #[inline(always)]
     pub fn lower(&mut self, key: Key, f: F) -> Result<Change, Refused>
         ensures lowered { result ≡ Ok Change.Lowered → Lowers F.edge self.old.table self.new.table key f }
         ensures changes { result ≡ Ok Change.Lowered → is_kept F.eq F.edge self.old.table key f ≡ false }
@@ -368,6 +369,7 @@ impl<F: EdgeFn, T: Drop> KeyedImage<F, T> {
     /// Makes the key, which is pending and which no hand has claimed, pending no longer, and notes the
     /// entry of before if changes are noted. It takes memory only for the note. `NoMemory` leaves all as
     /// it was. One look-up.
+    #[inline(always)]
     pub fn settle(&mut self, key: Key) -> Result<(), Refused>
         requires pending { is_pending self.old.pile key ≡ true }
         requires unclaimed { is_claimed self.old.pile key ≡ false }

@@ -180,6 +180,7 @@ impl<'a, F: EdgeFn> NotedSlots<'a, F> {
     }
 
     /// What is left of the note at an index: nothing behind the last one.
+    #[inline(always)]
     fn left_at(&self, index: usize) -> Option<(Key, F, bool)>
         ensures left { IsLeftOf F.eq self.now index result }
         ensures item { IfSome result (IsItemAt self.now index) }

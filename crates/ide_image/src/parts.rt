@@ -67,6 +67,7 @@ fn is_left<F: EdgeFn>(now: F, pending: bool, before: Entry<F>) -> bool
 }
 
 /// Makes room for so many keys more, that are pending and noted.
+#[inline(always)]
 pub(crate) fn make_room<F: EdgeFn>(
     indexed: &mut Indexed<F>,
     queue: &mut Queue,
@@ -88,6 +89,7 @@ pub(crate) fn make_room<F: EdgeFn>(
 
 /// Makes the key, which is pending, pending no longer, and notes the entry of before. Only the note
 /// takes memory.
+#[inline(always)]
 pub(crate) fn end_slot<F: EdgeFn>(
     indexed: &Indexed<F>,
     queue: &mut Queue,
@@ -120,6 +122,7 @@ pub(crate) fn end_slot<F: EdgeFn>(
 
 /// Makes the function that of the key, which stands there, notes the entry of before, and answers the
 /// key's slot.
+#[inline(always)]
 pub(crate) fn put_noted<F: EdgeFn>(
     indexed: &mut Indexed<F>,
     queue: &Queue,
@@ -162,6 +165,7 @@ fn mark_held<T: Drop>(claims: &mut Vec<Option<Claim<T>>>, is_held: bool, key: Ke
 
 /// Makes the function that of the key, which stands there, and the key pending, marks a claim of the
 /// key, and notes the entry of before.
+#[inline(always)]
 pub(crate) fn enter<F: EdgeFn, T: Drop>(
     indexed: &mut Indexed<F>,
     queue: &mut Queue,

@@ -94,6 +94,7 @@ impl Queue {
     }
 
     /// Makes a mark for each of the first slots, up to this count: those that are new are settled.
+    #[inline(always)]
     pub(crate) fn cover(&mut self, count: usize) -> Result<(), AllocError>
         requires few { count < 2 ^ 32 }
         ensures covered { OnOk result (count ≤ length self.new.list) }
@@ -193,6 +194,7 @@ impl Queue {
 }
 
 /// Makes a mark for each of the first slots, up to this count: those that are new are settled.
+#[inline(always)]
 fn grow(marks: &mut Marks, count: usize) -> Result<(), AllocError>
     requires few { count < 2 ^ 32 }
     requires marks { length marks.old < 2 ^ 32 }

@@ -58,6 +58,7 @@ impl Wire for ConstFn {
 
     ghost form = { const_fn_form };
 
+    #[inline(always)]
     fn put(&self, out: &mut Vec<u8>) -> Result<(), AllocError> {
         match *self {
             ConstFn::AllTop => out.extend_from_slice(&[0]),
@@ -143,6 +144,7 @@ impl EdgeFn for ConstFn {
     }
 
     #[tactic(auto, unfolding(crate::specs::Modular::sum_of))]
+    #[inline(always)]
     fn compose(self, next: ConstFn) -> ConstFn {
         match self {
             ConstFn::AllTop => ConstFn::AllTop,

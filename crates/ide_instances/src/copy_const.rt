@@ -29,6 +29,7 @@ impl Problem for CopyConst {
 
     ghost targets = { copy_targets };
 
+    #[inline(always)]
     fn flow(edge: &EdgeData, fact: Fact, out: &mut TargetList<ConstFn>) -> Result<(), AllocError> {
         let received = match &edge.kind {
             EdgeKind::Normal(effect) => received(*effect, fact),
@@ -45,6 +46,7 @@ impl Problem for CopyConst {
 }
 
 /// What the fact that a statement assigns receives from `fact`.
+#[inline(always)]
 pub(crate) fn received(effect: Effect, fact: Fact) -> Option<ConstFn>
     ensures { result ≡ copy_received effect fact }
 {

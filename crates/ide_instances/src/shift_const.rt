@@ -32,6 +32,7 @@ impl Problem for ShiftConst {
 
     ghost targets = { shift_targets };
 
+    #[inline(always)]
     fn flow(edge: &EdgeData, fact: Fact, out: &mut TargetList<ConstFn>) -> Result<(), AllocError> {
         let received = match &edge.kind {
             EdgeKind::Normal(effect) => received(*effect, fact),

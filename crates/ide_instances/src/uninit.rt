@@ -30,6 +30,7 @@ impl Problem for Uninit {
 
     ghost targets = { uninit_targets };
 
+    #[inline(always)]
     fn flow(edge: &EdgeData, fact: Fact, out: &mut TargetList<UninitFn>) -> Result<(), AllocError> {
         let received = match &edge.kind {
             EdgeKind::Normal(effect) => received(*effect, fact),

@@ -79,6 +79,7 @@ impl EdgeFn for UninitFn {
         }
     }
 
+    #[inline(always)]
     fn compose(self, next: UninitFn) -> UninitFn {
         match self {
             UninitFn::AllTop => self,

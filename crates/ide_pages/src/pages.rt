@@ -61,6 +61,7 @@ impl Pages {
     }
 
     /// The key's number. One look-up at most: none where room was made last for a key of its page.
+    #[inline(always)]
     pub fn number(&self, key: Key) -> u32
         ensures { result ≡ number_at self.now key }
     {
@@ -127,6 +128,7 @@ impl Pages {
 
     /// The key's cell, for which a page of 64 zeros is made where there is none. `NoMemory` leaves
     /// the map as it was. Where there is the page it takes one look-up at most, and no memory.
+    #[inline(always)]
     pub fn make_room(&mut self, key: Key) -> Result<usize, Refused>
         ensures cell { IfOk result (λ cell. cell_of self.new key ≡ Some cell) }
         ensures there { IfSome (cell_of self.old key) (λ cell. result ≡ Ok cell) }

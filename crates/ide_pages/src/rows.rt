@@ -30,6 +30,7 @@ pub(crate) fn cell_on(
 }
 
 // The same, with no look-up where the page is the one at `last`.
+#[inline(always)]
 pub(crate) fn cell_near(
     pages: &IndexSet<Key>,
     cells: &[u32],

@@ -15,6 +15,7 @@ use std::alloc::AllocError;
 /// Adds the targets of `fact` over an edge, ascending. The fact that the edge assigns, if it is an
 /// assignment, receives `received` from `fact`; out of a procedure's start `@result` and the locals
 /// get `at_entry` from `@zero`. A fact that the program does not have has no targets.
+#[inline(always)]
 pub fn add_targets<F: EdgeFn>(
     edge: &EdgeData,
     received: Option<F>,
@@ -40,6 +41,7 @@ pub fn add_targets<F: EdgeFn>(
 }
 
 /// The targets over a normal edge, by its effect.
+#[inline(always)]
 fn add_effect<F: EdgeFn>(
     effect: Effect,
     result_fact: Fact,
@@ -68,6 +70,7 @@ fn add_effect<F: EdgeFn>(
 
 /// The targets over an assignment to `target`, which receives `received`. Any other fact stays as
 /// it is.
+#[inline(always)]
 fn add_assigned<F: EdgeFn>(
     target: Fact,
     received: Option<F>,

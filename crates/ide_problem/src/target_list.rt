@@ -23,6 +23,7 @@ impl<F: EdgeFn> TargetList<F> {
     }
 
     /// Puts one more target at the end. At an error the list is empty.
+    #[inline(always)]
     pub fn add(&mut self, fact: Fact, function: F) -> Result<(), AllocError>
         ensures ok { OnOk result (self.new.list.items ≡ self.old.list.items ++ (fact, function) ∷ []) }
         ensures err { OnErr result (self.new.list.items ≡ []) }

@@ -118,6 +118,7 @@ fn task_of<P: Problem>(
 
 /// What the key's function is joined with: at a call node the summaries over the call, at an exit
 /// what the callers' call flow reaches, for a summary the jumps at its call node.
+#[inline(always)]
 pub(crate) fn partners_of<P: Problem>(
     alloc: Global,
     loaded: &Loaded<P>,

@@ -115,6 +115,7 @@ impl<P: Problem> Core<P> {
     /// the key itself, that is to a run what a claim of the key, its parts and its end are (`WorksOff`).
     ///
     /// Refusal: `NoMemory`.
+    #[inline(always)]
     pub fn next_owed(&self, parts: &mut PartList<P>) -> Result<Option<Key>, Refused>
         requires loaded { is_loaded self.now ≡ true }
         ensures owed { ForKey result (IsNextOwed P.F.edge P.targets self.now parts.new) }
@@ -129,6 +130,7 @@ impl<P: Problem> Core<P> {
     }
 
     /// Makes the list the parts that a pending key owes now.
+    #[inline(always)]
     fn fill(&self, key: Key, function: P::F, parts: &mut PartList<P>) -> Result<(), Refused>
         requires loaded { is_loaded self.now ≡ true }
         requires pending { is_pending self.now.pile key ≡ true }
@@ -146,6 +148,7 @@ impl<P: Problem> Core<P> {
     /// Makes a pending key, which no hand has claimed, pending no longer.
     ///
     /// Refusal: `NoMemory`, which never comes where nobody asked for changes.
+    #[inline(always)]
     pub fn settle_owed(&mut self, key: Key) -> Result<(), Refused>
         requires unclaimed { is_claimed self.old.pile key ≡ false }
         requires pending { is_pending self.old.pile key ≡ true }

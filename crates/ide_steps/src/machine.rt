@@ -205,6 +205,7 @@ impl<P: Problem> Core<P> {
     /// ([`Core::next_owed`]).
     ///
     /// Refusal: `NoMemory`.
+    #[inline(always)]
     pub fn lower_owed(&mut self, key: Key, function: P::F) -> Result<Change, Refused>
         requires { IsInside self.old key }
         ensures stays { IsSameProblem self.old self.new }

@@ -39,6 +39,7 @@ impl<P: Problem> PartList<P> {
     /// Makes it the parts that a key with that function owes, at its site and with its partners, in the
     /// order in which they are owed. What was in it before is gone. Where memory is wanting, it has some of
     /// them.
+    #[inline(always)]
     pub fn fill(
         &mut self,
         key: Key,

@@ -40,6 +40,7 @@ impl<P: Problem> Parts<P> {
     }
 
     /// Adds the parts of a key with that function, at its site and with its partners.
+    #[inline(always)]
     pub(crate) fn add_all(
         &mut self,
         key: Key,
@@ -85,6 +86,7 @@ impl<P: Problem> Parts<P> {
     }
 
     /// The jumps to the targets of `to` over one edge.
+    #[inline(always)]
     fn add_edge(
         &mut self,
         edge: &EdgeData,
@@ -193,6 +195,7 @@ impl<P: Problem> Parts<P> {
     }
 
     /// Fills the targets with those of `fact` over the edge.
+    #[inline(always)]
     fn flow(&mut self, edge: &EdgeData, fact: Fact) -> Result<(), AllocError>
         ensures targets { OnOk result (self.new.targets.list.items ≡ P.targets edge.now fact) }
         ensures parts { self.new.list ≡ self.old.list }
