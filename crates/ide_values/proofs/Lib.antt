@@ -3,6 +3,7 @@ pub mod Coming
 pub mod Edges
 pub mod Sound
 pub mod Started
+pub mod Told
 pub mod Falling
 pub mod Filled
 pub mod Follows

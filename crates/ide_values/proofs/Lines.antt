@@ -44,7 +44,7 @@ module _ {X : Type 0} (f : ℕ → List X) where
       ∙ ap (λ l. old ++ l) (sym (flat_more n))
 
 -- past a fact without a name none has one
-none_after : (graph : Supergraph) (node n k : ℕ) → name_at graph node n ≡ None → n ≤ k → name_at graph node k ≡ None
+pub none_after : (graph : Supergraph) (node n k : ℕ) → name_at graph node n ≡ None → n ≤ k → name_at graph node k ≡ None
 none_after graph node n k none le = by (slice_get graph.owners node) none
   where
     by : (o : Option ℕ) → option_and_then (λ owner. slice_get (fact_names graph owner) n) o ≡ None → option_and_then (λ owner. slice_get (fact_names graph owner) k) o ≡ None

@@ -23,9 +23,17 @@ right width text = replicate (width - length text) 32 ++ text ++ codes " "
 abbrev pub left : ℕ → List ℕ → List ℕ
 left width text = text ++ replicate (width - length text) 32 ++ codes " "
 
+-- the column of a node's number
+abbrev pub node_column : ℕ → List ℕ
+node_column node = right 6 (decimal node)
+
+-- the columns of a fact's number and its name
+abbrev pub fact_columns : ℕ → List ℕ → List ℕ
+fact_columns fact name = right 4 (decimal fact) ++ left 31 name
+
 -- the columns of a line before its value: both numbers and the fact's name
 abbrev pub columns_of : ℕ → ℕ → List ℕ → List ℕ
-columns_of node fact name = right 6 (decimal node) ++ right 4 (decimal fact) ++ left 31 name
+columns_of node fact name = node_column node ++ fact_columns fact name
 
 -- the line of a fact at a node: its columns, and its value as it is shown
 abbrev pub line_of : ℕ → ℕ → List ℕ → List ℕ → List ℕ

@@ -3,6 +3,7 @@ pub mod BestDump
 pub mod Chunks
 pub mod Dump
 pub mod Closed
+pub mod Columns
 pub mod Enter
 pub mod Falling
 pub mod Fill

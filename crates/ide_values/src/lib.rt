@@ -7,6 +7,7 @@
 #![tactic(auto)]
 
 mod chunks;
+mod columns;
 mod dump;
 mod enter;
 mod fill;

@@ -1,6 +1,6 @@
 use Rattle.std.proofs.Common.{◌≡◌, ℕ, replicate, rules, take}
 use Rattle.std.proofs.lemmas.List.{take-replicate}
-use Rattle.ide_values.proofs.dump.append_spaces.Goals as goal
+use Rattle.ide_values.proofs.columns.append_spaces.Goals as goal
 
 pub returns-clause-text : goal.returns-clause-text
 returns-clause-text c =
