@@ -1,12 +1,12 @@
 //! The analysis: how the origin of values flows over edges.
 ghost use Rattle.std.specs.Prelude.{◌≡◌, ◌<◌, Option};
 ghost use Rattle.std.proofs.Common.{lit≤};
-ghost use Rattle.ide_example.specs.Inputs.{received_over};
+ghost use Rattle.ide_example.specs.Inputs.{received_on, received_over};
 
 use crate::carry::Carry;
 use crate::origin::Origin;
 use ide_graph::{EdgeData, EdgeKind, Effect};
-use ide_problem::{Problem, TargetList, add_targets};
+use ide_problem::{Problem, TargetList, add_targets, unchanged_over};
 use ide_wire::Fact;
 use std::alloc::AllocError;
 
@@ -29,11 +29,11 @@ impl Problem for Inputs {
     ghost targets = { inputs_targets };
 
     fn flow(edge: &EdgeData, fact: Fact, out: &mut TargetList<Carry>) -> Result<(), AllocError> {
-        let received = match &edge.kind {
-            EdgeKind::Normal(effect) => received(*effect, fact),
-            _ => None,
-        };
-        add_targets(edge, received, Carry::Nothing, fact, out)
+        add_targets(edge, received_on(edge, fact), Carry::Nothing, fact, out)
+    }
+
+    fn passes_unchanged(edge: &EdgeData, fact: Fact) -> bool {
+        unchanged_over(edge, received_on(edge, fact), fact)
     }
 
     ghost lawful = { inputs_flow };
@@ -41,6 +41,16 @@ impl Problem for Inputs {
     ghost tag_not_zero = { lit≤ tt };
 
     ghost top_is_not_bottom = { program_is_not_input };
+}
+
+/// What the variable that the edge's statement assigns, if it is one, receives from `fact`.
+fn received_on(edge: &EdgeData, fact: Fact) -> Option<Carry>
+    ensures { result ≡ received_on edge.now.kind fact }
+{
+    match &edge.kind {
+        EdgeKind::Normal(effect) => received(*effect, fact),
+        _ => None,
+    }
 }
 
 /// What the variable that a statement assigns receives from `fact`: an input is told by `@zero`,

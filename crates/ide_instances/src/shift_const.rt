@@ -2,13 +2,13 @@
 ghost use Rattle.std.specs.Prelude.{◌≡◌, ◌<◌, Option};
 ghost use Rattle.std.proofs.Common.{lit≤};
 ghost use Rattle.ide_instances.specs.Modular.{negated_of};
-ghost use Rattle.ide_instances.specs.Received.{shift_received};
+ghost use Rattle.ide_instances.specs.Received.{shift_received, received_by};
 
 use crate::const_fn::ConstFn;
 use crate::const_value::ConstValue;
 use crate::copy_const;
 use ide_graph::{EdgeData, EdgeKind, Effect};
-use ide_problem::{Problem, TargetList, add_targets};
+use ide_problem::{Problem, TargetList, add_targets, unchanged_over};
 use ide_wire::Fact;
 use std::alloc::AllocError;
 
@@ -34,11 +34,12 @@ impl Problem for ShiftConst {
 
     #[inline(always)]
     fn flow(edge: &EdgeData, fact: Fact, out: &mut TargetList<ConstFn>) -> Result<(), AllocError> {
-        let received = match &edge.kind {
-            EdgeKind::Normal(effect) => received(*effect, fact),
-            _ => None,
-        };
-        add_targets(edge, received, ConstFn::Bottom, fact, out)
+        add_targets(edge, received_by(edge, fact), ConstFn::Bottom, fact, out)
+    }
+
+    #[inline(always)]
+    fn passes_unchanged(edge: &EdgeData, fact: Fact) -> bool {
+        unchanged_over(edge, received_by(edge, fact), fact)
     }
 
     ghost lawful = { shift_flow };
@@ -46,6 +47,17 @@ impl Problem for ShiftConst {
     ghost tag_not_zero = { lit≤ tt };
 
     ghost top_is_not_bottom = { const_top_is_not_bottom };
+}
+
+/// What the fact that the edge's statement assigns, if it is one, receives from `fact`.
+#[inline(always)]
+fn received_by(edge: &EdgeData, fact: Fact) -> Option<ConstFn>
+    ensures { result ≡ received_by shift_received edge.now.kind fact }
+{
+    match &edge.kind {
+        EdgeKind::Normal(effect) => received(*effect, fact),
+        _ => None,
+    }
 }
 
 /// What the fact that a statement assigns receives from `fact`: but for sums and differences, what

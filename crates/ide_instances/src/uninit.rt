@@ -1,12 +1,12 @@
 //! Uninitialised variables.
 ghost use Rattle.std.specs.Prelude.{◌≡◌, ◌<◌, Option};
 ghost use Rattle.std.proofs.Common.{lit≤};
-ghost use Rattle.ide_instances.specs.Received.{uninit_received};
+ghost use Rattle.ide_instances.specs.Received.{uninit_received, received_by};
 
 use crate::uninit_fn::UninitFn;
 use crate::uninit_value::UninitValue;
 use ide_graph::{EdgeData, EdgeKind, Effect};
-use ide_problem::{Problem, TargetList, add_targets};
+use ide_problem::{Problem, TargetList, add_targets, unchanged_over};
 use ide_wire::Fact;
 use std::alloc::AllocError;
 
@@ -32,11 +32,12 @@ impl Problem for Uninit {
 
     #[inline(always)]
     fn flow(edge: &EdgeData, fact: Fact, out: &mut TargetList<UninitFn>) -> Result<(), AllocError> {
-        let received = match &edge.kind {
-            EdgeKind::Normal(effect) => received(*effect, fact),
-            _ => None,
-        };
-        add_targets(edge, received, UninitFn::Id, fact, out)
+        add_targets(edge, received_by(edge, fact), UninitFn::Id, fact, out)
+    }
+
+    #[inline(always)]
+    fn passes_unchanged(edge: &EdgeData, fact: Fact) -> bool {
+        unchanged_over(edge, received_by(edge, fact), fact)
     }
 
     ghost lawful = { uninit_flow };
@@ -44,6 +45,17 @@ impl Problem for Uninit {
     ghost tag_not_zero = { lit≤ tt };
 
     ghost top_is_not_bottom = { uninit_top_is_not_bottom };
+}
+
+/// What the fact that the edge's statement assigns, if it is one, receives from `fact`.
+#[inline(always)]
+fn received_by(edge: &EdgeData, fact: Fact) -> Option<UninitFn>
+    ensures { result ≡ received_by uninit_received edge.now.kind fact }
+{
+    match &edge.kind {
+        EdgeKind::Normal(effect) => received(*effect, fact),
+        _ => None,
+    }
 }
 
 /// What the fact that a statement assigns receives from `fact`.

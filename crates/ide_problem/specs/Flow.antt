@@ -8,6 +8,10 @@ use Rattle.ide_lattice.specs.Algebra.{EdgeAlgebra}
 abbrev pub Targets : Type 0 → Type 0
 Targets F = EdgeData → ℕ → List (ℕ × F)
 
+-- the targets are the fact alone, by the identity
+abbrev pub IsPassed : {F : Type 0} → F → List (ℕ × F) → ℕ → Type 0
+IsPassed id targets fact = targets ≡ (fact, id) ∷ []
+
 -- the function to a fact: the listed one, else the one that always gives top
 abbrev pub function_to : {F L : Type 0} → EdgeAlgebra F L → ℕ → List (ℕ × F) → F
 function_to B fact [] = B.all_top

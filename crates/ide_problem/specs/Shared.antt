@@ -1,6 +1,7 @@
 -- The flow that analyses of assignments share: all of it but what an assigned fact receives.
-use Rattle.std.specs.Prelude.{ℕ, ◌-◌, Bool, false, not, ◌&&◌, ◌||◌, List, [], ◌∷◌, ◌++◌, Option, Some, None, cond, nat_eq, nat_lt, nat_le, map}
+use Rattle.std.specs.Prelude.{◌≡◌, ℕ, ◌-◌, Bool, true, false, not, ◌&&◌, ◌||◌, List, [], ◌∷◌, ◌++◌, Option, Some, None, cond, nat_eq, nat_lt, nat_le, map}
 use Rattle.std.specs.List.{flat_map, range_with_len}
+use Rattle.ide_problem.specs.Flow.{IsPassed}
 use Rattle.ide_graph.specs.declared.edge.EdgeData.{EdgeData}
 use Rattle.ide_graph.specs.declared.edge.EdgeKind.{EdgeKind}
 use Rattle.ide_graph.specs.declared.edge.EdgeKind.TheVariants.{Normal, Call, Return, CallToReturn}
@@ -77,3 +78,18 @@ kind_targets id received at_entry result (CallToReturn assigned) fact = along_ta
 abbrev pub edge_targets : {F : Type 0} → F → Option F → F → EdgeData → ℕ → List (ℕ × F)
 edge_targets id received at_entry edge fact =
     cond (nat_lt fact edge.facts) (kind_targets id received at_entry edge.result edge.kind fact) []
+
+-- whether a statement passes a fact on, from which the assigned one receives nothing
+abbrev pub passes_effect : ℕ → Effect → ℕ → Bool
+passes_effect result Nothing fact = true
+passes_effect result (Number target number) fact = not (nat_eq fact target)
+passes_effect result (Copy target source) fact = not (nat_eq fact target)
+passes_effect result (Sum target source number) fact = not (nat_eq fact target)
+passes_effect result (Difference target source number) fact = not (nat_eq fact target)
+passes_effect result (Unknown target) fact = not (nat_eq fact target)
+passes_effect result (Mix target first second) fact = not (nat_eq fact target)
+passes_effect result (Enter first end) fact = not (nat_eq fact 0) && not (is_entered result first end fact)
+
+-- the edge passes the fact on unchanged, whatever is entered
+abbrev pub PassesOn : {F : Type 0} → F → Option F → EdgeData → ℕ → Type 0
+PassesOn {F} id received edge fact = (at_entry : F) → IsPassed id (edge_targets id received at_entry edge fact) fact

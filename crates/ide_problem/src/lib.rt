@@ -11,5 +11,5 @@ mod shared;
 mod target_list;
 
 pub use problem::Problem;
-pub use shared::add_targets;
+pub use shared::{add_targets, unchanged_over};
 pub use target_list::TargetList;

@@ -1,6 +1,6 @@
 //! The trait of analyses.
-ghost use Rattle.std.specs.Prelude.{◌≡◌, ◌<◌, ℕ, [], OnOk, OnErr};
-ghost use Rattle.ide_problem.specs.Flow.{Targets, IsFlow};
+ghost use Rattle.std.specs.Prelude.{◌≡◌, ◌<◌, ℕ, [], true, OnOk, OnErr};
+ghost use Rattle.ide_problem.specs.Flow.{IsFlow, IsPassed, Targets};
 
 use crate::target_list::TargetList;
 use ide_graph::EdgeData;
@@ -28,6 +28,15 @@ pub trait Problem {
         requires { out.old.list.items ≡ [] }
         ensures ok { OnOk result (out.new.list.items ≡ targets edge.now fact) }
         ensures err { OnErr result (out.new.list.items ≡ []) };
+
+    /// Whether the edge passes the fact on unchanged: to itself alone, by the identity. Where it does, the solver need not
+    /// ask for the flow, so an analysis in which most facts stay as they are is solved faster if it tells. `false`,
+    /// which is what an analysis answers that has no such method, is always right.
+    fn passes_unchanged(edge: &EdgeData, fact: Fact) -> bool
+        ensures { result ≡ true → IsPassed Self.F.edge.id (targets edge.now fact) fact }
+    {
+        false
+    }
 
     ghost lawful: { IsFlow Self.F.edge targets };
 

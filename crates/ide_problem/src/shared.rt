@@ -2,9 +2,9 @@
 //!
 //! Every function on a call, return or call-to-return edge is the identity. Over an assignment
 //! each other fact goes to itself, and the assigned fact receives only what the analysis says.
-ghost use Rattle.std.specs.Prelude.{◌≡◌, ◌-◌, [], ◌++◌, map, nat_eq, OnOk, OnErr};
+ghost use Rattle.std.specs.Prelude.{◌≡◌, ◌-◌, [], ◌++◌, map, nat_eq, true, OnOk, OnErr};
 ghost use Rattle.std.specs.List.{flat_map, range_with_len};
-ghost use Rattle.ide_problem.specs.Shared.{kept, assigned_targets, entered_targets, call_targets, return_targets, along_targets, effect_targets, edge_targets};
+ghost use Rattle.ide_problem.specs.Shared.{PassesOn, kept, passes_effect, assigned_targets, entered_targets, call_targets, return_targets, along_targets, effect_targets, edge_targets};
 
 use crate::target_list::TargetList;
 use ide_graph::{EdgeData, EdgeKind, Effect};
@@ -37,6 +37,40 @@ pub fn add_targets<F: EdgeFn>(
         EdgeKind::Call(pairs) => add_call(edge.result, pairs.as_slice(), fact, targets),
         EdgeKind::Return(assigned) => add_return(edge.result, *assigned, fact, targets),
         EdgeKind::CallToReturn(assigned) => add_along(edge.result, *assigned, fact, targets),
+    }
+}
+
+/// Whether an edge within a procedure passes the fact on unchanged, where the fact that it assigns receives `received` from
+/// it: then [`add_targets`] adds the fact alone, by the identity. Of another edge it is not told.
+#[inline(always)]
+pub fn unchanged_over<F: EdgeFn>(edge: &EdgeData, received: Option<F>, fact: Fact) -> bool
+    ensures { result ≡ true → PassesOn F.edge.id received edge.now fact }
+{
+    if received.is_some() || u32::from(fact) >= edge.facts {
+        return false;
+    }
+    match &edge.kind {
+        EdgeKind::Normal(effect) => passes_effect(*effect, edge.result, fact),
+        EdgeKind::Call(_) | EdgeKind::Return(_) | EdgeKind::CallToReturn(_) => false,
+    }
+}
+
+/// Whether a statement passes a fact on, from which the assigned one receives nothing.
+#[inline(always)]
+fn passes_effect(effect: Effect, result_fact: Fact, fact: Fact) -> bool
+    ensures { result ≡ passes_effect result_fact effect fact }
+{
+    match effect {
+        Effect::Nothing => true,
+        Effect::Number { target, .. }
+        | Effect::Copy { target, .. }
+        | Effect::Sum { target, .. }
+        | Effect::Difference { target, .. }
+        | Effect::Unknown { target }
+        | Effect::Mix { target, .. } => fact != target,
+        Effect::Enter { first, end } => {
+            fact != 0 && fact != result_fact && !(first <= fact && fact < end)
+        }
     }
 }
 

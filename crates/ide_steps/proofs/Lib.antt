@@ -15,3 +15,4 @@ pub mod Noted
 pub mod Lent
 pub mod Refusing
 pub mod Left
+pub mod Unchanged

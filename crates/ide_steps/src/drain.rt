@@ -214,7 +214,7 @@ impl<P: Problem> Core<P> {
 }
 
 /// Makes the list the parts that a key owes, at the site of its node and with the partners that are
-/// present now.
+/// present now. Most keys owe one part, over an edge that passes their fact on unchanged: these have no partners.
 fn fill_parts<P: Problem>(
     alloc: Global,
     loaded: &Loaded<P>,
@@ -231,6 +231,9 @@ fn fill_parts<P: Problem>(
 {
     let node = key.node();
     let site = loaded.graph.site(node);
+    if parts.fill_unchanged(key, function, site)? {
+        return Ok(());
+    }
     let procedure = loaded.graph.procedure_of(node);
     let partners = partners_of(alloc, loaded, image, key, procedure, site)?;
     parts.fill(key, function, site, &partners)?;

@@ -1,5 +1,5 @@
 -- The parts that a task owes, by its key, its site and its partners.
-use Rattle.std.specs.Prelude.{ℕ, List, [], ◌++◌, Option, None, Some, map, slice_get}
+use Rattle.std.specs.Prelude.{◌≡◌, ℕ, List, [], ◌++◌, Option, None, Some, map, slice_get}
 use Rattle.std.specs.List.{flat_map}
 use Rattle.ide_lattice.specs.Algebra.{EdgeAlgebra}
 use Rattle.ide_problem.specs.Flow.{Targets}
@@ -54,6 +54,11 @@ module _ {F L : Type 0} (B : EdgeAlgebra F L) (targets : Targets F) where
   parts_at (Jump n from to) function (Exit start callers) (Callers reaching) = returned_parts to function callers reaching
   parts_at (Summary c from to) summary (Call calls along) (Entries jumps) = resumed_parts along.end to summary jumps
   parts_at key function site partners = []
+
+  -- the key is a jump at a node that is neither call nor exit, and they are the parts that it owes there
+  abbrev pub FillsUnchanged : Key → F → Site → List (Key × F) → Type 0
+  FillsUnchanged (Jump n from to) function (Normal edges) parts = parts ≡ flat_map (flat_parts from to function) edges
+  FillsUnchanged key function site parts = ⊥
 
   -- the parts that the task owes
   abbrev pub owed : TaskData F → List (Key × F)

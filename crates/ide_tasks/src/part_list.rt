@@ -1,10 +1,11 @@
 //! The parts of one key after another, in one list.
-ghost use Rattle.std.specs.Prelude.{◌≡◌, [], OnOk};
-ghost use Rattle.ide_tasks.specs.Parts.{parts_at};
+ghost use Rattle.std.specs.Prelude.{◌≡◌, ◌∷◌, [], false, true, Ok, IfSome, OnOk};
+ghost use Rattle.ide_tasks.specs.Parts.{FillsUnchanged, parts_at};
 
 use crate::partners::Partners;
 use crate::parts::Parts;
 use ide_graph::Site;
+use ide_lattice::EdgeFn;
 use ide_problem::Problem;
 use ide_wire::Key;
 use std::alloc::{AllocError, Global};
@@ -53,6 +54,28 @@ impl<P: Problem> PartList<P> {
         self.parts.add_all(key, function, site, partners)
     }
 
+    /// Makes it the one part that a key with that function owes at its site, where one edge leaves it, which passes the
+    /// fact on unchanged ([`Problem::passes_unchanged`]), and answers whether that is so. Where it is not, nothing is done.
+    #[inline(always)]
+    pub fn fill_unchanged(
+        &mut self,
+        key: Key,
+        function: P::F,
+        site: &Site,
+    ) -> Result<bool, AllocError>
+        ensures filled { result ≡ Ok true → FillsUnchanged P.F.edge P.targets key function site.now self.new }
+        ensures same { result ≡ Ok false → self.new ≡ self.old }
+    {
+        match unchanged_part::<P>(key, function, site) {
+            Some(part) => {
+                self.parts.list.clear();
+                self.parts.list.push(part)?;
+                Ok(true)
+            }
+            None => Ok(false),
+        }
+    }
+
     /// The parts, in their order.
     pub fn as_slice(&self) -> &[(Key, P::F)]
         ensures { result.now ≡ self.now }
@@ -67,5 +90,22 @@ impl<P: Problem> PartList<P> {
         let PartList { parts } = self;
         let Parts { list, targets: _ } = parts;
         list
+    }
+}
+
+/// The one part that a key owes at its site, where one edge leaves it, which passes the fact on unchanged.
+#[inline(always)]
+fn unchanged_part<P: Problem>(key: Key, function: P::F, site: &Site) -> Option<(Key, P::F)>
+    ensures { IfSome result (λ part. FillsUnchanged P.F.edge P.targets key function site.now (part ∷ [])) }
+{
+    match (key, site) {
+        (Key::Jump(_, from, to), Site::Normal(edges)) => match edges.as_slice() {
+            [edge] if P::passes_unchanged(edge, to) => Some((
+                Key::Jump(edge.end, from, to),
+                function.compose(P::F::id()),
+            )),
+            _ => None,
+        },
+        _ => None,
     }
 }
