@@ -34,6 +34,7 @@ install: idesolve
 # Times the program on generated texts, its phases, stores, hands, the journal on a disk in memory, and batches, and prints a table of each.
 bench: idesolve
 	bench/run
+	bench/beside
 	bench/phases
 	bench/stores
 	bench/workers
