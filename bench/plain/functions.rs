@@ -97,9 +97,8 @@ pub struct Constants {
     sums: bool,
     functions: Vec<F>,
     codes: HashMap<F, u32, BuildHasherDefault<Mixer>>,
-    /// The last composition that was not found by its codes alone, by a few bits of these.
-    composed: Vec<(u32, u32, u32)>,
-    met: Vec<(u32, u32, u32)>,
+    composed: Kept,
+    met: Kept,
     most: u32,
     full: bool,
 }
@@ -118,8 +117,8 @@ impl Constants {
             sums,
             functions,
             codes,
-            composed: vec![(0, 0, 0); KEPT],
-            met: vec![(0, 0, 0); KEPT],
+            composed: Kept::new(),
+            met: Kept::new(),
             most: u32::MAX,
             full: false,
         }
@@ -178,8 +177,34 @@ impl Constants {
     }
 }
 
-fn kept_at(f: u32, g: u32) -> usize {
-    (f.wrapping_mul(0x9E37_79B1) ^ g.wrapping_mul(0x85EB_CA6B)) as usize >> 12 & (KEPT - 1)
+/// The last results that were not found by two codes alone, by a few bits of these.
+struct Kept {
+    results: Vec<(u32, u32, u32)>,
+}
+
+impl Kept {
+    fn new() -> Kept {
+        Kept {
+            results: vec![(0, 0, 0); KEPT],
+        }
+    }
+
+    #[inline(always)]
+    fn place(f: u32, g: u32) -> usize {
+        (f.wrapping_mul(0x9E37_79B1) ^ g.wrapping_mul(0x85EB_CA6B)) as usize >> 12 & (KEPT - 1)
+    }
+
+    #[inline(always)]
+    fn get(&self, f: u32, g: u32) -> Option<u32> {
+        let (one, two, result) = self.results[Kept::place(f, g)];
+        (one == f && two == g).then_some(result)
+    }
+
+    /// Keeps the result, and answers it.
+    fn keep(&mut self, f: u32, g: u32, result: u32) -> u32 {
+        self.results[Kept::place(f, g)] = (f, g, result);
+        result
+    }
 }
 
 impl Analysis for Constants {
@@ -203,14 +228,11 @@ impl Analysis for Constants {
         if f == ID || g == BOTTOM || g == TOP {
             return g;
         }
-        let at = kept_at(f, g);
-        let kept = self.composed[at];
-        if kept.0 == f && kept.1 == g {
-            return kept.2;
+        if let Some(result) = self.composed.get(f, g) {
+            return result;
         }
         let result = self.compose_anew(f, g);
-        self.composed[at] = (f, g, result);
-        result
+        self.composed.keep(f, g, result)
     }
 
     #[inline(always)]
@@ -221,14 +243,11 @@ impl Analysis for Constants {
         if f == TOP || g == BOTTOM {
             return g;
         }
-        let at = kept_at(f, g);
-        let kept = self.met[at];
-        if kept.0 == f && kept.1 == g {
-            return kept.2;
+        if let Some(result) = self.met.get(f, g) {
+            return result;
         }
         let result = self.meet_anew(f, g);
-        self.met[at] = (f, g, result);
-        result
+        self.met.keep(f, g, result)
     }
 
     fn show(&self, value: u32, out: &mut Vec<u8>) {
