@@ -16,7 +16,7 @@ use Rattle.ide_image.proofs.Places.{indexed-before, indexed-last, indexed-same, 
 use Rattle.ide_image.proofs.Spots.{place-at}
 
 -- an offset behind an index, in a cell that is known
-index-of : (o : Option ℕ) (offset cell : ℕ) → option_map (λ index. 64 * index + offset) o ≡ Some cell → (index : ℕ) × (o ≡ Some index) × (64 * index + offset ≡ cell)
+pub index-of : (o : Option ℕ) (offset cell : ℕ) → option_map (λ index. 64 * index + offset) o ≡ Some cell → (index : ℕ) × (o ≡ Some index) × (64 * index + offset ≡ cell)
 index-of None offset cell is = absurd (cc)
 index-of (Some index) offset cell is = let same : 64 * index + offset ≡ cell = cc in (index, refl, same)
 

@@ -19,3 +19,4 @@ pub mod Slotted
 pub mod Spots
 pub mod Stack
 pub mod Stamps
+pub mod Walked

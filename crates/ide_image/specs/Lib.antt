@@ -11,4 +11,5 @@ pub mod Queue
 pub mod Ranks
 pub mod Spent
 pub mod Tables
+pub mod Walk
 pub mod Worklist

@@ -1,6 +1,7 @@
 //! Entries in a row, which share the functions that came last.
 ghost use Rattle.std.specs.Prelude.{◌≡◌, ◌+◌, ◌++◌, ◌∷◌, ◌<◌, ◌≤◌, ◌^◌, [], Some, length, slice_get, slice_set, IfOk, IfSome, OnOk, vec_capacity, vec_len};
 ghost use Rattle.ide_image.specs.Entries.{MayKeep};
+ghost use Rattle.ide_image.specs.Walk.{EndWith};
 
 use ide_lattice::EdgeFn;
 use std::alloc::{AllocError, Global};
@@ -90,6 +91,18 @@ impl<X: Copy, F: EdgeFn> Entries<X, F> {
     {
         let kept = keep(&mut self.functions, function);
         self.list.push_reserved((beside, kept));
+    }
+
+    /// Puts an entry behind the others, for which there is room, with the function of the last one.
+    #[inline(always)]
+    pub(crate) fn push_alike(&mut self, beside: X)
+        requires some { 0 < length self.old.items }
+        requires room { 0 < self.old.room }
+        ensures items { (f : F) → EndWith f self.old.items → self.new.items ≡ self.old.items ++ (beside, f) ∷ [] }
+        ensures room { self.old.room ≤ self.new.room + 1 }
+    {
+        let (_, last) = self.list[self.list.len() - 1];
+        self.list.push_reserved((beside, last));
     }
 
     /// Puts an entry in the place of another, for which there is room.

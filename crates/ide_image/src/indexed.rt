@@ -1,12 +1,14 @@
 //! Entries in the order in which their keys came, and where each stands.
-ghost use Rattle.std.specs.Prelude.{◌≡◌, ℕ, ◌+◌, ◌-◌, ◌<◌, ◌≤◌, ◌↔◌, [], None, Some, length, slice_get, IfOk, IfSome, OnOk, IsOkUnless, vec_capacity, vec_len};
+ghost use Rattle.std.specs.Prelude.{◌≡◌, ℕ, ◌+◌, ◌-◌, ◌%◌, ◌<◌, ◌≤◌, ◌↔◌, ◌++◌, [], ◌∷◌, None, Some, length, slice_get, IfOk, IfSome, OnOk, IsOkUnless, vec_capacity, vec_len};
 ghost use Rattle.std.specs.Map.{keys_of};
 ghost use Rattle.ide_pages.specs.Pages.{KeepsCells, cell_of, key_at, number_at};
 ghost use Rattle.ide_wire.specs.declared.key.Key.{Key};
+ghost use Rattle.ide_wire.specs.declared.key.Key.TheVariants.{Jump};
 ghost use Rattle.ide_wire.specs.declared.refused.Refused.TheVariants.{NoMemory};
 ghost use Rattle.ide_wire.specs.KeyOrder.{key_cmp};
 ghost use Rattle.ide_image.specs.Tables.{AreJumpsTo, AreKeys, AreSummariesFrom, HasCell, HaveCells, found, function_at, entry_nodes, partner_at, partners_at, place_in, with_entry};
 ghost use Rattle.ide_image.specs.Indexed.{ForKeyAt, HasDistinctKeys, IsSpot, MayTake, PutsEntry, place_of_key};
+ghost use Rattle.ide_image.specs.Walk.{AreAbsent, EndWith, entered, jump_behind};
 
 use crate::entries::Entries;
 use ide_lattice::EdgeFn;
@@ -310,6 +312,76 @@ impl<F: EdgeFn> Indexed<F> {
         self.places
             .set(spot.cell as usize, key, self.entries.len() as u32);
         index
+    }
+
+    /// Puts a key, which has no entry, behind the others, with the function of the last one. No look-up.
+    #[inline(always)]
+    fn put_alike(&mut self, cell: u32, key: Key)
+        requires spot { IsSpot self.old key cell 0 }
+        requires some { 0 < length self.old.table.entries }
+        requires room { MayTake 1 self.old }
+        ensures entries { (f : F) → EndWith f self.old.table.entries → self.new.table.entries ≡ self.old.table.entries ++ (key, f) ∷ [] }
+        ensures cells { KeepsCells self.old.places self.new.places }
+        ensures room { (n : ℕ) → MayTake (n + 1) self.old → MayTake n self.new }
+    {
+        self.entries.push_alike(cell);
+        self.nodes.push_reserved(key.node());
+        self.places
+            .set(cell as usize, key, self.entries.len() as u32);
+    }
+
+    /// How many jumps between the facts at the nodes behind this one are absent, one after the other, up to the end of
+    /// its page: none where there is no page. One look-up.
+    #[inline(always)]
+    pub(crate) fn absent_behind(&self, node: Node, from: Fact, to: Fact) -> usize
+        ensures absent { AreAbsent self.now.table (jump_behind node from to) result }
+        ensures page { node % 64 + result < 64 }
+    {
+        let Some(cell) = self.places.cell(Key::Jump(node, from, to)) else {
+            return 0;
+        };
+        let most = 63 - (node % 64) as usize;
+        for count in 0..most {
+            if self.places.number_in(cell + 1 + count) != 0 {
+                return count;
+            }
+        }
+        most
+    }
+
+    /// Puts the function at the jumps between the facts at so many nodes behind this one, which are absent and whose
+    /// page there is, one after the other, and answers the index of the last entry. The cell is that of the jump at the
+    /// node. No look-up.
+    #[inline(always)]
+    pub(crate) fn put_behind(
+        &mut self,
+        cell: u32,
+        node: Node,
+        from: Fact,
+        to: Fact,
+        function: F,
+        count: usize,
+    ) -> usize
+        requires cell { cell_of self.old.places (Jump node from to) ≡ Some cell }
+        requires some { 0 < count }
+        requires page { node % 64 + count < 64 }
+        requires absent { AreAbsent self.old.table (jump_behind node from to) count }
+        requires room { MayTake count self.old }
+        ensures entries { self.new.table.entries ≡ self.old.table.entries ++ entered (jump_behind node from to) function count }
+        ensures index { result + 1 ≡ length self.new.table.entries }
+    {
+        let first = KeySpot {
+            cell: cell + 1,
+            place: 0,
+        };
+        let _ = self.put(first, Key::Jump(node + 1, from, to), function);
+        for step in 1..count {
+            self.put_alike(
+                cell + 1 + step as u32,
+                Key::Jump(node + 1 + step as u32, from, to),
+            );
+        }
+        self.len() - 1
     }
 }
 

@@ -1,5 +1,5 @@
 //! What an image has at each key.
-ghost use Rattle.std.specs.Prelude.{◌≡◌, ◌≢◌, ℕ, Bool, ◌+◌, ◌<◌, ◌≤◌, ◌^◌, ◌&&◌, ◌||◌, ◌↔◌, [], None, Some, Ok, Err, true, false, filter, length, nat_eq, not, unwrap_or, if◌then◌else◌, IsOk, IsSome, IsTrue, IfOk, IfSome, IfNone, OnOk, OnErr, IsOkUnless};
+ghost use Rattle.std.specs.Prelude.{◌≡◌, ◌≢◌, ℕ, Bool, ◌+◌, ◌%◌, ◌<◌, ◌≤◌, ◌^◌, ◌&&◌, ◌||◌, ◌↔◌, ◌++◌, [], None, Some, Ok, Err, true, false, filter, length, nat_eq, not, unwrap_or, if◌then◌else◌, IsOk, IsSome, IsTrue, IfOk, IfSome, IfNone, OnOk, OnErr, IsOkUnless};
 ghost use Rattle.std.specs.List.{IsDistinct, list_any};
 ghost use Rattle.std.specs.List.Sorted.{IsPermutation, IsSortedByKey};
 ghost use Rattle.std.specs.Map.{keys_of};
@@ -7,6 +7,7 @@ ghost use Rattle.std.specs.Option.{is_some, option_copied, option_map};
 ghost use Rattle.ide_image.specs.Spent.{Spends, spent};
 ghost use Rattle.ide_image.specs.Tables.{AreJumpsTo, AreKeys, AreSummariesFrom, CountsKey, FallsAt, Lowers, Sets, SetsAll, found, function_at, is_kept};
 ghost use Rattle.ide_wire.specs.declared.key.Key.{Key};
+ghost use Rattle.ide_wire.specs.declared.key.Key.TheVariants.{Jump};
 ghost use Rattle.ide_wire.specs.declared.refused.Refused.TheVariants.{NoMemory};
 ghost use Rattle.ide_wire.specs.Key.{same_key};
 ghost use Rattle.ide_wire.specs.KeyOrder.{key_cmp};
@@ -15,6 +16,7 @@ ghost use Rattle.ide_image.specs.Worklist.{PutsClaim, IsFree, IsWorklist, begun,
 ghost use Rattle.ide_image.specs.KeyedImage.{CountsPending, entry_now, marked_all};
 ghost use Rattle.ide_image.specs.Left.{left_items};
 ghost use Rattle.ide_image.specs.Notes.{NotesAll, ended_key, entry_at, noted, noted_count, with_change, with_note};
+ghost use Rattle.ide_image.specs.Walk.{AreAbsent, AreSettled, GoesTo, entered, jump_behind};
 
 use crate::change::Change;
 use crate::change_log::ChangeLog;
@@ -383,6 +385,58 @@ impl<F: EdgeFn, T: Drop> KeyedImage<F, T> {
         ensures refused { IsOkUnless result NoMemory }
     {
         parts::end_slot(&self.indexed, &mut self.queue, &mut self.changes, key)?;
+        Ok(())
+    }
+
+    /// How many jumps between the facts at the nodes behind this one are absent, one after the other, as far as a walk may
+    /// go: to the end of a page of 64 nodes at most, and nowhere where changes are noted. One look-up.
+    #[inline(always)]
+    pub fn absent_behind(&self, node: Node, from: Fact, to: Fact) -> usize
+        ensures absent { AreAbsent self.now.table (jump_behind node from to) result }
+        ensures settled { AreSettled self.now.pile (jump_behind node from to) result }
+        ensures page { node % 64 + result < 64 }
+        ensures silent { 0 < result → self.now.changes ≡ None }
+    {
+        if self.changes.notes().is_some() {
+            return 0;
+        }
+        self.indexed.absent_behind(node, from, to)
+    }
+
+    /// Walks from the jump between the facts at the node, which is pending and which no hand has claimed, over so many
+    /// nodes behind it, at which the jumps between the facts are absent: these have the function then, and of all of them
+    /// only the last is pending. `NoMemory` leaves all as it was. One look-up.
+    #[inline(always)]
+    pub fn walk(
+        &mut self,
+        node: Node,
+        from: Fact,
+        to: Fact,
+        function: F,
+        count: usize,
+    ) -> Result<(), Refused>
+        requires pending { is_pending self.old.pile (Jump node from to) ≡ true }
+        requires unclaimed { is_claimed self.old.pile (Jump node from to) ≡ false }
+        requires some { 0 < count }
+        requires page { node % 64 + count < 64 }
+        requires absent { AreAbsent self.old.table (jump_behind node from to) count }
+        requires silent { self.old.changes ≡ None }
+        ensures entries { OnOk result (self.new.table.entries ≡ self.old.table.entries ++ entered (jump_behind node from to) function count) }
+        ensures few { OnOk result (length self.new.table.entries < 2 ^ 64) }
+        ensures pending { OnOk result (GoesTo (Jump node from to) (jump_behind node from to count) self.old.pile self.new.pile) }
+        ensures count { OnOk result (length self.new.pile.pending ≡ length self.old.pile.pending) }
+        ensures claims { self.new.pile.claims ≡ self.old.pile.claims }
+        ensures changes { self.new.changes ≡ None }
+        ensures err { OnErr result (self.new ≡ self.old) }
+        ensures refused { IsOkUnless result NoMemory }
+    {
+        let spot = self.indexed.spot(Key::Jump(node, from, to))?;
+        parts::make_room(&mut self.indexed, &mut self.queue, &mut self.changes, count)?;
+        let last = self
+            .indexed
+            .put_behind(spot.cell, node, from, to, function, count);
+        self.queue.push(last);
+        self.queue.settle(spot.place as usize - 1);
         Ok(())
     }
 

@@ -248,3 +248,12 @@ module _ {F L : Type 0} (A : LatticeAlgebra L) (B : EdgeAlgebra F L) (targets : 
   pub goes-same : (hand : ℕ) (old new : CoreData F) → new ≡ old → GoesOnByHand A B targets hand 0 0 0 old new
   goes-same hand old new same =
       goes-nowhere hand old new (record { program = ap (λ c. c.program) same; graph = ap (λ c. c.graph) same; roots = ap (λ c. c.roots) same }) (ap (state_of B targets) same)
+
+  -- nothing happens where tables and pile are as they were
+  pub goes-still : (hand : ℕ) (old new : CoreData F) → IsSameProblem old new → new.table ≡ old.table → new.pile ≡ old.pile → GoesOn A B targets hand old new
+  goes-still hand old new same table pile =
+      goes-on old new (goes-nowhere hand old new same (λ i. record {
+        get = found (table i);
+        pending = λ key. list_any (same_key key) (pile i).pending;
+        claims = λ h. option_map (claim_of B targets) (claim_at (pile i) h);
+      }))

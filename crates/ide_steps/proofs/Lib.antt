@@ -16,3 +16,4 @@ pub mod Lent
 pub mod Refusing
 pub mod Left
 pub mod Unchanged
+pub mod Walked

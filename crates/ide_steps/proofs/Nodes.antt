@@ -28,6 +28,7 @@ use Rattle.ide_image.specs.declared.claim.Claim.{Claim as Held}
 use Rattle.ide_wire.specs.declared.refused.Refused.{Refused}
 use Rattle.ide_steps.specs.Core.{AllStandIn, AreKeysKept, StandsIn}
 use Rattle.ide_image.specs.KeyedImage.{KeyedImageData, marked_all}
+use Rattle.ide_image.specs.Walk.{GoesTo}
 use Rattle.ide_steps.specs.Steps.{progress_at}
 
 -- what holds of each element of each list holds of each element of all of them
@@ -201,6 +202,18 @@ module _ {F L : Type 0} (B : EdgeAlgebra F L) (targets : Targets F) (graph : Sup
       waited : (q : Key) (b : Bool) → same_key key q ≡ b → cond b set (is_pending old q) ≡ true → StandsIn graph q
       waited q true same waits = subst (StandsIn graph) (same_key_exact key q same) stands
       waited q false other waits = kept.pending q waits
+
+  -- one key at a node is pending in the place of another
+  pub kept-moved : (first last : Key) → StandsIn graph last → GoesTo first last old new → new.claims ≡ old.claims → AreKeysKept B targets graph new
+  kept-moved first last stands goes claims = record {
+    pending = λ q waits. waited q (same_key last q) (not (same_key first q)) refl (sym (goes q) ∙ waits);
+    claims = λ h. subst (λ cs. IsOf OwesInside (get_or cs h None)) (sym claims) (kept.claims h);
+  }
+    where
+      waited : (q : Key) (b there : Bool) → same_key last q ≡ b → (b || (there && is_pending old q)) ≡ true → StandsIn graph q
+      waited q true there same waits = subst (StandsIn graph) (same_key_exact last q same) stands
+      waited q false true other waits = kept.pending q waits
+      waited q false false other waits = absurd (cc (waits))
 
 -- the image is as it was
 pub kept-equal : {F L : Type 0} (B : EdgeAlgebra F L) (targets : Targets F) (graph : Supergraph) (old new : KeyedImageData F (TaskData F))

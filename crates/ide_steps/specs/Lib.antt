@@ -19,3 +19,4 @@ pub mod Lent
 pub mod PartRefusal
 pub mod Steps
 pub mod Going
+pub mod Walk

@@ -1,10 +1,10 @@
 //! All steps that are left, by one hand.
-ghost use Rattle.std.specs.Prelude.{◌≡◌, ◌⊎◌, ◌||◌, [], true, false, Ok, Some, None, IfErr, IfOk, IsOk, OnErr, OnOk, IsOkUnless};
+ghost use Rattle.std.specs.Prelude.{◌≡◌, ◌<◌, ◌⊎◌, ◌||◌, [], true, false, Ok, Some, None, IfErr, IfOk, IsOk, OnErr, OnOk, IsOkUnless};
 ghost use Rattle.ide_wire.specs.Key.{same_key};
 ghost use Rattle.ide_steps.specs.Changed.{Notes, Remembers};
 ghost use Rattle.ide_steps.specs.Core.{is_loaded, AllStandIn, AreInside, IsSameProblem, StandsIn};
 ghost use Rattle.ide_steps.specs.DrainRefusal.{IsDrainRefusal, IsNoDrain, MayDrain};
-ghost use Rattle.ide_steps.specs.Drain.{Drains, GoesOnPaid, HasLess, RunsTask};
+ghost use Rattle.ide_steps.specs.Drain.{Drains, GoesOnPaid, HasLess};
 ghost use Rattle.ide_steps.specs.Going.{GoesOn};
 ghost use Rattle.ide_steps.specs.Room.{AreTasksFew};
 ghost use Rattle.ide_steps.specs.Running.{AreAllClaimed, DoesAll, DoesSome, ForKey, IsNextOwed, IsTakenOut, ListsParts, OwesParts};
@@ -84,29 +84,38 @@ impl<P: Problem> Core<P> {
     {
         let mut parts = PartList::new(self.alloc);
         let mut tasks = 0_u64;
-        while self.run_next(&mut parts)? {
-            tasks = tasks.saturating_add(1);
+        loop {
+            let count = self.run_next(&mut parts)?;
+            if count == 0 {
+                return Ok(tasks);
+            }
+            tasks = tasks.saturating_add(count as u64);
         }
-        Ok(tasks)
     }
 
-    /// Runs the key that is next; false where no key is pending. The list's room is used again.
-    fn run_next(&mut self, parts: &mut PartList<P>) -> Result<bool, Refused>
+    /// Runs the key that is next, and with it those behind it to which it only passes its function on; answers how many
+    /// these are, 0 where no key is pending. The list's room is used again.
+    fn run_next(&mut self, parts: &mut PartList<P>) -> Result<usize, Refused>
         requires loaded { is_loaded self.old ≡ true }
         requires free { IsFree self.old.pile }
         ensures refused { IsOkUnless result Refused.NoMemory }
-        ensures quiet { result ≡ Ok false → self.new.pile.pending ≡ [] }
-        ensures falls { result ≡ Ok true → HasLess P.F.edge self.old self.new }
+        ensures quiet { result ≡ Ok 0 → self.new.pile.pending ≡ [] }
+        ensures falls { IfOk result (λ count. 0 < count → HasLess P.F.edge self.old self.new) }
         ensures free { IsFree self.new.pile }
-        ensures claims { IfOk result (RunsTask P.L.algebra P.F.edge P.targets self.old self.new) }
+        ensures claims { IfOk result (λ count. GoesOnPaid P.L.algebra P.F.edge P.targets count self.old self.new) }
         ensures goes { GoesOn P.L.algebra P.F.edge P.targets 0 self.old self.new }
         ensures remembers { Remembers self.old self.new }
     {
-        let Some(key) = self.next_owed(parts)? else {
-            return Ok(false);
+        let Some((key, function)) = self.image.unclaimed_entry() else {
+            return Ok(0);
         };
+        let count = self.walk(key, function)?;
+        if count > 0 {
+            return Ok(count);
+        }
+        self.fill(key, function, parts)?;
         self.run(key, parts.as_slice())?;
-        Ok(true)
+        Ok(1)
     }
 
     /// Makes the list the parts that the next key owes as it stands, and answers the key: none where each

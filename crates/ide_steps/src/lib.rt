@@ -18,6 +18,7 @@ mod machine;
 mod part;
 mod root;
 mod sources;
+mod walk;
 
 pub use claim::Claimed;
 pub use closed::Closed;

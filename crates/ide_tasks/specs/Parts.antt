@@ -1,8 +1,8 @@
 -- The parts that a task owes, by its key, its site and its partners.
-use Rattle.std.specs.Prelude.{◌≡◌, ℕ, List, [], ◌++◌, Option, None, Some, map, slice_get}
+use Rattle.std.specs.Prelude.{◌≡◌, ℕ, ◌+◌, List, [], ◌∷◌, ◌++◌, Option, None, Some, map, slice_get}
 use Rattle.std.specs.List.{flat_map}
 use Rattle.ide_lattice.specs.Algebra.{EdgeAlgebra}
-use Rattle.ide_problem.specs.Flow.{Targets}
+use Rattle.ide_problem.specs.Flow.{IsPassed, Targets}
 use Rattle.ide_graph.specs.declared.edge.EdgeData.{EdgeData}
 use Rattle.ide_graph.specs.declared.site.Caller.{Caller}
 use Rattle.ide_graph.specs.declared.site.Site.{Site}
@@ -59,6 +59,13 @@ module _ {F L : Type 0} (B : EdgeAlgebra F L) (targets : Targets F) where
   abbrev pub FillsUnchanged : Key → F → Site → List (Key × F) → Type 0
   FillsUnchanged (Jump n from to) function (Normal edges) parts = parts ≡ flat_map (flat_parts from to function) edges
   FillsUnchanged key function site parts = ⊥
+
+  -- one edge leaves the site of a node that is neither call nor exit, which leads to the node behind it and passes the fact on
+  -- unchanged
+  abbrev pub PassesBehind : ℕ → ℕ → Site → Type 0
+  PassesBehind node fact (Normal edges) =
+      (edge : EdgeData) × (edges ≡ edge ∷ []) × (edge.end ≡ node + 1) × IsPassed B.id (targets edge fact) fact
+  PassesBehind node fact site = ⊥
 
   -- the parts that the task owes
   abbrev pub owed : TaskData F → List (Key × F)

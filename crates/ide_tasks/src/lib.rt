@@ -17,7 +17,7 @@ mod sources;
 mod task;
 mod work;
 
-pub use part_list::PartList;
+pub use part_list::{PartList, passes_behind};
 pub use partners::{Partners, Reaching};
 pub use sources::{Source, Sources};
 pub use task::Task;

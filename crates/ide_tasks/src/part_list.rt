@@ -1,13 +1,13 @@
 //! The parts of one key after another, in one list.
-ghost use Rattle.std.specs.Prelude.{◌≡◌, ◌∷◌, [], false, true, Ok, IfSome, OnOk};
-ghost use Rattle.ide_tasks.specs.Parts.{FillsUnchanged, parts_at};
+ghost use Rattle.std.specs.Prelude.{◌≡◌, ◌+◌, ◌∷◌, [], false, true, Ok, IfSome, OnOk};
+ghost use Rattle.ide_tasks.specs.Parts.{FillsUnchanged, PassesBehind, parts_at};
 
 use crate::partners::Partners;
 use crate::parts::Parts;
 use ide_graph::Site;
 use ide_lattice::EdgeFn;
 use ide_problem::Problem;
-use ide_wire::Key;
+use ide_wire::{Fact, Key, Node};
 use std::alloc::{AllocError, Global};
 use std::marker::Model;
 
@@ -108,4 +108,25 @@ fn unchanged_part<P: Problem>(key: Key, function: P::F, site: &Site) -> Option<(
         },
         _ => None,
     }
+}
+
+/// Whether one edge leaves the site of a node, which leads to the node behind it and passes the fact on unchanged.
+#[inline(always)]
+pub fn passes_behind<P: Problem>(node: Node, site: &Site, fact: Fact) -> bool
+    ensures { result ≡ true → PassesBehind P.F.edge P.targets node fact site.now }
+{
+    match site {
+        Site::Normal(edges) => match edges.as_slice() {
+            [edge] => leads_behind(node, edge.end) && P::passes_unchanged(edge, fact),
+            _ => false,
+        },
+        _ => false,
+    }
+}
+
+/// Whether the end is the node behind the other.
+fn leads_behind(node: Node, end: Node) -> bool
+    ensures { result ≡ true → end ≡ node + 1 }
+{
+    end > node && end - node == 1
 }

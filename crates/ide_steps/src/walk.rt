@@ -1,0 +1,139 @@
+//! Walks: keys behind each other along a procedure, of which each does nothing but pass its function on.
+ghost use Rattle.std.specs.Prelude.{◌≡◌, ◌<◌, ◌≤◌, ◌+◌, Ok, Some, true, IfOk, OnErr, IsOkUnless};
+ghost use Rattle.ide_steps.specs.Changed.{Remembers};
+ghost use Rattle.ide_steps.specs.Drain.{GoesOnPaid, HasLess};
+ghost use Rattle.ide_steps.specs.Going.{GoesOn};
+ghost use Rattle.ide_steps.specs.Walk.{GoesOnUnchanged, MayWalk, MayWalkIn, PassesFor};
+ghost use Rattle.ide_image.specs.Tables.{found};
+ghost use Rattle.ide_image.specs.Worklist.{IsFree, is_pending};
+ghost use Rattle.ide_wire.specs.declared.key.Key.TheVariants.{Jump};
+
+use crate::laws::calls_are_steps;
+use crate::machine::Core;
+use ide_graph::Graph;
+use ide_image::KeyedImage;
+use ide_lattice::EdgeFn;
+use ide_problem::Problem;
+use ide_tasks::{Task, passes_behind};
+use ide_wire::{Fact, Key, Node, Refused};
+
+impl<P: Problem> Core<P> {
+    /// Walks on from a pending key that has that function, if it is a jump: over the nodes behind its own, as long as one edge
+    /// leads from each to the next and passes the fact on unchanged, and there is no jump between the facts at the next.
+    /// Answers over how many nodes that was; to a run the key and those behind it, but for the last, are each claimed by
+    /// hand 0, which does its one part and ends its claim. Over none nothing changes. No walk goes beyond a page of the
+    /// image, nor anywhere where changes are noted.
+    ///
+    /// Refusal: `NoMemory`.
+    #[inline(always)]
+    pub(crate) fn walk(&mut self, key: Key, function: P::F) -> Result<usize, Refused>
+        requires free { IsFree self.old.pile }
+        requires pending { is_pending self.old.pile key ≡ true }
+        requires function { found self.old.table key ≡ Some function }
+        ensures refused { IsOkUnless result Refused.NoMemory }
+        ensures nowhere { result ≡ Ok 0 → self.new ≡ self.old }
+        ensures falls { IfOk result (λ count. 0 < count → HasLess P.F.edge self.old self.new) }
+        ensures free { IsFree self.new.pile }
+        ensures claims { IfOk result (λ count. GoesOnPaid P.L.algebra P.F.edge P.targets count self.old self.new) }
+        ensures goes { GoesOn P.L.algebra P.F.edge P.targets 0 self.old self.new }
+        ensures remembers { Remembers self.old self.new }
+        ensures unchanged { OnErr result (self.new ≡ self.old) }
+    {
+        match key {
+            Key::Jump(node, from, to) => self.walk_jump(node, from, to, function),
+            Key::Summary(_, _, _) => Ok(0),
+        }
+    }
+
+    /// The same from the jump between the facts at the node.
+    #[inline(always)]
+    fn walk_jump(
+        &mut self,
+        node: Node,
+        from: Fact,
+        to: Fact,
+        function: P::F,
+    ) -> Result<usize, Refused>
+        requires free { IsFree self.old.pile }
+        requires pending { is_pending self.old.pile (Jump node from to) ≡ true }
+        requires function { found self.old.table (Jump node from to) ≡ Some function }
+        ensures refused { IsOkUnless result Refused.NoMemory }
+        ensures nowhere { result ≡ Ok 0 → self.new ≡ self.old }
+        ensures falls { IfOk result (λ count. 0 < count → HasLess P.F.edge self.old self.new) }
+        ensures free { IsFree self.new.pile }
+        ensures claims { IfOk result (λ count. GoesOnPaid P.L.algebra P.F.edge P.targets count self.old self.new) }
+        ensures goes { GoesOn P.L.algebra P.F.edge P.targets 0 self.old self.new }
+        ensures remembers { Remembers self.old self.new }
+        ensures unchanged { OnErr result (self.new ≡ self.old) }
+    {
+        calls_are_steps::<P>();
+        let count = self.way(node, from, to, function);
+        if count == 0 {
+            return Ok(0);
+        }
+        self.image.walk(node, from, to, function, count)?;
+        Ok(count)
+    }
+
+    /// Over how many nodes behind the pending jump at the node its function may be walked.
+    #[inline(always)]
+    fn way(&self, node: Node, from: Fact, to: Fact, function: P::F) -> usize
+        requires pending { is_pending self.now.pile (Jump node from to) ≡ true }
+        ensures { 0 < result → MayWalkIn P.F.edge P.targets self.now node from to result function }
+    {
+        match &self.loaded {
+            Some(loaded) => way::<P>(&loaded.graph, &self.image, node, from, to, function),
+            None => 0,
+        }
+    }
+}
+
+/// Over how many nodes behind the jump at the node its function may be walked.
+#[inline(always)]
+fn way<P: Problem>(
+    graph: &Graph,
+    image: &KeyedImage<P::F, Task<P>>,
+    node: Node,
+    from: Fact,
+    to: Fact,
+    function: P::F,
+) -> usize
+    requires node { node < graph.now.nodes }
+    ensures { 0 < result → MayWalk P.F.edge P.targets graph.now image.now node from to result function }
+{
+    if !passes_behind::<P>(node, graph.site(node), to) || !goes_on_unchanged(function) {
+        return 0;
+    }
+    let absent = image.absent_behind(node, from, to);
+    passing::<P>(graph, node, to, absent)
+}
+
+/// How many of the first nodes from this one on, up to a count, pass the fact on unchanged to the node behind them.
+#[inline(always)]
+fn passing<P: Problem>(graph: &Graph, node: Node, fact: Fact, most: usize) -> usize
+    requires node { node < graph.now.nodes }
+    ensures most { result ≤ most }
+    ensures passes { PassesFor P.F.edge P.targets graph.now node fact result }
+    ensures within { node + result < graph.now.nodes }
+{
+    // What is known of the graph: it has a site for each node, and a node's number has 32 bits.
+    let _ = graph.node_count();
+    for count in 0..most {
+        let at = node + count as Node;
+        if !passes_behind::<P>(at, graph.site(at), fact) {
+            return count;
+        }
+    }
+    most
+}
+
+/// Whether the function goes on as it is: each does by the laws, but the one that always gives top, which no key that is
+/// present needs.
+#[inline(always)]
+fn goes_on_unchanged<F: EdgeFn>(function: F) -> bool
+    ensures { result ≡ true → GoesOnUnchanged F.edge function }
+{
+    // Each function that a program holds is proper.
+    let _ = function.proper();
+    function != F::all_top()
+}
