@@ -20,3 +20,4 @@ pub mod Spots
 pub mod Stack
 pub mod Stamps
 pub mod Walked
+pub mod Walking

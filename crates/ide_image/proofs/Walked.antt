@@ -176,7 +176,7 @@ ends-in pages (i ∷ j ∷ js) f (b ∷ bs) x is =
 module _ {F : Type 0} (node from to : ℕ) (f : F) (es : List (Key × F)) (count : ℕ)
     (absent : AreAbsent (record { entries = es }) (jump_behind node from to) count) where
   -- the last one stands at the end
-  stands-last : (n : ℕ) → 0 < n → n ≤ count → length (es ++ run node from to f n) ≡ place_in (jump_behind node from to n) (es ++ run node from to f n)
+  pub stands-last : (n : ℕ) → 0 < n → n ≤ count → length (es ++ run node from to f n) ≡ place_in (jump_behind node from to n) (es ++ run node from to f n)
   stands-last zero some most = absurd (omega (arith, some))
   stands-last (suc k) some most =
       let key = jump_behind node from to (suc k) in
@@ -197,7 +197,7 @@ module _ {F : Type 0} (node from to : ℕ) (f : F) (es : List (Key × F)) (count
       ∙ at-run mark covered q k (omega (arith, most))
 
 -- the parts agree once the jumps are entered
-whole-run : {F T : Type 0} (node from to : ℕ) (f : F) (indexed after : Indexed F) (marks : SlotMarks)
+pub whole-run : {F T : Type 0} (node from to : ℕ) (f : F) (indexed after : Indexed F) (marks : SlotMarks)
     (claims : List (Option (Claim T))) (changes : ChangeLog F) (count n : ℕ) → AreAbsent indexed.table (jump_behind node from to) count → 0 < n → n ≤ count
     → after.table.entries ≡ indexed.table.entries ++ run node from to f n → AreParts indexed marks claims changes → AreParts after marks claims changes
 whole-run node from to f indexed after marks claims changes count zero absent some most is w = absurd (omega (arith, some))

@@ -1,7 +1,15 @@
 -- Jumps between two facts at nodes that follow each other, which are entered in one go.
-use Rattle.std.specs.Prelude.{◌≡◌, ℕ, zero, suc, ◌+◌, ◌<◌, false, ◌||◌, ◌&&◌, not, List, [], ◌∷◌, ◌++◌, None}
+use Rattle.std.specs.Prelude.{◌≡◌, ℕ, zero, suc, ◌+◌, ◌<◌, false, ◌||◌, ◌&&◌, not, List, [], ◌∷◌, ◌++◌, Option, None, length, unwrap_or}
+use Rattle.std.specs.List.{IsDistinct}
+use Rattle.std.specs.Map.{keys_of}
+use Rattle.std.specs.Option.{is_some}
+use Rattle.ide_image.specs.ChangeLog.{AreSlotsOf, ChangeLog, noted_at}
+use Rattle.ide_image.specs.Indexed.{Indexed, place_of_key}
+use Rattle.ide_image.specs.KeyedImage.{Covers, IsListed}
+use Rattle.ide_image.specs.Notes.{noted, with_note}
 use Rattle.ide_image.specs.Tables.{Table, found}
 use Rattle.ide_image.specs.Worklist.{Pile, is_pending}
+use Rattle.ide_image.specs.declared.entry.Entry.{Entry}
 use Rattle.ide_wire.specs.Key.{same_key}
 use Rattle.ide_wire.specs.declared.key.Key.{Key}
 use Rattle.ide_wire.specs.declared.key.Key.TheVariants.{Jump}
@@ -30,3 +38,32 @@ GoesTo first last old new = (q : Key) → is_pending new q ≡ (same_key last q 
 -- the entries end with one that has this function
 abbrev pub EndWith : {X F : Type 0} → F → List (X × F) → Type 0
 EndWith {X} {F} f entries = (before : List (X × F)) × (x : X) × (entries ≡ before ++ (x, f) ∷ [])
+
+module _ {F : Type 0} where
+  -- the entry of an absent key
+  abbrev pub absent_entry : Entry F
+  absent_entry = record { function = None; pending = false }
+
+  -- the first so many of the keys behind the one at 0 are noted as absent, one after the other
+  abbrev pub with_entered : Option (List (Key × Entry F)) → (ℕ → Key) → ℕ → Option (List (Key × Entry F))
+  with_entered notes at zero = notes
+  with_entered notes at (suc n) = with_note (with_entered notes at n) (at (suc n)) absent_entry
+
+  -- the notes agree with the places of their keys: their marks and slots are those of these, and each key is noted once
+  pub record AreNotesIn (indexed : Indexed F) (changes : ChangeLog F) : Type 0 where
+    pub unnoted : Covers (length indexed.table.entries) (noted_at changes)
+    pub listed : (key : Key) → IsListed indexed changes key
+    pub once : IsDistinct same_key (keys_of (unwrap_or changes.list []))
+    pub slotted : AreSlotsOf (place_of_key indexed) changes
+
+  -- the first so many of the keys behind the one at 0 have the slots from this one on
+  abbrev pub StandFrom : ℕ → (ℕ → Key) → ℕ → Indexed F → Type 0
+  StandFrom first at count indexed = (n : ℕ) → n < count → (first + n) + 1 ≡ place_of_key indexed (at (suc n))
+
+  -- each of these slots is marked as noted exactly where the key that is to have it is
+  abbrev pub AreListedFrom : ℕ → (ℕ → Key) → ℕ → ChangeLog F → Type 0
+  AreListedFrom first at count changes = (n : ℕ) → n < count → noted_at changes (first + n) ≡ is_some (noted changes.list (at (suc n)))
+
+  -- wherever the keys have these slots, the notes agree with the places as they did
+  abbrev pub KeepsNotesFrom : ℕ → (ℕ → Key) → ℕ → (old new : ChangeLog F) → Type 0
+  KeepsNotesFrom first at count old new = (indexed : Indexed F) → StandFrom first at count indexed → AreNotesIn indexed old → AreNotesIn indexed new

@@ -16,7 +16,7 @@ ghost use Rattle.ide_image.specs.Worklist.{PutsClaim, IsFree, IsWorklist, begun,
 ghost use Rattle.ide_image.specs.KeyedImage.{CountsPending, entry_now, marked_all};
 ghost use Rattle.ide_image.specs.Left.{left_items};
 ghost use Rattle.ide_image.specs.Notes.{NotesAll, ended_key, entry_at, noted, noted_count, with_change, with_note};
-ghost use Rattle.ide_image.specs.Walk.{AreAbsent, AreSettled, GoesTo, entered, jump_behind};
+ghost use Rattle.ide_image.specs.Walk.{AreAbsent, AreSettled, GoesTo, entered, jump_behind, with_entered};
 
 use crate::change::Change;
 use crate::change_log::ChangeLog;
@@ -389,23 +389,20 @@ impl<F: EdgeFn, T: Drop> KeyedImage<F, T> {
     }
 
     /// How many jumps between the facts at the nodes behind this one are absent, one after the other, as far as a walk may
-    /// go: to the end of a page of 64 nodes at most, and nowhere where changes are noted. One look-up.
+    /// go: to the end of a page of 64 nodes at most. One look-up.
     #[inline(always)]
     pub fn absent_behind(&self, node: Node, from: Fact, to: Fact) -> usize
         ensures absent { AreAbsent self.now.table (jump_behind node from to) result }
         ensures settled { AreSettled self.now.pile (jump_behind node from to) result }
         ensures page { node % 64 + result < 64 }
-        ensures silent { 0 < result → self.now.changes ≡ None }
     {
-        if self.changes.notes().is_some() {
-            return 0;
-        }
         self.indexed.absent_behind(node, from, to)
     }
 
     /// Walks from the jump between the facts at the node, which is pending and which no hand has claimed, over so many
     /// nodes behind it, at which the jumps between the facts are absent: these have the function then, and of all of them
-    /// only the last is pending. `NoMemory` leaves all as it was. One look-up.
+    /// only the last is pending. Their entries of before are noted where changes are noted, that of the jump at the node
+    /// first. `NoMemory` leaves all as it was. One look-up.
     #[inline(always)]
     pub fn walk(
         &mut self,
@@ -420,23 +417,35 @@ impl<F: EdgeFn, T: Drop> KeyedImage<F, T> {
         requires some { 0 < count }
         requires page { node % 64 + count < 64 }
         requires absent { AreAbsent self.old.table (jump_behind node from to) count }
-        requires silent { self.old.changes ≡ None }
         ensures entries { OnOk result (self.new.table.entries ≡ self.old.table.entries ++ entered (jump_behind node from to) function count) }
         ensures few { OnOk result (length self.new.table.entries < 2 ^ 64) }
         ensures pending { OnOk result (GoesTo (Jump node from to) (jump_behind node from to count) self.old.pile self.new.pile) }
         ensures count { OnOk result (length self.new.pile.pending ≡ length self.old.pile.pending) }
         ensures claims { self.new.pile.claims ≡ self.old.pile.claims }
-        ensures changes { self.new.changes ≡ None }
+        ensures noted { OnOk result (self.new.changes ≡ with_entered (with_note self.old.changes (Jump node from to) (entry_now self.old (Jump node from to))) (jump_behind node from to) count) }
         ensures err { OnErr result (self.new ≡ self.old) }
         ensures refused { IsOkUnless result NoMemory }
     {
-        let spot = self.indexed.spot(Key::Jump(node, from, to))?;
-        parts::make_room(&mut self.indexed, &mut self.queue, &mut self.changes, count)?;
+        let key = Key::Jump(node, from, to);
+        let spot = self.indexed.spot(key)?;
+        parts::make_room(
+            &mut self.indexed,
+            &mut self.queue,
+            &mut self.changes,
+            count + 1,
+        )?;
+        let slot = spot.place as usize - 1;
+        let before = Entry {
+            function: self.indexed.function_at(spot.place),
+            pending: true,
+        };
+        self.changes.note(slot, key, before);
         let last = self
             .indexed
             .put_behind(spot.cell, node, from, to, function, count);
+        parts::note_behind(&mut self.changes, last + 1 - count, node, from, to, count);
         self.queue.push(last);
-        self.queue.settle(spot.place as usize - 1);
+        self.queue.settle(slot);
         Ok(())
     }
 

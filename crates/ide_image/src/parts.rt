@@ -1,5 +1,5 @@
 //! Steps of the parts that an image is made of, after which they agree again.
-ghost use Rattle.std.specs.Prelude.{◌≡◌, ℕ, ◌+◌, None, Some, false, true, length, IfSome, IsOk, OnOk, OnErr, IsOkUnless};
+ghost use Rattle.std.specs.Prelude.{◌≡◌, ℕ, ◌+◌, ◌%◌, ◌<◌, ◌^◌, None, Some, false, true, length, IfSome, IsOk, OnOk, OnErr, IsOkUnless};
 ghost use Rattle.std.specs.Option.{is_some};
 ghost use Rattle.ide_pages.specs.Pages.{KeepsCells};
 ghost use Rattle.ide_image.specs.Tables.{HaveCells};
@@ -11,6 +11,7 @@ ghost use Rattle.ide_image.specs.Indexed.{IsSpot, MayTake, PutsEntries, PutsEntr
 ghost use Rattle.ide_image.specs.Left.{is_left, left_by_slot};
 ghost use Rattle.ide_image.specs.Queue.{pending_at, pending_count};
 ghost use Rattle.ide_image.specs.Ranks.{item_in};
+ghost use Rattle.ide_image.specs.Walk.{AreListedFrom, KeepsNotesFrom, jump_behind, with_entered};
 
 use crate::change_log::ChangeLog;
 use crate::claim::Claim;
@@ -19,7 +20,7 @@ use crate::entry::Entry;
 use crate::indexed::{Indexed, KeySpot};
 use crate::queue::Queue;
 use ide_lattice::EdgeFn;
-use ide_wire::{Key, Refused};
+use ide_wire::{Fact, Key, Node, Refused};
 
 /// Whether the slot at a place is pending.
 pub(crate) fn is_pending_at(queue: &Queue, place: u32) -> bool
@@ -213,5 +214,36 @@ pub(crate) fn enter_all<F: EdgeFn, T: Drop>(
     for entry in list {
         let spot = indexed.spot_of(entry.0);
         enter(indexed, queue, claims, changes, spot, entry.0, entry.1);
+    }
+}
+
+/// Notes as absent the jumps between the facts at so many nodes behind this one, which have the slots from the first on, if
+/// changes are noted.
+#[inline(always)]
+pub(crate) fn note_behind<F: EdgeFn>(
+    changes: &mut ChangeLog<F>,
+    first: usize,
+    node: Node,
+    from: Fact,
+    to: Fact,
+    count: usize,
+)
+    requires page { node % 64 + count < 64 }
+    requires few { first + count < 2 ^ 32 }
+    requires room { MayNote count (first + count) changes.old }
+    requires listed { AreListedFrom first (jump_behind node from to) count changes.old }
+    ensures list { changes.new.list ≡ with_entered changes.old.list (jump_behind node from to) count }
+    ensures notes { KeepsNotesFrom first (jump_behind node from to) count changes.old changes.new }
+{
+    if !changes.is_noting() {
+        return;
+    }
+    for step in 0..count {
+        let absent = Entry {
+            function: None,
+            pending: false,
+        };
+        let key = Key::Jump(node + 1 + step as u32, from, to);
+        changes.note(first + step, key, absent);
     }
 }

@@ -88,7 +88,7 @@ module _ {F : Type 0} where
   change-noted notes None entry q = after-none notes (entry q) q
   change-noted notes (Some key) entry q = noted-with notes key entry q
 
-  noting-with : (notes : Option (List (Key × Entry F))) (key : Key) (entry : Entry F) → is_some (with_note notes key entry) ≡ is_some notes
+  pub noting-with : (notes : Option (List (Key × Entry F))) (key : Key) (entry : Entry F) → is_some (with_note notes key entry) ≡ is_some notes
   noting-with None key entry = refl
   noting-with (Some list) key entry = refl
 
@@ -110,7 +110,7 @@ module _ {F : Type 0} where
   pub notes-change : (old new : CoreData F) (changed : Option Key) → new.changes ≡ with_change old.changes changed (standing_entry old) → Notes old new changed
   notes-change old new changed is = record { changes = is; count = ap noted_count is ∙ change-counted old.changes changed (standing_entry old) }
 
-  after-keeps : (notes : Option (List (Key × Entry F))) (later : Bool) (entry : Entry F) (q : Key) → is_some (noted notes q) ≡ true
+  pub after-keeps : (notes : Option (List (Key × Entry F))) (later : Bool) (entry : Entry F) (q : Key) → is_some (noted notes q) ≡ true
       → is_some (noted_after notes later entry q) ≡ true
   after-keeps None later entry q is = is
   after-keeps (Some list) later entry q is =

@@ -1,9 +1,10 @@
 -- That to walk a function over nodes behind each other is, to a run, a claim of each key, its one part and its end.
-use Rattle.std.proofs.Common.{◌≡◌, ◌≢◌, ℕ, zero, suc, ◌+◌, ◌-◌, ◌*◌, ◌^◌, ◌<◌, ◌≤◌, inl, inr, Bool, true, false, cond, ◌||◌, get_or, List, [], ◌∷◌, ◌++◌, Some, None, length, slice_get, map, option_map, ap, sym, subst, ◌∙◌, refl, add-one, arith}
+use Rattle.std.proofs.Common.{◌≡◌, ◌≢◌, ℕ, zero, suc, ◌+◌, ◌-◌, ◌*◌, ◌^◌, ◌<◌, ◌≤◌, inl, inr, Bool, true, false, cond, ◌||◌, get_or, List, [], ◌∷◌, ◌++◌, Some, None, length, slice_get, map, option_map, ap, sym, subst, ◌∙◌, refl, add-one, arith, Option}
 use Rattle.std.specs.Prelude.{◌&&◌, not, filter, IsTrue}
-use Rattle.std.specs.List.{All, flat_map, list_any}
-use Rattle.std.specs.Map.{lookup}
-use Rattle.std.proofs.lemmas.List.{append_assoc, append-nil}
+use Rattle.std.specs.List.{All, IsDistinct, flat_map, list_any}
+use Rattle.std.specs.Map.{keys_of, lookup}
+use Rattle.std.specs.Option.{is_some}
+use Rattle.std.proofs.lemmas.List.{append_assoc, append-nil, length-append}
 use Rattle.std.proofs.lemmas.Option.{same_Some}
 use Rattle.ide_graph.specs.Edges.{EdgesWithin, EndsWithin}
 use Rattle.ide_graph.specs.Supergraph.{Supergraph}
@@ -15,22 +16,28 @@ use Rattle.ide_lattice.specs.Meets.{last-or}
 use Rattle.ide_problem.specs.Flow.{Targets}
 use Rattle.ide_tasks.specs.Parts.{PassesBehind, flat_parts, parts_at}
 use Rattle.ide_tasks.specs.declared.partners.Partners.TheVariants.{Entries}
+use Rattle.ide_image.specs.Notes.{noted, noted_count, or_entry, with_note}
 use Rattle.ide_image.specs.Spent.{fallen, spent}
 use Rattle.ide_image.specs.Tables.{Table, found, or_top}
-use Rattle.ide_image.specs.Walk.{AreAbsent, AreSettled, GoesTo, entered, jump_behind}
-use Rattle.ide_image.specs.Worklist.{IsFree, is_pending, marked}
+use Rattle.ide_image.specs.Walk.{AreAbsent, AreSettled, GoesTo, absent_entry, entered, jump_behind, with_entered}
+use Rattle.ide_image.specs.Worklist.{IsFree, claim_at, is_pending, marked}
+use Rattle.ide_image.specs.declared.entry.Entry.{Entry}
+use Rattle.ide_image.proofs.Places.{distinct-put, put-last}
+use Rattle.ide_image.proofs.Walked.{place-absent}
 use Rattle.ide_wire.specs.Key.{node_of, same_key, same_key_exact, same_key_refl, same_key_symm}
 use Rattle.ide_wire.specs.declared.key.Key.{Key}
 use Rattle.ide_wire.specs.declared.key.Key.TheVariants.{Jump}
 use Rattle.ide_steps.specs.Calls.{CallsAreSteps}
+use Rattle.ide_steps.specs.Changed.{Remembers, standing_entry}
 use Rattle.ide_steps.specs.Core.{CoreData, IsSameProblem}
-use Rattle.ide_steps.specs.Drain.{GoesOnPaid}
+use Rattle.ide_steps.specs.Drain.{GoesOnPaid, HasLess}
 use Rattle.ide_steps.specs.Going.{GoesOnByHand}
 use Rattle.ide_steps.specs.Running.{OwesParts, claimed_as, with_held}
 use Rattle.ide_steps.specs.State.{ArePartnersOf, claim_of, state_of}
 use Rattle.ide_steps.specs.Steps.{IsChangedBy, IsLoweredBy}
-use Rattle.ide_steps.specs.Walk.{GoesOnUnchanged, MayWalkIn, PassesAt, PassesFor}
+use Rattle.ide_steps.specs.Walk.{GoesOnUnchanged, PassesAt, PassesFor, WalksOwed}
 use Rattle.ide_steps.proofs.Going.{goes-nowhere, goes-then}
+use Rattle.ide_steps.proofs.Noted.{after-keeps, noted-with, noting-with, remembers-change, remembers-then}
 use Rattle.ide_steps.proofs.Potential.{falls}
 use Rattle.ide_steps.proofs.Running.{key-begins, key-ended, part-lowers}
 use Rattle.ide_steps.proofs.States.{changes-of, state-lowered}
@@ -52,9 +59,52 @@ module _ {F : Type 0} where
   found-last (e ∷ es) key q f none =
       found-first e es key q f (same_key key e.0) (same_key q e.0) (same_key key q) refl refl refl none (found-last es key q f)
 
+  -- how many are entered
+  length-entered : (at : ℕ → Key) (f : F) (n : ℕ) → length (entered at f n) ≡ n
+  length-entered at f zero = refl
+  length-entered at f (suc n) =
+      let before = length-entered at f n in
+      let more = length-append (entered at f n) ((at (suc n), f) ∷ []) in
+      omega (arith, before, more)
+
   -- entries and one more
   more-entered : (es : List (Key × F)) (at : ℕ → Key) (f : F) (n : ℕ) → es ++ entered at f (suc n) ≡ (es ++ entered at f n) ++ (at (suc n), f) ∷ []
   more-entered es at f n = sym (append_assoc es (entered at f n) ((at (suc n), f) ∷ []))
+
+module _ {F : Type 0} where
+  -- a key that was noted stays so, and is noted once
+  noted-own : (notes : Option (List (Key × Entry F))) (key : Key) (entry : Entry F) → is_some (noted (with_note notes key entry) key) ≡ is_some (with_note notes key entry)
+  noted-own None key entry = refl
+  noted-own (Some list) key entry =
+      ap is_some (noted-with (Some list) key (λ _. entry) key)
+      ∙ ap (λ b. is_some (or_entry (lookup (same_key key) list) (cond b (Some entry) None))) (same_key_refl key)
+      ∙ elim (lookup (same_key key) list) as (λ o. is_some (or_entry o (Some entry)) ≡ true) [ None ↦ refl | Some x ↦ refl ]
+
+  noted-stays : (notes : Option (List (Key × Entry F))) (key q : Key) (entry : Entry F) → is_some (noted notes q) ≡ is_some notes
+      → is_some (noted (with_note notes key entry) q) ≡ is_some (with_note notes key entry)
+  noted-stays None key q entry is = refl
+  noted-stays (Some list) key q entry is =
+      ap is_some (noted-with (Some list) key (λ _. entry) q) ∙ after-keeps (Some list) (same_key key q) entry q is
+
+  note-known : (notes : Option (List (Key × Entry F))) (key : Key) (entry : Entry F) → is_some (noted notes key) ≡ is_some notes → with_note notes key entry ≡ notes
+  note-known None key entry is = refl
+  note-known (Some list) key entry is = ap (λ b. Some (cond b list (list ++ (key, entry) ∷ []))) is
+
+  -- how many are noted at most
+  note-count : (notes : Option (List (Key × Entry F))) (key : Key) (entry : Entry F) → noted_count (with_note notes key entry) ≤ noted_count notes + 1
+  note-count None key entry = omega arith
+  note-count (Some list) key entry =
+      elim (is_some (lookup (same_key key) list)) as (λ b. length (cond b list (list ++ (key, entry) ∷ [])) ≤ length list + 1) [
+        | true ↦ omega arith
+        | false ↦ let more = length-append list ((key, entry) ∷ []) in omega (arith, more)
+      ]
+
+  pub entered-count : (notes : Option (List (Key × Entry F))) (at : ℕ → Key) (n : ℕ) → noted_count (with_entered notes at n) ≤ noted_count notes + n
+  entered-count notes at zero = omega arith
+  entered-count notes at (suc n) =
+      let before = entered-count notes at n in
+      let one = note-count (with_entered notes at n) (at (suc n)) absent_entry in
+      omega (arith, before, one)
 
 -- the keys but for one
 others : Key → List Key → List Key
@@ -154,6 +204,30 @@ module _ {F L : Type 0} (B : EdgeAlgebra F L) (targets : Targets F) where
       let all = ap (spent B) entries in
       falls B es fs pending now few (omega (arith, more, all, some)) (omega (arith, same))
 
+-- from one core by way of another to a third a key gives its turn to the next one: it owes one part, which lowers that, and it is
+-- pending no longer
+pub record PassesOn {F L : Type 0} (B : EdgeAlgebra F L) (targets : Targets F) (old mid new : CoreData F) : Type 0 where
+  pub key : Key
+  pub next : Key
+  pub function : F
+  pub owes : OwesParts B targets old key ((next, function) ∷ [])
+  pub distinct : IsDistinct same_key (keys_of old.table.entries)
+  pub free : IsFree old.pile
+  pub waits : is_pending old.pile key ≡ true
+  pub other : same_key key next ≡ false
+  pub same : IsSameProblem old mid
+  pub onward : IsSameProblem mid new
+  pub lowers : IsLoweredBy B targets old mid next function
+  pub changes : IsChangedBy B targets old next function
+  pub falls : HasLess B old mid
+  pub before : Remembers old mid
+  pub free_amid : IsFree mid.pile
+  pub waits_amid : is_pending mid.pile key ≡ true
+  pub table : new.table ≡ mid.table
+  pub ends : (q : Key) → is_pending new.pile q ≡ (not (not false && same_key key q) && is_pending mid.pile q)
+  pub claims : (h : ℕ) → claim_at new.pile h ≡ claim_at mid.pile h
+  pub behind : Remembers mid new
+
 module _ {F L : Type 0} (A : LatticeAlgebra L) (B : EdgeAlgebra F L) (targets : Targets F) (steps : CallsAreSteps A B targets) (top : B.rank B.all_top ≡ B.height)
     (start : CoreData F) (free : IsFree start.pile) (graph : Supergraph) (loaded : start.graph ≡ Some graph) (node from to : ℕ) (f : F) (unchanged : GoesOnUnchanged B f)
     (waits : is_pending start.pile (Jump node from to) ≡ true) (has : found start.table (Jump node from to) ≡ Some f)
@@ -175,16 +249,22 @@ module _ {F L : Type 0} (A : LatticeAlgebra L) (B : EdgeAlgebra F L) (targets : 
   entries_then : ℕ → List (Key × F)
   entries_then n = start.table.entries ++ entered (jump_behind node from to) f n
 
-  after : ℕ → CoreData F
+  -- what is noted then: the entry of the first key, and those behind it as absent
+  abbrev pub changes_then : ℕ → Option (List (Key × Entry F))
+  changes_then n = with_entered (with_note start.changes (Jump node from to) (standing_entry start (Jump node from to))) (jump_behind node from to) n
+
+  pub after : ℕ → CoreData F
   after n = record start {
     table = record { entries = entries_then n };
     pile = record { pending = jump_behind node from to n ∷ others (jump_behind node from to 0) start.pile.pending; claims = start.pile.claims };
+    changes = changes_then n;
   }
 
-  amid : ℕ → CoreData F
+  pub amid : ℕ → CoreData F
   amid n = record start {
     table = record { entries = entries_then (suc n) };
     pile = record { pending = jump_behind node from to (suc n) ∷ jump_behind node from to n ∷ others (jump_behind node from to 0) start.pile.pending; claims = start.pile.claims };
+    changes = changes_then (suc n);
   }
 
   -- what is found then
@@ -221,7 +301,7 @@ module _ {F L : Type 0} (A : LatticeAlgebra L) (B : EdgeAlgebra F L) (targets : 
       among-others (jump_behind node from to 0) (jump_behind node from to (suc n)) start.pile.pending
       ∙ (λ i. not (apart 0 (suc n) (λ e. omega (arith, e)) i) && settled n (omega (arith, few)) i)
 
-  lowers-then : (n : ℕ) → n < count → IsLoweredBy B targets (after n) (amid n) (jump_behind node from to (suc n)) f
+  pub lowers-then : (n : ℕ) → n < count → IsLoweredBy B targets (after n) (amid n) (jump_behind node from to (suc n)) f
   unfolding after amid
   lowers-then n few =
       let none = absent-then n n (omega arith) few in
@@ -233,7 +313,7 @@ module _ {F L : Type 0} (A : LatticeAlgebra L) (B : EdgeAlgebra F L) (targets : 
       (λ q. ap (λ b. b || is_pending (after n).pile q) (same_key_symm q (jump_behind node from to (suc n))))
       (λ h. free h ∙ sym (ap (marked (jump_behind node from to (suc n))) (free h)))
 
-  changes-then : (n : ℕ) → n < count → IsChangedBy B targets (after n) (jump_behind node from to (suc n)) f
+  pub changes-then : (n : ℕ) → n < count → IsChangedBy B targets (after n) (jump_behind node from to (suc n)) f
   unfolding after
   changes-then n few =
       let none = absent-then n n (omega arith) few in
@@ -242,7 +322,7 @@ module _ {F L : Type 0} (A : LatticeAlgebra L) (B : EdgeAlgebra F L) (targets : 
       changes-of B targets top (after n).table (after n).pile (jump_behind node from to (suc n)) f
       (record { less = let less = unchanged.less in omega (arith, was, is, less, top); most = omega (arith, was, top) })
 
-  owes-then : (n : ℕ) → n < count → OwesParts B targets (after n) (jump_behind node from to n) ((jump_behind node from to (suc n), f) ∷ [])
+  pub owes-then : (n : ℕ) → n < count → OwesParts B targets (after n) (jump_behind node from to n) ((jump_behind node from to (suc n), f) ∷ [])
   unfolding after
   owes-then n few =
       let there = passes n few in
@@ -259,7 +339,7 @@ module _ {F L : Type 0} (A : LatticeAlgebra L) (B : EdgeAlgebra F L) (targets : 
       }
 
   -- the key is pending no longer once its part is done
-  ends-then : (n : ℕ) → n < count → (q : Key)
+  pub ends-then : (n : ℕ) → n < count → (q : Key)
       → is_pending (after (suc n)).pile q ≡ (not (not false && same_key (jump_behind node from to n) q) && is_pending (amid n).pile q)
   unfolding after amid
   ends-then n few q =
@@ -274,6 +354,18 @@ module _ {F L : Type 0} (A : LatticeAlgebra L) (B : EdgeAlgebra F L) (targets : 
             (sym (same_key_symm q (jump_behind node from to n) ∙ other))
       ] refl
 
+  waits-then : (n : ℕ) → is_pending (after n).pile (jump_behind node from to n) ≡ true
+  unfolding after
+  waits-then n =
+      ap (λ b. b || list_any (same_key (jump_behind node from to n)) (others (jump_behind node from to 0) start.pile.pending)) (same_key_refl (jump_behind node from to n))
+
+  waits-amid : (n : ℕ) → is_pending (amid n).pile (jump_behind node from to n) ≡ true
+  unfolding amid
+  waits-amid n =
+      let own = jump_behind node from to n in
+      (λ i. same_key own (jump_behind node from to (suc n)) || (same_key_refl own i || list_any (same_key own) (others (jump_behind node from to 0) start.pile.pending)))
+      ∙ elim (same_key own (jump_behind node from to (suc n))) as (λ b. (b || true) ≡ true) [ true ↦ refl | false ↦ refl ]
+
   link : (n : ℕ) → n < count → GoesOnByHand A B targets 0 1 1 0 (after n) (after (suc n))
   unfolding after amid
   link n few =
@@ -283,15 +375,11 @@ module _ {F L : Type 0} (A : LatticeAlgebra L) (B : EdgeAlgebra F L) (targets : 
       let alike : IsSameProblem (after n) (amid n) = record { program = refl; graph = refl; roots = refl } in
       let onward : IsSameProblem (amid n) (after (suc n)) = record { program = refl; graph = refl; roots = refl } in
       let unlowered : (same_key own (jump_behind node from to (suc n)) || false) ≡ false = ap (λ b. b || false) (apart n (suc n) (λ e. omega (arith, e))) in
-      let begun = key-begins A B targets steps (after n) own ((jump_behind node from to (suc n), f) ∷ []) free
-      (ap (λ b. b || list_any (same_key own) (others (jump_behind node from to 0) start.pile.pending)) (same_key_refl own)) owed_then in
+      let begun = key-begins A B targets steps (after n) own ((jump_behind node from to (suc n), f) ∷ []) free (waits-then n) owed_then in
       let parted = part-lowers A B targets 0 own owed_then.task 0 false (after n) (amid n) (jump_behind node from to (suc n), f) alike
       (ap (λ ps. slice_get ps 0) (sym owed_then.owes)) (lowers-then n few) (changes-then n few) in
       let done = subst (λ b. GoesOnByHand A B targets 0 0 1 0 (with_held (after n) 0 (claimed_as own owed_then.task 0 false)) (with_held (amid n) 0 (claimed_as own owed_then.task 1 b))) unlowered parted in
-      let waiting : is_pending (amid n).pile own ≡ true =
-      (λ i. same_key own (jump_behind node from to (suc n)) || (same_key_refl own i || list_any (same_key own) (others (jump_behind node from to 0) start.pile.pending)))
-      ∙ elim (same_key own (jump_behind node from to (suc n))) as (λ b. (b || true) ≡ true) [ true ↦ refl | false ↦ refl ] in
-      let ended = key-ended A B targets 0 (amid n) (after (suc n)) own owed_then.task 1 false onward (free 0) (λ h. refl) (omega (arith, long)) waiting refl (ends-then n few) in
+      let ended = key-ended A B targets 0 (amid n) (after (suc n)) own owed_then.task 1 false onward (free 0) (λ h. refl) (omega (arith, long)) (waits-amid n) refl (ends-then n few) in
       goes-then A B targets (after n) (with_held (amid n) 0 (claimed_as own owed_then.task 1 false)) (after (suc n))
       (goes-then A B targets (after n) (with_held (after n) 0 (claimed_as own owed_then.task 0 false)) (with_held (amid n) 0 (claimed_as own owed_then.task 1 false)) begun done) ended
 
@@ -311,11 +399,121 @@ module _ {F L : Type 0} (A : LatticeAlgebra L) (B : EdgeAlgebra F L) (targets : 
         | false ↦ λ other. refl
       ] refl
 
-  begins : GoesOnByHand A B targets 0 0 0 0 start (after 0)
+  pub problem-then : (n : ℕ) → IsSameProblem start (after n)
+  unfolding after
+  problem-then n = record { program = refl; graph = refl; roots = refl }
+
+  pub first-state : state_of B targets (after 0) ≡ state_of B targets start
   unfolding after entries_then
-  begins =
-      goes-nowhere A B targets 0 start (after 0) (record { program = refl; graph = refl; roots = refl })
-      (λ i. record { get = λ q. lookup (same_key q) (append-nil start.table.entries i); pending = λ q. first-pending q i; claims = (state_of B targets start).claims })
+  first-state =
+      λ i. record { get = λ q. lookup (same_key q) (append-nil start.table.entries i); pending = λ q. first-pending q i; claims = (state_of B targets start).claims }
+
+  begins : GoesOnByHand A B targets 0 0 0 0 start (after 0)
+  unfolding after
+  begins = goes-nowhere A B targets 0 start (after 0) (record { program = refl; graph = refl; roots = refl }) first-state
+
+  -- ---- what is noted on the way
+  noting-then : (n : ℕ) → is_some (changes_then n) ≡ is_some start.changes
+  noting-then zero = noting-with start.changes (Jump node from to) (standing_entry start (Jump node from to))
+  noting-then (suc n) = noting-with (changes_then n) (jump_behind node from to (suc n)) absent_entry ∙ noting-then n
+
+  -- each key that was left is noted
+  noted-then : (n : ℕ) → is_some (noted (changes_then n) (jump_behind node from to n)) ≡ is_some (changes_then n)
+  noted-then zero =
+      ap (λ k. is_some (noted (changes_then 0) k)) first-key ∙ noted-own start.changes (Jump node from to) (standing_entry start (Jump node from to))
+  noted-then (suc n) = noted-own (changes_then n) (jump_behind node from to (suc n)) absent_entry
+
+  left-noted : (n : ℕ) → with_note (changes_then (suc n)) (jump_behind node from to n) (standing_entry (amid n) (jump_behind node from to n)) ≡ changes_then (suc n)
+  left-noted n =
+      note-known (changes_then (suc n)) (jump_behind node from to n) (standing_entry (amid n) (jump_behind node from to n))
+      (noted-stays (changes_then n) (jump_behind node from to (suc n)) (jump_behind node from to n) absent_entry (noted-then n))
+
+  not-waiting : (n : ℕ) → n < count → is_pending (after n).pile (jump_behind node from to (suc n)) ≡ false
+  unfolding after
+  not-waiting n few = λ i. apart (suc n) n (λ e. omega (arith, e)) i || not-others (suc n) (omega (arith, few)) i
+
+  stands-absent : (n : ℕ) → n < count → standing_entry (after n) (jump_behind node from to (suc n)) ≡ absent_entry
+  unfolding after
+  stands-absent n few = λ i. record { function = absent-then n n (omega arith) few i; pending = not-waiting n few i }
+
+  pub remembers-first : Remembers start (after 0)
+  unfolding after entries_then
+  remembers-first =
+      remembers-change start (after 0) (Some (Jump node from to)) refl
+      (λ q other. λ i. record { function = lookup (same_key q) (append-nil start.table.entries i); pending = first-pending q i })
+
+  pub remembers-amid : (n : ℕ) → n < count → Remembers (after n) (amid n)
+  unfolding after amid
+  remembers-amid n few =
+      remembers-change (after n) (amid n) (Some (jump_behind node from to (suc n)))
+      (sym (ap (with_note (changes_then n) (jump_behind node from to (suc n))) (stands-absent n few)))
+      (λ q other. λ i. record {
+        function = (found-then n few q ∙ ap (λ b. cond b (Some f) (lookup (same_key q) (entries_then n))) other) i;
+        pending = ap (λ b. b || is_pending (after n).pile q) (same_key_symm q (jump_behind node from to (suc n)) ∙ other) i;
+      })
+
+  pub remembers-after : (n : ℕ) → n < count → Remembers (amid n) (after (suc n))
+  unfolding after amid
+  remembers-after n few =
+      remembers-change (amid n) (after (suc n)) (Some (jump_behind node from to n)) (sym (left-noted n))
+      (λ q other. λ i. record {
+        function = lookup (same_key q) (entries_then (suc n));
+        pending = (ends-then n few q ∙ ap (λ b. not b && is_pending (amid n).pile q) other) i;
+      })
+
+  remembers-then-all : (n : ℕ) → n ≤ count → Remembers start (after n)
+  remembers-then-all zero few = remembers-first
+  remembers-then-all (suc n) few =
+      remembers-then start (after n) (after (suc n)) (remembers-then-all n (omega (arith, few)))
+      (remembers-then (after n) (amid n) (after (suc n)) (remembers-amid n (omega (arith, few))) (remembers-after n (omega (arith, few))))
+
+  -- ---- each step of the way
+  distinct-then : IsDistinct same_key (keys_of start.table.entries) → (n : ℕ) → n ≤ count → IsDistinct same_key (keys_of (entries_then n))
+  unfolding entries_then
+  distinct-then distinct zero few = subst (λ (es : List (Key × F)). IsDistinct same_key (keys_of es)) (sym (append-nil start.table.entries)) distinct
+  distinct-then distinct (suc n) few =
+      let key = jump_behind node from to (suc n) in
+      subst (λ (es : List (Key × F)). IsDistinct same_key (keys_of es))
+      (put-last key (entries_then n) f (place-absent (entries_then n) key (absent-then n n (omega arith) (omega (arith, few))))
+      ∙ sym (more-entered start.table.entries (jump_behind node from to) f n))
+      (distinct-put key (entries_then n) f (distinct-then distinct n (omega (arith, few))))
+
+  falls-then : length start.table.entries + count < 2 ^ 64 → (n : ℕ) → n < count → HasLess B (after n) (amid n)
+  unfolding after amid entries_then
+  falls-then room n few =
+      let grown = ap length (more-entered start.table.entries (jump_behind node from to) f n) ∙ length-append (entries_then n) ((jump_behind node from to (suc n), f) ∷ []) in
+      let before = length-append start.table.entries (entered (jump_behind node from to) f n) in
+      let so_many = length-entered (jump_behind node from to) f n in
+      let last = ap (spent B) (more-entered start.table.entries (jump_behind node from to) f n) ∙ spent-last B targets (entries_then n) (jump_behind node from to (suc n), f) in
+      let less = unchanged.less in
+      falls B (entries_then n) (entries_then (suc n)) (length (after n).pile.pending) (length (amid n).pile.pending)
+      (omega (arith, grown, before, so_many, room, few)) (omega (arith, last, less)) (omega arith)
+
+  pub passes-then : length start.table.entries + count < 2 ^ 64 → IsDistinct same_key (keys_of start.table.entries)
+      → (n : ℕ) → n < count → PassesOn B targets (after n) (amid n) (after (suc n))
+  unfolding after amid
+  passes-then room distinct n few = record {
+    key = jump_behind node from to n;
+    next = jump_behind node from to (suc n);
+    function = f;
+    owes = owes-then n few;
+    distinct = distinct-then distinct n (omega (arith, few));
+    free = free;
+    waits = waits-then n;
+    other = apart n (suc n) (λ e. omega (arith, e));
+    same = record { program = refl; graph = refl; roots = refl };
+    onward = record { program = refl; graph = refl; roots = refl };
+    lowers = lowers-then n few;
+    changes = changes-then n few;
+    falls = falls-then room n few;
+    before = remembers-amid n few;
+    free_amid = free;
+    waits_amid = waits-amid n;
+    table = refl;
+    ends = ends-then n few;
+    claims = λ h. refl;
+    behind = remembers-after n few;
+  }
 
   module _ (new : CoreData F) (same : IsSameProblem start new) (entries : new.table.entries ≡ start.table.entries ++ entered (jump_behind node from to) f count)
       (goes : GoesTo (Jump node from to) (jump_behind node from to count) start.pile new.pile) (claims : new.pile.claims ≡ start.pile.claims) where
@@ -327,15 +525,26 @@ module _ {F L : Type 0} (A : LatticeAlgebra L) (B : EdgeAlgebra F L) (targets : 
         ∙ (λ i. same_key_symm (jump_behind node from to count) q i || (not (same_key (sym first-key i) q) && is_pending start.pile q))
         ∙ ap (λ b. same_key q (jump_behind node from to count) || b) (sym (among-others (jump_behind node from to 0) q start.pile.pending))
 
-    ends : GoesOnByHand A B targets 0 0 0 0 (after count) new
+    pub last-state : state_of B targets new ≡ state_of B targets (after count)
     unfolding after entries_then
-    ends =
-        goes-nowhere A B targets 0 (after count) new (record { program = same.program; graph = same.graph; roots = same.roots })
-        (λ i. record {
+    last-state =
+        λ i. record {
           get = λ q. lookup (same_key q) (entries i);
           pending = λ q. last-pending q i;
           claims = λ h. option_map (claim_of B targets) (get_or (claims i) h None);
-        })
+        }
+
+    ends : GoesOnByHand A B targets 0 0 0 0 (after count) new
+    unfolding after
+    ends = goes-nowhere A B targets 0 (after count) new (record { program = same.program; graph = same.graph; roots = same.roots }) last-state
+
+    pub remembers-last : new.changes ≡ changes_then count → Remembers (after count) new
+    unfolding after entries_then
+    remembers-last changes =
+        remembers-change (after count) new None changes (λ q _. λ i. record { function = lookup (same_key q) (entries i); pending = last-pending q i })
+
+    pub walk-remembers : new.changes ≡ changes_then count → Remembers start new
+    walk-remembers changes = remembers-then start (after count) new (remembers-then-all count (omega arith)) (remembers-last changes)
 
     -- so many claims of hand 0, each with a lowering, lead to it, and are paid for
     pub walk-goes : GoesOnByHand A B targets 0 count count 0 start new
@@ -353,14 +562,74 @@ module _ {F L : Type 0} (A : LatticeAlgebra L) (B : EdgeAlgebra F L) (targets : 
       };
     }
 
--- where a walk leads from one core to the other, whatever of the image these have
+-- what follows from a walk
 module _ {F L : Type 0} (A : LatticeAlgebra L) (B : EdgeAlgebra F L) (targets : Targets F) (steps : CallsAreSteps A B targets) (top : B.rank B.all_top ≡ B.height)
-    (old new : CoreData F) (node from to count : ℕ) (f : F) (free : IsFree old.pile) (may : MayWalkIn B targets old node from to count f)
-    (waits : is_pending old.pile (Jump node from to) ≡ true) (has : found old.table (Jump node from to) ≡ Some f) (same : IsSameProblem old new)
-    (entries : new.table.entries ≡ old.table.entries ++ entered (jump_behind node from to) f count)
-    (goes : GoesTo (Jump node from to) (jump_behind node from to count) old.pile new.pile) (claims : new.pile.claims ≡ old.pile.claims)
-    (long : length new.pile.pending ≡ length old.pile.pending) where
+    (old new : CoreData F) (count : ℕ) (free : IsFree old.pile) (walk : WalksOwed B targets old new count) where
   pub walked-pays : GoesOnPaid A B targets count old new
   walked-pays =
-      walk-pays A B targets steps top old free may.graph may.loaded node from to f may.may.unchanged waits has count may.may.passes may.may.absent may.may.settled
-      new same entries goes claims long
+      walk-pays A B targets steps top old free walk.may.graph walk.may.loaded walk.node walk.from walk.to walk.function walk.may.may.unchanged walk.waits walk.has
+      count walk.may.may.passes walk.may.may.absent walk.may.may.settled new walk.same walk.entries walk.goes walk.claims walk.long
+
+  pub walked-remembers : Remembers old new
+  walked-remembers =
+      walk-remembers A B targets steps top old free walk.may.graph walk.may.loaded walk.node walk.from walk.to walk.function walk.may.may.unchanged walk.waits walk.has
+      count walk.may.may.passes walk.may.may.absent walk.may.may.settled new walk.same walk.entries walk.goes walk.claims walk.changes
+
+  pub walked-falls : 0 < count → HasLess B old new
+  walked-falls some =
+      entered-falls B targets old.table.entries new.table.entries (jump_behind walk.node walk.from walk.to) walk.function count
+      (length old.pile.pending) (length new.pile.pending) walk.may.may.unchanged.less walk.entries walk.few walk.long some
+
+  pub walked-count : noted_count new.changes ≤ noted_count old.changes + 1 + count
+  walked-count =
+      let all = ap noted_count walk.changes in
+      let first = note-count old.changes (Jump walk.node walk.from walk.to) (standing_entry old (Jump walk.node walk.from walk.to)) in
+      let more = entered-count (with_note old.changes (Jump walk.node walk.from walk.to) (standing_entry old (Jump walk.node walk.from walk.to)))
+      (jump_behind walk.node walk.from walk.to) count in
+      omega (arith, all, first, more)
+
+-- a walk is such steps, one after the other
+module _ {F L : Type 0} (A : LatticeAlgebra L) (B : EdgeAlgebra F L) (targets : Targets F) (steps : CallsAreSteps A B targets) (top : B.rank B.all_top ≡ B.height)
+    (old new : CoreData F) (count : ℕ) (free : IsFree old.pile) (walk : WalksOwed B targets old new count) where
+  abbrev pub core_then : ℕ → CoreData F
+  core_then =
+      after A B targets steps top old free walk.may.graph walk.may.loaded walk.node walk.from walk.to walk.function walk.may.may.unchanged walk.waits walk.has
+      count walk.may.may.passes walk.may.may.absent walk.may.may.settled
+
+  abbrev pub core_amid : ℕ → CoreData F
+  core_amid =
+      amid A B targets steps top old free walk.may.graph walk.may.loaded walk.node walk.from walk.to walk.function walk.may.may.unchanged walk.waits walk.has
+      count walk.may.may.passes walk.may.may.absent walk.may.may.settled
+
+  pub core-links : IsDistinct same_key (keys_of old.table.entries) → (n : ℕ) → n < count → PassesOn B targets (core_then n) (core_amid n) (core_then (suc n))
+  core-links =
+      passes-then A B targets steps top old free walk.may.graph walk.may.loaded walk.node walk.from walk.to walk.function walk.may.may.unchanged walk.waits walk.has
+      count walk.may.may.passes walk.may.may.absent walk.may.may.settled
+      (let all = ap length walk.entries in let more = length-append old.table.entries (entered (jump_behind walk.node walk.from walk.to) walk.function count) in let few = walk.few in
+      let so_many = length-entered (jump_behind walk.node walk.from walk.to) walk.function count in
+      omega (arith, all, more, few, so_many))
+
+  pub core-first : Remembers old (core_then 0)
+  core-first =
+      remembers-first A B targets steps top old free walk.may.graph walk.may.loaded walk.node walk.from walk.to walk.function walk.may.may.unchanged walk.waits walk.has
+      count walk.may.may.passes walk.may.may.absent walk.may.may.settled
+
+  pub state-first : state_of B targets (core_then 0) ≡ state_of B targets old
+  state-first =
+      first-state A B targets steps top old free walk.may.graph walk.may.loaded walk.node walk.from walk.to walk.function walk.may.may.unchanged walk.waits walk.has
+      count walk.may.may.passes walk.may.may.absent walk.may.may.settled
+
+  pub core-last : Remembers (core_then count) new
+  core-last =
+      remembers-last A B targets steps top old free walk.may.graph walk.may.loaded walk.node walk.from walk.to walk.function walk.may.may.unchanged walk.waits walk.has
+      count walk.may.may.passes walk.may.may.absent walk.may.may.settled new walk.same walk.entries walk.goes walk.claims walk.changes
+
+  pub core-same : (n : ℕ) → IsSameProblem old (core_then n)
+  core-same =
+      problem-then A B targets steps top old free walk.may.graph walk.may.loaded walk.node walk.from walk.to walk.function walk.may.may.unchanged walk.waits walk.has
+      count walk.may.may.passes walk.may.may.absent walk.may.may.settled
+
+  pub state-last : state_of B targets new ≡ state_of B targets (core_then count)
+  state-last =
+      last-state A B targets steps top old free walk.may.graph walk.may.loaded walk.node walk.from walk.to walk.function walk.may.may.unchanged walk.waits walk.has
+      count walk.may.may.passes walk.may.may.absent walk.may.may.settled new walk.same walk.entries walk.goes walk.claims

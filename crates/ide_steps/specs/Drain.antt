@@ -69,10 +69,6 @@ module _ {F L : Type 0} (A : LatticeAlgebra L) (B : EdgeAlgebra F L) (targets : 
     pub goes : GoesOnByHand A B targets 0 claims lowerings 0 old new
     pub paid : ArePaid B claims lowerings old new
 
-  -- the same for the one claim or none, by whether a task was run
-  abbrev pub RunsTask : (old new : CoreData F) → Bool → Type 0
-  RunsTask old new more = GoesOnPaid (if more then 1 else 0) old new
-
   -- so many tasks were claimed and are paid for, told up to the largest number of 64 bits
   abbrev pub Drains : (old new : CoreData F) → ℕ → Type 0
   Drains old new tasks = (claims : ℕ) × (tasks ≡ min claims (2 ^ 64 - 1)) × GoesOnPaid claims old new

@@ -1,14 +1,19 @@
 -- Nodes behind each other, of which each passes a fact on unchanged to the next.
-use Rattle.std.specs.Prelude.{◌≡◌, ℕ, ◌+◌, ◌%◌, ◌<◌, None, Some, slice_get}
+use Rattle.std.specs.Prelude.{◌≡◌, ℕ, ◌+◌, ◌++◌, ◌%◌, ◌<◌, ◌^◌, true, Some, length, slice_get}
 use Rattle.ide_graph.specs.Supergraph.{Supergraph}
 use Rattle.ide_graph.specs.declared.site.Site.{Site}
 use Rattle.ide_image.specs.KeyedImage.{KeyedImageData}
-use Rattle.ide_image.specs.Walk.{AreAbsent, AreSettled, jump_behind}
+use Rattle.ide_image.specs.Notes.{with_note}
+use Rattle.ide_image.specs.Tables.{found}
+use Rattle.ide_image.specs.Walk.{AreAbsent, AreSettled, GoesTo, entered, jump_behind, with_entered}
+use Rattle.ide_image.specs.Worklist.{is_pending}
 use Rattle.ide_lattice.specs.Algebra.{EdgeAlgebra}
 use Rattle.ide_problem.specs.Flow.{Targets}
 use Rattle.ide_tasks.specs.Parts.{PassesBehind}
 use Rattle.ide_tasks.specs.Task.{TaskData}
-use Rattle.ide_steps.specs.Core.{CoreData}
+use Rattle.ide_wire.specs.declared.key.Key.TheVariants.{Jump}
+use Rattle.ide_steps.specs.Changed.{standing_entry}
+use Rattle.ide_steps.specs.Core.{CoreData, IsSameProblem}
 
 module _ {F L : Type 0} (B : EdgeAlgebra F L) where
   -- the function goes on by the identity and to where nothing was as it is, and has lost a rank
@@ -35,7 +40,6 @@ module _ {F L : Type 0} (B : EdgeAlgebra F L) where
       pub absent : AreAbsent image.table (jump_behind node from to) count
       pub settled : AreSettled image.pile (jump_behind node from to) count
       pub page : node % 64 + count < 64
-      pub silent : image.changes ≡ None
       pub unchanged : GoesOnUnchanged f
 
   -- so it may over the graph of the program that is loaded
@@ -43,3 +47,21 @@ module _ {F L : Type 0} (B : EdgeAlgebra F L) where
     pub graph : Supergraph
     pub loaded : core.graph ≡ Some graph
     pub may : MayWalk targets graph (record { table = core.table; pile = core.pile; changes = core.changes }) node from to count f
+
+  -- from a pending jump, its function was walked over so many nodes: to a run the key and each behind it but for the last was claimed
+  -- in turn, its one part was done, which lowered the next, and the claim ended
+  pub record WalksOwed (targets : Targets F) (old new : CoreData F) (count : ℕ) : Type 0 where
+    pub node : ℕ
+    pub from : ℕ
+    pub to : ℕ
+    pub function : F
+    pub waits : is_pending old.pile (Jump node from to) ≡ true
+    pub has : found old.table (Jump node from to) ≡ Some function
+    pub may : MayWalkIn targets old node from to count function
+    pub same : IsSameProblem old new
+    pub entries : new.table.entries ≡ old.table.entries ++ entered (jump_behind node from to) function count
+    pub few : length new.table.entries < 2 ^ 64
+    pub goes : GoesTo (Jump node from to) (jump_behind node from to count) old.pile new.pile
+    pub long : length new.pile.pending ≡ length old.pile.pending
+    pub claims : new.pile.claims ≡ old.pile.claims
+    pub changes : new.changes ≡ with_entered (with_note old.changes (Jump node from to) (standing_entry old (Jump node from to))) (jump_behind node from to) count

@@ -106,10 +106,11 @@ impl<P: Problem> Core<P> {
         ensures goes { GoesOn P.L.algebra P.F.edge P.targets 0 self.old self.new }
         ensures remembers { Remembers self.old self.new }
     {
+        calls_are_steps::<P>();
         let Some((key, function)) = self.image.unclaimed_entry() else {
             return Ok(0);
         };
-        let count = self.walk(key, function)?;
+        let count = self.walk_owed(key, function, usize::MAX)?;
         if count > 0 {
             return Ok(count);
         }

@@ -1,14 +1,10 @@
 //! Walks: keys behind each other along a procedure, of which each does nothing but pass its function on.
-ghost use Rattle.std.specs.Prelude.{◌≡◌, ◌<◌, ◌≤◌, ◌+◌, Ok, Some, true, IfOk, OnErr, IsOkUnless};
-ghost use Rattle.ide_steps.specs.Changed.{Remembers};
-ghost use Rattle.ide_steps.specs.Drain.{GoesOnPaid, HasLess};
-ghost use Rattle.ide_steps.specs.Going.{GoesOn};
-ghost use Rattle.ide_steps.specs.Walk.{GoesOnUnchanged, MayWalk, MayWalkIn, PassesFor};
+ghost use Rattle.std.specs.Prelude.{◌≡◌, ◌<◌, ◌≤◌, ◌+◌, Ok, Some, true, false, IfOk, OnErr, IsOkUnless};
+ghost use Rattle.ide_steps.specs.Walk.{GoesOnUnchanged, MayWalk, MayWalkIn, PassesFor, WalksOwed};
 ghost use Rattle.ide_image.specs.Tables.{found};
-ghost use Rattle.ide_image.specs.Worklist.{IsFree, is_pending};
+ghost use Rattle.ide_image.specs.Worklist.{is_claimed, is_pending};
 ghost use Rattle.ide_wire.specs.declared.key.Key.TheVariants.{Jump};
 
-use crate::laws::calls_are_steps;
 use crate::machine::Core;
 use ide_graph::Graph;
 use ide_image::KeyedImage;
@@ -18,56 +14,49 @@ use ide_tasks::{Task, passes_behind};
 use ide_wire::{Fact, Key, Node, Refused};
 
 impl<P: Problem> Core<P> {
+    /// Walks on from the next key, as [`Core::walk_owed`] does: over no node where each pending key is claimed.
+    ///
+    /// Refusal: `NoMemory`.
+    pub fn walk_next(&mut self, most: usize) -> Result<usize, Refused>
+        ensures refused { IsOkUnless result Refused.NoMemory }
+        ensures most { IfOk result (λ count. count ≤ most) }
+        ensures nowhere { result ≡ Ok 0 → self.new ≡ self.old }
+        ensures walks { IfOk result (λ count. 0 < count → WalksOwed P.F.edge P.targets self.old self.new count) }
+        ensures unchanged { OnErr result (self.new ≡ self.old) }
+    {
+        let Some((key, function)) = self.image.unclaimed_entry() else {
+            return Ok(0);
+        };
+        self.walk_owed(key, function, most)
+    }
+
     /// Walks on from a pending key that has that function, if it is a jump: over the nodes behind its own, as long as one edge
-    /// leads from each to the next and passes the fact on unchanged, and there is no jump between the facts at the next.
-    /// Answers over how many nodes that was; to a run the key and those behind it, but for the last, are each claimed by
-    /// hand 0, which does its one part and ends its claim. Over none nothing changes. No walk goes beyond a page of the
-    /// image, nor anywhere where changes are noted.
+    /// leads from each to the next and passes the fact on unchanged, and there is no jump between the facts at the next; to
+    /// the end of a page of the image at most, and over so many nodes. Answers over how many. To a run the key and those
+    /// behind it, but for the last, are each claimed in turn, the one part is done, and the claim ended (`WalksOwed`). Over
+    /// no node nothing changes: the key has other parts then, or parts that lower what is there.
     ///
     /// Refusal: `NoMemory`.
     #[inline(always)]
-    pub(crate) fn walk(&mut self, key: Key, function: P::F) -> Result<usize, Refused>
-        requires free { IsFree self.old.pile }
+    pub(crate) fn walk_owed(
+        &mut self,
+        key: Key,
+        function: P::F,
+        most: usize,
+    ) -> Result<usize, Refused>
         requires pending { is_pending self.old.pile key ≡ true }
+        requires unclaimed { is_claimed self.old.pile key ≡ false }
         requires function { found self.old.table key ≡ Some function }
         ensures refused { IsOkUnless result Refused.NoMemory }
+        ensures most { IfOk result (λ count. count ≤ most) }
         ensures nowhere { result ≡ Ok 0 → self.new ≡ self.old }
-        ensures falls { IfOk result (λ count. 0 < count → HasLess P.F.edge self.old self.new) }
-        ensures free { IsFree self.new.pile }
-        ensures claims { IfOk result (λ count. GoesOnPaid P.L.algebra P.F.edge P.targets count self.old self.new) }
-        ensures goes { GoesOn P.L.algebra P.F.edge P.targets 0 self.old self.new }
-        ensures remembers { Remembers self.old self.new }
+        ensures walks { IfOk result (λ count. 0 < count → WalksOwed P.F.edge P.targets self.old self.new count) }
         ensures unchanged { OnErr result (self.new ≡ self.old) }
     {
-        match key {
-            Key::Jump(node, from, to) => self.walk_jump(node, from, to, function),
-            Key::Summary(_, _, _) => Ok(0),
-        }
-    }
-
-    /// The same from the jump between the facts at the node.
-    #[inline(always)]
-    fn walk_jump(
-        &mut self,
-        node: Node,
-        from: Fact,
-        to: Fact,
-        function: P::F,
-    ) -> Result<usize, Refused>
-        requires free { IsFree self.old.pile }
-        requires pending { is_pending self.old.pile (Jump node from to) ≡ true }
-        requires function { found self.old.table (Jump node from to) ≡ Some function }
-        ensures refused { IsOkUnless result Refused.NoMemory }
-        ensures nowhere { result ≡ Ok 0 → self.new ≡ self.old }
-        ensures falls { IfOk result (λ count. 0 < count → HasLess P.F.edge self.old self.new) }
-        ensures free { IsFree self.new.pile }
-        ensures claims { IfOk result (λ count. GoesOnPaid P.L.algebra P.F.edge P.targets count self.old self.new) }
-        ensures goes { GoesOn P.L.algebra P.F.edge P.targets 0 self.old self.new }
-        ensures remembers { Remembers self.old self.new }
-        ensures unchanged { OnErr result (self.new ≡ self.old) }
-    {
-        calls_are_steps::<P>();
-        let count = self.way(node, from, to, function);
+        let Key::Jump(node, from, to) = key else {
+            return Ok(0);
+        };
+        let count = self.way(node, from, to, function, most);
         if count == 0 {
             return Ok(0);
         }
@@ -75,20 +64,21 @@ impl<P: Problem> Core<P> {
         Ok(count)
     }
 
-    /// Over how many nodes behind the pending jump at the node its function may be walked.
+    /// Over how many nodes behind the pending jump at the node its function may be walked, up to a count.
     #[inline(always)]
-    fn way(&self, node: Node, from: Fact, to: Fact, function: P::F) -> usize
+    fn way(&self, node: Node, from: Fact, to: Fact, function: P::F, most: usize) -> usize
         requires pending { is_pending self.now.pile (Jump node from to) ≡ true }
-        ensures { 0 < result → MayWalkIn P.F.edge P.targets self.now node from to result function }
+        ensures most { result ≤ most }
+        ensures may { 0 < result → MayWalkIn P.F.edge P.targets self.now node from to result function }
     {
         match &self.loaded {
-            Some(loaded) => way::<P>(&loaded.graph, &self.image, node, from, to, function),
+            Some(loaded) => way::<P>(&loaded.graph, &self.image, node, from, to, function, most),
             None => 0,
         }
     }
 }
 
-/// Over how many nodes behind the jump at the node its function may be walked.
+/// Over how many nodes behind the jump at the node its function may be walked, up to a count.
 #[inline(always)]
 fn way<P: Problem>(
     graph: &Graph,
@@ -97,15 +87,17 @@ fn way<P: Problem>(
     from: Fact,
     to: Fact,
     function: P::F,
+    most: usize,
 ) -> usize
     requires node { node < graph.now.nodes }
-    ensures { 0 < result → MayWalk P.F.edge P.targets graph.now image.now node from to result function }
+    ensures most { result ≤ most }
+    ensures may { 0 < result → MayWalk P.F.edge P.targets graph.now image.now node from to result function }
 {
     if !passes_behind::<P>(node, graph.site(node), to) || !goes_on_unchanged(function) {
         return 0;
     }
     let absent = image.absent_behind(node, from, to);
-    passing::<P>(graph, node, to, absent)
+    passing::<P>(graph, node, to, absent.min(most))
 }
 
 /// How many of the first nodes from this one on, up to a count, pass the fact on unchanged to the node behind them.

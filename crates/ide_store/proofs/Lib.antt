@@ -35,3 +35,4 @@ pub mod Begins
 pub mod Said
 pub mod Drained
 pub mod Frozen
+pub mod Walked

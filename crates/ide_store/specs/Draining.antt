@@ -107,10 +107,6 @@ module _ {F L : Type 0} (a : Analysis F L) where
   abbrev pub WorksHeld : (old new : TableData F) → Type 0
   WorksHeld old new = (held : Claim (TaskData F)) → WorksBy a (table_held old held) (table_held new held) 0 0
 
-  -- one key is run, or none
-  abbrev pub RunsKey : (old new : TableData F) → Bool → Type 0
-  RunsKey old new more = WorksBy a old new (if more then 1 else 0) 0
-
   -- so many of the parts that a pending key owes are done, one of which lowered the key itself or none: to the store
   -- hand 0 did them, which had claimed the key
   pub record DrainsOff (key : Key) (parts : List (Key × F)) (done : ℕ) (lowered : Bool) (old new : TableData F) : Type 0 where

@@ -9,7 +9,7 @@ ghost use Rattle.ide_steps.specs.Drain.{HasLess};
 ghost use Rattle.ide_steps.specs.DrainRefusal.{MayDrain};
 ghost use Rattle.ide_steps.specs.Running.{IsNextOwed, IsTakenOut};
 ghost use Rattle.ide_steps.specs.Steps.{SameTasks};
-ghost use Rattle.ide_store.specs.Draining.{DrainsAll, DrainsBy, DrainsSome, IsDrainStop, IsSameCore, IsWorkStop, LowersOwed, RunsKey, SkipsOwed, StaysOwed, StopsBy, WorksBy, WorksHeld};
+ghost use Rattle.ide_store.specs.Draining.{DrainsAll, DrainsBy, DrainsSome, IsDrainStop, IsSameCore, IsWorkStop, LowersOwed, SkipsOwed, StaysOwed, StopsBy, WorksBy, WorksHeld};
 ghost use Rattle.ide_store.specs.Table.{KeepsRest};
 ghost use Rattle.ide_store.specs.TableCalls.{IsRefusal};
 
@@ -18,7 +18,7 @@ use crate::laws::calls_are_acts;
 use crate::table::{MOST_CHANGED, TableHalf};
 use ide_image::Change;
 use ide_problem::Problem;
-use ide_steps::{cores_are_whole, is_lowered_too};
+use ide_steps::{calls_are_steps, cores_are_whole, is_lowered_too};
 use ide_tasks::PartList;
 use ide_wire::{Key, Refused};
 
@@ -58,27 +58,56 @@ impl<P: Problem> TableHalf<P> {
     {
         let mut parts = PartList::new(self.alloc);
         let mut tasks = 0_u64;
-        while self.run_next(&mut parts)? {
-            tasks = tasks.saturating_add(1);
+        loop {
+            let count = self.run_next(&mut parts)?;
+            if count == 0 {
+                return Ok(tasks);
+            }
+            tasks = tasks.saturating_add(count as u64);
         }
-        Ok(tasks)
     }
 
-    /// Runs the key that is next; false where no key is pending. The list's room is used again.
-    fn run_next(&mut self, parts: &mut PartList<P>) -> Result<bool, Refused>
+    /// Runs the key that is next, and with it those behind it to which it only passes its function on; answers how many
+    /// these are, 0 where no key is pending. The list's room is used again.
+    fn run_next(&mut self, parts: &mut PartList<P>) -> Result<usize, Refused>
         requires { MayDrain self.old.core }
-        ensures works { IfOk result (RunsKey ⟦<P as Kept>⟧.analysis self.old self.new) }
+        ensures works { IfOk result (λ count. WorksBy ⟦<P as Kept>⟧.analysis self.old self.new count 0) }
         ensures stops { StopsBy ⟦<P as Kept>⟧.analysis self.old self.new }
-        ensures quiet { result ≡ Ok false → self.new.core.pile.pending ≡ [] }
-        ensures falls { result ≡ Ok true → HasLess P.F.edge self.old.core self.new.core }
+        ensures quiet { result ≡ Ok 0 → self.new.core.pile.pending ≡ [] }
+        ensures falls { IfOk result (λ count. 0 < count → HasLess P.F.edge self.old.core self.new.core) }
         ensures may { MayDrain self.new.core }
         ensures refused { IfErr result (IsWorkStop ⟦<P as Kept>⟧.analysis self.new) }
     {
+        let count = self.walk()?;
+        if count > 0 {
+            return Ok(count);
+        }
         let Some(key) = self.core.next_owed(parts)? else {
-            return Ok(false);
+            return Ok(0);
         };
         self.run(key, parts.as_slice())?;
-        Ok(true)
+        Ok(1)
+    }
+
+    /// Walks on from the next key ([`ide_steps::Core::walk_next`]), as far as a batch has room for notes, and answers over
+    /// how many nodes. To the store each key that it leaves is a claim by hand 0, its one part and its end.
+    ///
+    /// Refusal: `NoMemory`.
+    fn walk(&mut self) -> Result<usize, Refused>
+        requires { MayDrain self.old.core }
+        ensures works { IfOk result (λ count. WorksBy ⟦<P as Kept>⟧.analysis self.old self.new count 0) }
+        ensures falls { IfOk result (λ count. 0 < count → HasLess P.F.edge self.old.core self.new.core) }
+        ensures nowhere { result ≡ Ok 0 → self.new ≡ self.old }
+        ensures may { MayDrain self.new.core }
+        ensures refused { IsOkUnless result Refused.NoMemory }
+        ensures unchanged { OnErr result (self.new ≡ self.old) }
+    {
+        calls_are_steps::<P>();
+        calls_are_acts::<P>();
+        cores_are_whole(&self.core);
+        let most = (MOST_CHANGED - 1).saturating_sub(self.core.changed_count());
+        let count = self.core.walk_next(most)?;
+        Ok(count)
     }
 
     /// Does the parts that the next key owes, and takes it out of the pending ones, unless one of them

@@ -1,7 +1,7 @@
-use Rattle.std.proofs.Common.{◌+◌, cond, refl, subst, arith}
+use Rattle.std.proofs.Common.{◌+◌, refl, arith}
 use Rattle.std.proofs.lemmas.Result.{err_from_is_err_and}
 use Rattle.ide_steps.proofs.States.{handed-on}
-use Rattle.ide_store.specs.Draining.{IsWorkStop, WorksBy}
+use Rattle.ide_store.specs.Draining.{IsWorkStop}
 use Rattle.ide_store.proofs.Drained.{works_still, works_then}
 use Rattle.ide_store.specs.Table.{Analysis}
 use Rattle.ide_store.proofs.table.TableHalf.run_all.Given.{Over}
@@ -27,29 +27,28 @@ loop-parts-preserved g c =
     let here = before.1 in
     let more = c.saturating_add-tasks.ensures in (
       (
-        before.0 + 1,
+        before.0 + c.in_ok-count.count,
         omega (arith, here, more),
-        works_then (kept g) c.args.self.now c.loop-parts.self c.run_next.new.self before.0 0 1 0 before.2
-            (subst (λ b. WorksBy (kept g) c.loop-parts.self c.run_next.new.self (cond b 1 0) 0) c.if-branch.true c.in_ok-run_next.ensures.works),
+        works_then (kept g) c.args.self.now c.loop-parts.self c.run_next.new.self before.0 0 c.in_ok-count.count 0 before.2 c.in_ok-count.ensures.works,
       ),
       c.run_next.ensures.may,
     )
 
-pub returns-clause-drains : goal.returns-clause-drains
-returns-clause-drains g c =
+pub returns-then-count-eq0-clause-drains : goal.returns-then-count-eq0-clause-drains
+returns-then-count-eq0-clause-drains g c =
     let before = c.loop-parts.invariant.0 in
-    let here = before.1 in (
-      before.0 + 0,
-      omega (arith, here),
-      works_then (kept g) c.args.self.now c.loop-parts.self c.run_next.new.self before.0 0 0 0 before.2
-          (subst (λ b. WorksBy (kept g) c.loop-parts.self c.run_next.new.self (cond b 1 0) 0) c.if-branch.false c.in_ok-run_next.ensures.works),
+    let here = before.1 in
+    let none = c.if-count-eq0.true in (
+      before.0 + c.in_ok-count.count,
+      omega (arith, here, none),
+      works_then (kept g) c.args.self.now c.loop-parts.self c.run_next.new.self before.0 0 c.in_ok-count.count 0 before.2 c.in_ok-count.ensures.works,
     )
 
-pub returns-clause-stops : goal.returns-clause-stops
-returns-clause-stops g c = let drains = returns-clause-drains g c in (drains.0, 0, omega arith, drains.2)
+pub returns-then-count-eq0-clause-stops : goal.returns-then-count-eq0-clause-stops
+returns-then-count-eq0-clause-stops g c = let drains = returns-then-count-eq0-clause-drains g c in (drains.0, 0, omega arith, drains.2)
 
-pub returns-in_err-run_next-clause-stops : goal.returns-in_err-run_next-clause-stops
-returns-in_err-run_next-clause-stops g c =
+pub returns-in_err-count-clause-stops : goal.returns-in_err-count-clause-stops
+returns-in_err-count-clause-stops g c =
     let before = c.loop-parts.invariant.0 in
     let stops = c.run_next.ensures.stops in
     let few = stops.2 in (
@@ -59,7 +58,7 @@ returns-in_err-run_next-clause-stops g c =
       works_then (kept g) c.args.self.now c.loop-parts.self c.run_next.new.self before.0 0 stops.0 stops.1 before.2 stops.3,
     )
 
-pub returns-in_err-run_next-clause-refused : goal.returns-in_err-run_next-clause-refused
-returns-in_err-run_next-clause-refused g c =
+pub returns-in_err-count-clause-refused : goal.returns-in_err-count-clause-refused
+returns-in_err-count-clause-refused g c =
     let p = err_from_is_err_and c.from_residual.result c.from_residual.ensures.1 in
-    handed-on (IsWorkStop _ c.run_next.new.self) c.from_residual.result c.in_err-run_next.field-0.0 p.0 p.1 p.2 c.in_err-run_next.ensures.refused
+    handed-on (IsWorkStop _ c.run_next.new.self) c.from_residual.result c.in_err-count.field-0.0 p.0 p.1 p.2 c.in_err-count.ensures.refused

@@ -1,0 +1,45 @@
+use Rattle.std.proofs.Common.{◌≡◌, ◌+◌, ◌<◌, Some, ap, refl, rules, subst, sym, ◌∙◌}
+use Rattle.std.proofs.lemmas.Option.{same_Some}
+use Rattle.ide_graph.specs.Supergraph.{Supergraph}
+use Rattle.ide_image.specs.Tables.{found}
+use Rattle.ide_image.specs.Walk.{jump_behind}
+use Rattle.ide_image.specs.Worklist.{is_pending}
+use Rattle.ide_wire.specs.declared.key.Key.TheVariants.{Jump}
+use Rattle.ide_steps.specs.Core.{CoreData}
+use Rattle.ide_steps.proofs.Nodes.{kept-moved, through}
+use Rattle.ide_steps.proofs.machine.Core.walk_owed.Goals as goal
+
+-- the last key is one of the graph
+pub invariant_of-self-2 : goal.invariant_of-self-2
+invariant_of-self-2 g c = λ loaded is.
+    let kept = c.self.invariant loaded is in
+    let may = c.way-count.ensures.may (search rules) in
+    let graph = ap (λ (core : CoreData g.row.P-F.Denot). core.graph) (sym c.self.view_is) ∙ through _ c.self.inside.loaded loaded is (λ l. l.graph) in
+    let same : may.graph ≡ loaded.graph = same_Some _ _ (sym may.loaded ∙ graph) in (
+      kept.0,
+      kept-moved g.P.F.EdgeFn.edge g.P.Problem.targets loaded.graph c.self.inside.image.pile c.walk.new.self.pile kept.1
+          (Jump c.in-Jump.node c.in-Jump.from c.in-Jump.to) (jump_behind c.in-Jump.node c.in-Jump.from c.in-Jump.to c.way-count.result)
+          (subst (λ (h : Supergraph). c.in-Jump.node + c.way-count.result < h.nodes) same may.may.within) c.in_ok-walk.ensures.pending c.walk.ensures.claims,
+    )
+
+pub returns-clause-walks : goal.returns-clause-walks
+returns-clause-walks g c = λ some.
+    let may = rw (← c.self.view_is) at c.way-count.ensures.may some in
+    let waits = rw (← c.self.view_is) at c.requires.pending in
+    let has = rw (← c.self.view_is) at c.requires.function in
+    rw (← c.self.view_is) (record {
+      node = c.in-Jump.node;
+      from = c.in-Jump.from;
+      to = c.in-Jump.to;
+      function = c.args.function;
+      waits = ap (is_pending c.self.inside.image.pile) (sym c.in-Jump.is) ∙ waits;
+      has = ap (found c.self.inside.image.table) (sym c.in-Jump.is) ∙ has;
+      may = may;
+      same = record { program = refl; graph = refl; roots = refl };
+      entries = c.in_ok-walk.ensures.entries;
+      few = c.in_ok-walk.ensures.few;
+      goes = c.in_ok-walk.ensures.pending;
+      long = c.in_ok-walk.ensures.count;
+      claims = c.walk.ensures.claims;
+      changes = c.in_ok-walk.ensures.noted;
+    })

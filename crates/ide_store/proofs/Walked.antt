@@ -1,0 +1,116 @@
+-- That a walk of the core is, to the store, a claim of each key by hand 0, its one part and its end.
+use Rattle.std.proofs.Common.{◌≡◌, ◌∙◌, ◌+◌, ◌-◌, ◌<◌, ◌≤◌, ℕ, zero, suc, true, false, [], ◌∷◌, Some, add-one, ap, arith, refl, subst, sym, ◌||◌}
+use Rattle.std.specs.Option.{is_some}
+use Rattle.ide_image.specs.Notes.{noted_count}
+use Rattle.ide_image.specs.Worklist.{IsFree}
+use Rattle.ide_steps.specs.Calls.{CallsAreSteps}
+use Rattle.ide_steps.specs.Changed.{Remembers}
+use Rattle.ide_steps.specs.Core.{CoreData, IsSameProblem}
+use Rattle.ide_steps.specs.Room.{IsGraphSaid, IsWholeCore}
+use Rattle.ide_steps.specs.State.{state_of}
+use Rattle.ide_steps.specs.Walk.{WalksOwed}
+use Rattle.ide_steps.proofs.Walked.{PassesOn, core-first, core-last, core-links, core-same, core_amid, core_then, state-first, state-last, walked-count, walked-remembers}
+use Rattle.ide_store.specs.Acting.{CallsAreActs}
+use Rattle.ide_store.specs.Draining.{WorksBy}
+use Rattle.ide_store.specs.Table.{Analysis, KeepsRest, TableData}
+use Rattle.ide_store.proofs.Drained.{unchanged_equal, works_still, works_then, works_unchanged}
+use Rattle.ide_store.proofs.HandActs.{state_is, works_on}
+use Rattle.ide_store.proofs.Owed.{key_works, off_lowered, off_none}
+
+module _ {F L : Type 0} (a : Analysis F L) (acts : CallsAreActs a) where
+  -- a key that gives its turn to the next one is claimed, its part done, and its claim ended
+  passed-works : (table : TableData F) (old mid new : CoreData F) → IsWholeCore table.core → IsSameProblem table.core old → is_some old.changes ≡ true
+      → PassesOn a.functions a.targets old mid new → WorksBy a (record table { core = old }) (record table { core = new }) 1 0
+  passed-works table old mid new whole from_start noting passes =
+      let start = record table { core = old } in
+      let amid = record table { core = mid } in
+      let after = record table { core = new } in
+      let parts = (passes.next, passes.function) ∷ [] in
+      let still : KeepsRest start amid = record { version = refl; sealed = refl; waiting = refl; failed = refl } in
+      let rest : KeepsRest amid after = record { version = refl; sealed = refl; waiting = refl; failed = refl } in
+      let whole_start : IsWholeCore start.core = record {
+        distinct = passes.distinct;
+        sited = λ graph is. whole.sited graph (sym from_start.graph ∙ is);
+        said = λ graph is. subst (λ said. IsGraphSaid said graph) (sym from_start.program) (whole.said graph (sym from_start.graph ∙ is));
+      } in
+      let off = off_lowered a acts passes.key parts start start amid 0 false (off_none a acts passes.key parts start) still noting passes.same passes.before
+      (passes.next, passes.function) refl false (sym (ap (λ b. b || false) passes.other))
+      (record { lowers = passes.lowers; changes = passes.changes; falls = passes.falls }) in
+      key_works a acts passes.key parts start whole_start passes.free passes.waits passes.owes amid 1 false off (passes.free_amid 0)
+      after (omega arith) (passes.before.noting ∙ noting) rest passes.onward passes.behind passes.claims passes.waits_amid passes.table passes.ends
+
+  -- the half works on the same worlds where its core is in the same state and remembers what it did
+  remembered-works : (old new : TableData F) → KeepsRest old new → IsSameProblem old.core new.core → is_some old.core.changes ≡ true
+      → state_of a.functions a.targets new.core ≡ state_of a.functions a.targets old.core → Remembers old.core new.core → WorksBy a old new 0 0
+  remembered-works old new rest same noting state remembers =
+      works_still a old new (λ place w handed reached on. works_on a place w old new w.world.image w.claims w.world.history w.tally on rest same refl refl
+      (state_is a place w old on ∙ sym state) (remembers.entries noting))
+
+  module _ (steps : CallsAreSteps a.lattice a.functions a.targets) (top : a.functions.rank a.functions.all_top ≡ a.functions.height) (old new : TableData F) (count : ℕ)
+      (whole : IsWholeCore old.core) (free : IsFree old.core.pile) (noting : is_some old.core.changes ≡ true) (rest : KeepsRest old new)
+      (walk : WalksOwed a.functions a.targets old.core new.core count) where
+    abbrev then_core : ℕ → CoreData F
+    then_core = core_then a.lattice a.functions a.targets steps top old.core new.core count free walk
+
+    -- changes are noted all the way
+    noting-still : (n : ℕ) → n ≤ count → is_some (then_core n).changes ≡ true
+    noting-still zero few = (core-first a.lattice a.functions a.targets steps top old.core new.core count free walk).noting ∙ noting
+    noting-still (suc n) few =
+        let passes = core-links a.lattice a.functions a.targets steps top old.core new.core count free walk whole.distinct n (omega (arith, few)) in
+        passes.behind.noting ∙ passes.before.noting ∙ noting-still n (omega (arith, few))
+
+    works-along : (n : ℕ) → n ≤ count → WorksBy a (record old { core = then_core 0 }) (record old { core = then_core n }) n 0
+    works-along zero few = works_still a _ _ (λ place w handed reached on. on)
+    works-along (suc n) few =
+        subst (λ m. WorksBy a (record old { core = then_core 0 }) (record old { core = then_core (suc n) }) m 0) (add-one n)
+        (works_then a (record old { core = then_core 0 }) (record old { core = then_core n }) (record old { core = then_core (suc n) }) n 0 1 0
+        (works-along n (omega (arith, few)))
+        (passed-works old (then_core n) (core_amid a.lattice a.functions a.targets steps top old.core new.core count free walk n) (then_core (suc n)) whole
+        (core-same a.lattice a.functions a.targets steps top old.core new.core count free walk n) (noting-still n (omega (arith, few)))
+        (core-links a.lattice a.functions a.targets steps top old.core new.core count free walk whole.distinct n (omega (arith, few)))))
+
+    -- so many claims of hand 0 lead from the one to the other
+    pub walk-works : WorksBy a old new count 0
+    walk-works =
+        let last = core-same a.lattice a.functions a.targets steps top old.core new.core count free walk count in
+        subst (λ m. WorksBy a old new m 0) (omega arith)
+        (works_then a old (record old { core = then_core count }) new (0 + count) 0 0 0
+        (works_then a old (record old { core = then_core 0 }) (record old { core = then_core count }) 0 0 count 0
+        (remembered-works old (record old { core = then_core 0 }) (record { version = refl; sealed = refl; waiting = refl; failed = refl })
+        (core-same a.lattice a.functions a.targets steps top old.core new.core count free walk 0) noting
+        (state-first a.lattice a.functions a.targets steps top old.core new.core count free walk)
+        (core-first a.lattice a.functions a.targets steps top old.core new.core count free walk))
+        (works-along count (omega arith)))
+        (remembered-works (record old { core = then_core count }) new (record { version = rest.version; sealed = rest.sealed; waiting = rest.waiting; failed = rest.failed })
+        (record { program = walk.same.program ∙ sym last.program; graph = walk.same.graph ∙ sym last.graph; roots = walk.same.roots ∙ sym last.roots })
+        (noting-still count (omega arith))
+        (state-last a.lattice a.functions a.targets steps top old.core new.core count free walk)
+        (core-last a.lattice a.functions a.targets steps top old.core new.core count free walk)))
+
+  -- whether it led over some nodes or over none
+  module _ (steps : CallsAreSteps a.lattice a.functions a.targets) (top : a.functions.rank a.functions.all_top ≡ a.functions.height) (old new : TableData F) (count : ℕ)
+      (free : IsFree old.core.pile) (nowhere : count ≡ 0 → new.core ≡ old.core) (walks : 0 < count → WalksOwed a.functions a.targets old.core new.core count) where
+    pub walk-or-works : IsWholeCore old.core → is_some old.core.changes ≡ true → KeepsRest old new → WorksBy a old new count 0
+    walk-or-works whole noting rest = by count refl
+      where
+        by : (n : ℕ) → count ≡ n → WorksBy a old new count 0
+        by zero is = subst (λ m. WorksBy a old new m 0) (sym is) (works_unchanged a old new rest (unchanged_equal old.core new.core (nowhere is)))
+        by (suc n) is = walk-works steps top old new count whole free noting rest (walks (omega (arith, is)))
+
+    pub walk-noting : is_some old.core.changes ≡ true → is_some new.core.changes ≡ true
+    walk-noting noting = by count refl
+      where
+        by : (n : ℕ) → count ≡ n → is_some new.core.changes ≡ true
+        by zero is = ap (λ (core : CoreData F). is_some core.changes) (nowhere is) ∙ noting
+        by (suc n) is =
+            (walked-remembers a.lattice a.functions a.targets steps top old.core new.core count free (walks (omega (arith, is)))).noting ∙ noting
+
+    -- no more is noted than there is room for
+    pub walk-few : noted_count old.core.changes ≤ 65536 → count ≤ 65535 - noted_count old.core.changes → noted_count new.core.changes ≤ 65536
+    walk-few few room = by count refl
+      where
+        by : (n : ℕ) → count ≡ n → noted_count new.core.changes ≤ 65536
+        by zero is = let same = ap (λ (core : CoreData F). noted_count core.changes) (nowhere is) in omega (arith, same, few)
+        by (suc n) is =
+            let more = walked-count a.lattice a.functions a.targets steps top old.core new.core count free (walks (omega (arith, is))) in
+            omega (arith, more, room, is)
