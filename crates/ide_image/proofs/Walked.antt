@@ -18,7 +18,7 @@ use Rattle.ide_image.specs.Indexed.{Indexed, IsSpot, entries_in, entry_in, place
 use Rattle.ide_image.specs.KeyedImage.{AreParts, Covers, held_by_slot, keys_where, marked_at, pending_by_slot}
 use Rattle.ide_image.specs.Queue.{CountsPushed, CountsSettled, SameMarks, SetsMark, SlotMarks, held_at, one_if, pending_at, pending_count}
 use Rattle.ide_image.specs.Worklist.{is_claim_of}
-use Rattle.ide_image.specs.Walk.{AreAbsent, EndWith, entered, jump_behind}
+use Rattle.ide_image.specs.Walk.{AreAbsent, EndWith, walked_entries, jump_behind}
 use Rattle.ide_image.proofs.Agree.{at-index, is-pending, unclaimed-free, unheld, whole-pushed, whole-put, whole-settled}
 use Rattle.ide_image.proofs.Before.{at-some}
 use Rattle.ide_image.proofs.Cells.{index-of}
@@ -90,7 +90,7 @@ module _ {F : Type 0} (key : Key) where
 module _ {F : Type 0} (node from to : ℕ) (f : F) where
   -- the jumps that are entered
   abbrev run : ℕ → List (Key × F)
-  run n = entered (jump_behind node from to) f n
+  run n = walked_entries (jump_behind node from to) f n
 
   pub length-run : (n : ℕ) → length (run n) ≡ n
   length-run zero = refl
@@ -217,7 +217,7 @@ pub record Walks {F : Type 0} (node from to : ℕ) (f : F) (count : ℕ) (indexe
     (marks pushed settled : SlotMarks) (first last : ℕ) : Type 0 where
   pub some : 0 < count
   pub absent : AreAbsent indexed.table (jump_behind node from to) count
-  pub entries : after.table.entries ≡ indexed.table.entries ++ entered (jump_behind node from to) f count
+  pub entries : after.table.entries ≡ indexed.table.entries ++ walked_entries (jump_behind node from to) f count
   pub starts : first + 1 ≡ place_of_key indexed (Jump node from to)
   pub ends : last + 1 ≡ length after.table.entries
   pub pending : pending_by_slot indexed marks (Jump node from to) ≡ true
@@ -330,7 +330,7 @@ pub walks : {F T : Type 0} (node from to : ℕ) (f : F) (count : ℕ) (indexed a
     (changes : ChangeLog F) (cell place last : ℕ) → AreParts indexed marks claims changes → IsSpot indexed (Jump node from to) cell place
     → pending_by_slot indexed marks (Jump node from to) ≡ true → list_any (is_claim_of (Jump node from to)) claims ≡ false
     → 0 < count → AreAbsent indexed.table (jump_behind node from to) count
-    → after.table.entries ≡ indexed.table.entries ++ entered (jump_behind node from to) f count → last + 1 ≡ length after.table.entries
+    → after.table.entries ≡ indexed.table.entries ++ walked_entries (jump_behind node from to) f count → last + 1 ≡ length after.table.entries
     → SetsMark last true (pending_at marks.list) (pending_at pushed.list) → SameMarks (held_at marks.list) (held_at pushed.list)
     → CountsPushed last marks.list pushed.list
     → SetsMark (place - 1) false (pending_at pushed.list) (pending_at settled.list) → SetsMark (place - 1) false (held_at pushed.list) (held_at settled.list)

@@ -18,7 +18,7 @@ use Rattle.ide_image.specs.KeyedImage.{AreParts}
 use Rattle.ide_image.specs.Notes.{noted, with_note}
 use Rattle.ide_image.specs.Queue.{SlotMarks}
 use Rattle.ide_image.specs.Tables.{place_in}
-use Rattle.ide_image.specs.Walk.{AreAbsent, AreListedFrom, AreNotesIn, KeepsNotesFrom, StandFrom, absent_entry, entered, jump_behind, with_entered}
+use Rattle.ide_image.specs.Walk.{AreAbsent, AreListedFrom, AreNotesIn, KeepsNotesFrom, StandFrom, absent_entry, walked_entries, jump_behind, with_entered}
 use Rattle.ide_image.proofs.Agree.{at-index, noted-with, once-with}
 use Rattle.ide_image.proofs.Marked.{at-set, covers-set}
 use Rattle.ide_image.proofs.Walked.{Walks, length-run, place-first, stands-last, whole-run, whole-walk}
@@ -94,12 +94,12 @@ module _ {F : Type 0} (node from to : ℕ) (f : F) (es : List (Key × F)) (count
     (absent : AreAbsent (record { entries = es }) (jump_behind node from to) count) where
   -- the jumps that are entered, behind what stood before
   abbrev entered_to : ℕ → List (Key × F)
-  entered_to n = es ++ entered (jump_behind node from to) f n
+  entered_to n = es ++ walked_entries (jump_behind node from to) f n
 
   -- the last one stands behind as many as were entered before it
   run-last : (m : ℕ) → suc m ≤ count → suc (length es + m) ≡ place_in (jump_behind node from to (suc m)) (entered_to (suc m))
   run-last m most =
-      let long = length-append es (entered (jump_behind node from to) f (suc m)) in
+      let long = length-append es (walked_entries (jump_behind node from to) f (suc m)) in
       let steps = length-run node from to f (suc m) in
       let all : suc (length es + m) ≡ length (entered_to (suc m)) = omega (arith, long, steps) in
       all ∙ stands-last node from to f es count absent (suc m) (omega arith) most
@@ -107,7 +107,7 @@ module _ {F : Type 0} (node from to : ℕ) (f : F) (es : List (Key × F)) (count
   -- one that stands somewhere stays there when one more is entered
   run-more : (key : Key) (place m : ℕ) → suc place ≡ place_in key (entered_to m) → suc place ≡ place_in key (entered_to (suc m))
   run-more key place m is =
-      let run = entered (jump_behind node from to) f m in
+      let run = walked_entries (jump_behind node from to) f m in
       let last = (jump_behind node from to (suc m), f) ∷ [] in
       sym (place-first key (es ++ run) last place (sym is)) ∙ ap (place_in key) (append_assoc es run last)
 
@@ -122,7 +122,7 @@ module _ {F : Type 0} (node from to : ℕ) (f : F) (es : List (Key × F)) (count
 
 -- the jumps that are entered have the slots behind those of before
 pub stands-from : {F : Type 0} (node from to : ℕ) (f : F) (indexed after : Indexed F) (count first : ℕ)
-    → AreAbsent indexed.table (jump_behind node from to) count → after.table.entries ≡ indexed.table.entries ++ entered (jump_behind node from to) f count
+    → AreAbsent indexed.table (jump_behind node from to) count → after.table.entries ≡ indexed.table.entries ++ walked_entries (jump_behind node from to) f count
     → first ≡ length indexed.table.entries → StandFrom first (jump_behind node from to) count after
 stands-from node from to f indexed after count first absent entries is n less =
     let up : (first + n) + 1 ≡ suc (length indexed.table.entries + n) = omega (arith, is) in
@@ -131,16 +131,16 @@ stands-from node from to f indexed after count first absent entries is n less =
 
 -- the last slot says which was the first of those that were entered
 pub first-of : {F : Type 0} (node from to : ℕ) (f : F) (es all : List (Key × F)) (count last : ℕ)
-    → all ≡ es ++ entered (jump_behind node from to) f count → last + 1 ≡ length all → (last + 1 ≡ length es + count) × (last + 1 - count ≡ length es)
+    → all ≡ es ++ walked_entries (jump_behind node from to) f count → last + 1 ≡ length all → (last + 1 ≡ length es + count) × (last + 1 - count ≡ length es)
 first-of node from to f es all count last entries ends =
-    let long = ap length entries ∙ length-append es (entered (jump_behind node from to) f count) in
+    let long = ap length entries ∙ length-append es (walked_entries (jump_behind node from to) f count) in
     let steps = length-run node from to f count in
     (omega (arith, ends, long, steps), omega (arith, ends, long, steps))
 
 -- keys that a walk enters are noted where their slots are marked
 pub listed-run : {F T : Type 0} (node from to : ℕ) (f : F) (indexed after : Indexed F) (marks : SlotMarks)
     (claims : List (Option (Claim T))) (changes : ChangeLog F) (count first : ℕ) → AreAbsent indexed.table (jump_behind node from to) count → 0 < count
-    → after.table.entries ≡ indexed.table.entries ++ entered (jump_behind node from to) f count → first ≡ length indexed.table.entries
+    → after.table.entries ≡ indexed.table.entries ++ walked_entries (jump_behind node from to) f count → first ≡ length indexed.table.entries
     → AreParts indexed marks claims changes → AreListedFrom first (jump_behind node from to) count changes
 listed-run node from to f indexed after marks claims changes count first absent some entries is w =
     listed-from after marks claims changes

@@ -19,9 +19,9 @@ abbrev pub jump_behind : (node from to : ℕ) → ℕ → Key
 jump_behind node from to n = Jump (node + n) from to
 
 -- the first so many of the keys behind the one at 0, each with the function
-abbrev pub entered : {F : Type 0} → (ℕ → Key) → F → ℕ → List (Key × F)
-entered at f zero = []
-entered at f (suc n) = entered at f n ++ (at (suc n), f) ∷ []
+abbrev pub walked_entries : {F : Type 0} → (ℕ → Key) → F → ℕ → List (Key × F)
+walked_entries at f zero = []
+walked_entries at f (suc n) = walked_entries at f n ++ (at (suc n), f) ∷ []
 
 -- the first so many of the keys behind the one at 0 are absent
 abbrev pub AreAbsent : {F : Type 0} → Table F → (ℕ → Key) → ℕ → Type 0

@@ -8,7 +8,7 @@ ghost use Rattle.ide_wire.specs.declared.refused.Refused.TheVariants.{NoMemory};
 ghost use Rattle.ide_wire.specs.KeyOrder.{key_cmp};
 ghost use Rattle.ide_image.specs.Tables.{AreJumpsTo, AreKeys, AreSummariesFrom, HasCell, HaveCells, found, function_at, entry_nodes, partner_at, partners_at, place_in, with_entry};
 ghost use Rattle.ide_image.specs.Indexed.{ForKeyAt, HasDistinctKeys, IsSpot, MayTake, PutsEntry, place_of_key};
-ghost use Rattle.ide_image.specs.Walk.{AreAbsent, EndWith, entered, jump_behind};
+ghost use Rattle.ide_image.specs.Walk.{AreAbsent, EndWith, walked_entries, jump_behind};
 
 use crate::entries::Entries;
 use ide_lattice::EdgeFn;
@@ -367,7 +367,7 @@ impl<F: EdgeFn> Indexed<F> {
         requires page { node % 64 + count < 64 }
         requires absent { AreAbsent self.old.table (jump_behind node from to) count }
         requires room { MayTake count self.old }
-        ensures entries { self.new.table.entries ≡ self.old.table.entries ++ entered (jump_behind node from to) function count }
+        ensures entries { self.new.table.entries ≡ self.old.table.entries ++ walked_entries (jump_behind node from to) function count }
         ensures index { result + 1 ≡ length self.new.table.entries }
     {
         let first = KeySpot {

@@ -16,7 +16,7 @@ ghost use Rattle.ide_image.specs.Worklist.{PutsClaim, IsFree, IsWorklist, begun,
 ghost use Rattle.ide_image.specs.KeyedImage.{CountsPending, entry_now, marked_all};
 ghost use Rattle.ide_image.specs.Left.{left_items};
 ghost use Rattle.ide_image.specs.Notes.{NotesAll, ended_key, entry_at, noted, noted_count, with_change, with_note};
-ghost use Rattle.ide_image.specs.Walk.{AreAbsent, AreSettled, GoesTo, entered, jump_behind, with_entered};
+ghost use Rattle.ide_image.specs.Walk.{AreAbsent, AreSettled, GoesTo, walked_entries, jump_behind, with_entered};
 
 use crate::change::Change;
 use crate::change_log::ChangeLog;
@@ -417,7 +417,7 @@ impl<F: EdgeFn, T: Drop> KeyedImage<F, T> {
         requires some { 0 < count }
         requires page { node % 64 + count < 64 }
         requires absent { AreAbsent self.old.table (jump_behind node from to) count }
-        ensures entries { OnOk result (self.new.table.entries ≡ self.old.table.entries ++ entered (jump_behind node from to) function count) }
+        ensures entries { OnOk result (self.new.table.entries ≡ self.old.table.entries ++ walked_entries (jump_behind node from to) function count) }
         ensures few { OnOk result (length self.new.table.entries < 2 ^ 64) }
         ensures pending { OnOk result (GoesTo (Jump node from to) (jump_behind node from to count) self.old.pile self.new.pile) }
         ensures count { OnOk result (length self.new.pile.pending ≡ length self.old.pile.pending) }

@@ -19,7 +19,7 @@ use Rattle.ide_tasks.specs.declared.partners.Partners.TheVariants.{Entries}
 use Rattle.ide_image.specs.Notes.{noted, noted_count, or_entry, with_note}
 use Rattle.ide_image.specs.Spent.{fallen, spent}
 use Rattle.ide_image.specs.Tables.{Table, found, or_top}
-use Rattle.ide_image.specs.Walk.{AreAbsent, AreSettled, GoesTo, absent_entry, entered, jump_behind, with_entered}
+use Rattle.ide_image.specs.Walk.{AreAbsent, AreSettled, GoesTo, absent_entry, walked_entries, jump_behind, with_entered}
 use Rattle.ide_image.specs.Worklist.{IsFree, claim_at, is_pending, marked}
 use Rattle.ide_image.specs.declared.entry.Entry.{Entry}
 use Rattle.ide_image.proofs.Places.{distinct-put, put-last}
@@ -60,16 +60,16 @@ module _ {F : Type 0} where
       found-first e es key q f (same_key key e.0) (same_key q e.0) (same_key key q) refl refl refl none (found-last es key q f)
 
   -- how many are entered
-  length-entered : (at : ℕ → Key) (f : F) (n : ℕ) → length (entered at f n) ≡ n
+  length-entered : (at : ℕ → Key) (f : F) (n : ℕ) → length (walked_entries at f n) ≡ n
   length-entered at f zero = refl
   length-entered at f (suc n) =
       let before = length-entered at f n in
-      let more = length-append (entered at f n) ((at (suc n), f) ∷ []) in
+      let more = length-append (walked_entries at f n) ((at (suc n), f) ∷ []) in
       omega (arith, before, more)
 
   -- entries and one more
-  more-entered : (es : List (Key × F)) (at : ℕ → Key) (f : F) (n : ℕ) → es ++ entered at f (suc n) ≡ (es ++ entered at f n) ++ (at (suc n), f) ∷ []
-  more-entered es at f n = sym (append_assoc es (entered at f n) ((at (suc n), f) ∷ []))
+  more-entered : (es : List (Key × F)) (at : ℕ → Key) (f : F) (n : ℕ) → es ++ walked_entries at f (suc n) ≡ (es ++ walked_entries at f n) ++ (at (suc n), f) ∷ []
+  more-entered es at f n = sym (append_assoc es (walked_entries at f n) ((at (suc n), f) ∷ []))
 
 module _ {F : Type 0} where
   -- a key that was noted stays so, and is noted once
@@ -107,31 +107,31 @@ module _ {F : Type 0} where
       omega (arith, before, one)
 
 -- the keys but for one
-others : Key → List Key → List Key
-others key keys = filter (λ q. not (same_key key q)) keys
+other-keys : Key → List Key → List Key
+other-keys key keys = filter (λ q. not (same_key key q)) keys
 
-others-first : (key q p : Key) (own here there rest : Bool) → same_key key q ≡ own → same_key key p ≡ here → same_key q p ≡ there
+other-keys-first : (key q p : Key) (own here there rest : Bool) → same_key key q ≡ own → same_key key p ≡ here → same_key q p ≡ there
     → cond (not here) (there || (not own && rest)) (not own && rest) ≡ (not own && (there || rest))
-others-first key q p true true there rest a b c = refl
-others-first key q p true false true rest a b c =
+other-keys-first key q p true true there rest a b c = refl
+other-keys-first key q p true false true rest a b c =
     let one = same_key_exact q p c in
     let no : ⊥ = cc (a, b, ap (same_key key) one) in
     absurd no
-others-first key q p true false false rest a b c = refl
-others-first key q p false true true rest a b c =
+other-keys-first key q p true false false rest a b c = refl
+other-keys-first key q p false true true rest a b c =
     let one = same_key_exact q p c in
     let no : ⊥ = cc (a, b, ap (same_key key) one) in
     absurd no
-others-first key q p false true false rest a b c = refl
-others-first key q p false false there rest a b c = refl
+other-keys-first key q p false true false rest a b c = refl
+other-keys-first key q p false false there rest a b c = refl
 
-among-others : (key q : Key) (keys : List Key) → list_any (same_key q) (others key keys) ≡ (not (same_key key q) && list_any (same_key q) keys)
-unfolding others
-among-others key q [] = elim (same_key key q) as (λ b. false ≡ (not b && false)) [ true ↦ refl | false ↦ refl ]
-among-others key q (p ∷ keys) =
-    elim (same_key key p) as (λ here. same_key key p ≡ here → list_any (same_key q) (cond (not here) (p ∷ others key keys) (others key keys)) ≡ (not (same_key key q) && (same_key q p || list_any (same_key q) keys))) [
-      | true ↦ λ is. among-others key q keys ∙ others-first key q p (same_key key q) true (same_key q p) (list_any (same_key q) keys) refl is refl
-      | false ↦ λ is. ap (λ b. same_key q p || b) (among-others key q keys) ∙ others-first key q p (same_key key q) false (same_key q p) (list_any (same_key q) keys) refl is refl
+among-other-keys : (key q : Key) (keys : List Key) → list_any (same_key q) (other-keys key keys) ≡ (not (same_key key q) && list_any (same_key q) keys)
+unfolding other-keys
+among-other-keys key q [] = elim (same_key key q) as (λ b. false ≡ (not b && false)) [ true ↦ refl | false ↦ refl ]
+among-other-keys key q (p ∷ keys) =
+    elim (same_key key p) as (λ here. same_key key p ≡ here → list_any (same_key q) (cond (not here) (p ∷ other-keys key keys) (other-keys key keys)) ≡ (not (same_key key q) && (same_key q p || list_any (same_key q) keys))) [
+      | true ↦ λ is. among-other-keys key q keys ∙ other-keys-first key q p (same_key key q) true (same_key q p) (list_any (same_key q) keys) refl is refl
+      | false ↦ λ is. ap (λ b. same_key q p || b) (among-other-keys key q keys) ∙ other-keys-first key q p (same_key key q) false (same_key q p) (list_any (same_key q) keys) refl is refl
     ] refl
 
 -- a proper function goes on as it is, and is below the one that always gives top where it is another
@@ -189,15 +189,15 @@ module _ {F L : Type 0} (B : EdgeAlgebra F L) (targets : Targets F) where
   spent-last [] x = omega arith
   spent-last (e ∷ es) x = let rest = spent-last es x in omega (arith, rest)
 
-  pub spent-entered : (es : List (Key × F)) (at : ℕ → Key) (f : F) → B.rank f < B.height → (n : ℕ) → n + spent B es ≤ spent B (es ++ entered at f n)
+  pub spent-entered : (es : List (Key × F)) (at : ℕ → Key) (f : F) → B.rank f < B.height → (n : ℕ) → n + spent B es ≤ spent B (es ++ walked_entries at f n)
   spent-entered es at f less zero = let same = ap (spent B) (append-nil es) in omega (arith, same)
   spent-entered es at f less (suc n) =
       let before = spent-entered es at f less n in
-      let last = ap (spent B) (more-entered es at f n) ∙ spent-last (es ++ entered at f n) (at (suc n), f) in
+      let last = ap (spent B) (more-entered es at f n) ∙ spent-last (es ++ walked_entries at f n) (at (suc n), f) in
       omega (arith, before, last, less)
 
   -- where some are entered and as many keys are pending as before, there is less to do
-  pub entered-falls : (es fs : List (Key × F)) (at : ℕ → Key) (f : F) (count pending now : ℕ) → B.rank f < B.height → fs ≡ es ++ entered at f count → length fs < 2 ^ 64
+  pub entered-falls : (es fs : List (Key × F)) (at : ℕ → Key) (f : F) (count pending now : ℕ) → B.rank f < B.height → fs ≡ es ++ walked_entries at f count → length fs < 2 ^ 64
       → now ≡ pending → 0 < count → 2 * (2 ^ 64 * B.height - spent B fs) + now < 2 * (2 ^ 64 * B.height - spent B es) + pending
   entered-falls es fs at f count pending now less entries few same some =
       let more = spent-entered es at f less count in
@@ -233,11 +233,11 @@ module _ {F L : Type 0} (A : LatticeAlgebra L) (B : EdgeAlgebra F L) (targets : 
     (waits : is_pending start.pile (Jump node from to) ≡ true) (has : found start.table (Jump node from to) ≡ Some f)
     (count : ℕ) (passes : PassesFor B targets graph node to count) (absent : AreAbsent start.table (jump_behind node from to) count)
     (settled : AreSettled start.pile (jump_behind node from to) count) where
-  first-key : jump_behind node from to 0 ≡ Jump node from to
-  first-key = ap (λ n. Jump n from to) (omega arith)
+  first-of-walk : jump_behind node from to 0 ≡ Jump node from to
+  first-of-walk = ap (λ n. Jump n from to) (omega arith)
 
-  apart : (n m : ℕ) → ((n ≡ m) → ⊥) → same_key (jump_behind node from to n) (jump_behind node from to m) ≡ false
-  apart n m differ =
+  keys-apart : (n m : ℕ) → ((n ≡ m) → ⊥) → same_key (jump_behind node from to n) (jump_behind node from to m) ≡ false
+  keys-apart n m differ =
       elim (same_key (jump_behind node from to n) (jump_behind node from to m)) as (λ b. same_key (jump_behind node from to n) (jump_behind node from to m) ≡ b → b ≡ false) [
         | true ↦ λ is.
             let nodes : node + n ≡ node + m = ap node_of (same_key_exact (jump_behind node from to n) (jump_behind node from to m) is) in
@@ -247,23 +247,23 @@ module _ {F L : Type 0} (A : LatticeAlgebra L) (B : EdgeAlgebra F L) (targets : 
 
   -- the core after so many keys, as it would be, and in the midst of one
   entries_then : ℕ → List (Key × F)
-  entries_then n = start.table.entries ++ entered (jump_behind node from to) f n
+  entries_then n = start.table.entries ++ walked_entries (jump_behind node from to) f n
 
   -- what is noted then: the entry of the first key, and those behind it as absent
   abbrev pub changes_then : ℕ → Option (List (Key × Entry F))
   changes_then n = with_entered (with_note start.changes (Jump node from to) (standing_entry start (Jump node from to))) (jump_behind node from to) n
 
-  pub after : ℕ → CoreData F
-  after n = record start {
+  pub core-after : ℕ → CoreData F
+  core-after n = record start {
     table = record { entries = entries_then n };
-    pile = record { pending = jump_behind node from to n ∷ others (jump_behind node from to 0) start.pile.pending; claims = start.pile.claims };
+    pile = record { pending = jump_behind node from to n ∷ other-keys (jump_behind node from to 0) start.pile.pending; claims = start.pile.claims };
     changes = changes_then n;
   }
 
-  pub amid : ℕ → CoreData F
-  amid n = record start {
+  pub core-amid : ℕ → CoreData F
+  core-amid n = record start {
     table = record { entries = entries_then (suc n) };
-    pile = record { pending = jump_behind node from to (suc n) ∷ jump_behind node from to n ∷ others (jump_behind node from to 0) start.pile.pending; claims = start.pile.claims };
+    pile = record { pending = jump_behind node from to (suc n) ∷ jump_behind node from to n ∷ other-keys (jump_behind node from to 0) start.pile.pending; claims = start.pile.claims };
     changes = changes_then (suc n);
   }
 
@@ -274,7 +274,7 @@ module _ {F L : Type 0} (A : LatticeAlgebra L) (B : EdgeAlgebra F L) (targets : 
   absent-then (suc n) m above few =
       ap (lookup (same_key (jump_behind node from to (suc m)))) (more-entered start.table.entries (jump_behind node from to) f n)
       ∙ found-last (entries_then n) (jump_behind node from to (suc n)) (jump_behind node from to (suc m)) f (absent-then n n (omega arith) (omega (arith, above, few)))
-      ∙ ap (λ b. cond b (Some f) (lookup (same_key (jump_behind node from to (suc m))) (entries_then n))) (apart (suc n) (suc m) (λ e. omega (arith, e, above)))
+      ∙ ap (λ b. cond b (Some f) (lookup (same_key (jump_behind node from to (suc m))) (entries_then n))) (keys-apart (suc n) (suc m) (λ e. omega (arith, e, above)))
       ∙ absent-then n m (omega (arith, above)) few
 
   found-then : (n : ℕ) → n < count → (q : Key)
@@ -287,43 +287,43 @@ module _ {F L : Type 0} (A : LatticeAlgebra L) (B : EdgeAlgebra F L) (targets : 
   has-then : (n : ℕ) → n ≤ count → lookup (same_key (jump_behind node from to n)) (entries_then n) ≡ Some f
   unfolding entries_then
   has-then zero few =
-      ap (lookup (same_key (jump_behind node from to 0))) (append-nil start.table.entries) ∙ ap (λ k. lookup (same_key k) start.table.entries) first-key ∙ has
+      ap (lookup (same_key (jump_behind node from to 0))) (append-nil start.table.entries) ∙ ap (λ k. lookup (same_key k) start.table.entries) first-of-walk ∙ has
   has-then (suc n) few =
       found-then n (omega (arith, few)) (jump_behind node from to (suc n))
       ∙ ap (λ b. cond b (Some f) (lookup (same_key (jump_behind node from to (suc n))) (entries_then n))) (same_key_refl (jump_behind node from to (suc n)))
 
   -- none of the keys is among the others
-  not-others : (n : ℕ) → n ≤ count → list_any (same_key (jump_behind node from to n)) (others (jump_behind node from to 0) start.pile.pending) ≡ false
-  not-others zero few =
-      among-others (jump_behind node from to 0) (jump_behind node from to 0) start.pile.pending
+  not-other-key : (n : ℕ) → n ≤ count → list_any (same_key (jump_behind node from to n)) (other-keys (jump_behind node from to 0) start.pile.pending) ≡ false
+  not-other-key zero few =
+      among-other-keys (jump_behind node from to 0) (jump_behind node from to 0) start.pile.pending
       ∙ ap (λ b. not b && is_pending start.pile (jump_behind node from to 0)) (same_key_refl (jump_behind node from to 0))
-  not-others (suc n) few =
-      among-others (jump_behind node from to 0) (jump_behind node from to (suc n)) start.pile.pending
-      ∙ (λ i. not (apart 0 (suc n) (λ e. omega (arith, e)) i) && settled n (omega (arith, few)) i)
+  not-other-key (suc n) few =
+      among-other-keys (jump_behind node from to 0) (jump_behind node from to (suc n)) start.pile.pending
+      ∙ (λ i. not (keys-apart 0 (suc n) (λ e. omega (arith, e)) i) && settled n (omega (arith, few)) i)
 
-  pub lowers-then : (n : ℕ) → n < count → IsLoweredBy B targets (after n) (amid n) (jump_behind node from to (suc n)) f
-  unfolding after amid
+  pub lowers-then : (n : ℕ) → n < count → IsLoweredBy B targets (core-after n) (core-amid n) (jump_behind node from to (suc n)) f
+  unfolding core-after core-amid
   lowers-then n few =
       let none = absent-then n n (omega arith) few in
       let met : B.meet (or_top B (lookup (same_key (jump_behind node from to (suc n))) (entries_then n))) f ≡ f = ap (λ o. B.meet (or_top B o) f) none ∙ unchanged.met in
-      state-lowered B targets (after n).table (amid n).table (after n).pile (amid n).pile (jump_behind node from to (suc n)) f
+      state-lowered B targets (core-after n).table (core-amid n).table (core-after n).pile (core-amid n).pile (jump_behind node from to (suc n)) f
       (record {
         entries = λ q. found-then n few q ∙ ap (λ g. cond (same_key (jump_behind node from to (suc n)) q) (Some g) (lookup (same_key q) (entries_then n))) (sym met);
       })
-      (λ q. ap (λ b. b || is_pending (after n).pile q) (same_key_symm q (jump_behind node from to (suc n))))
+      (λ q. ap (λ b. b || is_pending (core-after n).pile q) (same_key_symm q (jump_behind node from to (suc n))))
       (λ h. free h ∙ sym (ap (marked (jump_behind node from to (suc n))) (free h)))
 
-  pub changes-then : (n : ℕ) → n < count → IsChangedBy B targets (after n) (jump_behind node from to (suc n)) f
-  unfolding after
+  pub changes-then : (n : ℕ) → n < count → IsChangedBy B targets (core-after n) (jump_behind node from to (suc n)) f
+  unfolding core-after
   changes-then n few =
       let none = absent-then n n (omega arith) few in
       let was = ap (λ o. B.rank (or_top B o)) none in
       let is = ap (λ o. B.rank (B.meet (or_top B o) f)) none ∙ ap B.rank unchanged.met in
-      changes-of B targets top (after n).table (after n).pile (jump_behind node from to (suc n)) f
+      changes-of B targets top (core-after n).table (core-after n).pile (jump_behind node from to (suc n)) f
       (record { less = let less = unchanged.less in omega (arith, was, is, less, top); most = omega (arith, was, top) })
 
-  pub owes-then : (n : ℕ) → n < count → OwesParts B targets (after n) (jump_behind node from to n) ((jump_behind node from to (suc n), f) ∷ [])
-  unfolding after
+  pub owes-then : (n : ℕ) → n < count → OwesParts B targets (core-after n) (jump_behind node from to n) ((jump_behind node from to (suc n), f) ∷ [])
+  unfolding core-after
   owes-then n few =
       let there = passes n few in
       record {
@@ -334,83 +334,83 @@ module _ {F L : Type 0} (A : LatticeAlgebra L) (B : EdgeAlgebra F L) (targets : 
         is_task = λ g is exits present. record {
           function = has-then n (omega (arith, few));
           site = subst (λ (h : Supergraph). slice_get h.sites (node + n) ≡ Some there.site) (same_Some _ _ (sym loaded ∙ is)) there.stands;
-          partners = passed-partners B targets g (after n).table (node + n) from to there.site there.passes;
+          partners = passed-partners B targets g (core-after n).table (node + n) from to there.site there.passes;
         };
       }
 
   -- the key is pending no longer once its part is done
   pub ends-then : (n : ℕ) → n < count → (q : Key)
-      → is_pending (after (suc n)).pile q ≡ (not (not false && same_key (jump_behind node from to n) q) && is_pending (amid n).pile q)
-  unfolding after amid
+      → is_pending (core-after (suc n)).pile q ≡ (not (not false && same_key (jump_behind node from to n) q) && is_pending (core-amid n).pile q)
+  unfolding core-after core-amid
   ends-then n few q =
       elim (same_key (jump_behind node from to n) q) as (λ own. same_key (jump_behind node from to n) q ≡ own
-      → is_pending (after (suc n)).pile q ≡ (not own && is_pending (amid n).pile q)) [
+      → is_pending (core-after (suc n)).pile q ≡ (not own && is_pending (core-amid n).pile q)) [
         | true ↦ λ is.
             let here : jump_behind node from to n ≡ q = same_key_exact (jump_behind node from to n) q is in
-            subst (λ k. is_pending (after (suc n)).pile k ≡ false) here
-            (λ i. apart n (suc n) (λ e. omega (arith, e)) i || not-others n (omega (arith, few)) i)
+            subst (λ k. is_pending (core-after (suc n)).pile k ≡ false) here
+            (λ i. keys-apart n (suc n) (λ e. omega (arith, e)) i || not-other-key n (omega (arith, few)) i)
         | false ↦ λ other.
-            ap (λ b. same_key q (jump_behind node from to (suc n)) || (b || list_any (same_key q) (others (jump_behind node from to 0) start.pile.pending)))
+            ap (λ b. same_key q (jump_behind node from to (suc n)) || (b || list_any (same_key q) (other-keys (jump_behind node from to 0) start.pile.pending)))
             (sym (same_key_symm q (jump_behind node from to n) ∙ other))
       ] refl
 
-  waits-then : (n : ℕ) → is_pending (after n).pile (jump_behind node from to n) ≡ true
-  unfolding after
+  waits-then : (n : ℕ) → is_pending (core-after n).pile (jump_behind node from to n) ≡ true
+  unfolding core-after
   waits-then n =
-      ap (λ b. b || list_any (same_key (jump_behind node from to n)) (others (jump_behind node from to 0) start.pile.pending)) (same_key_refl (jump_behind node from to n))
+      ap (λ b. b || list_any (same_key (jump_behind node from to n)) (other-keys (jump_behind node from to 0) start.pile.pending)) (same_key_refl (jump_behind node from to n))
 
-  waits-amid : (n : ℕ) → is_pending (amid n).pile (jump_behind node from to n) ≡ true
-  unfolding amid
+  waits-amid : (n : ℕ) → is_pending (core-amid n).pile (jump_behind node from to n) ≡ true
+  unfolding core-amid
   waits-amid n =
       let own = jump_behind node from to n in
-      (λ i. same_key own (jump_behind node from to (suc n)) || (same_key_refl own i || list_any (same_key own) (others (jump_behind node from to 0) start.pile.pending)))
+      (λ i. same_key own (jump_behind node from to (suc n)) || (same_key_refl own i || list_any (same_key own) (other-keys (jump_behind node from to 0) start.pile.pending)))
       ∙ elim (same_key own (jump_behind node from to (suc n))) as (λ b. (b || true) ≡ true) [ true ↦ refl | false ↦ refl ]
 
-  link : (n : ℕ) → n < count → GoesOnByHand A B targets 0 1 1 0 (after n) (after (suc n))
-  unfolding after amid
-  link n few =
+  walk-link : (n : ℕ) → n < count → GoesOnByHand A B targets 0 1 1 0 (core-after n) (core-after (suc n))
+  unfolding core-after core-amid
+  walk-link n few =
       let own = jump_behind node from to n in
       let owed_then = owes-then n few in
       let long = ap length owed_then.owes in
-      let alike : IsSameProblem (after n) (amid n) = record { program = refl; graph = refl; roots = refl } in
-      let onward : IsSameProblem (amid n) (after (suc n)) = record { program = refl; graph = refl; roots = refl } in
-      let unlowered : (same_key own (jump_behind node from to (suc n)) || false) ≡ false = ap (λ b. b || false) (apart n (suc n) (λ e. omega (arith, e))) in
-      let begun = key-begins A B targets steps (after n) own ((jump_behind node from to (suc n), f) ∷ []) free (waits-then n) owed_then in
-      let parted = part-lowers A B targets 0 own owed_then.task 0 false (after n) (amid n) (jump_behind node from to (suc n), f) alike
+      let alike : IsSameProblem (core-after n) (core-amid n) = record { program = refl; graph = refl; roots = refl } in
+      let onward : IsSameProblem (core-amid n) (core-after (suc n)) = record { program = refl; graph = refl; roots = refl } in
+      let unlowered : (same_key own (jump_behind node from to (suc n)) || false) ≡ false = ap (λ b. b || false) (keys-apart n (suc n) (λ e. omega (arith, e))) in
+      let begun = key-begins A B targets steps (core-after n) own ((jump_behind node from to (suc n), f) ∷ []) free (waits-then n) owed_then in
+      let parted = part-lowers A B targets 0 own owed_then.task 0 false (core-after n) (core-amid n) (jump_behind node from to (suc n), f) alike
       (ap (λ ps. slice_get ps 0) (sym owed_then.owes)) (lowers-then n few) (changes-then n few) in
-      let done = subst (λ b. GoesOnByHand A B targets 0 0 1 0 (with_held (after n) 0 (claimed_as own owed_then.task 0 false)) (with_held (amid n) 0 (claimed_as own owed_then.task 1 b))) unlowered parted in
-      let ended = key-ended A B targets 0 (amid n) (after (suc n)) own owed_then.task 1 false onward (free 0) (λ h. refl) (omega (arith, long)) (waits-amid n) refl (ends-then n few) in
-      goes-then A B targets (after n) (with_held (amid n) 0 (claimed_as own owed_then.task 1 false)) (after (suc n))
-      (goes-then A B targets (after n) (with_held (after n) 0 (claimed_as own owed_then.task 0 false)) (with_held (amid n) 0 (claimed_as own owed_then.task 1 false)) begun done) ended
+      let done = subst (λ b. GoesOnByHand A B targets 0 0 1 0 (with_held (core-after n) 0 (claimed_as own owed_then.task 0 false)) (with_held (core-amid n) 0 (claimed_as own owed_then.task 1 b))) unlowered parted in
+      let ended = key-ended A B targets 0 (core-amid n) (core-after (suc n)) own owed_then.task 1 false onward (free 0) (λ h. refl) (omega (arith, long)) (waits-amid n) refl (ends-then n few) in
+      goes-then A B targets (core-after n) (with_held (core-amid n) 0 (claimed_as own owed_then.task 1 false)) (core-after (suc n))
+      (goes-then A B targets (core-after n) (with_held (core-after n) 0 (claimed_as own owed_then.task 0 false)) (with_held (core-amid n) 0 (claimed_as own owed_then.task 1 false)) begun done) ended
 
-  chain : (n : ℕ) → n ≤ count → GoesOnByHand A B targets 0 n n 0 (after 0) (after n)
-  chain zero few = goes-nowhere A B targets 0 (after 0) (after 0) (record { program = refl; graph = refl; roots = refl }) refl
-  chain (suc n) few =
-      subst (λ m. GoesOnByHand A B targets 0 m m 0 (after 0) (after (suc n))) (add-one n)
-      (goes-then A B targets (after 0) (after n) (after (suc n)) (chain n (omega (arith, few))) (link n (omega (arith, few))))
+  walk-chain : (n : ℕ) → n ≤ count → GoesOnByHand A B targets 0 n n 0 (core-after 0) (core-after n)
+  walk-chain zero few = goes-nowhere A B targets 0 (core-after 0) (core-after 0) (record { program = refl; graph = refl; roots = refl }) refl
+  walk-chain (suc n) few =
+      subst (λ m. GoesOnByHand A B targets 0 m m 0 (core-after 0) (core-after (suc n))) (add-one n)
+      (goes-then A B targets (core-after 0) (core-after n) (core-after (suc n)) (walk-chain n (omega (arith, few))) (walk-link n (omega (arith, few))))
 
   -- the first of these cores has the state of the core before
-  first-pending : (q : Key) → is_pending (after 0).pile q ≡ is_pending start.pile q
-  unfolding after
+  first-pending : (q : Key) → is_pending (core-after 0).pile q ≡ is_pending start.pile q
+  unfolding core-after
   first-pending q =
-      (λ i. same_key_symm q (jump_behind node from to 0) i || among-others (jump_behind node from to 0) q start.pile.pending i)
+      (λ i. same_key_symm q (jump_behind node from to 0) i || among-other-keys (jump_behind node from to 0) q start.pile.pending i)
       ∙ elim (same_key (jump_behind node from to 0) q) as (λ own. same_key (jump_behind node from to 0) q ≡ own → (own || (not own && is_pending start.pile q)) ≡ is_pending start.pile q) [
-        | true ↦ λ is. sym (ap (is_pending start.pile) (sym (same_key_exact (jump_behind node from to 0) q is) ∙ first-key) ∙ waits)
+        | true ↦ λ is. sym (ap (is_pending start.pile) (sym (same_key_exact (jump_behind node from to 0) q is) ∙ first-of-walk) ∙ waits)
         | false ↦ λ other. refl
       ] refl
 
-  pub problem-then : (n : ℕ) → IsSameProblem start (after n)
-  unfolding after
+  pub problem-then : (n : ℕ) → IsSameProblem start (core-after n)
+  unfolding core-after
   problem-then n = record { program = refl; graph = refl; roots = refl }
 
-  pub first-state : state_of B targets (after 0) ≡ state_of B targets start
-  unfolding after entries_then
+  pub first-state : state_of B targets (core-after 0) ≡ state_of B targets start
+  unfolding core-after entries_then
   first-state =
       λ i. record { get = λ q. lookup (same_key q) (append-nil start.table.entries i); pending = λ q. first-pending q i; claims = (state_of B targets start).claims }
 
-  begins : GoesOnByHand A B targets 0 0 0 0 start (after 0)
-  unfolding after
-  begins = goes-nowhere A B targets 0 start (after 0) (record { program = refl; graph = refl; roots = refl }) first-state
+  walk-begins : GoesOnByHand A B targets 0 0 0 0 start (core-after 0)
+  unfolding core-after
+  walk-begins = goes-nowhere A B targets 0 start (core-after 0) (record { program = refl; graph = refl; roots = refl }) first-state
 
   -- ---- what is noted on the way
   noting-then : (n : ℕ) → is_some (changes_then n) ≡ is_some start.changes
@@ -420,52 +420,52 @@ module _ {F L : Type 0} (A : LatticeAlgebra L) (B : EdgeAlgebra F L) (targets : 
   -- each key that was left is noted
   noted-then : (n : ℕ) → is_some (noted (changes_then n) (jump_behind node from to n)) ≡ is_some (changes_then n)
   noted-then zero =
-      ap (λ k. is_some (noted (changes_then 0) k)) first-key ∙ noted-own start.changes (Jump node from to) (standing_entry start (Jump node from to))
+      ap (λ k. is_some (noted (changes_then 0) k)) first-of-walk ∙ noted-own start.changes (Jump node from to) (standing_entry start (Jump node from to))
   noted-then (suc n) = noted-own (changes_then n) (jump_behind node from to (suc n)) absent_entry
 
-  left-noted : (n : ℕ) → with_note (changes_then (suc n)) (jump_behind node from to n) (standing_entry (amid n) (jump_behind node from to n)) ≡ changes_then (suc n)
+  left-noted : (n : ℕ) → with_note (changes_then (suc n)) (jump_behind node from to n) (standing_entry (core-amid n) (jump_behind node from to n)) ≡ changes_then (suc n)
   left-noted n =
-      note-known (changes_then (suc n)) (jump_behind node from to n) (standing_entry (amid n) (jump_behind node from to n))
+      note-known (changes_then (suc n)) (jump_behind node from to n) (standing_entry (core-amid n) (jump_behind node from to n))
       (noted-stays (changes_then n) (jump_behind node from to (suc n)) (jump_behind node from to n) absent_entry (noted-then n))
 
-  not-waiting : (n : ℕ) → n < count → is_pending (after n).pile (jump_behind node from to (suc n)) ≡ false
-  unfolding after
-  not-waiting n few = λ i. apart (suc n) n (λ e. omega (arith, e)) i || not-others (suc n) (omega (arith, few)) i
+  not-waiting : (n : ℕ) → n < count → is_pending (core-after n).pile (jump_behind node from to (suc n)) ≡ false
+  unfolding core-after
+  not-waiting n few = λ i. keys-apart (suc n) n (λ e. omega (arith, e)) i || not-other-key (suc n) (omega (arith, few)) i
 
-  stands-absent : (n : ℕ) → n < count → standing_entry (after n) (jump_behind node from to (suc n)) ≡ absent_entry
-  unfolding after
+  stands-absent : (n : ℕ) → n < count → standing_entry (core-after n) (jump_behind node from to (suc n)) ≡ absent_entry
+  unfolding core-after
   stands-absent n few = λ i. record { function = absent-then n n (omega arith) few i; pending = not-waiting n few i }
 
-  pub remembers-first : Remembers start (after 0)
-  unfolding after entries_then
+  pub remembers-first : Remembers start (core-after 0)
+  unfolding core-after entries_then
   remembers-first =
-      remembers-change start (after 0) (Some (Jump node from to)) refl
+      remembers-change start (core-after 0) (Some (Jump node from to)) refl
       (λ q other. λ i. record { function = lookup (same_key q) (append-nil start.table.entries i); pending = first-pending q i })
 
-  pub remembers-amid : (n : ℕ) → n < count → Remembers (after n) (amid n)
-  unfolding after amid
+  pub remembers-amid : (n : ℕ) → n < count → Remembers (core-after n) (core-amid n)
+  unfolding core-after core-amid
   remembers-amid n few =
-      remembers-change (after n) (amid n) (Some (jump_behind node from to (suc n)))
+      remembers-change (core-after n) (core-amid n) (Some (jump_behind node from to (suc n)))
       (sym (ap (with_note (changes_then n) (jump_behind node from to (suc n))) (stands-absent n few)))
       (λ q other. λ i. record {
         function = (found-then n few q ∙ ap (λ b. cond b (Some f) (lookup (same_key q) (entries_then n))) other) i;
-        pending = ap (λ b. b || is_pending (after n).pile q) (same_key_symm q (jump_behind node from to (suc n)) ∙ other) i;
+        pending = ap (λ b. b || is_pending (core-after n).pile q) (same_key_symm q (jump_behind node from to (suc n)) ∙ other) i;
       })
 
-  pub remembers-after : (n : ℕ) → n < count → Remembers (amid n) (after (suc n))
-  unfolding after amid
+  pub remembers-after : (n : ℕ) → n < count → Remembers (core-amid n) (core-after (suc n))
+  unfolding core-after core-amid
   remembers-after n few =
-      remembers-change (amid n) (after (suc n)) (Some (jump_behind node from to n)) (sym (left-noted n))
+      remembers-change (core-amid n) (core-after (suc n)) (Some (jump_behind node from to n)) (sym (left-noted n))
       (λ q other. λ i. record {
         function = lookup (same_key q) (entries_then (suc n));
-        pending = (ends-then n few q ∙ ap (λ b. not b && is_pending (amid n).pile q) other) i;
+        pending = (ends-then n few q ∙ ap (λ b. not b && is_pending (core-amid n).pile q) other) i;
       })
 
-  remembers-then-all : (n : ℕ) → n ≤ count → Remembers start (after n)
+  remembers-then-all : (n : ℕ) → n ≤ count → Remembers start (core-after n)
   remembers-then-all zero few = remembers-first
   remembers-then-all (suc n) few =
-      remembers-then start (after n) (after (suc n)) (remembers-then-all n (omega (arith, few)))
-      (remembers-then (after n) (amid n) (after (suc n)) (remembers-amid n (omega (arith, few))) (remembers-after n (omega (arith, few))))
+      remembers-then start (core-after n) (core-after (suc n)) (remembers-then-all n (omega (arith, few)))
+      (remembers-then (core-after n) (core-amid n) (core-after (suc n)) (remembers-amid n (omega (arith, few))) (remembers-after n (omega (arith, few))))
 
   -- ---- each step of the way
   distinct-then : IsDistinct same_key (keys_of start.table.entries) → (n : ℕ) → n ≤ count → IsDistinct same_key (keys_of (entries_then n))
@@ -478,20 +478,20 @@ module _ {F L : Type 0} (A : LatticeAlgebra L) (B : EdgeAlgebra F L) (targets : 
       ∙ sym (more-entered start.table.entries (jump_behind node from to) f n))
       (distinct-put key (entries_then n) f (distinct-then distinct n (omega (arith, few))))
 
-  falls-then : length start.table.entries + count < 2 ^ 64 → (n : ℕ) → n < count → HasLess B (after n) (amid n)
-  unfolding after amid entries_then
+  falls-then : length start.table.entries + count < 2 ^ 64 → (n : ℕ) → n < count → HasLess B (core-after n) (core-amid n)
+  unfolding core-after core-amid entries_then
   falls-then room n few =
       let grown = ap length (more-entered start.table.entries (jump_behind node from to) f n) ∙ length-append (entries_then n) ((jump_behind node from to (suc n), f) ∷ []) in
-      let before = length-append start.table.entries (entered (jump_behind node from to) f n) in
+      let before = length-append start.table.entries (walked_entries (jump_behind node from to) f n) in
       let so_many = length-entered (jump_behind node from to) f n in
       let last = ap (spent B) (more-entered start.table.entries (jump_behind node from to) f n) ∙ spent-last B targets (entries_then n) (jump_behind node from to (suc n), f) in
       let less = unchanged.less in
-      falls B (entries_then n) (entries_then (suc n)) (length (after n).pile.pending) (length (amid n).pile.pending)
+      falls B (entries_then n) (entries_then (suc n)) (length (core-after n).pile.pending) (length (core-amid n).pile.pending)
       (omega (arith, grown, before, so_many, room, few)) (omega (arith, last, less)) (omega arith)
 
   pub passes-then : length start.table.entries + count < 2 ^ 64 → IsDistinct same_key (keys_of start.table.entries)
-      → (n : ℕ) → n < count → PassesOn B targets (after n) (amid n) (after (suc n))
-  unfolding after amid
+      → (n : ℕ) → n < count → PassesOn B targets (core-after n) (core-amid n) (core-after (suc n))
+  unfolding core-after core-amid
   passes-then room distinct n few = record {
     key = jump_behind node from to n;
     next = jump_behind node from to (suc n);
@@ -500,7 +500,7 @@ module _ {F L : Type 0} (A : LatticeAlgebra L) (B : EdgeAlgebra F L) (targets : 
     distinct = distinct-then distinct n (omega (arith, few));
     free = free;
     waits = waits-then n;
-    other = apart n (suc n) (λ e. omega (arith, e));
+    other = keys-apart n (suc n) (λ e. omega (arith, e));
     same = record { program = refl; graph = refl; roots = refl };
     onward = record { program = refl; graph = refl; roots = refl };
     lowers = lowers-then n few;
@@ -515,18 +515,18 @@ module _ {F L : Type 0} (A : LatticeAlgebra L) (B : EdgeAlgebra F L) (targets : 
     behind = remembers-after n few;
   }
 
-  module _ (new : CoreData F) (same : IsSameProblem start new) (entries : new.table.entries ≡ start.table.entries ++ entered (jump_behind node from to) f count)
+  module _ (new : CoreData F) (same : IsSameProblem start new) (entries : new.table.entries ≡ start.table.entries ++ walked_entries (jump_behind node from to) f count)
       (goes : GoesTo (Jump node from to) (jump_behind node from to count) start.pile new.pile) (claims : new.pile.claims ≡ start.pile.claims) where
     -- the last of them has that of the core then
-    last-pending : (q : Key) → is_pending new.pile q ≡ is_pending (after count).pile q
-    unfolding after
+    last-pending : (q : Key) → is_pending new.pile q ≡ is_pending (core-after count).pile q
+    unfolding core-after
     last-pending q =
         goes q
-        ∙ (λ i. same_key_symm (jump_behind node from to count) q i || (not (same_key (sym first-key i) q) && is_pending start.pile q))
-        ∙ ap (λ b. same_key q (jump_behind node from to count) || b) (sym (among-others (jump_behind node from to 0) q start.pile.pending))
+        ∙ (λ i. same_key_symm (jump_behind node from to count) q i || (not (same_key (sym first-of-walk i) q) && is_pending start.pile q))
+        ∙ ap (λ b. same_key q (jump_behind node from to count) || b) (sym (among-other-keys (jump_behind node from to 0) q start.pile.pending))
 
-    pub last-state : state_of B targets new ≡ state_of B targets (after count)
-    unfolding after entries_then
+    pub last-state : state_of B targets new ≡ state_of B targets (core-after count)
+    unfolding core-after entries_then
     last-state =
         λ i. record {
           get = λ q. lookup (same_key q) (entries i);
@@ -534,23 +534,23 @@ module _ {F L : Type 0} (A : LatticeAlgebra L) (B : EdgeAlgebra F L) (targets : 
           claims = λ h. option_map (claim_of B targets) (get_or (claims i) h None);
         }
 
-    ends : GoesOnByHand A B targets 0 0 0 0 (after count) new
-    unfolding after
-    ends = goes-nowhere A B targets 0 (after count) new (record { program = same.program; graph = same.graph; roots = same.roots }) last-state
+    walk-ends : GoesOnByHand A B targets 0 0 0 0 (core-after count) new
+    unfolding core-after
+    walk-ends = goes-nowhere A B targets 0 (core-after count) new (record { program = same.program; graph = same.graph; roots = same.roots }) last-state
 
-    pub remembers-last : new.changes ≡ changes_then count → Remembers (after count) new
-    unfolding after entries_then
+    pub remembers-last : new.changes ≡ changes_then count → Remembers (core-after count) new
+    unfolding core-after entries_then
     remembers-last changes =
-        remembers-change (after count) new None changes (λ q _. λ i. record { function = lookup (same_key q) (entries i); pending = last-pending q i })
+        remembers-change (core-after count) new None changes (λ q _. λ i. record { function = lookup (same_key q) (entries i); pending = last-pending q i })
 
     pub walk-remembers : new.changes ≡ changes_then count → Remembers start new
-    walk-remembers changes = remembers-then start (after count) new (remembers-then-all count (omega arith)) (remembers-last changes)
+    walk-remembers changes = remembers-then start (core-after count) new (remembers-then-all count (omega arith)) (remembers-last changes)
 
     -- so many claims of hand 0, each with a lowering, lead to it, and are paid for
     pub walk-goes : GoesOnByHand A B targets 0 count count 0 start new
     walk-goes =
         subst (λ m. GoesOnByHand A B targets 0 m m 0 start new) (omega arith)
-        (goes-then A B targets start (after count) new (goes-then A B targets start (after 0) (after count) begins (chain count (omega arith))) ends)
+        (goes-then A B targets start (core-after count) new (goes-then A B targets start (core-after 0) (core-after count) walk-begins (walk-chain count (omega arith))) walk-ends)
 
     pub walk-pays : length new.pile.pending ≡ length start.pile.pending → GoesOnPaid A B targets count start new
     walk-pays long = record {
@@ -593,19 +593,19 @@ module _ {F L : Type 0} (A : LatticeAlgebra L) (B : EdgeAlgebra F L) (targets : 
     (old new : CoreData F) (count : ℕ) (free : IsFree old.pile) (walk : WalksOwed B targets old new count) where
   abbrev pub core_then : ℕ → CoreData F
   core_then =
-      after A B targets steps top old free walk.may.graph walk.may.loaded walk.node walk.from walk.to walk.function walk.may.may.unchanged walk.waits walk.has
+      core-after A B targets steps top old free walk.may.graph walk.may.loaded walk.node walk.from walk.to walk.function walk.may.may.unchanged walk.waits walk.has
       count walk.may.may.passes walk.may.may.absent walk.may.may.settled
 
   abbrev pub core_amid : ℕ → CoreData F
   core_amid =
-      amid A B targets steps top old free walk.may.graph walk.may.loaded walk.node walk.from walk.to walk.function walk.may.may.unchanged walk.waits walk.has
+      core-amid A B targets steps top old free walk.may.graph walk.may.loaded walk.node walk.from walk.to walk.function walk.may.may.unchanged walk.waits walk.has
       count walk.may.may.passes walk.may.may.absent walk.may.may.settled
 
   pub core-links : IsDistinct same_key (keys_of old.table.entries) → (n : ℕ) → n < count → PassesOn B targets (core_then n) (core_amid n) (core_then (suc n))
   core-links =
       passes-then A B targets steps top old free walk.may.graph walk.may.loaded walk.node walk.from walk.to walk.function walk.may.may.unchanged walk.waits walk.has
       count walk.may.may.passes walk.may.may.absent walk.may.may.settled
-      (let all = ap length walk.entries in let more = length-append old.table.entries (entered (jump_behind walk.node walk.from walk.to) walk.function count) in let few = walk.few in
+      (let all = ap length walk.entries in let more = length-append old.table.entries (walked_entries (jump_behind walk.node walk.from walk.to) walk.function count) in let few = walk.few in
       let so_many = length-entered (jump_behind walk.node walk.from walk.to) walk.function count in
       omega (arith, all, more, few, so_many))
 

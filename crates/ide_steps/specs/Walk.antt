@@ -5,7 +5,7 @@ use Rattle.ide_graph.specs.declared.site.Site.{Site}
 use Rattle.ide_image.specs.KeyedImage.{KeyedImageData}
 use Rattle.ide_image.specs.Notes.{with_note}
 use Rattle.ide_image.specs.Tables.{found}
-use Rattle.ide_image.specs.Walk.{AreAbsent, AreSettled, GoesTo, entered, jump_behind, with_entered}
+use Rattle.ide_image.specs.Walk.{AreAbsent, AreSettled, GoesTo, walked_entries, jump_behind, with_entered}
 use Rattle.ide_image.specs.Worklist.{is_pending}
 use Rattle.ide_lattice.specs.Algebra.{EdgeAlgebra}
 use Rattle.ide_problem.specs.Flow.{Targets}
@@ -59,7 +59,7 @@ module _ {F L : Type 0} (B : EdgeAlgebra F L) where
     pub has : found old.table (Jump node from to) ≡ Some function
     pub may : MayWalkIn targets old node from to count function
     pub same : IsSameProblem old new
-    pub entries : new.table.entries ≡ old.table.entries ++ entered (jump_behind node from to) function count
+    pub entries : new.table.entries ≡ old.table.entries ++ walked_entries (jump_behind node from to) function count
     pub few : length new.table.entries < 2 ^ 64
     pub goes : GoesTo (Jump node from to) (jump_behind node from to count) old.pile new.pile
     pub long : length new.pile.pending ≡ length old.pile.pending

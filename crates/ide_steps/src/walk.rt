@@ -56,7 +56,7 @@ impl<P: Problem> Core<P> {
         let Key::Jump(node, from, to) = key else {
             return Ok(0);
         };
-        let count = self.way(node, from, to, function, most);
+        let count = self.walk_length(node, from, to, function, most);
         if count == 0 {
             return Ok(0);
         }
@@ -66,13 +66,21 @@ impl<P: Problem> Core<P> {
 
     /// Over how many nodes behind the pending jump at the node its function may be walked, up to a count.
     #[inline(always)]
-    fn way(&self, node: Node, from: Fact, to: Fact, function: P::F, most: usize) -> usize
+    fn walk_length(&self, node: Node, from: Fact, to: Fact, function: P::F, most: usize) -> usize
         requires pending { is_pending self.now.pile (Jump node from to) ≡ true }
         ensures most { result ≤ most }
         ensures may { 0 < result → MayWalkIn P.F.edge P.targets self.now node from to result function }
     {
         match &self.loaded {
-            Some(loaded) => way::<P>(&loaded.graph, &self.image, node, from, to, function, most),
+            Some(loaded) => length_of_walk::<P>(
+                &loaded.graph,
+                &self.image,
+                node,
+                from,
+                to,
+                function,
+                most,
+            ),
             None => 0,
         }
     }
@@ -80,7 +88,7 @@ impl<P: Problem> Core<P> {
 
 /// Over how many nodes behind the jump at the node its function may be walked, up to a count.
 #[inline(always)]
-fn way<P: Problem>(
+fn length_of_walk<P: Problem>(
     graph: &Graph,
     image: &KeyedImage<P::F, Task<P>>,
     node: Node,

@@ -1,7 +1,7 @@
 use Rattle.std.proofs.Common.{◌≡◌, ◌+◌, ◌-◌, ◌%◌, ◌<◌, ◌++◌, ap, length, subst, sym, ◌∙◌, arith}
 use Rattle.std.proofs.lemmas.List.{length-append}
 use Rattle.ide_image.specs.Indexed.{MayTake}
-use Rattle.ide_image.specs.Walk.{EndWith, entered, jump_behind}
+use Rattle.ide_image.specs.Walk.{EndWith, walked_entries, jump_behind}
 use Rattle.ide_image.proofs.Places.{put-last}
 use Rattle.ide_image.proofs.Walked.{cell-behind, ends-run, length-run, next-run, next-spot, place-absent}
 use Rattle.ide_image.proofs.indexed.Indexed.put_behind.Goals as goal
@@ -34,7 +34,7 @@ put_alike-requires-clause-spot g c =
 pub put_alike-requires-clause-some : goal.put_alike-requires-clause-some
 put_alike-requires-clause-some g c =
     let es = c.args.self.now.table.entries in
-    let run = entered (jump_behind c.args.node c.args.from c.args.to) c.args.function c.loop-step.step in
+    let run = walked_entries (jump_behind c.args.node c.args.from c.args.to) c.args.function c.loop-step.step in
     let long : length c.loop-step.self.table.entries ≡ length es + length run = ap length c.loop-step.invariant.entries ∙ length-append es run in
     let steps = length-run {F = g.row.F.Denot} c.args.node c.args.from c.args.to c.args.function c.loop-step.step in
     omega (arith, long, steps, c.loop-step.auto.step)
@@ -65,7 +65,7 @@ loop-step-preserved g c =
 pub overflow_sub-result : goal.overflow_sub-result
 overflow_sub-result g c =
     let es = c.args.self.now.table.entries in
-    let run = entered (jump_behind c.args.node c.args.from c.args.to) c.args.function c.loop-step.step in
+    let run = walked_entries (jump_behind c.args.node c.args.from c.args.to) c.args.function c.loop-step.step in
     let long = ap length c.loop-step.invariant.entries ∙ length-append es run in
     let steps = length-run {F = g.row.F.Denot} c.args.node c.args.from c.args.to c.args.function c.loop-step.step in
     omega (arith, long, steps, c.loop-step.auto.step, c.requires.some, c.len.ensures.count)
@@ -74,12 +74,12 @@ pub returns-clause-entries : goal.returns-clause-entries
 returns-clause-entries g c =
     let es = c.args.self.now.table.entries in
     let all : c.loop-step.step ≡ c.args.count = omega (arith, c.loop-step-test.false, c.loop-step.auto.step-end, c.requires.some) in
-    c.loop-step.invariant.entries ∙ ap (λ n. es ++ entered (jump_behind c.args.node c.args.from c.args.to) c.args.function n) all
+    c.loop-step.invariant.entries ∙ ap (λ n. es ++ walked_entries (jump_behind c.args.node c.args.from c.args.to) c.args.function n) all
 
 pub returns-clause-index : goal.returns-clause-index
 returns-clause-index g c =
     let es = c.args.self.now.table.entries in
-    let run = entered (jump_behind c.args.node c.args.from c.args.to) c.args.function c.loop-step.step in
+    let run = walked_entries (jump_behind c.args.node c.args.from c.args.to) c.args.function c.loop-step.step in
     let long = ap length c.loop-step.invariant.entries ∙ length-append es run in
     let steps = length-run {F = g.row.F.Denot} c.args.node c.args.from c.args.to c.args.function c.loop-step.step in
     omega (arith, long, steps, c.loop-step.auto.step, c.requires.some, c.len.ensures.count)

@@ -8,7 +8,7 @@ use Rattle.ide_image.specs.Indexed.{place_of_key}
 use Rattle.ide_image.specs.KeyedImage.{entry_by}
 use Rattle.ide_image.specs.Notes.{with_note}
 use Rattle.ide_image.specs.Tables.{Table, found}
-use Rattle.ide_image.specs.Walk.{AreAbsent, entered, jump_behind, with_entered}
+use Rattle.ide_image.specs.Walk.{AreAbsent, walked_entries, jump_behind, with_entered}
 use Rattle.ide_image.proofs.Agree.{at-index, pending-long, same-spot, same-then, spot-same, whole-noted, whole-same}
 use Rattle.ide_image.proofs.Before.{note-before, pending-before}
 use Rattle.ide_image.proofs.Spots.{place-few}
@@ -46,7 +46,7 @@ put_behind-last-requires-clause-absent g c =
 pub push-requires-clause-there : goal.push-requires-clause-there
 push-requires-clause-there g c =
     let es = c.make_room.new.indexed.table.entries in
-    let run = entered (jump_behind c.args.node c.args.from c.args.to) c.args.function c.args.count in
+    let run = walked_entries (jump_behind c.args.node c.args.from c.args.to) c.args.function c.args.count in
     let long = ap length c.put_behind-last.ensures.entries ∙ length-append es run in
     let steps = length-run {F = g.row.F.Denot} c.args.node c.args.from c.args.to c.args.function c.args.count in
     omega (arith, long, steps, c.put_behind-last.ensures.index, c.in_ok-make_room.ensures.room.marked)
@@ -220,13 +220,13 @@ returns-clause-entries g c =
     let grown = same-spot inside.indexed c.spot.new.self inside.queue inside.changes c.spot.ensures.table c.spot.ensures.cells in
     let same = same-then inside.indexed c.spot.new.self made.indexed inside.queue inside.queue made.queue inside.changes inside.changes made.changes
     grown c.make_room.ensures.same in
-    let run = entered (jump_behind c.args.node c.args.from c.args.to) c.args.function c.args.count in
+    let run = walked_entries (jump_behind c.args.node c.args.from c.args.to) c.args.function c.args.count in
     rw (← c.self.view_is) (c.put_behind-last.ensures.entries ∙ ap (λ (t : Table g.row.F.Denot). t.entries ++ run) same.table)
 
 pub returns-clause-few : goal.returns-clause-few
 returns-clause-few g c =
     let es = c.make_room.new.indexed.table.entries in
-    let run = entered (jump_behind c.args.node c.args.from c.args.to) c.args.function c.args.count in
+    let run = walked_entries (jump_behind c.args.node c.args.from c.args.to) c.args.function c.args.count in
     let long = ap length c.put_behind-last.ensures.entries ∙ length-append es run in
     let steps = length-run {F = g.row.F.Denot} c.args.node c.args.from c.args.to c.args.function c.args.count in
     omega (arith, long, steps, c.in_ok-make_room.ensures.room.entries.few)

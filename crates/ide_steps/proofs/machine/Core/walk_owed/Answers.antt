@@ -13,18 +13,18 @@ use Rattle.ide_steps.proofs.machine.Core.walk_owed.Goals as goal
 pub invariant_of-self-2 : goal.invariant_of-self-2
 invariant_of-self-2 g c = λ loaded is.
     let kept = c.self.invariant loaded is in
-    let may = c.way-count.ensures.may (search rules) in
+    let may = c.walk_length-count.ensures.may (search rules) in
     let graph = ap (λ (core : CoreData g.row.P-F.Denot). core.graph) (sym c.self.view_is) ∙ through _ c.self.inside.loaded loaded is (λ l. l.graph) in
     let same : may.graph ≡ loaded.graph = same_Some _ _ (sym may.loaded ∙ graph) in (
       kept.0,
       kept-moved g.P.F.EdgeFn.edge g.P.Problem.targets loaded.graph c.self.inside.image.pile c.walk.new.self.pile kept.1
-          (Jump c.in-Jump.node c.in-Jump.from c.in-Jump.to) (jump_behind c.in-Jump.node c.in-Jump.from c.in-Jump.to c.way-count.result)
-          (subst (λ (h : Supergraph). c.in-Jump.node + c.way-count.result < h.nodes) same may.may.within) c.in_ok-walk.ensures.pending c.walk.ensures.claims,
+          (Jump c.in-Jump.node c.in-Jump.from c.in-Jump.to) (jump_behind c.in-Jump.node c.in-Jump.from c.in-Jump.to c.walk_length-count.result)
+          (subst (λ (h : Supergraph). c.in-Jump.node + c.walk_length-count.result < h.nodes) same may.may.within) c.in_ok-walk.ensures.pending c.walk.ensures.claims,
     )
 
 pub returns-clause-walks : goal.returns-clause-walks
 returns-clause-walks g c = λ some.
-    let may = rw (← c.self.view_is) at c.way-count.ensures.may some in
+    let may = rw (← c.self.view_is) at c.walk_length-count.ensures.may some in
     let waits = rw (← c.self.view_is) at c.requires.pending in
     let has = rw (← c.self.view_is) at c.requires.function in
     rw (← c.self.view_is) (record {

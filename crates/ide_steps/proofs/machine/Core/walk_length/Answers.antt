@@ -1,0 +1,8 @@
+use Rattle.std.proofs.Common.{rules}
+use Rattle.ide_steps.proofs.machine.Core.walk_length.Goals as goal
+
+pub returns-in-Some : goal.returns-in-Some
+returns-in-Some g c = record {
+  most = c.length_of_walk.ensures.most;
+  may = λ some. rw (← c.self.view_is) (record { graph = c.deref.result.now.graph; loaded = search rules; may = c.length_of_walk.ensures.may some });
+}
