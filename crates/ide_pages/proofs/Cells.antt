@@ -56,7 +56,7 @@ module _ (pages : List Key) (apart : IsDistinct same_key pages) where
   }
 
 -- what follows of the fields
-module _ {pages places : List Key} {cells : List ℕ} {count : ℕ} (are : ArePages pages cells places count) where
+module _ {pages : List Key} {cells places : List ℕ} {count : ℕ} (are : ArePages pages cells places count) where
   abbrev by : IsNumbering (key_at pages) (cell_in pages) (length cells)
   by = numbering pages are.distinct cells are.paged
 

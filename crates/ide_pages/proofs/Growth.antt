@@ -52,7 +52,7 @@ small-push pages page d default small own index =
     one (suc k) = default
 
 -- its place is added
-pub placed-push : (pages places new : List Key) (page : Key)
+pub placed-push : (pages : List Key) (places new : List ℕ) (page : Key)
     → ArePlaced places pages → ((q : Key) → has_place places q ≡ true → has_place new q ≡ true) → has_place new page ≡ true
     → ArePlaced new (pages ++ page ∷ [])
 placed-push pages places new page placed kept own q any =
@@ -64,14 +64,14 @@ placed-push pages places new page placed kept own q any =
     only : (same_key q page || false) ≡ true → same_key q page ≡ true
     only t = grind (arith, t)
 
-module _ {pages places : List Key} {cells : List ℕ} {count : ℕ} (are : ArePages pages cells places count)
+module _ {pages : List Key} {cells places : List ℕ} {count : ℕ} (are : ArePages pages cells places count)
     (page : Key) (new_pages : List Key) (new_cells : List ℕ) (pushed : new_pages ≡ pages ++ page ∷ []) (zeros : new_cells ≡ cells ++ replicate 64 0) where
   pub entries-grown : entries (numbers_of new_pages new_cells) ≡ entries (numbers_of pages cells)
   entries-grown =
       ap (λ ps. entries (numbers_of ps new_cells)) pushed ∙ ap (λ ns. entries (numbers_of (pages ++ page ∷ []) ns)) zeros
       ∙ entries-kept pages (page ∷ []) cells 64 are.paged
 
-  pub are-grown : (new_places : List Key) → node_of page < 2 ^ 26 → IsDistinct same_key new_pages
+  pub are-grown : (new_places : List ℕ) → node_of page < 2 ^ 26 → IsDistinct same_key new_pages
       → KeepsPlaces places new_places → has_place new_places page ≡ true → ArePages new_pages new_cells new_places count
   are-grown new_places small distinct kept own =
       let long_pages : length new_pages ≡ length pages + 1 = ap length pushed ∙ length-append pages (page ∷ []) in

@@ -1,15 +1,16 @@
 -- Keys and their pages, and the place at which a list has what passes a test.
-use Rattle.std.proofs.Common.{◌≡◌, ℕ, zero, suc, ◌+◌, ◌*◌, ◌/◌, ◌%◌, ◌<◌, refl, sym, ap, subst, ◌∙◌, arith, List, [], ◌∷◌, ◌++◌, length, get_or, Some, None, Bool, true, false, cond, ◌||◌}
+use Rattle.std.proofs.Common.{◌≡◌, ℕ, zero, suc, ◌+◌, ◌-◌, ◌*◌, ◌/◌, ◌%◌, ◌<◌, ◌≤◌, ◌^◌, refl, sym, ap, subst, ◌∙◌, arith, List, [], ◌∷◌, ◌++◌, length, get_or, Some, None, Bool, true, false, cond, ◌||◌}
 use Rattle.std.specs.Prelude.{position, slice_get}
 use Rattle.std.specs.List.{IsDistinct, list_any, position_from}
 use Rattle.std.proofs.lemmas.Bool.{or_parts}
+use Rattle.std.proofs.lemmas.Bool.Decides.{nat_tests}
 use Rattle.std.proofs.lemmas.Iterator.Adapters.{position_from-zero}
 use Rattle.std.proofs.lemmas.Map.Keys.{IsDistinct-tail, apart_from_distinct}
 use Rattle.std.proofs.lemmas.Option.{get_or_from_slice_get, slice_get_within}
 use Rattle.ide_wire.specs.declared.key.Key.{Key}
 use Rattle.ide_wire.specs.declared.key.Key.TheVariants.{Jump, Summary}
 use Rattle.ide_wire.specs.Key.{same_key, same_key_refl, same_key_symm, node_of}
-use Rattle.ide_pages.specs.Pages.{key_on, page_of}
+use Rattle.ide_pages.specs.Pages.{key_on, page_of, place_number, placed_page}
 
 -- ---- a key, its page and its offset
 
@@ -33,6 +34,31 @@ offset-key_on (Summary block a b) offset l = offset-of block offset l
 pub key_on-page_of : (key : Key) → key_on (page_of key) (node_of key % 64) ≡ key
 key_on-page_of (Jump n a b) = ap (λ m. Jump m a b) (node-of n)
 key_on-page_of (Summary n a b) = ap (λ m. Summary m a b) (node-of n)
+
+-- ---- the page at a place
+
+-- what the parts of a place are: its block, its fact and the fact that it lists
+parts : (block fact listed place : ℕ) → fact < 2 ^ 16 → listed < 2 ^ 16 → place ≡ block * 4294967296 + fact * 65536 + listed
+    → (place / 4294967296 ≡ block) × (place / 65536 % 65536 ≡ fact) × (place % 65536 ≡ listed)
+parts block fact listed place few little is =
+    (omega (arith, few, little, is), omega (arith, few, little, is), omega (arith, few, little, is))
+
+-- a page is the one at its place
+pub placed-jump : (block fact listed place : ℕ) → block < 2 ^ 26 → fact < 2 ^ 16 → listed < 2 ^ 16 → place ≡ place_number 0 block fact listed
+    → placed_page place ≡ Jump block listed fact
+placed-jump block fact listed place small few little is =
+    let has = parts block fact listed place few little (omega (arith, is)) in
+    let below : place < 288230376151711744 = omega (arith, small, few, little, is) in
+    grind (arith, nat_tests, has.0, has.1, has.2, below)
+
+pub placed-summary : (block fact listed place : ℕ) → fact < 2 ^ 16 → listed < 2 ^ 16 → place ≡ place_number 1 block fact listed
+    → placed_page place ≡ Summary block fact listed
+placed-summary block fact listed place few little is =
+    let has = parts block fact listed (place - 288230376151711744) few little (omega (arith, is)) in
+    let over : 288230376151711744 ≤ place = omega (arith, is) in
+    let same_fact : place / 65536 % 65536 ≡ fact = omega (arith, few, little, is) in
+    let same_listed : place % 65536 ≡ listed = omega (arith, few, little, is) in
+    grind (arith, nat_tests, has.0, same_fact, same_listed, over)
 
 -- ---- the place of what passes a test
 

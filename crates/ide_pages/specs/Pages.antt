@@ -1,5 +1,5 @@
 -- What contracts say of numbers at keys: the number of each key, the cell that has it, and the pages that there are.
-use Rattle.std.specs.Prelude.{◌≡◌, ℕ, ◌+◌, ◌*◌, ◌/◌, ◌%◌, ◌<◌, ◌^◌, Bool, true, List, [], ◌∷◌, ◌++◌, length, filter, nat_eq, position, Option, None, Some, if◌then◌else◌}
+use Rattle.std.specs.Prelude.{◌≡◌, ℕ, ◌+◌, ◌-◌, ◌*◌, ◌/◌, ◌%◌, ◌<◌, ◌^◌, Bool, true, List, [], ◌∷◌, ◌++◌, length, filter, nat_eq, nat_lt, position, Option, None, Some, if◌then◌else◌}
 use Rattle.std.specs.List.{AllByRecursion, IsDistinct, filter_map, list_any, slice_index_or}
 use Rattle.std.specs.List.Sorted.{IsStrictlySortedBy}
 use Rattle.std.specs.Map.{lookup, keys_of}
@@ -11,7 +11,6 @@ use Rattle.std.specs.declared.ops.Bound.TheVariants.{Included}
 use Rattle.ide_wire.specs.declared.key.Key.{Key}
 use Rattle.ide_wire.specs.declared.key.Key.TheVariants.{Jump, Summary}
 use Rattle.ide_wire.specs.Key.{same_key, node_of}
-use Rattle.ide_wire.specs.KeyOrder.{key_cmp}
 
 -- numbers at keys: for each cell its key with its number, where that is not 0; and the pages, 64 cells each, in the order of their cells
 pub record Numbers : Type 0 where
@@ -125,42 +124,55 @@ number_on pages cells offset page = cell_number cells (cell_on pages offset page
 abbrev pub weight : ℕ → ℕ
 weight n = if nat_eq n 0 then 0 else 1
 
--- the place of a page among the places: a jump's facts change places, so that the pages of the jumps to one fact stand side by side
-abbrev pub page_place : Key → Key
-page_place (Jump n a b) = Jump n b a
-page_place (Summary n a b) = Summary n a b
+-- the place of a page among the places is one number, in whose highest part is the kind, 0 of a jump and 1 of a summary; then come the
+-- page's block of nodes, the fact that a row is of, and the fact that the place lists
+abbrev pub place_number : (kind block fact listed : ℕ) → ℕ
+place_number kind block fact listed = kind * 288230376151711744 + block * 4294967296 + fact * 65536 + listed
+
+-- a jump's facts change places, so that the pages of the jumps to one fact stand side by side
+abbrev pub page_place : Key → ℕ
+page_place (Jump n a b) = place_number 0 n b a
+page_place (Summary n a b) = place_number 1 n a b
+
+-- the fact that a place lists: of a jump where it starts, of a summary where it returns
+abbrev pub listed_fact : ℕ → ℕ
+listed_fact place = place % 65536
+
+-- the page at the place
+abbrev pub placed_page : ℕ → Key
+placed_page place =
+    if nat_lt place 288230376151711744 then Jump (place / 4294967296) (place % 65536) (place / 65536 % 65536)
+    else Summary ((place - 288230376151711744) / 4294967296) (place / 65536 % 65536) (place % 65536)
 
 -- whether the places have the page's
-abbrev pub has_place : List Key → Key → Bool
-has_place places page = list_any (is_at (key_cmp (page_place page))) places
+abbrev pub has_place : List ℕ → Key → Bool
+has_place places page = list_any (is_at (nat_cmp (page_place page))) places
 
 -- the places that there were are there
-abbrev pub KeepsPlaces : (old new : List Key) → Type 0
+abbrev pub KeepsPlaces : (old new : List ℕ) → Type 0
 KeepsPlaces old new = (q : Key) → has_place old q ≡ true → has_place new q ≡ true
 
 -- the places have those of the pages; the place of a page that is not there lists nothing
-abbrev pub ArePlaced : (places pages : List Key) → Type 0
+abbrev pub ArePlaced : (places : List ℕ) (pages : List Key) → Type 0
 ArePlaced places pages = (page : Key) → list_any (same_key page) pages ≡ true → has_place places page ≡ true
 
--- the fact that a place lists: of a jump where it starts, of a summary where it returns
-abbrev pub listed_fact : Key → ℕ
-listed_fact (Jump n b a) = a
-listed_fact (Summary n a b) = b
-
 -- the fact that a place lists, with the number on its page, where that is not 0
-abbrev pub partner_of : (Key → ℕ) → Key → Option (ℕ × ℕ)
-partner_of number place = option_map (λ n. (listed_fact place, n)) (nonzero (number (page_place place)))
+abbrev pub partner_of : (Key → ℕ) → ℕ → Option (ℕ × ℕ)
+partner_of number place = option_map (λ n. (listed_fact place, n)) (nonzero (number (placed_page place)))
 
--- the row from the first to the last, which stand as places do, at one node: the facts that the places of their pages and of those
--- between list, with the node's numbers, where those are not 0
-abbrev pub row_of : (pages : List Key) (cells : List ℕ) (places : List Key) → (first last : Key) → List (ℕ × ℕ)
-row_of pages cells places first last =
-    filter_map (partner_of (number_on pages cells (node_of first % 64)))
-    (filter (range_contains key_cmp (Included (page_of first)) (Included (page_of last))) places)
+-- whether a place is of the row whose first place is given: of its kind, its block and its fact
+abbrev pub is_of_row : (first : ℕ) → ℕ → Bool
+is_of_row first = range_contains nat_cmp (Included first) (Included (first + 65535))
+
+-- the row that begins with the first key, whose listed fact is 0: the facts that the places of its row list, with the numbers at the
+-- key's node, where those are not 0
+abbrev pub row_of : (pages : List Key) (cells places : List ℕ) → (first : Key) → List (ℕ × ℕ)
+row_of pages cells places first =
+    filter_map (partner_of (number_on pages cells (node_of first % 64))) (filter (is_of_row (page_place (page_of first))) places)
 
 -- what holds of the fields: each page has 64 cells and stands once, its keys' nodes are numbers of 32 bits, its place is among the
 -- places, and the count is that of the entries
-pub record ArePages (pages : List Key) (cells : List ℕ) (places : List Key) (count : ℕ) : Type 0 where
+pub record ArePages (pages : List Key) (cells places : List ℕ) (count : ℕ) : Type 0 where
   pub paged : length cells ≡ 64 * length pages
   pub distinct : IsDistinct same_key pages
   pub small : (index : ℕ) → node_of (page_at pages index) < 2 ^ 26

@@ -6,7 +6,7 @@ ghost use Rattle.indexmap.specs.IndexSet.{spare};
 ghost use Rattle.ide_wire.specs.declared.key.Key.{Key};
 ghost use Rattle.ide_wire.specs.declared.key.Key.TheVariants.{Jump, Summary};
 ghost use Rattle.ide_wire.specs.declared.refused.Refused.TheVariants.{NoMemory};
-ghost use Rattle.ide_wire.specs.Key.{same_key};
+ghost use Rattle.ide_wire.specs.Key.{node_of, same_key};
 ghost use Rattle.ide_pages.specs.Pages.{Numbers, ArePages, IsRowOfJumps, IsRowOfSummaries, IsNumberIn, KeepsCells, KeepsPlaces, Puts, cell_of, entries, has_place, number_at, number_in, numbers_of, slot_at, weight};
 
 use crate::{keys, rows};
@@ -21,7 +21,8 @@ use std::marker::Model;
 pub struct Pages {
     pages: IndexSet<Key>,
     cells: Vec<u32>,
-    places: BTreeSet<Key>,
+    /// The place of each page, in order, so that the pages of a row stand side by side.
+    places: BTreeSet<u64>,
     count: usize,
     /// The index of the page that was asked for last: keys that follow each other along a procedure
     /// are on one page, which is found again with no look-up.
@@ -173,9 +174,8 @@ impl Pages {
         ensures row { IfOk result (λ row. IsRowOfJumps node fact self.now row.items) }
         ensures refused { IsOkUnless result NoMemory }
     {
-        let first = Key::Jump(node, fact, 0);
-        let last = Key::Jump(node, fact, Fact::MAX);
-        let row = rows::row(alloc, &self.pages, &self.cells, &self.places, first, last)?;
+        let first = Key::Jump(node, 0, fact);
+        let row = rows::row(alloc, &self.pages, &self.cells, &self.places, first)?;
         Ok(row)
     }
 
@@ -191,8 +191,7 @@ impl Pages {
         ensures refused { IsOkUnless result NoMemory }
     {
         let first = Key::Summary(call, fact, 0);
-        let last = Key::Summary(call, fact, Fact::MAX);
-        let row = rows::row(alloc, &self.pages, &self.cells, &self.places, first, last)?;
+        let row = rows::row(alloc, &self.pages, &self.cells, &self.places, first)?;
         Ok(row)
     }
 
@@ -230,7 +229,8 @@ fn counted(count: usize, old: u32, number: u32) -> usize
 }
 
 // Adds the page's place.
-fn add_place(places: &mut BTreeSet<Key>, page: Key) -> Result<(), AllocError>
+fn add_place(places: &mut BTreeSet<u64>, page: Key) -> Result<(), AllocError>
+    requires small { node_of page < 2 ^ 26 }
     ensures added { OnOk result (has_place places.new.keys page ≡ true) }
     ensures kept { KeepsPlaces places.old.keys places.new.keys }
 {
@@ -262,7 +262,7 @@ fn copied_pages(pages: &IndexSet<Key>) -> Result<IndexSet<Key>, AllocError>
 }
 
 // The same places.
-fn copied_places(places: &BTreeSet<Key>) -> Result<BTreeSet<Key>, AllocError>
+fn copied_places(places: &BTreeSet<u64>) -> Result<BTreeSet<u64>, AllocError>
     ensures { IfOk result (λ copy. copy.keys ≡ places.now.keys) }
 {
     places.clone()

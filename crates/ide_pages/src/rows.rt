@@ -1,11 +1,10 @@
 //! The cells of pages, one page or a row of pages at a time.
 ghost use Rattle.std.specs.Prelude.{◌≡◌, ℕ, ◌*◌, ◌<◌, ◌≤◌, ◌^◌, Some, true, length, slice_get, slice_index_or, IfOk, IfSome, IfNone};
 ghost use Rattle.std.specs.List.{IsDistinct};
-ghost use Rattle.std.specs.BTreeMap.Range.{IsLeBy};
 ghost use Rattle.std.specs.List.Sorted.{IsStrictlySortedBy};
+ghost use Rattle.std.specs.Ordering.{nat_cmp};
 ghost use Rattle.ide_wire.specs.Key.{node_of, same_key};
-ghost use Rattle.ide_wire.specs.KeyOrder.{key_cmp};
-ghost use Rattle.ide_pages.specs.Pages.{cell_number, cell_on, key_at, number_on, page_at, page_of, partner_of, row_of};
+ghost use Rattle.ide_pages.specs.Pages.{cell_number, cell_on, key_at, number_on, page_at, partner_of, row_of};
 
 use crate::keys;
 use ide_wire::{Fact, Key};
@@ -101,12 +100,12 @@ pub(crate) fn number_of(cells: &[u32], cell: Option<usize>) -> u32
 }
 
 // The fact that the place lists, with the number at the offset of its page, where that is not 0.
-fn partner(pages: &IndexSet<Key>, cells: &[u32], offset: usize, place: Key) -> Option<(Fact, u32)>
+fn partner(pages: &IndexSet<Key>, cells: &[u32], offset: usize, place: u64) -> Option<(Fact, u32)>
     requires paged { length cells.now ≡ 64 * length pages.now.keys }
     requires within { offset < 64 }
     ensures { result ≡ partner_of (number_on pages.now.keys cells.now offset) place }
 {
-    let number = number_on(pages, cells, offset, keys::place_of(place));
+    let number = number_on(pages, cells, offset, keys::placed_page(place));
     if number == 0 {
         None
     } else {
@@ -114,24 +113,23 @@ fn partner(pages: &IndexSet<Key>, cells: &[u32], offset: usize, place: Key) -> O
     }
 }
 
-// The row from `first` to `last`, which stand as places do, at one node: the facts that the places
-// of their pages and of those between list, with the node's numbers, where those are not 0.
+// The row that begins with the first key, whose listed fact is 0: the facts that the places of its
+// row list, with the numbers at the key's node, where those are not 0.
 pub(crate) fn row(
     alloc: Global,
     pages: &IndexSet<Key>,
     cells: &[u32],
-    places: &BTreeSet<Key>,
+    places: &BTreeSet<u64>,
     first: Key,
-    last: Key,
 ) -> Result<Vec<(Fact, u32)>, AllocError>
     requires paged { length cells.now ≡ 64 * length pages.now.keys }
-    requires ends { IsLeBy key_cmp (page_of first) (page_of last) }
-    ensures row { IfOk result (λ row. row.items ≡ row_of pages.now.keys cells.now places.now.keys first last) }
-    ensures ordered { IsStrictlySortedBy key_cmp places.now.keys }
+    ensures row { IfOk result (λ row. row.items ≡ row_of pages.now.keys cells.now places.now.keys first) }
+    ensures ordered { IsStrictlySortedBy nat_cmp places.now.keys }
 {
     let offset = keys::offset_of(first);
+    let start = keys::place_of(keys::page_of(first));
     places
-        .range(keys::page_of(first)..=keys::page_of(last))
+        .range(start..=start + keys::LAST)
         .filter_map(|place| partner(pages, cells, offset, *place))
         .collect(alloc)
 }

@@ -1,4 +1,5 @@
 pub mod Best
+pub mod Begun
 pub mod Coming
 pub mod Edges
 pub mod Sound
@@ -15,5 +16,6 @@ pub mod Parts
 pub mod Passing
 pub mod Pieces
 pub mod Places
+pub mod Renewed
 pub mod Refused
 pub mod Workers

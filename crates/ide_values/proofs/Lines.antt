@@ -1,6 +1,6 @@
 -- The lines of a dump, by how far it came.
 use Rattle.std.proofs.Common.{◌≡◌, ◌++◌, ℕ, zero, suc, ◌+◌, ◌-◌, ◌≤◌, List, [], Option, None, Some, Result, Ok, Err, ap, sym, refl, ◌∙◌, append_assoc, arith}
-use Rattle.std.specs.Prelude.{OnErr, OnOk, slice_get}
+use Rattle.std.specs.Prelude.{OnErr, OnOk, if◌then◌else◌, is_ok, slice_get}
 use Rattle.std.specs.List.{flat_map, range_with_len}
 use Rattle.std.specs.Option.{option_and_then}
 use Rattle.std.proofs.lemmas.List.{append-nil}
@@ -71,3 +71,13 @@ OnErr-always (Err e) P p = p
 pub OnErr-more : {T E : Type 0} (r : Result T E) (P Q : Type 0) → (P → Q) → OnErr r P → OnErr r Q
 OnErr-more (Ok x) P Q f p = tt
 OnErr-more (Err e) P Q f p = f p
+
+-- where a text was appended, if nothing failed
+pub OnOk-appended : {T E : Type 0} (r : Result T E) (P : Type 0) (old text new : List ℕ) → new ≡ (if is_ok r then old ++ text else old) → (new ≡ old ++ text → P) → OnOk r P
+OnOk-appended (Ok x) P old text new is so = so is
+OnOk-appended (Err e) P old text new is so = tt
+
+-- and if it failed
+pub OnErr-kept : {T E : Type 0} (r : Result T E) (old text new : List ℕ) → new ≡ (if is_ok r then old ++ text else old) → OnErr r (Extends old new)
+OnErr-kept (Ok x) old text new is = tt
+OnErr-kept (Err e) old text new is = ([], is ∙ sym (append-nil old))

@@ -9,6 +9,8 @@ pub mod Falling
 pub mod Fill
 pub mod Frozen
 pub mod Pass
+pub mod Jumps
+pub mod Lines
 pub mod Passing
 pub mod Rows
 pub mod Refusal

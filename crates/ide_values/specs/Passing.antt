@@ -6,6 +6,7 @@ use Rattle.ide_lattice.specs.Algebra.{LatticeAlgebra, EdgeAlgebra}
 use Rattle.ide_problem.specs.Flow.{Targets}
 use Rattle.ide_image.specs.Tables.{Table}
 use Rattle.ide_wire.specs.Key.{node_of}
+use Rattle.ide_theory.specs.Member.{Each}
 use Rattle.ide_wire.specs.declared.key.Key.{Key}
 use Rattle.ide_values.specs.declared.passes.JumpAt.{JumpAt}
 use Rattle.ide_values.specs.declared.passes.Starts.{Starts}
@@ -62,13 +63,12 @@ module _ {P F L : Type 0} (A : LatticeAlgebra L) (B : EdgeAlgebra F L) (targets 
     pub steady : new.has_fallen ≡ false → IsSteadyBy A B graph targets old.values.items key f
 
   module _ (table : Table F) where
-    -- and so is the function of each entry
-    abbrev pub PassesEach : Starts P L F → Starts P L F → Type 0
-    PassesEach old new =
-        Passes (λ values e. by_entry A B graph targets values e.0 e.1) (λ values e. IsSteadyBy A B graph targets values e.0 e.1)
-        table.entries old.values.items new.values.items old.has_fallen new.has_fallen
+    -- where no fall is marked then, nothing changed, and each entry hands nothing on that would change the values
+    pub record LeavesEach (old new : Starts P L F) : Type 0 where
+      pub same : new.has_fallen ≡ false → new.values.items ≡ old.values.items
+      pub steady : new.has_fallen ≡ false → Each (λ e. IsSteadyBy A B graph targets old.values.items e.0 e.1) table.entries
 
-    -- and so is that of the entry at an index, if one stands there
+    -- the function of the entry at an index is passed on, if one stands there
     abbrev pub PassesAt : ℕ → Starts P L F → Starts P L F → Type 0
     PassesAt index old new = (e : Key × F) → slice_get table.entries index ≡ Some e → PassesBy e.0 e.1 old new
 

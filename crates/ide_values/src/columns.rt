@@ -1,11 +1,12 @@
 //! The columns of lines before their values: the lines of a node share the first, and the nodes of a procedure the others.
-ghost use Rattle.std.specs.Prelude.{◌≡◌, ◌<◌, ◌≤◌, true, length, map, replicate, IfOk, OnErr, OnOk};
+ghost use Rattle.std.specs.Prelude.{◌≡◌, ◌<◌, ◌≤◌, ◌^◌, true, length, map, replicate, IfOk, OnErr, OnOk};
 ghost use Rattle.ide_text.specs.Text.{Extends};
-ghost use Rattle.ide_values.specs.Columns.{AreFactColumns, told_line, told_lines};
+ghost use Rattle.ide_values.specs.Columns.{AreFactColumns};
 ghost use Rattle.ide_values.specs.Dump.{Appends, fact_columns, left, node_column, right};
+ghost use Rattle.ide_values.specs.Lines.{AreLinesTold, AreLinesToldOf, columns_in};
 ghost use Rattle.ide_values.specs.Rows.{lines_in_row};
 
-use crate::rows::value_at_place;
+use crate::line_text::Lines;
 use ide_graph::Graph;
 use ide_lattice::Lattice;
 use ide_wire::{Fact, Node};
@@ -23,30 +24,30 @@ const NAME_WIDTH: usize = 31;
 /// As many spaces as the widest column has.
 const SPACES: [u8; NAME_WIDTH] = [b' '; NAME_WIDTH];
 
-/// The column of a node's number, and those of the number and the name of each fact that has a name there. The
-/// latter are made anew for a node of another procedure alone, and take memory for one procedure's facts.
+/// The lines of a node, by which those of the next one of its procedure are told: these differ in the column of the
+/// node's number, and where values do. For a node of another procedure they are made anew. They take memory for one
+/// procedure's facts.
 #[derive(Drop)]
-pub(crate) struct Columns<'a> {
+pub(crate) struct Columns<'a, L: Lattice> {
     alloc: Global,
     graph: &'a Graph,
-    /// The node whose columns they are: none at first.
+    /// The node whose lines they are: none at first, and where these could not be made.
     node: Option<Node>,
-    stem: Vec<u8>,
-    facts: Vec<Vec<u8>>,
+    lines: Lines<L>,
 }
 
-impl<'a> Model for Columns<'a> {
-    ghost use Rattle.std.specs.Prelude.{map, IfSome};
-    ghost use Rattle.ide_values.specs.Columns.{AreFactColumns, ColumnsData};
+impl<'a, L: Lattice> Model for Columns<'a, L> {
+    ghost use Rattle.std.specs.Prelude.{IfSome};
+    ghost use Rattle.ide_values.specs.Columns.{AreLinesAt, ColumnsData};
 
-    ghost Value = { ColumnsData };
+    ghost Value = { ColumnsData L };
 
-    ghost view = { λ c. record { graph = c.graph.now; stem = c.stem.items; facts = map (λ columns. columns.items) c.facts.items } };
+    ghost view = { λ c. record { graph = c.graph.now; lines = c.lines } };
 
-    ghost invariant = { λ c. IfSome c.node (λ node. AreFactColumns c.graph.now node (map (λ columns. columns.items) c.facts.items)) };
+    ghost invariant = { λ c. IfSome c.node (λ node. AreLinesAt L.shown c.graph.now node c.lines) };
 }
 
-impl<'a> Columns<'a> {
+impl<'a, L: Lattice> Columns<'a, L> {
     /// Those of no node. It allocates nothing.
     pub(crate) fn new(alloc: Global, graph: &'a Graph) -> Self
         ensures graph { result.graph ≡ graph.now }
@@ -55,13 +56,12 @@ impl<'a> Columns<'a> {
             alloc,
             graph,
             node: None,
-            stem: Vec::new(alloc),
-            facts: Vec::new(alloc),
+            lines: Lines::new(alloc),
         }
     }
 
     /// Appends the lines of a node, whose values are a row of these.
-    pub(crate) fn append_lines<L: Lattice>(
+    pub(crate) fn append_lines(
         &mut self,
         node: Node,
         rows: &[L],
@@ -73,33 +73,62 @@ impl<'a> Columns<'a> {
         ensures graph { self.new.graph ≡ self.old.graph }
         ensures extends { OnErr result (Extends out.old.items out.new.items) }
     {
-        self.turn_to(node)?;
-        self.append_told(rows, row, out)
+        let first = row as usize * self.graph.fact_count();
+        self.turn_to(node, rows, first)?;
+        out.extend_from_slice(&self.lines.text)
     }
 
-    /// Makes them those of a node. Nodes of one procedure have the same facts, with the same names.
-    fn turn_to(&mut self, node: Node) -> Result<(), AllocError>
-        requires { node < self.old.graph.nodes }
+    /// Makes the lines those of a node, with the values from a place of rows on.
+    fn turn_to(&mut self, node: Node, rows: &[L], first: usize) -> Result<(), AllocError>
+        requires node { node < self.old.graph.nodes }
+        requires first { first ≤ 2 ^ 48 }
         ensures graph { self.new.graph ≡ self.old.graph }
-        ensures stem { OnOk result (self.new.stem ≡ node_column node) }
-        ensures facts { OnOk result (AreFactColumns self.new.graph node self.new.facts) }
+        ensures columns { OnOk result (AreFactColumns self.new.graph node (columns_in self.new.lines.facts.items)) }
+        ensures told { OnOk result (AreLinesToldOf L.algebra L.shown node rows.now first self.new.lines) }
     {
-        if !self.serve(node) {
-            self.facts = facts_at(self.alloc, self.graph, node)?;
+        if self.serve(node) {
+            return self.go_on(node, rows, first);
         }
-        self.node = Some(node);
-        self.stem.clear();
-        append_right(
-            Buffer::new().format(node).as_bytes(),
-            NODE_WIDTH,
-            &mut self.stem,
-        )
+        self.begin(node, rows, first)
     }
 
-    /// Whether those of the facts are those of a node too: both have facts, and are of one procedure.
+    /// Makes them those of a node whose facts have the same columns.
+    fn go_on(&mut self, node: Node, rows: &[L], first: usize) -> Result<(), AllocError>
+        requires columns { AreFactColumns self.old.graph node (columns_in self.old.lines.facts.items) }
+        requires told { AreLinesTold L.shown self.old.lines }
+        requires first { first ≤ 2 ^ 48 }
+        ensures graph { self.new.graph ≡ self.old.graph }
+        ensures columns { OnOk result (AreFactColumns self.new.graph node (columns_in self.new.lines.facts.items)) }
+        ensures told { OnOk result (AreLinesToldOf L.algebra L.shown node rows.now first self.new.lines) }
+    {
+        self.node = None;
+        let _count = self.graph.fact_count();
+        self.lines.turn_to(node, rows, first)?;
+        self.node = Some(node);
+        Ok(())
+    }
+
+    /// Makes them those of a node, whatever they were.
+    fn begin(&mut self, node: Node, rows: &[L], first: usize) -> Result<(), AllocError>
+        requires node { node < self.old.graph.nodes }
+        requires first { first ≤ 2 ^ 48 }
+        ensures graph { self.new.graph ≡ self.old.graph }
+        ensures columns { OnOk result (AreFactColumns self.new.graph node (columns_in self.new.lines.facts.items)) }
+        ensures told { OnOk result (AreLinesToldOf L.algebra L.shown node rows.now first self.new.lines) }
+    {
+        self.node = None;
+        let _count = self.graph.fact_count();
+        self.lines.facts = facts_at(self.alloc, self.graph, node)?;
+        self.lines.tell(node, rows, first)?;
+        self.node = Some(node);
+        Ok(())
+    }
+
+    /// Whether the columns of facts are those of a node too: both have facts, and are of one procedure.
     fn serve(&self, node: Node) -> bool
         requires { node < self.now.graph.nodes }
-        ensures { result ≡ true → AreFactColumns self.now.graph node self.now.facts }
+        ensures columns { result ≡ true → AreFactColumns self.now.graph node (columns_in self.now.lines.facts.items) }
+        ensures told { result ≡ true → AreLinesTold L.shown self.now.lines }
     {
         let Some(made) = self.node else {
             return false;
@@ -107,26 +136,8 @@ impl<'a> Columns<'a> {
         let Some(_) = self.graph.fact_name(node, 0) else {
             return false;
         };
-        !self.facts.is_empty() && self.graph.procedure_of(made) == self.graph.procedure_of(node)
-    }
-
-    /// Appends a line for each fact, whose values are a row of these.
-    fn append_told<L: Lattice>(
-        &self,
-        rows: &[L],
-        row: Node,
-        out: &mut Vec<u8>,
-    ) -> Result<(), AllocError>
-        requires few { length self.now.facts ≤ self.now.graph.facts }
-        ensures text { OnOk result (Appends (told_lines L.algebra L.shown self.now rows.now row) out.old out.new) }
-        ensures extends { OnErr result (Extends out.old.items out.new.items) }
-    {
-        let first = row as usize * self.graph.fact_count();
-        for index in 0..self.facts.len() {
-            let value = value_at_place(rows, first + index);
-            append_line(&self.stem, &self.facts[index], value, out)?;
-        }
-        Ok(())
+        !self.lines.facts.is_empty()
+            && self.graph.procedure_of(made) == self.graph.procedure_of(node)
     }
 }
 
@@ -160,21 +171,11 @@ fn columns_of(alloc: Global, fact: Fact, name: &[u8]) -> Result<Vec<u8>, AllocEr
     Ok(columns)
 }
 
-/// Appends the line with these columns.
-fn append_line<L: Lattice>(
-    stem: &[u8],
-    columns: &[u8],
-    value: L,
-    out: &mut Vec<u8>,
-) -> Result<(), AllocError>
-    ensures text { OnOk result (Appends (told_line stem.now columns.now (L.shown value)) out.old out.new) }
-    ensures extends { OnErr result (Extends out.old.items out.new.items) }
+/// Appends the column of a node's number.
+pub(crate) fn append_node(node: Node, out: &mut Vec<u8>) -> Result<(), AllocError>
+    ensures { OnOk result (Appends (node_column node) out.old out.new) }
 {
-    out.extend_from_slice(stem)?;
-    out.extend_from_slice(columns)?;
-    value.show(out)?;
-    out.push(b'\n')?;
-    Ok(())
+    append_right(Buffer::new().format(node).as_bytes(), NODE_WIDTH, out)
 }
 
 /// Appends a text at the right end of a column, and a space.

@@ -75,7 +75,7 @@ impl<P: Problem> Values<P> {
     fn append_node(
         &self,
         node: Node,
-        columns: &mut Columns<'_>,
+        columns: &mut Columns<'_, P::L>,
         out: &mut Vec<u8>,
     ) -> Result<(), AllocError>
         requires there { node < self.now.graph.nodes }

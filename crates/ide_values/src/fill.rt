@@ -1,16 +1,17 @@
 //! The fill: each jump function lowers the value where it ends.
-ghost use Rattle.std.specs.Prelude.{◌≡◌, ◌+◌, ◌*◌, ◌<◌, ◌≤◌, ◌↔◌, true, IfOk, length};
+ghost use Rattle.std.specs.Prelude.{◌≡◌, ◌+◌, ◌*◌, ◌^◌, ◌<◌, ◌≤◌, ◌↔◌, true, IfOk, length};
 ghost use Rattle.ide_image.specs.Tables.{entry_nodes};
 ghost use Rattle.ide_values.specs.Fill.{FillsFrom, FillsRows, IsFilledBy, Meets};
 ghost use Rattle.ide_values.specs.Spans.{AreSpans};
-ghost use Rattle.ide_values.specs.Start.{AreTops};
+ghost use Rattle.ide_values.specs.Start.{AreTops, value_before};
+ghost use Rattle.ide_wire.specs.Key.{node_of};
 
-use crate::rows::{lower, place_of, tops, value_before};
+use crate::rows::{lower, procedure_at, tops, value_at_place};
 use crate::spans::{BLOCK, Span};
 use ide_graph::Graph;
 use ide_image::Tables;
-use ide_lattice::EdgeFn;
-use ide_wire::{Key, Node};
+use ide_lattice::{EdgeFn, Lattice};
+use ide_wire::{Fact, Key, Node};
 use std::alloc::{AllocError, Global};
 
 /// The values of an image whose start values these are: rows by node, one value for each fact.
@@ -73,13 +74,15 @@ fn fill_some<F: EdgeFn>(
     ensures count { length rows.new ≡ length rows.old }
     ensures filled { IsFilledBy F.L.algebra F.edge graph.now tables.now starts.now first end rows.new }
 {
+    let facts = graph.fact_count();
     let more = whole_rows(graph, rows.len());
     let nodes = tables.nodes();
     for index in begin..end {
-        if is_near(first, more, nodes[index])
+        let node = nodes[index];
+        if is_near(first, more, node)
             && let Some(entry) = tables.entry_at(index)
         {
-            lower_by(graph, starts, first, entry.0, entry.1, rows);
+            lower_by(graph, starts, first, facts, node, entry.0, entry.1, rows);
         }
     }
 }
@@ -99,27 +102,46 @@ fn is_near(first: Node, more: usize, node: Node) -> bool
 }
 
 /// Lowers the value where the key ends, if the rows have it, by what its function makes of the value
-/// where it begins.
+/// where it begins. The key's node is given too, and how many facts there are.
+#[inline(always)]
 fn lower_by<F: EdgeFn>(
     graph: &Graph,
     starts: &[F::L],
     first: Node,
+    facts: usize,
+    node: Node,
     key: Key,
     function: F,
     rows: &mut [F::L],
 )
+    requires facts { facts ≡ graph.now.facts }
+    requires few { facts ≤ 2 ^ 16 }
+    requires node { node ≡ node_of key }
+    requires near { first ≤ node }
     ensures count { length rows.new ≡ length rows.old }
     ensures lowered { Meets F.L.algebra F.edge graph.now starts.now first key function rows.old rows.new }
 {
-    let Key::Jump(node, from, to) = key else {
+    let Key::Jump(_end, from, to) = key else {
         return;
     };
-    let Some(row) = node.checked_sub(first) else {
-        return;
-    };
-    let place = place_of(graph, row, to);
+    let place = (node - first) as usize * facts + to as usize;
     if place < rows.len() {
-        let start = value_before(graph, starts, node, from);
+        let start = start_of(graph, starts, facts, node, from);
         lower(rows, place, function.apply(start));
     }
+}
+
+/// The value of a fact at the start of a node's procedure, where there are so many facts.
+#[inline(always)]
+fn start_of<L: Lattice>(graph: &Graph, starts: &[L], facts: usize, node: Node, fact: Fact) -> L
+    requires { facts ≡ graph.now.facts }
+    ensures { node < graph.now.nodes → result ≡ value_before L.algebra graph.now starts.now node fact }
+{
+    let procedure = procedure_at(graph, node);
+    value_at_place(
+        starts,
+        procedure
+            .saturating_mul(facts)
+            .saturating_add(fact as usize),
+    )
 }

@@ -12,6 +12,7 @@ mod dump;
 mod enter;
 mod fill;
 mod laws;
+mod line_text;
 mod passes;
 mod rows;
 mod share;

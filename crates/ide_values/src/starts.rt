@@ -1,7 +1,8 @@
 //! Start values: the value of each fact at each procedure's start.
-ghost use Rattle.std.specs.Prelude.{OnOk, IfOk, false};
+ghost use Rattle.std.specs.Prelude.{◌≡◌, None, OnOk, IfOk, IfSome};
 ghost use Rattle.ide_values.specs.Falling.{StartsFall};
-ghost use Rattle.ide_values.specs.Passing.{Comes, Rests, PassesAt, PassesBy, PassesEach, RisesNowhere};
+ghost use Rattle.ide_values.specs.Jumps.{AreJumps, AreJumpsIn, HandsNothing, IsSummary};
+ghost use Rattle.ide_values.specs.Passing.{Comes, LeavesEach, PassesAt, PassesBy, RisesNowhere, Rests};
 ghost use Rattle.ide_values.specs.Settled.{AreStartRows};
 
 use crate::enter::entered_rows;
@@ -9,7 +10,6 @@ use crate::passes::{JumpAt, Starts, calls_at, is_at_call};
 use crate::rows::{procedure_at, start_place};
 use ide_graph::Graph;
 use ide_image::Tables;
-use ide_lattice::EdgeFn;
 use ide_problem::{Problem, TargetList};
 use ide_wire::Key;
 use std::alloc::{AllocError, Global};
@@ -34,13 +34,13 @@ pub fn start_values<P: Problem>(
 
 /// A jump function at a call node: the place that it starts from, and its index in the tables.
 #[derive(Clone, Copy, Drop)]
-struct CallJump {
-    from: usize,
-    index: usize,
+pub(crate) struct CallJump {
+    pub(crate) from: usize,
+    pub(crate) index: usize,
 }
 
 impl<P: Problem> Starts<P> {
-    /// Goes through the places that wait and then once through all entries of the tables, until
+    /// Goes through the places that wait and then once through all jump functions at call nodes, until
     /// that changes nothing. Each round but the last lowers some value.
     fn come_to_rest(
         &mut self,
@@ -51,12 +51,12 @@ impl<P: Problem> Starts<P> {
         ensures comes { Comes P.L.algebra P.F.edge P.targets graph.now tables.now result self.old self.new }
         ensures steady { OnOk result (Rests P.L.algebra P.F.edge P.targets graph.now tables.now self.new) }
     {
-        let jumps = jumps_at_calls(alloc, graph, tables)?;
+        let jumps = jumps_at_calls::<P>(alloc, graph, tables)?;
         let mut targets = TargetList::new(alloc);
         loop {
             self.settle(graph, tables, jumps.as_slice(), &mut targets)?;
             self.has_fallen = false;
-            self.pass_each(graph, tables, &mut targets)?;
+            self.pass_each(graph, tables, jumps.as_slice(), &mut targets)?;
             if !self.has_fallen {
                 return Ok(());
             }
@@ -103,7 +103,7 @@ impl<P: Problem> Starts<P> {
         Ok(())
     }
 
-    /// Hands on by the entry of the tables at an index. Of one that is not at a call it reads the node alone.
+    /// Hands on by the entry of the tables at an index.
     fn pass_index(
         &mut self,
         graph: &Graph,
@@ -125,19 +125,21 @@ impl<P: Problem> Starts<P> {
         Ok(())
     }
 
-    /// Hands on by each entry of the tables.
+    /// Hands on by each of the jump functions at call nodes, which are all entries of the tables that hand anything on.
     fn pass_each(
         &mut self,
         graph: &Graph,
         tables: &Tables<P::F>,
+        jumps: &[CallJump],
         targets: &mut TargetList<P::F>,
     ) -> Result<(), AllocError>
+        requires { AreJumps P.L.algebra P.F.edge P.targets graph.now tables.now jumps.now }
         ensures comes { Comes P.L.algebra P.F.edge P.targets graph.now tables.now result self.old self.new }
-        ensures passes { OnOk result (PassesEach P.L.algebra P.F.edge P.targets graph.now tables.now self.old self.new) }
+        ensures rests { OnOk result (LeavesEach P.L.algebra P.F.edge P.targets graph.now tables.now self.old self.new) }
         ensures falls { OnOk result (StartsFall P.L.algebra self.old self.new) }
     {
-        for index in 0..tables.key_count() {
-            self.pass_index(graph, tables, index, targets)?;
+        for jump in jumps {
+            self.pass_index(graph, tables, jump.index, targets)?;
         }
         Ok(())
     }
@@ -170,20 +172,61 @@ impl<P: Problem> Starts<P> {
 }
 
 /// The jump functions at call nodes, by the place that they start from.
-fn jumps_at_calls<F: EdgeFn>(
+fn jumps_at_calls<P: Problem>(
     alloc: Global,
     graph: &Graph,
-    tables: &Tables<F>,
-) -> Result<Vec<CallJump>, AllocError> {
-    let mut jumps = Vec::new(alloc);
-    for index in 0..tables.key_count() {
-        if is_at_call(graph, tables, index)
-            && let Some((Key::Jump(node, from, _), _)) = tables.entry_at(index)
-        {
-            let from = start_place(graph, procedure_at(graph, node), from);
-            jumps.push(CallJump { from, index })?;
-        }
-    }
+    tables: &Tables<P::F>,
+) -> Result<Vec<CallJump>, AllocError>
+    ensures { IfOk result (AreJumpsIn P.L.algebra P.F.edge P.targets graph.now tables.now) }
+{
+    let mut jumps = listed_jumps::<P>(alloc, graph, tables)?;
     jumps.sort_by_key(|jump| jump.from)?;
     Ok(jumps)
+}
+
+/// The same, in the order of the entries. Of an entry that is not at a call it reads the node alone.
+fn listed_jumps<P: Problem>(
+    alloc: Global,
+    graph: &Graph,
+    tables: &Tables<P::F>,
+) -> Result<Vec<CallJump>, AllocError>
+    ensures { IfOk result (AreJumpsIn P.L.algebra P.F.edge P.targets graph.now tables.now) }
+{
+    let mut jumps = Vec::new(alloc);
+    for index in 0..tables.key_count() {
+        if let Some(jump) = jump_at::<P>(graph, tables, index) {
+            jumps.push(jump)?;
+        }
+    }
+    Ok(jumps)
+}
+
+/// The entry at an index, if it is a jump function at a call node.
+#[inline(always)]
+fn jump_at<P: Problem>(graph: &Graph, tables: &Tables<P::F>, index: usize) -> Option<CallJump>
+    ensures index { IfSome result (λ jump. jump.index ≡ index) }
+    ensures nothing { result ≡ None → HandsNothing P.L.algebra P.F.edge P.targets graph.now tables.now index }
+{
+    if !is_at_call(graph, tables, index) {
+        return None;
+    }
+    match tables.entry_at(index) {
+        Some(entry) => jump_of(graph, entry.0, index),
+        None => None,
+    }
+}
+
+/// The entry with a key, if it is a jump function.
+#[inline(always)]
+fn jump_of(graph: &Graph, key: Key, index: usize) -> Option<CallJump>
+    ensures index { IfSome result (λ jump. jump.index ≡ index) }
+    ensures nothing { result ≡ None → IsSummary key }
+{
+    match key {
+        Key::Jump(node, from, _) => Some(CallJump {
+            from: start_place(graph, procedure_at(graph, node), from),
+            index,
+        }),
+        Key::Summary(..) => None,
+    }
 }

@@ -63,8 +63,8 @@ pub trait ValuePhase<P: Problem> {
     /// The values of the image, by the calling thread alone.
     ///
     /// Refusal: `NoMemory`. It reads each entry of the tables once, for the fill, after work in proportion
-    /// to how the start values fall; and before that the node of each twice, and each entry at a call: to
-    /// list these, and to see that no start value falls any more.
+    /// to how the start values fall; and before that the node of each once, to list the jump functions at
+    /// calls, and each of these again, to see that no start value falls any more.
     final fn values_alone(&self, alloc: Global) -> Result<Values<P>, Refused>
         ensures refused { IsOkUnless result Refused.NoMemory }
         ensures program { IfOk result (λ values. values.program ≡ program_in (image self.now)) }

@@ -26,10 +26,10 @@ pub returns-then-not-self-clause-steady : goal.returns-then-not-self-clause-stea
 returns-then-not-self-clause-steady g c =
     let calm : c.pass_each.new.self.has_fallen ≡ false = c.if-not-self.true in
     subst (IsSteady g.P.L.Lattice.algebra g.P.F.EdgeFn.edge g.P.Problem.targets c.args.graph.now c.args.tables.now)
-    (sym (c.in_ok-pass_each.ensures.passes.same calm))
+    (sym (c.in_ok-pass_each.ensures.rests.same calm))
     (λ key f is.
     each_found (λ e. IsSteadyBy g.P.L.Lattice.algebra g.P.F.EdgeFn.edge c.args.graph.now g.P.Problem.targets c.settle.new.self.values.items e.0 e.1)
-    c.args.tables.now.entries key f (c.in_ok-pass_each.ensures.passes.steady calm) is)
+    c.args.tables.now.entries key f (c.in_ok-pass_each.ensures.rests.steady calm) is)
 
 pub loop-targets-smaller : goal.loop-targets-smaller
 loop-targets-smaller g c =

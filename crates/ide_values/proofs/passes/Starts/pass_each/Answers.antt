@@ -1,46 +1,56 @@
-use Rattle.std.proofs.Common.{◌≡◌, Some, sym, subst, take_all, length, ◌<◌, ◌≤◌, arith}
-use Rattle.std.proofs.lemmas.Option.{get_or_from_slice_get}
+use Rattle.std.proofs.Common.{◌≡◌, Some, ap, arith, inl, inr, refl, slice_index_or, subst, sym, ◌∙◌}
+use Rattle.std.specs.Prelude.{slice_get}
+use Rattle.std.proofs.lemmas.Bool.{cases_lt}
+use Rattle.std.proofs.lemmas.List.{get_or_default}
+use Rattle.std.proofs.lemmas.Option.{same_Some}
 use Rattle.ide_image.specs.Tables.{found}
-use Rattle.ide_values.specs.Pass.{IsSteadyBy, Passes, by_entry, stays}
+use Rattle.ide_wire.specs.declared.key.Key.{Key}
+use Rattle.ide_values.specs.Pass.{IsSteadyBy, by_entry, stays}
+use Rattle.ide_values.specs.declared.starts.CallJump.{CallJump}
 use Rattle.ide_values.proofs.Coming.{goes_trans, some_within}
 use Rattle.ide_values.proofs.Falling.{falls_not, falls_then}
-use Rattle.ide_values.proofs.Passing.{passes_none, passes_more}
+use Rattle.ide_values.proofs.Nowhere.{each_steady}
 use Rattle.ide_values.proofs.passes.Starts.pass_each.Goals as goal
 
-pub loop-index-init : goal.loop-index-init
-loop-index-init g c = record {
+pub loop-jump-init : goal.loop-jump-init
+loop-jump-init g c = record {
   comes = stays;
-  passes = passes_none (λ values e. by_entry g.P.L.Lattice.algebra g.P.F.EdgeFn.edge c.args.graph.now g.P.Problem.targets values e.0 e.1) (λ values e. IsSteadyBy g.P.L.Lattice.algebra g.P.F.EdgeFn.edge c.args.graph.now g.P.Problem.targets values e.0 e.1)
-      c.args.self.now.values.items c.args.self.now.has_fallen;
+  same = λ calm. refl;
+  steady = λ k d none. absurd (omega (arith, none));
   falls = falls_not g.P.L.Lattice.algebra c.args.self.now;
 }
 
-pub loop-index-preserved : goal.loop-index-preserved
-loop-index-preserved g c =
-    let within : c.loop-index.index < length c.args.tables.now.entries = omega arith in
-    let there = some_within c.args.tables.now.entries c.loop-index.index within in
+pub loop-jump-preserved : goal.loop-jump-preserved
+loop-jump-preserved g c =
+    let entries = c.args.tables.now.entries in
+    let jumps = c.args.jumps.now in
+    let at = c.loop-jump.jump-index in
+    let none : CallJump = record { from = 0; index = 0 } in
+    let index = (slice_index_or jumps at none).index in
+    let there = some_within entries index (c.requires.within at none c.loop-jump-test.true) in
     let passes = c.in_ok-pass_index.ensures.passes there.0 there.1 in
     record {
-      comes = goes_trans (λ values e. by_entry g.P.L.Lattice.algebra g.P.F.EdgeFn.edge c.args.graph.now g.P.Problem.targets values e.0 e.1) (λ e. found c.args.tables.now e.0 ≡ Some e.1) c.loop-index.invariant.comes
+      comes = goes_trans (λ values e. by_entry g.P.L.Lattice.algebra g.P.F.EdgeFn.edge c.args.graph.now g.P.Problem.targets values e.0 e.1) (λ e. found c.args.tables.now e.0 ≡ Some e.1) c.loop-jump.invariant.comes
           c.in_ok-pass_index.ensures.comes;
-      passes = passes_more (λ values e. by_entry g.P.L.Lattice.algebra g.P.F.EdgeFn.edge c.args.graph.now g.P.Problem.targets values e.0 e.1) (λ values e. IsSteadyBy g.P.L.Lattice.algebra g.P.F.EdgeFn.edge c.args.graph.now g.P.Problem.targets values e.0 e.1)
-          c.args.tables.now.entries c.loop-index.index there.0
-          c.args.self.now.values.items c.loop-index.self.values.items c.pass_index.new.self.values.items
-          c.args.self.now.has_fallen c.loop-index.self.has_fallen c.pass_index.new.self.has_fallen
-          within (sym (get_or_from_slice_get c.args.tables.now.entries c.loop-index.index there.0 there.0 there.1))
-          c.loop-index.invariant.passes passes.passed passes.same passes.before passes.steady;
-      falls = falls_then g.P.L.Lattice.algebra c.loop-index.invariant.falls c.in_ok-pass_index.ensures.falls;
+      same = λ calm. passes.same calm ∙ c.loop-jump.invariant.same (passes.before calm);
+      steady = λ k d before calm e is. elim (cases_lt k at) [
+        | inl low ↦ c.loop-jump.invariant.steady k d low (passes.before calm) e is
+        | inr high ↦
+            let here : k ≡ at = omega (arith, high, before) in
+            let own : (slice_index_or jumps k d).index ≡ index =
+            ap (λ n. (slice_index_or jumps n d).index) here ∙ ap (λ (j : CallJump). j.index) (get_or_default jumps at d none c.loop-jump-test.true) in
+            let same : there.0 ≡ e = same_Some there.0 e (sym there.1 ∙ ap (slice_get entries) (sym own) ∙ is) in
+            subst (λ values. IsSteadyBy g.P.L.Lattice.algebra g.P.F.EdgeFn.edge c.args.graph.now g.P.Problem.targets values e.0 e.1) (c.loop-jump.invariant.same (passes.before calm))
+            (subst (λ (x : Key × g.row.P-F.Denot). IsSteadyBy g.P.L.Lattice.algebra g.P.F.EdgeFn.edge c.args.graph.now g.P.Problem.targets c.loop-jump.self.values.items x.0 x.1) same
+            (passes.steady calm))
+      ];
+      falls = falls_then g.P.L.Lattice.algebra c.loop-jump.invariant.falls c.in_ok-pass_index.ensures.falls;
     }
 
-pub returns-clause-comes : goal.returns-clause-comes
-returns-clause-comes g c = c.loop-index.invariant.comes
-
-pub returns-clause-passes : goal.returns-clause-passes
-returns-clause-passes g c =
-    let past : length c.args.tables.now.entries ≤ c.loop-index.index = omega arith in
-    subst (λ es. Passes (λ values e. by_entry g.P.L.Lattice.algebra g.P.F.EdgeFn.edge c.args.graph.now g.P.Problem.targets values e.0 e.1) (λ values e. IsSteadyBy g.P.L.Lattice.algebra g.P.F.EdgeFn.edge c.args.graph.now g.P.Problem.targets values e.0 e.1) es
-    c.args.self.now.values.items c.loop-index.self.values.items c.args.self.now.has_fallen c.loop-index.self.has_fallen)
-    (take_all c.loop-index.index c.args.tables.now.entries past) c.loop-index.invariant.passes
-
-pub returns-clause-falls : goal.returns-clause-falls
-returns-clause-falls g c = c.loop-index.invariant.falls
+pub returns-clause-rests : goal.returns-clause-rests
+returns-clause-rests g c = record {
+  same = c.loop-jump.invariant.same;
+  steady = λ calm.
+      each_steady g.P.L.Lattice.algebra g.P.F.EdgeFn.edge g.P.Problem.targets c.args.graph.now c.args.tables.now c.args.jumps.now c.args.self.now.values.items c.requires
+      (λ k d within e is. c.loop-jump.invariant.steady k d (omega (arith, within, c.loop-jump-test.false)) calm e is);
+}
