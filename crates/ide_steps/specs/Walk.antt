@@ -1,12 +1,12 @@
 -- Nodes behind each other, of which each passes a fact on unchanged to the next.
-use Rattle.std.specs.Prelude.{◌≡◌, ℕ, ◌+◌, ◌++◌, ◌%◌, ◌<◌, ◌^◌, true, Some, length, slice_get}
+use Rattle.std.specs.Prelude.{◌≡◌, ℕ, ◌+◌, ◌++◌, ◌%◌, ◌<◌, ◌^◌, true, false, Some, length, slice_get}
 use Rattle.ide_graph.specs.Supergraph.{Supergraph}
 use Rattle.ide_graph.specs.declared.site.Site.{Site}
 use Rattle.ide_image.specs.KeyedImage.{KeyedImageData}
 use Rattle.ide_image.specs.Notes.{with_note}
 use Rattle.ide_image.specs.Tables.{found}
 use Rattle.ide_image.specs.Walk.{AreAbsent, AreSettled, GoesTo, walked_entries, jump_behind, with_entered}
-use Rattle.ide_image.specs.Worklist.{is_pending}
+use Rattle.ide_image.specs.Worklist.{is_claimed, is_pending}
 use Rattle.ide_lattice.specs.Algebra.{EdgeAlgebra}
 use Rattle.ide_problem.specs.Flow.{Targets}
 use Rattle.ide_tasks.specs.Parts.{PassesBehind}
@@ -48,7 +48,7 @@ module _ {F L : Type 0} (B : EdgeAlgebra F L) where
     pub loaded : core.graph ≡ Some graph
     pub may : MayWalk targets graph (record { table = core.table; pile = core.pile; changes = core.changes }) node from to count f
 
-  -- from a pending jump, its function was walked over so many nodes: to a run the key and each behind it but for the last was claimed
+  -- from a pending jump, which no hand had claimed, its function was walked over so many nodes: to a run the key and each behind it but for the last was claimed
   -- in turn, its one part was done, which lowered the next, and the claim ended
   pub record WalksOwed (targets : Targets F) (old new : CoreData F) (count : ℕ) : Type 0 where
     pub node : ℕ
@@ -56,6 +56,7 @@ module _ {F L : Type 0} (B : EdgeAlgebra F L) where
     pub to : ℕ
     pub function : F
     pub waits : is_pending old.pile (Jump node from to) ≡ true
+    pub unclaimed : is_claimed old.pile (Jump node from to) ≡ false
     pub has : found old.table (Jump node from to) ≡ Some function
     pub may : MayWalkIn targets old node from to count function
     pub same : IsSameProblem old new

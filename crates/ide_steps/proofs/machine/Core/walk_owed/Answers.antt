@@ -3,7 +3,7 @@ use Rattle.std.proofs.lemmas.Option.{same_Some}
 use Rattle.ide_graph.specs.Supergraph.{Supergraph}
 use Rattle.ide_image.specs.Tables.{found}
 use Rattle.ide_image.specs.Walk.{jump_behind}
-use Rattle.ide_image.specs.Worklist.{is_pending}
+use Rattle.ide_image.specs.Worklist.{is_claimed, is_pending}
 use Rattle.ide_wire.specs.declared.key.Key.TheVariants.{Jump}
 use Rattle.ide_steps.specs.Core.{CoreData}
 use Rattle.ide_steps.proofs.Nodes.{kept-moved, through}
@@ -26,6 +26,7 @@ pub returns-clause-walks : goal.returns-clause-walks
 returns-clause-walks g c = λ some.
     let may = rw (← c.self.view_is) at c.walk_length-count.ensures.may some in
     let waits = rw (← c.self.view_is) at c.requires.pending in
+    let unclaimed = rw (← c.self.view_is) at c.requires.unclaimed in
     let has = rw (← c.self.view_is) at c.requires.function in
     rw (← c.self.view_is) (record {
       node = c.in-Jump.node;
@@ -33,6 +34,7 @@ returns-clause-walks g c = λ some.
       to = c.in-Jump.to;
       function = c.args.function;
       waits = ap (is_pending c.self.inside.image.pile) (sym c.in-Jump.is) ∙ waits;
+      unclaimed = ap (is_claimed c.self.inside.image.pile) (sym c.in-Jump.is) ∙ unclaimed;
       has = ap (found c.self.inside.image.table) (sym c.in-Jump.is) ∙ has;
       may = may;
       same = record { program = refl; graph = refl; roots = refl };
