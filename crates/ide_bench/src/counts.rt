@@ -19,7 +19,7 @@ pub(crate) struct Counts {
 impl Counts {
     /// The counts of a graph, its tables and so many tasks.
     pub(crate) fn of<F: EdgeFn>(graph: &Graph, tables: &Tables<F>, tasks: u64) -> Counts
-        ensures { result ≡ counts_over graph.now tables.now tasks }
+        ensures { result ≡ counts_over graph.now tables.now.table tasks }
     {
         Counts {
             nodes: graph.node_count(),

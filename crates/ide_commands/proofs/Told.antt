@@ -45,7 +45,7 @@ module _ {F L : Type 0} (a : Analysis F L) where
 
   -- the dump of a frozen image's values is that of the store's
   pub writes_now : (shown : L → List ℕ) {P : Type 0} (table : TableData F) (closed : Closed P L F)
-      → table.core.pile.pending ≡ [] → table.core.graph ≡ Some (graph_in closed) → closed.tables ≡ table.core.table → closed.roots.items ≡ table.core.roots
+      → table.core.pile.pending ≡ [] → table.core.graph ≡ Some (graph_in closed) → closed.tables.table ≡ table.core.table → closed.roots.items ≡ table.core.roots
       → {T E R : Type 0} (result : Result (Result T E) R) (before after : Option (List ℕ))
       → WritesDumpOf a.lattice a.functions a.targets shown closed result before after
       → IfOk result (λ end. WritesText (Dumps a shown table) end before after)
@@ -53,7 +53,7 @@ module _ {F L : Type 0} (a : Analysis F L) where
     text = dump_of_values a.lattice shown writes.values;
     is = record {
       values = writes.values;
-      now = are_now table writes.values (graph_in closed) closed.tables closed.roots.items quiet has same_tables same_roots
+      now = are_now table writes.values (graph_in closed) closed.tables.table closed.roots.items quiet has same_tables same_roots
           writes.graph writes.roots writes.follow writes.best;
       is = refl;
     };

@@ -6,7 +6,7 @@ use Rattle.ide_lattice.specs.Algebra.{EdgeAlgebra}
 use Rattle.ide_wire.specs.declared.key.Key.{Key}
 use Rattle.ide_wire.specs.Key.{same_key}
 use Rattle.ide_image.specs.Spent.{fallen, spent, spent_by}
-use Rattle.ide_image.specs.Tables.{FallsAt, Lowers, Sets, Table, function_at, is_kept, lowered_by, or_top, place_in, with_entry}
+use Rattle.ide_image.specs.Tables.{FallsAt, Lowers, Sets, Table, function_at, is_kept, lowered_by, or_top, with_entry}
 
 module _ {F L : Type 0} (B : EdgeAlgebra F L) (key : Key) (v : F) where
   -- at an entry that is the key's, and at one that is not
@@ -53,9 +53,3 @@ module _ {F L : Type 0} (B : EdgeAlgebra F L) (table : Table F) (key : Key) (f o
     less = subst (λ g. B.rank g < B.rank (function_at B table key)) new-is (subst (λ g. B.rank new < B.rank g) found less);
     most = subst (λ g. B.rank g ≤ B.height) found most;
   }
-
--- what is read at a place of the entries is what is found at the key, whose place it is
-pub read-is : {F : Type 0} (X : Option F → F → Type 0) (key : Key) (now es : List (Key × F)) (place : ℕ) (old : F) → now ≡ es → place ≡ place_in key es
-    → ((key : Key) → place ≡ place_in key now → X (lookup (same_key key) now) old) → X (lookup (same_key key) es) old
-read-is X key now es place old same is read =
-    subst (λ xs. X (lookup (same_key key) xs) old) same (read key (is ∙ ap (place_in key) (sym same)))

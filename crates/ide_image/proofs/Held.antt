@@ -1,7 +1,7 @@
 -- Each step of a work list keeps what it says of its claims. A state is two functions: whether a key is pending, and
 -- the claim of a hand.
 use Rattle.std.proofs.Common.{◌≡◌, ℕ, zero, suc, refl, sym, ap, ◌∙◌, arith, List, [], ◌∷◌, get_or, Option, None, Some, Bool, true, false, cond, ◌⊎◌, inl, inr, ⊎_elim}
-use Rattle.std.specs.Prelude.{◌≢◌, nat_eq, ◌||◌, not, ◌&&◌}
+use Rattle.std.specs.Prelude.{◌≢◌, nat_eq, not, ◌&&◌}
 use Rattle.std.specs.List.{list_any}
 use Rattle.std.proofs.lemmas.Bool.{cases_Bool, eqb-true, eq-eqb, both_ways, false_from_ne_true, or_cases, or_parts}
 use Rattle.ide_wire.specs.declared.key.Key.{Key}
@@ -40,15 +40,6 @@ module _ {T : Type 0} where
         w.apart h j m.0 n.0 m.1 n.1 t;
   }
 
-  pub held_marked : (pending new_pending : Key → Bool) (claims new_claims : ℕ → Option (Claim T)) (key : Key)
-      → ((q : Key) → new_pending q ≡ (same_key key q || pending q)) → ((h : ℕ) → new_claims h ≡ marked key (claims h))
-      → AreHeld pending claims → AreHeld new_pending new_claims
-  held_marked pending new_pending claims new_claims key p e w =
-      held_same pending new_pending claims new_claims
-      (λ q t. grind (arith, p q))
-      (λ h c i. IsOf-marked key (claims h) c (sym (e h) ∙ i))
-      w
-
   -- the hand's claim, put in its place, is of the key that the hand's claim was of
   pub IsOf-put : (claims : ℕ → Option (Claim T)) (hand : ℕ) (claim : Option (Claim T)) (h : ℕ) (c : Claim T)
       → ((c : Claim T) → claim ≡ Some c → IsOf (claims hand) c)
@@ -69,14 +60,6 @@ module _ {T : Type 0} where
       (λ f. let at : claims h ≡ Some c = grind arith in inr (f, at))
       (cases_Bool (nat_eq hand h))
 
-  pub held_advanced : (pending : Key → Bool) (claims new_claims : ℕ → Option (Claim T)) (hand count : ℕ)
-      → ((h : ℕ) → new_claims h ≡ put_hand claims hand (with_done count (claims hand)) h)
-      → AreHeld pending claims → AreHeld pending new_claims
-  held_advanced pending claims new_claims hand count e w =
-      held_same pending pending claims new_claims (λ q t. t)
-      (λ h c i. IsOf-put claims hand (with_done count (claims hand)) h c (λ c. IsOf-done count (claims hand) c) (sym (e h) ∙ i))
-      w
-
   pub held_gone : (pending : Key → Bool) (claims new_claims : ℕ → Option (Claim T)) (hand : ℕ)
       → ((h : ℕ) → new_claims h ≡ put_hand claims hand None h)
       → AreHeld pending claims → AreHeld pending new_claims
@@ -84,12 +67,6 @@ module _ {T : Type 0} where
       held_same pending pending claims new_claims (λ q t. t)
       (λ h c i. IsOf-put claims hand None h c (λ c n. absurd (cc)) (sym (e h) ∙ i))
       w
-
-  pub held_as : (pending : Key → Bool) (claims new_claims : ℕ → Option (Claim T))
-      → ((h : ℕ) → new_claims h ≡ claims h)
-      → AreHeld pending claims → AreHeld pending new_claims
-  held_as pending claims new_claims e w =
-      held_same pending pending claims new_claims (λ q t. t) (λ h c i. (c, sym (e h) ∙ i, refl)) w
 
   -- the claim ends, and its key is pending no longer unless it was lowered
   pub held_settled : (pending new_pending : Key → Bool) (claims new_claims : ℕ → Option (Claim T)) (hand : ℕ) (claim : Claim T)

@@ -1,5 +1,5 @@
 -- The keys of the slots that are marked: which these are, how many, and what a mark or an entry more changes.
-use Rattle.std.proofs.Common.{◌≡◌, ℕ, zero, suc, ◌+◌, ◌≤◌, refl, sym, ap, ◌∙◌, arith, List, [], ◌∷◌, length, Bool, true, false, cond}
+use Rattle.std.proofs.Common.{◌≡◌, ℕ, zero, suc, ◌+◌, ◌≤◌, ◌++◌, refl, sym, ap, ◌∙◌, arith, List, [], ◌∷◌, length, Bool, true, false, cond}
 use Rattle.std.specs.Prelude.{◌||◌, nat_eq}
 use Rattle.std.specs.List.{AllByRecursion, IsDistinct, list_any}
 use Rattle.std.specs.Map.{keys_of}
@@ -11,7 +11,7 @@ use Rattle.ide_wire.specs.Key.{same_key, same_key_exact, same_key_refl}
 use Rattle.ide_image.specs.Tables.{behind, place_in, with_entry}
 use Rattle.ide_image.proofs.Places.{place-put, place_then}
 use Rattle.ide_image.proofs.Falls.{count-with}
-use Rattle.ide_image.specs.declared.marks.Mark.{Mark}
+use Rattle.ide_image.specs.declared.mark.Mark.{Mark}
 use Rattle.ide_image.specs.KeyedImage.{Covers, marked_at, keys_where}
 use Rattle.ide_image.specs.Queue.{SetsMark, is_pending_mark, one_if, pending_at, pending_count}
 use Rattle.ide_image.proofs.Spots.{place-few}
@@ -70,6 +70,11 @@ one-step key q e p r n true true a b first later rest = same_key_exact key e.0 a
 one-step key q e p r n true false a b first later rest = absurd (not-first r (later ∙ sym first))
 one-step key q e p r n false true a b first later rest = absurd (not-first p (first ∙ sym later))
 one-step key q e p r n false false a b first later rest = deeper p r n first later rest
+
+longer-step : (mark : ℕ → Bool) (here : Bool) (p r : ℕ) → marked_at (λ n. mark (suc n)) p ≡ marked_at (λ n. mark (suc n)) r
+    → marked_at mark (cond here 1 (behind p)) ≡ marked_at mark (cond here 1 (behind r))
+longer-step mark true p r same = refl
+longer-step mark false p r same = at-behind mark p ∙ same ∙ sym (at-behind mark r)
 
 module _ {F : Type 0} where
   -- marks that read as others do give the same keys
@@ -165,3 +170,23 @@ module _ {F : Type 0} where
   covers-set key es index b mark after stands sets covered n more =
       let few = place-few key es in
       sets n ∙ ap (λ t. cond t b (mark n)) (ne_eqb index n (omega (arith, stands, few, more))) ∙ covered n more
+
+  -- ---- behind the others there are more
+  pub at-longer : (mark : ℕ → Bool) (es more : List (Key × F)) (q : Key) → Covers (length es) mark → marked_at mark (place_in q (es ++ more)) ≡ marked_at mark (place_in q es)
+  at-longer mark [] more q covered = nowhere-marked (place_in q more)
+    where
+      nowhere-marked : (place : ℕ) → marked_at mark place ≡ false
+      nowhere-marked zero = refl
+      nowhere-marked (suc n) = covered n (omega arith)
+  at-longer mark (e ∷ es) more q covered =
+      longer-step mark (same_key q e.0) (place_in q (es ++ more)) (place_in q es)
+      (at-longer (λ n. mark (suc n)) es more q (λ n past. covered (suc n) (omega (arith, past))))
+
+  -- and none of these is marked
+  pub keys-longer : (mark : ℕ → Bool) (es more : List (Key × F)) → Covers (length es) mark → keys_where mark (es ++ more) ≡ keys_where mark es
+  keys-longer mark [] [] covered = refl
+  keys-longer mark [] (m ∷ ms) covered =
+      ap (λ b. cond b (m.0 ∷ keys_where (λ n. mark (suc n)) ms) (keys_where (λ n. mark (suc n)) ms)) (covered 0 (omega arith))
+      ∙ keys-longer (λ n. mark (suc n)) [] ms (λ n past. covered (suc n) (omega arith))
+  keys-longer mark (e ∷ es) more covered =
+      ap (λ ks. cond (mark 0) (e.0 ∷ ks) ks) (keys-longer (λ n. mark (suc n)) es more (λ n past. covered (suc n) (omega (arith, past))))

@@ -1,17 +1,15 @@
 -- Where entries stand: what is found at the place of a key, and which places there are once an entry is put in.
-use Rattle.std.proofs.Common.{◌≡◌, ℕ, zero, suc, ◌+◌, ◌-◌, ◌<◌, refl, sym, ap, subst, ◌∙◌, arith, List, [], ◌∷◌, ◌++◌, get_or, length, Option, None, Some, Bool, true, false, cond}
-use Rattle.std.specs.Prelude.{IfSome, nat_eq, slice_get, slice_set, unwrap_or}
-use Rattle.std.proofs.lemmas.Bool.Decides.{nat_tests}
-use Rattle.std.proofs.lemmas.List.{get_or_default}
+use Rattle.std.proofs.Common.{◌≡◌, ℕ, zero, suc, ◌+◌, ◌-◌, ◌<◌, refl, sym, ap, subst, ◌∙◌, arith, List, [], ◌∷◌, ◌++◌, length, Option, None, Some, Bool, true, false, cond}
+use Rattle.std.specs.Prelude.{IfSome, slice_get, slice_set}
+use Rattle.std.proofs.lemmas.List.{length-set}
 use Rattle.std.proofs.lemmas.Option.{same_Some}
 use Rattle.std.specs.List.{AllByRecursion, IsDistinct}
 use Rattle.std.specs.Map.{keys_of, lookup}
 use Rattle.std.specs.Option.{option_map}
 use Rattle.std.proofs.lemmas.Map.Keys.{IsDistinct-cons, IsDistinct-head, IsDistinct-tail}
-use Rattle.ide_pages.specs.Pages.{KeepsCells, Numbers, entries, number_at}
 use Rattle.ide_wire.specs.declared.key.Key.{Key}
-use Rattle.ide_wire.specs.Key.{node_of, same_key, same_key_exact, same_key_refl, same_key_symm}
-use Rattle.ide_image.specs.Tables.{HasCell, IsIndexed, behind, entry_nodes, place_in, with_entry}
+use Rattle.ide_wire.specs.Key.{same_key, same_key_exact, same_key_refl, same_key_symm}
+use Rattle.ide_image.specs.Tables.{behind, place_in, with_entry}
 
 behind-zero : (p : ℕ) → behind p ≡ 0 → p ≡ 0
 behind-zero zero is = refl
@@ -39,6 +37,15 @@ place-up : (place : ℕ) → 0 < place → place ≡ suc (place - 1)
 place-up place positive = omega (arith, positive)
 
 module _ {F : Type 0} (key : Key) where
+  -- a key that is not found stands nowhere
+  pub place-absent : (es : List (Key × F)) → lookup (same_key key) es ≡ None → place_in key es ≡ 0
+  place-absent [] none = refl
+  place-absent (e ∷ es) none =
+      elim (same_key key e.0) as (λ b. cond b (Some e.1) (lookup (same_key key) es) ≡ None → cond b 1 (behind (place_in key es)) ≡ 0) [
+        | true ↦ λ no. absurd (cc (no))
+        | false ↦ λ rest. ap behind (place-absent es rest)
+      ] none
+
   -- where the key has no entry
   pub none-at : (es : List (Key × F)) → place_in key es ≡ 0 → lookup (same_key key) es ≡ None
   none-at [] is = refl
@@ -134,6 +141,23 @@ module _ {F : Type 0} (key : Key) where
       at true same = ap (λ k. place_then (place_in k es) (length es)) (same_key_exact key q same) ∙ ap (λ p. place_then p (length es)) is
       at false other = is
 
+  -- where the key stands already, so does each key
+  pub place-stays : (es : List (Key × F)) (q : Key) (f : F) (n : ℕ) → n + 1 ≡ place_in key es → place_in q (with_entry es key f) ≡ place_in q es
+  place-stays es q f n is = place-put es q f ∙ by-case (same_key key q) refl
+    where
+      own : place_in key es ≡ suc n
+      own = let up : n + 1 ≡ suc n = omega arith in sym is ∙ up
+
+      by-case : (b : Bool) → same_key key q ≡ b → cond b (place_then (place_in key es) (length es)) (place_in q es) ≡ place_in q es
+      by-case true same = ap (λ p. place_then p (length es)) own ∙ sym own ∙ ap (λ k. place_in k es) (same_key_exact key q same)
+      by-case false other = refl
+
+  -- and as many stand there
+  pub long-stays : (es : List (Key × F)) (f : F) (n : ℕ) → n + 1 ≡ place_in key es → length (with_entry es key f) ≡ length es
+  long-stays es f n is =
+      let up : n + 1 ≡ suc n = omega arith in
+      ap length (put-at es n f (sym is ∙ up)) ∙ length-set es n (key, f)
+
   -- entries of distinct keys stay so
   apart-put : (x : Key) (es : List (Key × F)) (f : F) → AllByRecursion (λ y. same_key x y ≡ false) (keys_of es) → same_key x key ≡ false
       → AllByRecursion (λ y. same_key x y ≡ false) (keys_of (with_entry es key f))
@@ -155,77 +179,13 @@ module _ {F : Type 0} (key : Key) where
             IsDistinct-cons same_key e.0 (keys_of (with_entry es key f)) (apart-put e.0 es f head (same_key_symm e.0 key ∙ other)) (distinct-put es f tail)
       ] refl
 
-  -- the nodes stay where the key has an entry, and else the key's goes last
-  nodes-at : (es : List (Key × F)) (n : ℕ) (f : F) → place_in key es ≡ suc n → entry_nodes (with_entry es key f) ≡ entry_nodes es
-  nodes-at [] n f is = absurd (omega (arith, is))
-  nodes-at (e ∷ es) n f is =
-      elim (same_key key e.0) as (λ b. cond b 1 (behind (place_in key es)) ≡ suc n → entry_nodes (cond b ((e.0, f) ∷ es) (e ∷ with_entry es key f)) ≡ node_of e.0 ∷ entry_nodes es) [
-        | true ↦ λ _. refl
-        | false ↦ λ more. ap (λ ns. node_of e.0 ∷ ns) (nodes-at es (place_in key es - 1) f (before-behind (place_in key es) n more))
-      ] is
-    where
-      before-behind : (p n : ℕ) → behind p ≡ suc n → p ≡ suc (p - 1)
-      before-behind zero n more = absurd (omega (arith, more))
-      before-behind (suc p) n more = omega arith
-
-  nodes-last : (es : List (Key × F)) (f : F) → place_in key es ≡ 0 → entry_nodes (with_entry es key f) ≡ entry_nodes es ++ node_of key ∷ []
-  nodes-last [] f is = refl
-  nodes-last (e ∷ es) f is =
-      elim (same_key key e.0) as (λ b. cond b 1 (behind (place_in key es)) ≡ 0 → entry_nodes (cond b ((e.0, f) ∷ es) (e ∷ with_entry es key f)) ≡ node_of e.0 ∷ (entry_nodes es ++ node_of key ∷ [])) [
-        | true ↦ λ no. absurd (omega (arith, no))
-        | false ↦ λ none. ap (λ ns. node_of e.0 ∷ ns) (nodes-last es f (behind-zero (place_in key es) none))
-      ] is
-
-  -- the places are those of the entries, once one is put in at its place or behind the last
-  pub indexed-at : (places : Numbers) (nodes : List ℕ) (es : List (Key × F)) (n : ℕ) (f : F) → IsIndexed places nodes es → place_in key es ≡ suc n
-      → IsIndexed places nodes (with_entry es key f)
-  indexed-at places nodes es n f indexed is = record {
-    places_are = λ q. indexed.places_are q ∙ sym (place-put es q f ∙ kept q (same_key key q) refl);
-    nodes_are = indexed.nodes_are ∙ sym (nodes-at es n f is);
-    distinct = distinct-put es f indexed.distinct;
-  }
-    where
-      kept : (q : Key) (own : Bool) → same_key key q ≡ own → cond own (place_then (place_in key es) (length es)) (place_in q es) ≡ place_in q es
-      kept q true same = ap (λ p. place_then p (length es)) is ∙ sym is ∙ ap (λ k. place_in k es) (same_key_exact key q same)
-      kept q false other = refl
-
-  pub indexed-last : (old new : Numbers) (nodes after : List ℕ) (es : List (Key × F)) (f : F) → IsIndexed old nodes es → place_in key es ≡ 0
-      → after ≡ nodes ++ node_of key ∷ []
-      → ((q : Key) → number_at new q ≡ cond (same_key key q) (length es + 1) (number_at old q)) → IsIndexed new after (with_entry es key f)
-  indexed-last old new nodes after es f indexed is noted put = record {
-    nodes_are = noted ∙ ap (λ ns. ns ++ node_of key ∷ []) indexed.nodes_are ∙ sym (nodes-last es f is);
-    places_are = λ q.
-        put q
-        ∙ ap (λ p. cond (same_key key q) p (number_at old q)) one_more
-        ∙ ap (λ p. cond (same_key key q) (suc (length es)) p) (indexed.places_are q)
-        ∙ sym (place-put es q f ∙ ap (λ p. cond (same_key key q) (place_then p (length es)) (place_in q es)) is);
-    distinct = distinct-put es f indexed.distinct;
-  }
-    where
-      one_more : length es + 1 ≡ suc (length es)
-      one_more = omega arith
-
   -- the same of a place that is known to be above 0
   pub found-before : (es : List (Key × F)) (place : ℕ) → place ≡ place_in key es → 0 < place → option_map (λ e. e.1) (slice_get es (place - 1)) ≡ lookup (same_key key) es
   found-before es place is positive = found-at es (place - 1) (sym is ∙ place-up place positive)
 
-  pub found-some : (es : List (Key × F)) (place : ℕ) (e : Key × F) → Some e ≡ slice_get es (place - 1) → place ≡ place_in key es → 0 < place
-      → Some e.1 ≡ lookup (same_key key) es
-  found-some es place e there is positive = ap (option_map (λ e. e.1)) there ∙ found-before es place is positive
-
   pub found-none : (es : List (Key × F)) (place : ℕ) → None ≡ slice_get es (place - 1) → place ≡ place_in key es → 0 < place
       → None ≡ lookup (same_key key) es
   found-none es place there is positive = ap (option_map (λ e. e.1)) there ∙ found-before es place is positive
-
-  pub stands-before : (es : List (Key × F)) (place : ℕ) → place ≡ place_in key es → 0 < place → place - 1 < length es
-  stands-before es place is positive = stands-at es (place - 1) (sym is ∙ place-up place positive)
-
-  pub put-before : (es : List (Key × F)) (place : ℕ) (f : F) → place ≡ place_in key es → 0 < place → slice_set es (place - 1) (key, f) ≡ with_entry es key f
-  put-before es place f is positive = sym (put-at es (place - 1) f (sym is ∙ place-up place positive))
-
-  pub indexed-before : (places : Numbers) (nodes : List ℕ) (es : List (Key × F)) (place : ℕ) (f : F) → IsIndexed places nodes es → place ≡ place_in key es → 0 < place
-      → IsIndexed places nodes (with_entry es key f)
-  indexed-before places nodes es place f indexed is positive = indexed-at places nodes es (place - 1) f indexed (sym is ∙ place-up place positive)
 
 -- what holds of each key holds of that of an entry
 key-at : {F : Type 0} (P : Key → Type 0) (es : List (Key × F)) (i : ℕ) (e : Key × F) → AllByRecursion P (keys_of es) → slice_get es i ≡ Some e → P e.0
@@ -249,30 +209,3 @@ pub present-at : {F : Type 0} (es : List (Key × F)) (i : ℕ) (o : Option (Key 
     → IfSome o (λ e. lookup (same_key e.0) es ≡ Some e.1)
 present-at es i None is apart = tt
 present-at es i (Some e) is apart = found-present es i e apart (sym is)
-
--- the places are those of the entries also where cells were added
-pub indexed-same : {F : Type 0} (old new : Numbers) (nodes : List ℕ) (es : List (Key × F)) → entries new ≡ entries old → IsIndexed old nodes es → IsIndexed new nodes es
-indexed-same old new nodes es same indexed = record {
-  nodes_are = indexed.nodes_are;
-  places_are = λ key. ap (λ xs. unwrap_or (lookup (same_key key) xs) 0) same ∙ indexed.places_are key;
-  distinct = indexed.distinct;
-}
-
--- ---- cells of a list's keys
-pub kept-cell : (old new : Numbers) (key : Key) → KeepsCells old new → HasCell old key → HasCell new key
-kept-cell old new key keeps has = record { cell = has.cell; is = keeps key has.cell has.is; few = has.few }
-
--- the first keys of the list have cells, and so has the next one
-pub cells-more : {F : Type 0} (old new : Numbers) (list : List (Key × F)) (index : ℕ) (e : Key × F) → index < length list → e ≡ get_or list index e
-    → KeepsCells old new → HasCell new e.0
-    → ((k : ℕ) (d : Key × F) → k < index → HasCell old (get_or list k d).0)
-    → (k : ℕ) (d : Key × F) → k < index + 1 → HasCell new (get_or list k d).0
-cells-more old new list index e within is keeps made before k d less =
-    at (nat_eq k index) refl
-  where
-    next : k ≡ index → HasCell new (get_or list k d).0
-    next same = subst (λ x. HasCell new x.0) (is ∙ get_or_default list index e d within ∙ ap (λ i. get_or list i d) (sym same)) made
-
-    at : (b : Bool) → nat_eq k index ≡ b → HasCell new (get_or list k d).0
-    at true same = next (grind (arith, nat_tests, same))
-    at false other = kept-cell old new (get_or list k d).0 keeps (before k d (grind (arith, nat_tests, other, less)))

@@ -1,5 +1,5 @@
 -- Numbers of what is left of notes: sorted, they tell it in the order of keys.
-use Rattle.std.proofs.Common.{◌≡◌, ℕ, zero, suc, ◌+◌, ◌<◌, ◌≤◌, refl, sym, ap, subst, ◌∙◌, arith, List, [], ◌∷◌, Option, Some, Bool, true, false, cond, get_or, length, map}
+use Rattle.std.proofs.Common.{◌≡◌, ℕ, zero, suc, ◌+◌, ◌<◌, ◌≤◌, refl, sym, ap, subst, ◌∙◌, arith, List, [], ◌∷◌, Option, Some, Bool, false, get_or, length, map}
 use Rattle.std.specs.Global.{Vec}
 use Rattle.std.specs.Prelude.{IfOk, Result, Ok, Err, slice_get, unwrap_or}
 use Rattle.std.specs.List.{All, cons_option, filter_map}
@@ -13,12 +13,11 @@ use Rattle.ide_wire.specs.KeyOrder.{key_cmp}
 use Rattle.ide_wire.specs.declared.key.Key.{Key}
 use Rattle.ide_wire.specs.declared.key.Key.TheVariants.{Jump, Summary}
 use Rattle.std.specs.Option.{option_map}
-use Rattle.std.proofs.lemmas.Option.{same_Some}
-use Rattle.ide_wire.specs.Key.{same_key, same_key_exact}
-use Rattle.ide_image.specs.Indexed.{Indexed, place_of_key}
+use Rattle.ide_image.specs.Indexed.{Indexed, function_of, place_of_key}
 use Rattle.ide_image.specs.Queue.{SlotMarks, pending_at}
+use Rattle.ide_image.proofs.Shown.{entry-at}
 use Rattle.ide_image.specs.Ranks.{AreNumbers, HasRank, IsNumber, item_in, key_rank}
-use Rattle.ide_image.specs.Tables.{behind, place_in}
+use Rattle.ide_image.specs.Tables.{place_in}
 
 -- a rank is a number of 48 bits
 pub rank-low : (key : Key) → HasRank key → key_rank key < 281474976710656
@@ -97,35 +96,14 @@ stands [] i d within = absurd (omega (arith, within))
 stands (x ∷ xs) zero d within = refl
 stands (x ∷ xs) (suc i) d within = stands xs i d (omega (arith, within))
 
-more-behind : (p n : ℕ) → behind p ≡ suc (suc n) → p ≡ suc n
-more-behind zero n is = absurd (omega (arith, is))
-more-behind (suc p) n is = omega (arith, is)
-
-not-behind : (p : ℕ) → behind p ≡ 1 → ⊥
-not-behind zero one = omega (arith, one)
-not-behind (suc p) one = omega (arith, one)
-
--- the entry at a key's place is the key's
-own-key : {F : Type 0} (key : Key) (es : List (Key × F)) (n : ℕ) (e : Key × F) → place_in key es ≡ suc n → slice_get es n ≡ Some e → e.0 ≡ key
-own-key key [] n e is there = absurd (cc (there))
-own-key key (x ∷ es) zero e is there =
-    elim (same_key key x.0) as (λ b. same_key key x.0 ≡ b → cond b 1 (behind (place_in key es)) ≡ 1 → e.0 ≡ key) [
-      | true ↦ λ same _. sym (same_key_exact key x.0 same ∙ ap (λ (y : Key × _). y.0) (same_Some x e there))
-      | false ↦ λ _ one. absurd (not-behind (place_in key es) one)
-    ] refl is
-own-key key (x ∷ es) (suc n) e is there =
-    elim (same_key key x.0) as (λ b. cond b 1 (behind (place_in key es)) ≡ suc (suc n) → e.0 ≡ key) [
-      | true ↦ λ no. absurd (omega (arith, no))
-      | false ↦ λ more. own-key key es n e (more-behind (place_in key es) n more) there
-    ] is
-
-pub item-at : {F : Type 0} (indexed : Indexed F) (marks : SlotMarks) (key : Key) (slot : ℕ) (e : Key × F) (waits : Bool) → place_of_key indexed key ≡ slot + 1
-    → Some e ≡ slice_get indexed.table.entries slot → waits ≡ pending_at marks.list slot → item_in indexed marks slot ≡ Some (key, e.1, waits)
-item-at indexed marks key slot e waits is there pending =
-    let place : place_in key indexed.table.entries ≡ suc slot = omega (arith, is) in
-    let own = own-key key indexed.table.entries slot e place (sym there) in
-    ap (option_map (λ (entry : Key × _). (entry.0, entry.1, pending_at marks.list slot))) (sym there)
-    ∙ (λ i. Some (own i, e.1, sym pending i))
+-- the item of a slot at which a key stands that has a function
+pub item-at : {F : Type 0} (indexed : Indexed F) (marks : SlotMarks) (key : Key) (slot : ℕ) (f : F) (waits : Bool) → place_of_key indexed key ≡ slot + 1
+    → function_of indexed.cells key ≡ Some f → waits ≡ pending_at marks.list slot → item_in indexed marks slot ≡ Some (key, f, waits)
+item-at indexed marks key slot f waits is has pending =
+    let place : place_in key indexed.cells ≡ suc slot = omega (arith, is) in
+    ap (option_map (λ (entry : Key × _). (entry.0, entry.1, pending_at marks.list slot)))
+    (entry-at key indexed.cells slot place ∙ ap (option_map (λ f. (key, f))) has)
+    ∙ (λ i. Some (key, f, sym pending i))
 
 -- what holds of what the numbers tell holds of the items
 pub told-items : {X E : Type 0} (P : List X → Type 0) (told : ℕ → Option X) (sorted numbers : List ℕ) (result : Result (Vec X) E) → numbers ≡ sorted

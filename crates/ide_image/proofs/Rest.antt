@@ -10,9 +10,9 @@ use Rattle.ide_wire.specs.Key.{same_key, same_key_exact, same_key_symm}
 use Rattle.ide_image.specs.declared.claim.Claim.{Claim}
 use Rattle.ide_image.specs.Worklist.{claim_in, marked, put_hand}
 use Rattle.ide_image.specs.declared.entry.Entry.{Entry}
-use Rattle.ide_image.specs.Tables.{Table, found, with_entry}
-use Rattle.ide_image.proofs.Sets.{found-with_entry}
-use Rattle.ide_image.specs.Indexed.{Indexed}
+use Rattle.ide_image.specs.Tables.{with_entry}
+use Rattle.ide_image.proofs.Shown.{function-with}
+use Rattle.ide_image.specs.Indexed.{Indexed, function_of}
 use Rattle.ide_image.specs.Queue.{SlotMarks}
 use Rattle.ide_image.specs.KeyedImage.{HasRoomFor, entry_by, marked_all, pending_by_slot}
 use Rattle.ide_image.specs.ChangeLog.{ChangeLog}
@@ -118,12 +118,12 @@ noting-with (Some list) key entry = refl
 
 -- the entry of another key stays once one is entered
 module _ {F : Type 0} (indexed after : Indexed F) (marks marks_after : SlotMarks) (key : Key) (f : F)
-    (entered : after.table.entries ≡ with_entry indexed.table.entries key f)
+    (entered : after.cells ≡ with_entry indexed.cells key (Some f))
     (pends : (q : Key) → pending_by_slot after marks_after q ≡ (same_key key q || pending_by_slot indexed marks q)) where
   pub entry-kept : (q : Key) → same_key key q ≡ false → entry_by after marks_after q ≡ entry_by indexed marks q
   entry-kept q other =
-      let function : found after.table q ≡ found indexed.table q =
-      ap (lookup (same_key q)) entered ∙ found-with_entry indexed.table.entries key q f ∙ ap (λ b. cond b (Some f) (found indexed.table q)) other in
+      let function : function_of after.cells q ≡ function_of indexed.cells q =
+      ap (λ cells. function_of cells q) entered ∙ function-with indexed.cells key q f ∙ ap (λ b. cond b (Some f) (function_of indexed.cells q)) other in
       let pending : pending_by_slot after marks_after q ≡ pending_by_slot indexed marks q = pends q ∙ ap (λ b. b || pending_by_slot indexed marks q) other in
       cc (function, pending)
 
@@ -134,29 +134,14 @@ module _ {F : Type 0} where
   -- room for some is room for one
   pub room-one : (indexed : Indexed F) (marks : SlotMarks) (changes : ChangeLog F) (n : ℕ) → 1 ≤ n → HasRoomFor n indexed marks changes → HasRoomFor 1 indexed marks changes
   room-one indexed marks changes n some room = record {
-    entries = record { free = omega (arith, some, room.entries.free); few = omega (arith, some, room.entries.few) };
-    marked = omega (arith, some, room.marked);
+    functions = omega (arith, some, room.functions);
+    marked = room.marked;
     stacked = omega (arith, some, room.stacked);
     notes = record {
       free = λ is. let free = room.notes.free is in omega (arith, some, free);
-      stamped = λ is. let stamped = room.notes.stamped is in omega (arith, some, stamped);
+      stamped = room.notes.stamped;
     };
   }
-
-  -- and the same room where cells were added
-  pub room-same : (indexed after : Indexed F) (marks : SlotMarks) (changes : ChangeLog F) (n : ℕ) → after.table ≡ indexed.table → after.room ≡ indexed.room
-      → HasRoomFor n indexed marks changes → HasRoomFor n after marks changes
-  room-same indexed after marks changes n table room has =
-      let count : length after.table.entries ≡ length indexed.table.entries = ap (λ (t : Table F). length t.entries) table in
-      record {
-        entries = record { free = omega (arith, room, has.entries.free); few = omega (arith, count, has.entries.few) };
-        marked = omega (arith, count, has.marked);
-        stacked = has.stacked;
-        notes = record {
-          free = has.notes.free;
-          stamped = λ is. let stamped = has.notes.stamped is in omega (arith, count, stamped);
-        };
-      }
 
 -- a hand that has no claim has none once another's is gone, nor has that one
 pub put-still : {T : Type 0} (claims : ℕ → Option (Claim T)) (hand h : ℕ) → claims h ≡ None → put_hand claims hand None h ≡ None

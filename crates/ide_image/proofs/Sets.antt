@@ -3,7 +3,7 @@ use Rattle.std.proofs.Common.{◌≡◌, refl, sym, ap, ◌∙◌, List, [], ◌
 use Rattle.std.specs.Map.{lookup}
 use Rattle.ide_wire.specs.declared.key.Key.{Key}
 use Rattle.ide_wire.specs.Key.{same_key, same_key_exact, same_key_symm}
-use Rattle.ide_image.specs.Tables.{Sets, SetsAll, last_of, with_all, with_entry}
+use Rattle.ide_image.specs.Tables.{with_entry}
 
 module _ {F : Type 0} where
   -- the function that is found at a key, once another's entry is set behind a first entry
@@ -29,14 +29,3 @@ module _ {F : Type 0} where
   found-with_entry [] key q v = ap (λ b. cond b (Some v) None) (same_key_symm q key)
   found-with_entry (e ∷ es) key q v =
       found-behind e es key q v (same_key key e.0) (same_key q e.0) (same_key key q) refl refl refl (found-with_entry es key q v)
-
-  pub found-with_all : (es xs : List (Key × F)) (q : Key) → lookup (same_key q) (with_all es xs) ≡ last_of xs q (lookup (same_key q) es)
-  found-with_all es [] q = refl
-  found-with_all es (x ∷ xs) q =
-      found-with_all (with_entry es x.0 x.1) xs q ∙ ap (last_of xs q) (found-with_entry es x.0 q x.1)
-
-  pub sets-with : (es new : List (Key × F)) (key : Key) (f : F) → new ≡ with_entry es key f → Sets (record { entries = es }) (record { entries = new }) key f
-  sets-with es new key f is = record { entries = λ q. ap (lookup (same_key q)) is ∙ found-with_entry es key q f }
-
-  pub sets-all : (es new xs : List (Key × F)) → new ≡ with_all es xs → SetsAll (record { entries = es }) (record { entries = new }) xs
-  sets-all es new xs is = record { entries = λ q. ap (lookup (same_key q)) is ∙ found-with_all es xs q }

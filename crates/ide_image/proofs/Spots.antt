@@ -1,16 +1,13 @@
 -- Where entries stand, and where they stand once one is put in.
-use Rattle.std.proofs.Common.{◌≡◌, ℕ, zero, suc, ◌+◌, ◌-◌, ◌<◌, ◌≤◌, sym, ap, subst, ◌∙◌, arith, List, [], ◌∷◌, length, Option, None, Some, Bool, true, false, cond}
+use Rattle.std.proofs.Common.{◌≡◌, ℕ, zero, suc, ◌+◌, ◌≤◌, sym, ap, subst, ◌∙◌, arith, List, [], ◌∷◌, length, Option, None, Some, Bool, true, false, cond}
 use Rattle.std.specs.Prelude.{IfSome, slice_get}
 use Rattle.std.specs.List.{AllByRecursion, IsDistinct}
-use Rattle.std.specs.Map.{keys_of, lookup}
+use Rattle.std.specs.Map.{keys_of}
 use Rattle.std.proofs.lemmas.Option.{same_Some}
 use Rattle.std.proofs.lemmas.Map.Keys.{IsDistinct-head, IsDistinct-tail}
 use Rattle.ide_wire.specs.declared.key.Key.{Key}
 use Rattle.ide_wire.specs.Key.{same_key, same_key_refl, same_key_symm}
-use Rattle.ide_image.specs.Tables.{behind, place_in, with_entry}
-use Rattle.ide_image.proofs.Places.{place-put, place_then}
-use Rattle.ide_image.proofs.Falls.{count-with}
-use Rattle.std.specs.Option.{is_some}
+use Rattle.ide_image.specs.Tables.{behind, place_in}
 
 behind-few : (p count : ℕ) → p ≤ count → behind p ≤ suc count
 behind-few zero count few = omega arith
@@ -52,25 +49,3 @@ module _ {F : Type 0} where
       → IfSome o (λ e. place_in e.0 es ≡ i + 1)
   place-at es i None is apart = tt
   place-at es i (Some e) is apart = stands-in es i e apart (sym is)
-
-  -- where the key stands once its entry is put in
-  pub spot-before : (key : Key) (es : List (Key × F)) (f : F) (place : ℕ) → place ≡ place_in key es → 0 < place → (place - 1) + 1 ≡ place_in key (with_entry es key f)
-  spot-before key es f place is positive =
-      let up : (place - 1) + 1 ≡ suc (place - 1) = omega arith in
-      let same : place ≡ suc (place - 1) = omega (arith, positive) in
-      up ∙ sym (place-put key es key f ∙ ap (λ b. cond b (place_then (place_in key es) (length es)) (place_in key es)) (same_key_refl key) ∙ ap (λ p. place_then p (length es)) (sym is ∙ same))
-
-  pub spot-last : (key : Key) (es : List (Key × F)) (f : F) → place_in key es ≡ 0 → length es + 1 ≡ place_in key (with_entry es key f)
-  spot-last key es f is =
-      let up : length es + 1 ≡ suc (length es) = omega arith in
-      up ∙ sym (place-put key es key f ∙ ap (λ b. cond b (place_then (place_in key es) (length es)) (place_in key es)) (same_key_refl key) ∙ ap (λ p. place_then p (length es)) is)
-
-  -- one entry more at most
-  pub put-few : (key : Key) (es : List (Key × F)) (f : F) → length (with_entry es key f) ≤ length es + 1
-  put-few key es f = let count = count-with key f es in omega (arith, count, no-more (is_some (lookup (same_key key) es)))
-
-  pub slot-few : (key : Key) (es : List (Key × F)) (f : F) (slot : ℕ) → slot + 1 ≡ place_in key (with_entry es key f) → slot < length es + 1
-  slot-few key es f slot is =
-      let few = place-few key (with_entry es key f) in
-      let one = put-few key es f in
-      omega (arith, is, few, one)

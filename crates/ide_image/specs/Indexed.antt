@@ -1,66 +1,97 @@
--- What contracts say of entries in the order in which their keys came, and of where each stands.
-use Rattle.std.specs.Prelude.{◌≡◌, ℕ, ◌+◌, ◌-◌, ◌<◌, ◌≤◌, ◌^◌, List, length, map, min, Some}
-use Rattle.std.specs.List.{AllByRecursion, IsDistinct}
-use Rattle.std.specs.Map.{keys_of}
-use Rattle.ide_pages.specs.Pages.{Numbers, cell_of, key_at}
-use Rattle.ide_image.specs.Tables.{IsIndexed, Table, place_in, with_all, with_entry}
-use Rattle.ide_wire.specs.Key.{same_key}
+-- What contracts say of cells: each has a key, and a function where the key is present.
+use Rattle.std.specs.Prelude.{◌≡◌, ℕ, ◌+◌, ◌-◌, ◌*◌, ◌/◌, ◌%◌, ◌<◌, ◌≤◌, ◌^◌, ◌++◌, List, Option, None, Some, length, map, nat_eq, slice_get, if◌then◌else◌}
+use Rattle.std.specs.List.{All, IsDistinct, filter_map, range_with_len}
+use Rattle.std.specs.Map.{keys_of, lookup}
+use Rattle.std.specs.Option.{option_flatten, option_map}
+use Rattle.ide_pages.specs.Pages.{ArePaged, Numbers, key_at, number_at}
+use Rattle.ide_image.specs.Tables.{Table, place_in, with_all, with_entry}
+use Rattle.ide_wire.specs.Key.{node_of, same_key}
 use Rattle.ide_wire.specs.declared.key.Key.{Key}
 
--- the entries as a table, the cells of the keys, and for how many more entries there is room
+-- the cells in their order, each with its key and the key's function, if it has one; and for how many more functions there is room
 pub record Indexed (F : Type 0) : Type 0 where
-  pub table : Table F
-  pub places : Numbers
+  pub cells : List (Key × Option F)
   pub room : ℕ
 
--- how many more there is room for, in a row of entries and a column of nodes of this length and capacity
-abbrev pub entry_room : (row_room node_len node_capacity : ℕ) → ℕ
-entry_room row_room node_len node_capacity = min row_room (node_capacity - node_len)
-
 module _ {F : Type 0} where
-  -- the entry of an item, which has a cell in the pages: the key of the cell with the function
-  abbrev pub entry_in : (pages : List Key) → ℕ × F → Key × F
-  entry_in pages item = (key_at pages item.0, item.1)
+  -- the function of a number: none for 0, and else the one that is kept under the index before it
+  abbrev pub kept_at : List F → ℕ → Option F
+  kept_at functions n = if nat_eq n 0 then None else slice_get functions (n - 1)
 
-  -- the same of each of a list
-  abbrev pub entries_in : (pages : List Key) → List (ℕ × F) → List (Key × F)
-  entries_in pages items = map (entry_in pages) items
+  -- a cell: its key, with the function of the key's number
+  abbrev pub cell_by : Numbers → List F → ℕ → Key × Option F
+  cell_by numbers functions cell = (key_at numbers.pages cell, kept_at functions (number_at numbers (key_at numbers.pages cell)))
 
-  -- the cell of each item is there, and it is its key's
-  abbrev pub HaveTheirCells : Numbers → List (ℕ × F) → Type 0
-  HaveTheirCells places items = AllByRecursion (λ (item : ℕ × F). cell_of places (key_at places.pages item.0) ≡ Some item.0) items
+  -- the cells of all pages, 64 each
+  abbrev pub cells_by : Numbers → List F → List (Key × Option F)
+  cells_by numbers functions = map (cell_by numbers functions) (range_with_len 0 (64 * length numbers.pages))
 
-  -- the items have the cells of their keys, and the places and the nodes are those of their entries
-  pub record AreIndexed (places : Numbers) (nodes : List ℕ) (items : List (ℕ × F)) : Type 0 where
-    pub cells_are : HaveTheirCells places items
-    pub indexed : IsIndexed places nodes (entries_in places.pages items)
+  -- what a cell shows: its key with its function, if it has one
+  abbrev pub entry_of_cell : Key × Option F → Option (Key × F)
+  entry_of_cell cell = option_map (λ f. (cell.0, f)) cell.1
 
-  -- one more than the index of the key's entry: 0, if it has none
+  -- the entries that cells show
+  abbrev pub entries_in : List (Key × Option F) → List (Key × F)
+  entries_in cells = filter_map entry_of_cell cells
+
+  -- the same as a table
+  abbrev pub table_of : List (Key × Option F) → Table F
+  table_of cells = record { entries = entries_in cells }
+
+  -- the function of a key, if it has one, by its cell
+  abbrev pub function_of : List (Key × Option F) → Key → Option F
+  function_of cells key = option_flatten (lookup (same_key key) cells)
+
+  -- the entry that the cell at an index shows
+  abbrev pub entry_in : List (Key × Option F) → ℕ → Option (Key × F)
+  entry_in cells n = option_flatten (option_map entry_of_cell (slice_get cells n))
+
+  -- the entries that a page's cells show are at this node and those behind it, in their order
+  abbrev pub BeginsPage : List (Key × Option F) → (page node : ℕ) → Type 0
+  BeginsPage cells page node = (cell : ℕ) (e : Key × F) → cell / 64 ≡ page → entry_in cells cell ≡ Some e → node_of e.0 ≡ node + cell % 64
+
+  -- cells of keys that have no function
+  abbrev pub empty_cells : List Key → List (Key × Option F)
+  empty_cells keys = map (λ key. (key, None)) keys
+
+  -- entries, each in a cell
+  abbrev pub full_cells : List (Key × F) → List (Key × Option F)
+  full_cells entries = map (λ entry. (entry.0, Some entry.1)) entries
+
+  -- the pages have their cells, each number has a function, and there are 2^32 - 64 cells at most
+  pub record AreIndexed (numbers : Numbers) (functions : List F) : Type 0 where
+    pub paged : ArePaged numbers
+    pub kept : (key : Key) → number_at numbers key ≤ length functions
+    pub few : 64 * length numbers.pages ≤ 2 ^ 32 - 64
+
+  -- one more than the index of the key's cell: 0, if it has none
   abbrev pub place_of_key : Indexed F → Key → ℕ
-  place_of_key indexed key = place_in key indexed.table.entries
+  place_of_key indexed key = place_in key indexed.cells
 
-  -- P holds of the key at the place: of each absent one, at place 0
+  -- P holds of the key whose place this is: of each that has no cell, at place 0
   abbrev pub ForKeyAt : ℕ → Indexed F → (Key → Type 0) → Type 0
   ForKeyAt place indexed P = (key : Key) → place ≡ place_of_key indexed key → P key
 
-  -- the function is put at the key: the key stays where it stands, and a new one goes last
+  -- the function is put into the key's cell
   abbrev pub PutsEntry : Key → F → (old new : Indexed F) → Type 0
-  PutsEntry key function old new = new.table.entries ≡ with_entry old.table.entries key function
+  PutsEntry key function old new = new.cells ≡ with_entry old.cells key (Some function)
 
-  -- so are the functions of a list at theirs, one after the other
+  -- so are the functions of a list into theirs, one after the other
   abbrev pub PutsEntries : List (Key × F) → (old new : Indexed F) → Type 0
-  PutsEntries list old new = new.table.entries ≡ with_all old.table.entries list
+  PutsEntries list old new = new.cells ≡ with_all old.cells (full_cells list)
 
-  -- no two entries are of one key
+  -- no two cells are of one key
   abbrev pub HasDistinctKeys : Indexed F → Type 0
-  HasDistinctKeys indexed = IsDistinct same_key (keys_of indexed.table.entries)
+  HasDistinctKeys indexed = IsDistinct same_key (keys_of indexed.cells)
 
-  -- there is room for so many more entries
-  pub record MayTake (count : ℕ) (indexed : Indexed F) : Type 0 where
-    pub free : count ≤ indexed.room
-    pub few : length indexed.table.entries + count < 2 ^ 32
+  -- behind the cells there may be more now, which have no function
+  abbrev pub Widens : (old new : Indexed F) → Type 0
+  Widens old new = (keys : List Key) × (new.cells ≡ old.cells ++ empty_cells keys)
 
-  -- the cell is the key's, and the place is that of its entry
-  pub record IsSpot (indexed : Indexed F) (key : Key) (cell place : ℕ) : Type 0 where
-    pub has_cell : cell_of indexed.places key ≡ Some cell
-    pub stands : place ≡ place_of_key indexed key
+  -- the key has a cell
+  abbrev pub HasCell : Indexed F → Key → Type 0
+  HasCell indexed key = 0 < place_of_key indexed key
+
+  -- each key of the list has one
+  abbrev pub HaveCells : Indexed F → List (Key × F) → Type 0
+  HaveCells indexed list = All (λ entry. HasCell indexed entry.0) list

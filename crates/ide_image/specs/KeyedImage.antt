@@ -3,14 +3,13 @@ use Rattle.std.specs.Prelude.{◌≡◌, ℕ, zero, suc, ◌+◌, ◌≤◌, ◌
 use Rattle.std.specs.List.{IsDistinct, list_any}
 use Rattle.std.specs.Map.{keys_of}
 use Rattle.std.specs.Option.{is_some}
-use Rattle.ide_pages.specs.Pages.{KeepsCells}
-use Rattle.ide_image.specs.Tables.{Table, found}
+use Rattle.ide_image.specs.Tables.{Table}
 use Rattle.ide_wire.specs.Key.{same_key}
 use Rattle.ide_wire.specs.declared.key.Key.{Key}
 use Rattle.ide_image.specs.Worklist.{AreHeld, Pile, claim_in, is_claim_of, is_pending}
 use Rattle.ide_image.specs.declared.claim.Claim.{Claim}
 use Rattle.ide_image.specs.ChangeLog.{AreSlotsOf, ChangeLog, MayNote, noted_at}
-use Rattle.ide_image.specs.Indexed.{Indexed, MayTake, place_of_key}
+use Rattle.ide_image.specs.Indexed.{HasDistinctKeys, Indexed, Widens, function_of, place_of_key, table_of}
 use Rattle.ide_image.specs.Notes.{NotesAll, entry_at, noted, with_note}
 use Rattle.ide_image.specs.Queue.{SlotMarks, SameMarks, SetsMark, held_at, one_if, pending_at, pending_count}
 use Rattle.ide_image.specs.declared.entry.Entry.{Entry}
@@ -52,7 +51,7 @@ marked_at mark (suc n) = mark n
 abbrev pub SetsAt : ℕ → Bool → (old new : ℕ → Bool) → Type 0
 SetsAt place b old new = (slot : ℕ) → slot + 1 ≡ place → SetsMark slot b old new
 
--- the keys of the entries whose slots are such
+-- the keys of the cells whose slots are such
 abbrev pub keys_where : {F : Type 0} → (ℕ → Bool) → List (Key × F) → List Key
 keys_where mark [] = []
 keys_where mark (e ∷ es) = if mark 0 then e.0 ∷ keys_where (λ n. mark (suc n)) es else keys_where (λ n. mark (suc n)) es
@@ -72,7 +71,7 @@ module _ {F : Type 0} where
 
   -- the key's entry, by its slot
   abbrev pub entry_by : Indexed F → SlotMarks → Key → Entry F
-  entry_by indexed marks key = record { function = found indexed.table key; pending = pending_by_slot indexed marks key }
+  entry_by indexed marks key = record { function = function_of indexed.cells key; pending = pending_by_slot indexed marks key }
 
   -- the key is pending beside those that were, each by its slot
   abbrev pub AddsBySlot : Key → (indexed after : Indexed F) → (marks marks_after : SlotMarks) → Type 0
@@ -115,27 +114,27 @@ module _ {F : Type 0} where
 
   -- there is room for so many keys more, that are pending and noted
   pub record HasRoomFor (count : ℕ) (indexed : Indexed F) (marks : SlotMarks) (changes : ChangeLog F) : Type 0 where
-    pub entries : MayTake count indexed
-    pub marked : length indexed.table.entries + count ≤ length marks.list
+    pub functions : count ≤ indexed.room
+    pub marked : length indexed.cells ≤ length marks.list
     pub stacked : count ≤ marks.spare
-    pub notes : MayNote count (length indexed.table.entries + count) changes
+    pub notes : MayNote count (length indexed.cells) changes
 
   -- the room that is used is that of one key at most
   abbrev pub UsesRoom : (indexed after : Indexed F) → (marks marks_after : SlotMarks) → (changes changes_after : ChangeLog F) → Type 0
   UsesRoom indexed after marks marks_after changes changes_after =
       (n : ℕ) → HasRoomFor (n + 1) indexed marks changes → HasRoomFor n after marks_after changes_after
 
-  -- the parts make the same image, and each key that had a cell has it
+  -- the parts make the same image: there may be more cells, of keys that have no function
   pub record SameParts (indexed after : Indexed F) (marks marks_after : SlotMarks) (changes changes_after : ChangeLog F) : Type 0 where
-    pub table : after.table ≡ indexed.table
-    pub cells : KeepsCells indexed.places after.places
+    pub cells : Widens indexed after
+    pub distinct : HasDistinctKeys indexed → HasDistinctKeys after
     pub pending : SameMarks (pending_at marks.list) (pending_at marks_after.list)
     pub held : SameMarks (held_at marks.list) (held_at marks_after.list)
     pub list : changes_after.list ≡ changes.list
     pub slots : changes_after.slots ≡ changes.slots
     pub noted : SameMarks (noted_at changes) (noted_at changes_after)
 
-  -- they make it over the same entries
+  -- they make it over the same cells
   abbrev pub SameOver : Indexed F → (marks marks_after : SlotMarks) → (changes changes_after : ChangeLog F) → Type 0
   SameOver indexed marks marks_after changes changes_after = SameParts indexed indexed marks marks_after changes changes_after
 
@@ -143,18 +142,19 @@ module _ {F T : Type 0} where
   -- the image that the parts make
   abbrev pub image_by : Indexed F → SlotMarks → List (Option (Claim T)) → ChangeLog F → KeyedImageData F T
   image_by indexed marks claims changes = record {
-    table = indexed.table;
-    pile = record { pending = keys_where (pending_at marks.list) indexed.table.entries; claims = claims };
+    table = table_of indexed.cells;
+    pile = record { pending = keys_where (pending_at marks.list) indexed.cells; claims = claims };
     changes = changes.list;
   }
 
-  -- the parts agree: slots behind the last entry have no marks, those that are marked as claimed are those of claims, each claim is of
+  -- the parts agree: slots behind the last cell have no marks, those that are pending have a function, those that are marked as claimed are those of claims, each claim is of
   -- a pending key and no two are of one key, the marks of noted slots are those of the notes, which have each key
   -- once, and each note has its key's slot
   pub record AreParts (indexed : Indexed F) (marks : SlotMarks) (claims : List (Option (Claim T))) (changes : ChangeLog F) : Type 0 where
-    pub distinct : IsDistinct same_key (keys_of indexed.table.entries)
-    pub covered : Covers (length indexed.table.entries) (pending_at marks.list)
-    pub unnoted : Covers (length indexed.table.entries) (noted_at changes)
+    pub distinct : IsDistinct same_key (keys_of indexed.cells)
+    pub covered : Covers (length indexed.cells) (pending_at marks.list)
+    pub unnoted : Covers (length indexed.cells) (noted_at changes)
+    pub present : (key : Key) → pending_by_slot indexed marks key ≡ true → is_some (function_of indexed.cells key) ≡ true
     pub taken : (key : Key) → held_by_slot indexed marks key ≡ true → (h : ℕ) × (is_claim_of key (claim_in claims h) ≡ true)
     pub marked : (h : ℕ) (key : Key) → is_claim_of key (claim_in claims h) ≡ true → held_by_slot indexed marks key ≡ true
     pub held : AreHeld (pending_by_slot indexed marks) (λ h. claim_in claims h)

@@ -5,7 +5,7 @@ use Rattle.std.specs.List.{filter_map}
 use Rattle.ide_image.specs.Tables.{found}
 use Rattle.ide_wire.specs.declared.key.Key.{Key}
 use Rattle.ide_image.specs.Worklist.{is_pending}
-use Rattle.ide_image.specs.Indexed.{Indexed}
+use Rattle.ide_image.specs.Indexed.{Indexed, function_of}
 use Rattle.ide_image.specs.KeyedImage.{KeyedImageData, pending_by_slot}
 use Rattle.ide_image.specs.Queue.{SlotMarks}
 use Rattle.ide_image.specs.declared.entry.Entry.{Entry}
@@ -28,7 +28,7 @@ module _ {F : Type 0} (same : F → F → Bool) where
 
   -- the same of a key, by its slot
   abbrev pub left_by_slot : Indexed F → SlotMarks → Key → (before : Entry F) → Option (Key × F × Bool)
-  left_by_slot indexed marks key before = left_of key (found indexed.table key) (pending_by_slot indexed marks key) before
+  left_by_slot indexed marks key before = left_of key (function_of indexed.cells key) (pending_by_slot indexed marks key) before
 
   -- what is left, in the order of the notes
   abbrev pub left_items : {T : Type 0} → KeyedImageData F T → List (Key × F × Bool)

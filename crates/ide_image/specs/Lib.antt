@@ -1,10 +1,10 @@
+pub mod Cells
 pub mod ChangeLog
-pub mod Entries
+pub mod Functions
 pub mod Grid
 pub mod Indexed
 pub mod KeyedImage
 pub mod Left
-pub mod Marks
 pub mod Notes
 pub mod Ordered
 pub mod Queue

@@ -4,7 +4,7 @@ use Rattle.std.specs.List.{All, filter_map}
 use Rattle.std.specs.Option.{option_map}
 use Rattle.ide_wire.specs.declared.key.Key.{Key}
 use Rattle.ide_wire.specs.declared.key.Key.TheVariants.{Jump, Summary}
-use Rattle.ide_image.specs.Indexed.{Indexed}
+use Rattle.ide_image.specs.Indexed.{Indexed, entry_in}
 use Rattle.ide_image.specs.Left.{left_by_slot}
 use Rattle.ide_image.specs.Queue.{SlotMarks, pending_at}
 use Rattle.ide_image.specs.declared.entry.Entry.{Entry}
@@ -32,7 +32,7 @@ pub record IsNumberOf (key : Key) (index number : ℕ) : Type 0 where
 module _ {F : Type 0} where
   -- the key and the function of the slot, and whether it is pending
   abbrev pub item_in : Indexed F → SlotMarks → (slot : ℕ) → Option (Key × F × Bool)
-  item_in indexed marks slot = option_map (λ entry. (entry.0, entry.1, pending_at marks.list slot)) (slice_get indexed.table.entries slot)
+  item_in indexed marks slot = option_map (λ entry. (entry.0, entry.1, pending_at marks.list slot)) (entry_in indexed.cells slot)
 
   -- the same, if there is a slot
   abbrev pub item_of : Indexed F → SlotMarks → (slot : Option ℕ) → Option (Key × F × Bool)

@@ -1,17 +1,16 @@
 -- What a table says in contracts: the function of each present key.
-use Rattle.std.specs.Prelude.{◌≡◌, ℕ, zero, suc, ◌+◌, ◌-◌, ◌<◌, ◌≤◌, ◌^◌, Bool, length, map, slice_get, unwrap_or, List, [], ◌∷◌, Option, None, Some, if◌then◌else◌}
-use Rattle.std.specs.List.{All, AllByRecursion, IsDistinct, list_any}
+use Rattle.std.specs.Prelude.{◌≡◌, ℕ, zero, suc, ◌+◌, ◌-◌, ◌<◌, ◌≤◌, ◌^◌, Bool, length, map, slice_index_or, List, [], ◌∷◌, Option, None, Some, if◌then◌else◌}
+use Rattle.std.specs.List.{AllByRecursion, list_any}
 use Rattle.std.specs.List.Sorted.{IsStrictlySortedBy}
 use Rattle.std.specs.Map.{lookup, keys_of}
 use Rattle.std.specs.BTreeMap.{is_at}
-use Rattle.std.specs.Option.{is_some, option_map}
+use Rattle.std.specs.Option.{is_some}
 use Rattle.std.specs.Ordering.{nat_cmp}
 use Rattle.std.specs.declared.cmp.Ordering.{Ordering}
 use Rattle.ide_lattice.specs.Algebra.{EdgeAlgebra}
 use Rattle.ide_wire.specs.declared.key.Key.{Key}
 use Rattle.ide_wire.specs.declared.key.Key.TheVariants.{Jump, Summary}
-use Rattle.ide_wire.specs.Key.{node_of, same_key}
-use Rattle.ide_pages.specs.Pages.{Numbers, cell_of, number_at}
+use Rattle.ide_wire.specs.Key.{same_key}
 
 -- a table: its present keys with their functions. Their order is the one in which a walk meets them, and means nothing else
 pub record Table (F : Type 0) : Type 0 where
@@ -20,10 +19,6 @@ pub record Table (F : Type 0) : Type 0 where
 -- the function of the key, if it is present
 abbrev pub found : {F : Type 0} → Table F → Key → Option F
 found table key = lookup (same_key key) table.entries
-
--- the node of each entry's key
-abbrev pub entry_nodes : {F : Type 0} → List (Key × F) → List ℕ
-entry_nodes entries = map (λ entry. node_of entry.0) entries
 
 -- the key's function is f, and every other entry stays
 pub record Sets {F : Type 0} (old new : Table F) (key : Key) (f : F) : Type 0 where
@@ -112,26 +107,10 @@ abbrev pub place_in : {F : Type 0} → Key → List (Key × F) → ℕ
 place_in key [] = 0
 place_in key (e ∷ es) = if same_key key e.0 then 1 else behind (place_in key es)
 
--- the number at each key is the place of its entry, the nodes are those of the entries, and no two entries are of one key
-pub record IsIndexed {F : Type 0} (places : Numbers) (nodes : List ℕ) (entries : List (Key × F)) : Type 0 where
-  pub places_are : (key : Key) → number_at places key ≡ place_in key entries
-  pub nodes_are : nodes ≡ entry_nodes entries
-  pub distinct : IsDistinct same_key (keys_of entries)
-
--- the key has a cell, and its number has 32 bits
-pub record HasCell (places : Numbers) (key : Key) : Type 0 where
-  pub cell : ℕ
-  pub is : cell_of places key ≡ Some cell
-  pub few : cell < 2 ^ 32
-
--- each key of the list has one
-abbrev pub HaveCells : {F : Type 0} → Numbers → List (Key × F) → Type 0
-HaveCells places list = All (λ entry. HasCell places entry.0) list
-
--- the fact with the function of the entry at the place, or with f where there is none
-abbrev pub partner_at : {X F : Type 0} → F → List (X × F) → ℕ × ℕ → ℕ × F
-partner_at f entries listed = (listed.0, unwrap_or (option_map (λ entry. entry.1) (slice_get entries (listed.1 - 1))) f)
+-- the fact with the function that is kept under the index before the number, or with f where there is none
+abbrev pub partner_at : {F : Type 0} → F → List F → ℕ × ℕ → ℕ × F
+partner_at f functions listed = (listed.0, slice_index_or functions (listed.1 - 1) f)
 
 -- the same of each fact of a row, where there is none always top
-abbrev pub partners_at : {X F L : Type 0} → EdgeAlgebra F L → List (X × F) → List (ℕ × ℕ) → List (ℕ × F)
-partners_at edge entries row = map (partner_at edge.all_top entries) row
+abbrev pub partners_at : {F L : Type 0} → EdgeAlgebra F L → List F → List (ℕ × ℕ) → List (ℕ × F)
+partners_at edge functions row = map (partner_at edge.all_top functions) row

@@ -1,13 +1,14 @@
 -- Jumps between two facts at nodes that follow each other, which are entered in one go.
-use Rattle.std.specs.Prelude.{◌≡◌, ℕ, zero, suc, ◌+◌, ◌<◌, false, ◌||◌, ◌&&◌, not, List, [], ◌∷◌, ◌++◌, Option, None, length, unwrap_or}
+use Rattle.std.specs.Prelude.{◌≡◌, ℕ, zero, suc, ◌+◌, ◌<◌, ◌≤◌, false, ◌||◌, ◌&&◌, not, List, [], ◌∷◌, ◌++◌, Option, None, Some, length, unwrap_or}
 use Rattle.std.specs.List.{IsDistinct}
+use Rattle.std.specs.List.Sorted.{IsPermutation}
 use Rattle.std.specs.Map.{keys_of}
 use Rattle.std.specs.Option.{is_some}
 use Rattle.ide_image.specs.ChangeLog.{AreSlotsOf, ChangeLog, noted_at}
 use Rattle.ide_image.specs.Indexed.{Indexed, place_of_key}
-use Rattle.ide_image.specs.KeyedImage.{Covers, IsListed}
+use Rattle.ide_image.specs.KeyedImage.{Covers, IsListed, KeyedImageData, entry_now}
 use Rattle.ide_image.specs.Notes.{noted, with_note}
-use Rattle.ide_image.specs.Tables.{Table, found}
+use Rattle.ide_image.specs.Tables.{Table, found, with_entry}
 use Rattle.ide_image.specs.Worklist.{Pile, is_pending}
 use Rattle.ide_image.specs.declared.entry.Entry.{Entry}
 use Rattle.ide_wire.specs.Key.{same_key}
@@ -23,6 +24,10 @@ abbrev pub walked_entries : {F : Type 0} → (ℕ → Key) → F → ℕ → Lis
 walked_entries at f zero = []
 walked_entries at f (suc n) = walked_entries at f n ++ (at (suc n), f) ∷ []
 
+-- the entries are those of before, and so many of the keys behind the one at 0 with the function
+abbrev pub EntersWalked : {F : Type 0} → (ℕ → Key) → F → ℕ → (old new : Table F) → Type 0
+EntersWalked at f count old new = IsPermutation (old.entries ++ walked_entries at f count) new.entries
+
 -- the first so many of the keys behind the one at 0 are absent
 abbrev pub AreAbsent : {F : Type 0} → Table F → (ℕ → Key) → ℕ → Type 0
 AreAbsent table at count = (n : ℕ) → n < count → found table (at (suc n)) ≡ None
@@ -35,9 +40,14 @@ AreSettled pile at count = (n : ℕ) → n < count → is_pending pile (at (suc 
 abbrev pub GoesTo : {T : Type 0} → (first last : Key) → (old new : Pile T) → Type 0
 GoesTo first last old new = (q : Key) → is_pending new q ≡ (same_key last q || (not (same_key first q) && is_pending old q))
 
--- the entries end with one that has this function
-abbrev pub EndWith : {X F : Type 0} → F → List (X × F) → Type 0
-EndWith {X} {F} f entries = (before : List (X × F)) × (x : X) × (entries ≡ before ++ (x, f) ∷ [])
+-- the cells, with the function put at the first so many of the keys behind the one at 0, one after the other
+abbrev pub with_walked : {F : Type 0} → List (Key × Option F) → (ℕ → Key) → F → ℕ → List (Key × Option F)
+with_walked cells at f zero = cells
+with_walked cells at f (suc n) = with_entry (with_walked cells at f n) (at (suc n)) (Some f)
+
+-- the key at 0 has this cell, and so many behind it those behind that
+abbrev pub StandBehind : {F : Type 0} → ℕ → (ℕ → Key) → ℕ → Indexed F → Type 0
+StandBehind cell at count indexed = (n : ℕ) → n ≤ count → (cell + n) + 1 ≡ place_of_key indexed (at n)
 
 module _ {F : Type 0} where
   -- the entry of an absent key
@@ -49,9 +59,14 @@ module _ {F : Type 0} where
   with_entered notes at zero = notes
   with_entered notes at (suc n) = with_note (with_entered notes at n) (at (suc n)) absent_entry
 
+  -- the jump at the node is noted with its entry of before, and so many behind it as absent
+  abbrev pub NotesWalk : {T : Type 0} → (node from to count : ℕ) → (old new : KeyedImageData F T) → Type 0
+  NotesWalk node from to count old new =
+      new.changes ≡ with_entered (with_note old.changes (Jump node from to) (entry_now old (Jump node from to))) (jump_behind node from to) count
+
   -- the notes agree with the places of their keys: their marks and slots are those of these, and each key is noted once
   pub record AreNotesIn (indexed : Indexed F) (changes : ChangeLog F) : Type 0 where
-    pub unnoted : Covers (length indexed.table.entries) (noted_at changes)
+    pub unnoted : Covers (length indexed.cells) (noted_at changes)
     pub listed : (key : Key) → IsListed indexed changes key
     pub once : IsDistinct same_key (keys_of (unwrap_or changes.list []))
     pub slotted : AreSlotsOf (place_of_key indexed) changes

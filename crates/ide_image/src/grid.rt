@@ -69,16 +69,16 @@ impl Grid {
         self.pages.len()
     }
 
-    /// Puts a slot where its key's cell is. One for which there is no cell is counted all the same.
-    pub(crate) fn put(&mut self, cell: u32, slot: u32) -> Result<(), AllocError>
+    /// Puts a slot, which is its key's cell. One for which there is no cell is counted all the same.
+    pub(crate) fn put(&mut self, slot: u32) -> Result<(), AllocError>
         requires few { self.old.count + 1 < 2 ^ 64 }
         ensures slots { OnOk result (PutsSlot slot self.old self.new) }
         ensures count { OnOk result (self.new.count ≡ self.old.count + 1) }
     {
-        let row = self.row_of(cell / 64)?;
+        let row = self.row_of(slot / 64)?;
         let place = row
             .saturating_mul(OFFSETS)
-            .saturating_add((cell % 64) as usize);
+            .saturating_add((slot % 64) as usize);
         mark(&mut self.cells, place, slot);
         self.count += 1;
         Ok(())
@@ -134,7 +134,7 @@ impl Grid {
         }
         let mut numbers = Vec::with_capacity(alloc, count)?;
         for row in 0..count {
-            let Some(key) = indexed.first_key(self.pages[row]) else {
+            let Some(key) = indexed.first_key(self.pages[row] as usize) else {
                 return Ok(None);
             };
             let Some(number) = number_of(key, row) else {

@@ -16,7 +16,7 @@ ghost use Rattle.ide_image.specs.Worklist.{PutsClaim, IsFree, IsWorklist, begun,
 ghost use Rattle.ide_image.specs.KeyedImage.{CountsPending, entry_now, marked_all};
 ghost use Rattle.ide_image.specs.Left.{left_items};
 ghost use Rattle.ide_image.specs.Notes.{NotesAll, ended_key, entry_at, noted, noted_count, with_change, with_note};
-ghost use Rattle.ide_image.specs.Walk.{AreAbsent, AreSettled, GoesTo, walked_entries, jump_behind, with_entered};
+ghost use Rattle.ide_image.specs.Walk.{AreAbsent, AreSettled, EntersWalked, GoesTo, NotesWalk, jump_behind};
 
 use crate::change::Change;
 use crate::change_log::ChangeLog;
@@ -33,10 +33,9 @@ use std::alloc::Global;
 use std::marker::Model;
 
 /// What an image has at each key: its function, whether it is pending, the claim of a hand on it, and
-/// the entry that it had when changes were last asked for. It has at most 4,294,967,295 keys, on 67,108,864
-/// pages at most, and keeps as many functions as keys at most, those that no key has any more among them;
-/// 4,294,967,294 keys are pending at most. One more is refused as `NoMemory`. Each call on one key makes
-/// one look-up.
+/// the entry that it had when changes were last asked for. It has cells for the keys of 67,108,863 pages at
+/// most, 64 each, and keeps 4,294,967,295 functions at most, those that no key has any more among them. One
+/// more is refused as `NoMemory`. Each call on one key makes one look-up.
 #[derive(Drop)]
 pub struct KeyedImage<F: EdgeFn, T> {
     indexed: Indexed<F>,
@@ -247,8 +246,8 @@ impl<F: EdgeFn, T: Drop> KeyedImage<F, T> {
         ensures err { OnErr result (self.new ≡ self.old) }
         ensures refused { IsOkUnless result NoMemory }
     {
-        let spot = self.indexed.spot(key)?;
-        let old = self.indexed.function_in(spot.place);
+        let cell = self.indexed.make_cell(key)?;
+        let old = self.indexed.function_in(cell + 1);
         let new = fallen(old, f);
         if new == old {
             return Ok(Change::Same);
@@ -259,7 +258,7 @@ impl<F: EdgeFn, T: Drop> KeyedImage<F, T> {
             &mut self.queue,
             &mut self.claims,
             &mut self.changes,
-            spot,
+            cell,
             key,
             new,
         );
@@ -281,7 +280,7 @@ impl<F: EdgeFn, T: Drop> KeyedImage<F, T> {
         ensures err { OnErr result ((h : ℕ) → claim_at self.new.pile h ≡ claim_at self.old.pile h) }
     {
         claims::grow(&mut self.claims, hand)?;
-        let slot = self.indexed.place(key) as usize - 1;
+        let slot = self.indexed.place(key) - 1;
         self.queue.hold(slot);
         let claim = Claim {
             key,
@@ -312,7 +311,7 @@ impl<F: EdgeFn, T: Drop> KeyedImage<F, T> {
         ensures changes { self.new.changes ≡ self.old.changes }
     {
         let key = claims::claim_of(&self.claims, hand)?.key;
-        let slot = self.indexed.place(key) as usize - 1;
+        let slot = self.indexed.place(key) - 1;
         self.queue.release(slot);
         claims::take_claim(&mut self.claims, hand)
     }
@@ -417,35 +416,34 @@ impl<F: EdgeFn, T: Drop> KeyedImage<F, T> {
         requires some { 0 < count }
         requires page { node % 64 + count < 64 }
         requires absent { AreAbsent self.old.table (jump_behind node from to) count }
-        ensures entries { OnOk result (self.new.table.entries ≡ self.old.table.entries ++ walked_entries (jump_behind node from to) function count) }
+        ensures entries { OnOk result (EntersWalked (jump_behind node from to) function count self.old.table self.new.table) }
+        ensures distinct { IsDistinct same_key (keys_of self.old.table.entries) }
         ensures few { OnOk result (length self.new.table.entries < 2 ^ 64) }
         ensures pending { OnOk result (GoesTo (Jump node from to) (jump_behind node from to count) self.old.pile self.new.pile) }
         ensures count { OnOk result (length self.new.pile.pending ≡ length self.old.pile.pending) }
         ensures claims { self.new.pile.claims ≡ self.old.pile.claims }
-        ensures noted { OnOk result (self.new.changes ≡ with_entered (with_note self.old.changes (Jump node from to) (entry_now self.old (Jump node from to))) (jump_behind node from to) count) }
+        ensures noted { OnOk result (NotesWalk node from to count self.old self.new) }
         ensures err { OnErr result (self.new ≡ self.old) }
         ensures refused { IsOkUnless result NoMemory }
     {
         let key = Key::Jump(node, from, to);
-        let spot = self.indexed.spot(key)?;
+        let cell = self.indexed.make_cell(key)?;
         parts::make_room(
             &mut self.indexed,
             &mut self.queue,
             &mut self.changes,
             count + 1,
         )?;
-        let slot = spot.place as usize - 1;
         let before = Entry {
-            function: self.indexed.function_at(spot.place),
+            function: self.indexed.function_at(cell + 1),
             pending: true,
         };
-        self.changes.note(slot, key, before);
-        let last = self
-            .indexed
-            .put_behind(spot.cell, node, from, to, function, count);
-        parts::note_behind(&mut self.changes, last + 1 - count, node, from, to, count);
-        self.queue.push(last);
-        self.queue.settle(slot);
+        self.changes.note(cell, key, before);
+        self.indexed
+            .put_behind(cell, node, from, to, function, count);
+        parts::note_behind(&mut self.changes, cell + 1, node, from, to, count);
+        self.queue.settle(cell);
+        self.queue.push(cell + count);
         Ok(())
     }
 
@@ -464,17 +462,17 @@ impl<F: EdgeFn, T: Drop> KeyedImage<F, T> {
         ensures err { OnErr result (self.new ≡ self.old) }
         ensures refused { IsOkUnless result NoMemory }
     {
-        let spot = self.indexed.spot(key)?;
+        let cell = self.indexed.make_cell(key)?;
         parts::make_room(&mut self.indexed, &mut self.queue, &mut self.changes, 1)?;
-        let slot = parts::put_noted(
+        parts::put_noted(
             &mut self.indexed,
             &self.queue,
             &mut self.changes,
-            spot,
+            cell,
             key,
             f,
         );
-        self.queue.set_pending(slot, pending);
+        self.queue.set_pending(cell, pending);
         Ok(())
     }
 
@@ -490,13 +488,13 @@ impl<F: EdgeFn, T: Drop> KeyedImage<F, T> {
         ensures err { OnErr result (self.new ≡ self.old) }
         ensures refused { IsOkUnless result NoMemory }
     {
+        self.indexed.make_cells(list)?;
         parts::make_room(
             &mut self.indexed,
             &mut self.queue,
             &mut self.changes,
             list.len(),
         )?;
-        self.indexed.make_cells(list)?;
         parts::enter_all(
             &mut self.indexed,
             &mut self.queue,
@@ -549,7 +547,7 @@ impl<F: EdgeFn, T: Drop> KeyedImage<F, T> {
 
     /// The present keys with their functions, copied.
     pub fn copy_tables(&self, alloc: Global) -> Result<Tables<F>, Refused>
-        ensures tables { IfOk result (λ tables. tables ≡ self.now.table) }
+        ensures tables { IfOk result (λ tables. tables.table ≡ self.now.table) }
         ensures refused { IsOkUnless result NoMemory }
     {
         let indexed = self.indexed.copy(alloc)?;
@@ -558,7 +556,7 @@ impl<F: EdgeFn, T: Drop> KeyedImage<F, T> {
 
     /// The present keys with their functions. What is pending, claimed or noted is dropped.
     pub fn into_tables(self) -> Tables<F>
-        ensures tables { result ≡ self.table }
+        ensures tables { result.table ≡ self.table }
     {
         let KeyedImage { indexed, .. } = self;
         Tables::of(indexed)

@@ -89,7 +89,7 @@ impl<'a, F: EdgeFn> NotedSlots<'a, F> {
         ensures { IfOk result (λ found. IfSome found (HasLeft F.eq self.now)) }
     {
         let count = self.notes.len();
-        let pages = self.indexed.page_count();
+        let pages = self.indexed.cell_count() / 64;
         if count > INDICES || count < pages / PAGES {
             return Ok(None);
         }
@@ -99,7 +99,7 @@ impl<'a, F: EdgeFn> NotedSlots<'a, F> {
                 let Some(slot) = self.slots.get(index) else {
                     return Ok(None);
                 };
-                grid.put(self.indexed.cell_at(*slot as usize), *slot)?;
+                grid.put(*slot)?;
             }
         }
         if grid.page_count() > count / FILLED {

@@ -1,13 +1,11 @@
 //! Steps of the parts that an image is made of, after which they agree again.
-ghost use Rattle.std.specs.Prelude.{◌≡◌, ℕ, ◌+◌, ◌%◌, ◌<◌, ◌^◌, None, Some, false, true, length, IfSome, IsOk, OnOk, OnErr, IsOkUnless};
+ghost use Rattle.std.specs.Prelude.{◌≡◌, ℕ, ◌+◌, ◌%◌, ◌<◌, ◌≤◌, ◌^◌, None, Some, false, true, length, IfSome, IsOk, OnOk, OnErr, IsOkUnless};
 ghost use Rattle.std.specs.Option.{is_some};
-ghost use Rattle.ide_pages.specs.Pages.{KeepsCells};
-ghost use Rattle.ide_image.specs.Tables.{HaveCells};
 ghost use Rattle.ide_wire.specs.declared.refused.Refused.TheVariants.{NoMemory};
 ghost use Rattle.ide_image.specs.Worklist.{MarksIn, claim_in, is_claim_of};
 ghost use Rattle.ide_image.specs.ChangeLog.{KeepsSlots, MarksNoted, MayNote, noted_at};
-ghost use Rattle.ide_image.specs.KeyedImage.{AddsAllBySlot, AddsBySlot, AreParts, CountsBySlot, Covers, FreesKey, HasRoomFor, IsListed, MarksAllIn, MarksKey, NotesAllBySlot, NotesBySlot, SameOver, SameParts, SettlesKey, UsesRoom, marked_at, pending_by_slot};
-ghost use Rattle.ide_image.specs.Indexed.{IsSpot, MayTake, PutsEntries, PutsEntry, place_of_key};
+ghost use Rattle.ide_image.specs.KeyedImage.{AddsAllBySlot, AddsBySlot, AreParts, CountsBySlot, FreesKey, HasRoomFor, IsListed, MarksAllIn, MarksKey, NotesAllBySlot, NotesBySlot, SameOver, SameParts, SettlesKey, UsesRoom, marked_at, pending_by_slot};
+ghost use Rattle.ide_image.specs.Indexed.{HaveCells, PutsEntries, PutsEntry, place_of_key};
 ghost use Rattle.ide_image.specs.Left.{is_left, left_by_slot};
 ghost use Rattle.ide_image.specs.Queue.{pending_at, pending_count};
 ghost use Rattle.ide_image.specs.Ranks.{item_in};
@@ -17,23 +15,23 @@ use crate::change_log::ChangeLog;
 use crate::claim::Claim;
 use crate::claims;
 use crate::entry::Entry;
-use crate::indexed::{Indexed, KeySpot};
+use crate::indexed::Indexed;
 use crate::queue::Queue;
 use ide_lattice::EdgeFn;
 use ide_wire::{Fact, Key, Node, Refused};
 
 /// Whether the slot at a place is pending.
-pub(crate) fn is_pending_at(queue: &Queue, place: u32) -> bool
+pub(crate) fn is_pending_at(queue: &Queue, place: usize) -> bool
     ensures { result ≡ marked_at (pending_at queue.now.list) place }
 {
-    place != 0 && queue.is_pending(place as usize - 1)
+    place != 0 && queue.is_pending(place - 1)
 }
 
 /// Whether the key of the slot at a place is noted.
-pub(crate) fn is_noted_at<F: EdgeFn>(changes: &ChangeLog<F>, place: u32) -> bool
+pub(crate) fn is_noted_at<F: EdgeFn>(changes: &ChangeLog<F>, place: usize) -> bool
     ensures { result ≡ marked_at (noted_at changes.now) place }
 {
-    place != 0 && changes.is_noted(place as usize - 1)
+    place != 0 && changes.is_noted(place - 1)
 }
 
 /// The key of a slot with its function and whether it is pending, where its entry is another one than before.
@@ -48,8 +46,9 @@ pub(crate) fn left_at<F: EdgeFn>(
     ensures left { result ≡ left_by_slot F.eq indexed.now queue.now key before }
     ensures item { IfSome result (λ item. item_in indexed.now queue.now slot ≡ Some item) }
 {
-    let (_, now) = indexed.entry_at(slot as usize)?;
-    let pending = queue.is_pending(slot as usize);
+    let slot = slot as usize;
+    let now = indexed.function_at(slot + 1)?;
+    let pending = queue.is_pending(slot);
     if is_left(now, pending, before) {
         Some((key, now, pending))
     } else {
@@ -67,7 +66,7 @@ fn is_left<F: EdgeFn>(now: F, pending: bool, before: Entry<F>) -> bool
     }
 }
 
-/// Makes room for so many keys more, that are pending and noted.
+/// Makes room for so many keys more, that are pending and noted, and have cells.
 #[inline(always)]
 pub(crate) fn make_room<F: EdgeFn>(
     indexed: &mut Indexed<F>,
@@ -77,12 +76,13 @@ pub(crate) fn make_room<F: EdgeFn>(
 ) -> Result<(), Refused>
     ensures same { SameParts indexed.old indexed.new queue.old queue.new changes.old changes.new }
     ensures count { pending_count queue.new.list ≡ pending_count queue.old.list }
+    ensures bound { length indexed.new.cells ≡ length indexed.old.cells }
     ensures room { OnOk result (HasRoomFor additional indexed.new queue.new changes.new) }
     ensures refused { IsOkUnless result NoMemory }
 {
     indexed.reserve(additional)?;
-    let slots = indexed.len() + additional;
     queue.reserve(additional)?;
+    let slots = indexed.cell_count();
     changes.make_room(additional, slots)?;
     queue.cover(slots)?;
     Ok(())
@@ -110,7 +110,7 @@ pub(crate) fn end_slot<F: EdgeFn>(
     ensures refused { IsOkUnless result NoMemory }
 {
     let place = indexed.place(key);
-    let slot = place as usize - 1;
+    let slot = place - 1;
     let before = Entry {
         function: indexed.function_at(place),
         pending: true,
@@ -121,37 +121,34 @@ pub(crate) fn end_slot<F: EdgeFn>(
     Ok(())
 }
 
-/// Makes the function that of the key, which stands there, notes the entry of before, and answers the
-/// key's slot.
+/// Puts the function into the key's cell, which this is, and notes the entry of before.
 #[inline(always)]
 pub(crate) fn put_noted<F: EdgeFn>(
     indexed: &mut Indexed<F>,
     queue: &Queue,
     changes: &mut ChangeLog<F>,
-    spot: KeySpot,
+    cell: usize,
     key: Key,
     function: F,
-) -> usize
-    requires spot { IsSpot indexed.old key spot.cell spot.place }
+)
+    requires cell { cell + 1 ≡ place_of_key indexed.old key }
+    requires few { cell + 1 < 2 ^ 32 }
     requires room { HasRoomFor 1 indexed.old queue.now changes.old }
     requires listed { IsListed indexed.old changes.old key }
-    requires unnoted { Covers (length indexed.old.table.entries) (noted_at changes.old) }
-    ensures entries { PutsEntry key function indexed.old indexed.new }
-    ensures slot { result + 1 ≡ place_of_key indexed.new key }
+    ensures cells { PutsEntry key function indexed.old indexed.new }
+    ensures stands { cell + 1 ≡ place_of_key indexed.new key }
     ensures list { NotesBySlot indexed.old queue.now key changes.old changes.new }
     ensures slots { KeepsSlots (place_of_key indexed.new) changes.old changes.new }
-    ensures marks { MarksNoted result changes.old changes.new }
-    ensures cells { KeepsCells indexed.old.places indexed.new.places }
-    ensures taken { (n : ℕ) → MayTake (n + 1) indexed.old → MayTake n indexed.new }
+    ensures marks { MarksNoted cell changes.old changes.new }
+    ensures taken { indexed.old.room ≤ indexed.new.room + 1 }
     ensures notes { (n s : ℕ) → MayNote (n + 1) s changes.old → MayNote n s changes.new }
 {
     let before = Entry {
-        function: indexed.function_at(spot.place),
-        pending: is_pending_at(queue, spot.place),
+        function: indexed.function_at(cell + 1),
+        pending: queue.is_pending(cell),
     };
-    let slot = indexed.put(spot, key, function);
-    changes.note(slot, key, before);
-    slot
+    indexed.put(cell, key, function);
+    changes.note(cell, key, before);
 }
 
 /// Marks the claim of the key as lowered, if a hand has claimed it.
@@ -164,36 +161,36 @@ fn mark_held<T: Drop>(claims: &mut Vec<Option<Claim<T>>>, is_held: bool, key: Ke
     }
 }
 
-/// Makes the function that of the key, which stands there, and the key pending, marks a claim of the
-/// key, and notes the entry of before.
+/// Puts the function into the key's cell, which this is, makes the key pending, marks a claim of it, and
+/// notes the entry of before.
 #[inline(always)]
 pub(crate) fn enter<F: EdgeFn, T: Drop>(
     indexed: &mut Indexed<F>,
     queue: &mut Queue,
     claims: &mut Vec<Option<Claim<T>>>,
     changes: &mut ChangeLog<F>,
-    spot: KeySpot,
+    cell: usize,
     key: Key,
     function: F,
 )
-    requires spot { IsSpot indexed.old key spot.cell spot.place }
+    requires cell { cell + 1 ≡ place_of_key indexed.old key }
+    requires few { cell + 1 < 2 ^ 32 }
     requires room { HasRoomFor 1 indexed.old queue.old changes.old }
     requires whole { AreParts indexed.old queue.old claims.old.items changes.old }
     ensures whole { AreParts indexed.new queue.new claims.new.items changes.new }
-    ensures entries { PutsEntry key function indexed.old indexed.new }
+    ensures cells { PutsEntry key function indexed.old indexed.new }
     ensures list { NotesBySlot indexed.old queue.old key changes.old changes.new }
     ensures claims { MarksIn key claims.old.items claims.new.items }
     ensures pending { AddsBySlot key indexed.old indexed.new queue.old queue.new }
     ensures count { CountsBySlot indexed.old key queue.old queue.new }
-    ensures cells { KeepsCells indexed.old.places indexed.new.places }
     ensures room { UsesRoom indexed.old indexed.new queue.old queue.new changes.old changes.new }
 {
-    let slot = put_noted(indexed, queue, changes, spot, key, function);
-    queue.push(slot);
-    mark_held(claims, queue.is_held(slot), key);
+    put_noted(indexed, queue, changes, cell, key, function);
+    queue.push(cell);
+    mark_held(claims, queue.is_held(cell), key);
 }
 
-/// Enters the keys of the entries with their functions, one after the other, for which there is room.
+/// Enters the keys of the entries, which have cells, with their functions, one after the other, for which there is room.
 pub(crate) fn enter_all<F: EdgeFn, T: Drop>(
     indexed: &mut Indexed<F>,
     queue: &mut Queue,
@@ -202,18 +199,18 @@ pub(crate) fn enter_all<F: EdgeFn, T: Drop>(
     list: &[(Key, F)],
 )
     requires room { HasRoomFor (length list.now) indexed.old queue.old changes.old }
-    requires cells { HaveCells indexed.old.places list.now }
+    requires made { HaveCells indexed.old list.now }
     requires whole { AreParts indexed.old queue.old claims.old.items changes.old }
     ensures whole { AreParts indexed.new queue.new claims.new.items changes.new }
-    ensures entries { PutsEntries list.now indexed.old indexed.new }
+    ensures cells { PutsEntries list.now indexed.old indexed.new }
     ensures pending { AddsAllBySlot list.now indexed.old indexed.new queue.old queue.new }
     ensures claims { MarksAllIn list.now claims.old.items claims.new.items }
     ensures noting { is_some changes.new.list ≡ is_some changes.old.list }
     ensures notes { NotesAllBySlot indexed.old queue.old list.now changes.old changes.new }
 {
     for entry in list {
-        let spot = indexed.spot_of(entry.0);
-        enter(indexed, queue, claims, changes, spot, entry.0, entry.1);
+        let cell = indexed.cell_of(entry.0);
+        enter(indexed, queue, claims, changes, cell, entry.0, entry.1);
     }
 }
 

@@ -1,36 +1,45 @@
 //! Which slots are pending, and which of these a hand has claimed: a mark for each slot, and a stack of
 //! those that wait for a hand.
-ghost use Rattle.std.specs.Prelude.{◌≡◌, ◌≢◌, ℕ, ◌+◌, ◌-◌, ◌<◌, ◌≤◌, ◌^◌, ◌||◌, [], true, false, length, slice_get, Some, IfSome, IfNone, OnOk, vec_capacity, vec_len};
-ghost use Rattle.ide_image.specs.declared.marks.Mark.TheVariants.{Waiting};
-ghost use Rattle.ide_image.specs.Queue.{AreStacked, CountsHeldMark, CountsPendingMark, CountsPushed, CountsReleased, CountsSettled, MarksHeld, SameMarks, SameSums, SetsHeldSlot, SetsPendingSlot, held_at, is_held, is_pending_mark, is_waiting_mark, mark_in, pending_at, pending_count, stack_room, waiting_at, waiting_count};
+//!
+//! A mark does not say where its slot is on the stack. One that is settled or claimed is looked for among the
+//! slots near the top, where it nearly always is. Elsewhere it is left on the stack, and forgotten once it
+//! comes to the top.
+ghost use Rattle.std.specs.Prelude.{◌≡◌, ℕ, ◌+◌, ◌-◌, ◌<◌, ◌≤◌, ◌^◌, [], true, false, length, slice_get, Some, IfSome, IfNone, OnOk, vec_capacity, vec_len};
+ghost use Rattle.ide_image.specs.Queue.{AreStacked, CountsPendingMark, CountsPushed, CountsReturned, CountsSettled, IsLeftMark, IsStack, KeepsMarks, MarksHeld, SameMarks, SameSums, SetsHeldSlot, SetsMark, SetsPendingSlot, TopWaits, held_at, is_held, is_pending_mark, mark_in, owed_count, pending_at, pending_count, one_if, stacked_at, waiting_at};
 
-use crate::marks::{Mark, Marks};
+use crate::mark::Mark;
 use std::alloc::{AllocError, Global};
 use std::marker::Model;
 
-/// The most pending slots, so that the mark of each has a code of 32 bits.
-const MOST_PENDING: usize = 4_294_967_294;
+/// How many slots, from the top of the stack down, are looked through for one that is taken off.
+const NEAR: usize = 8;
 
-/// A mark for each slot, in 4 bytes, and the slots that wait. A slot behind the last mark is settled, and
-/// 4,294,967,294 are pending at most.
+/// A mark for each slot, in one byte, and the slots that wait. A slot behind the last mark is settled, and
+/// each slot is below 2^32.
+///
+/// Each call takes a constant time, but for `reserve`, `cover`, `clear`, and for the slots that `settle` and
+/// `hold` take off the top of the stack, each of which one call before left there.
 #[derive(Drop)]
 pub(crate) struct Queue {
-    marks: Marks,
-    /// The slots that wait, each once. It has room for those that hands have claimed.
+    marks: Vec<Mark>,
+    /// The slots that wait and those that were left here, each once. The top one waits. It has room for those
+    /// that `held` counts.
     stack: Vec<u32>,
-    /// How many slots hands have claimed.
+    /// How many slots hands have claimed that are not on the stack: a release puts them back there.
     held: usize,
+    /// How many slots are pending.
+    pending: usize,
 }
 
 impl Model for Queue {
     ghost use Rattle.std.specs.Prelude.{◌+◌, ◌-◌, vec_capacity, vec_len};
-    ghost use Rattle.ide_image.specs.Queue.{SlotMarks, IsQueue, stack_room};
+    ghost use Rattle.ide_image.specs.Queue.{SlotMarks, IsQueue};
 
     ghost Value = { SlotMarks };
 
-    ghost view = { λ q. record { list = q.marks; spare = stack_room (vec_capacity q.stack) - (vec_len q.stack + q.held) } };
+    ghost view = { λ q. record { list = q.marks.items; spare = vec_capacity q.stack - (vec_len q.stack + q.held) } };
 
-    ghost invariant = { λ q. IsQueue q.marks q.stack.items (vec_capacity q.stack) q.held };
+    ghost invariant = { λ q. IsQueue q.marks.items q.stack.items (vec_capacity q.stack) q.held q.pending };
 }
 
 impl Queue {
@@ -39,9 +48,20 @@ impl Queue {
         ensures { result.list ≡ [] }
     {
         Queue {
-            marks: Marks::new(alloc),
+            marks: Vec::new(alloc),
             stack: Vec::new(alloc),
             held: 0,
+            pending: 0,
+        }
+    }
+
+    /// The mark of the slot: settled, where it has none.
+    fn mark_of(&self, slot: usize) -> Mark
+        ensures { result ≡ mark_in self.now.list slot }
+    {
+        match self.marks.get(slot) {
+            Some(mark) => *mark,
+            None => Mark::Settled,
         }
     }
 
@@ -49,27 +69,21 @@ impl Queue {
     pub(crate) fn is_pending(&self, slot: usize) -> bool
         ensures { result ≡ pending_at self.now.list slot }
     {
-        match self.marks.get(slot) {
-            Mark::Settled => false,
-            Mark::Waiting(_) | Mark::Held => true,
-        }
+        self.mark_of(slot).is_pending()
     }
 
     /// Whether a hand has claimed the slot.
     pub(crate) fn is_held(&self, slot: usize) -> bool
         ensures { result ≡ held_at self.now.list slot }
     {
-        match self.marks.get(slot) {
-            Mark::Held => true,
-            Mark::Settled | Mark::Waiting(_) => false,
-        }
+        self.mark_of(slot).is_held()
     }
 
     /// How many slots are pending.
     pub(crate) fn pending_count(&self) -> usize
         ensures { result ≡ pending_count self.now.list }
     {
-        self.stack.len() + self.held
+        self.pending
     }
 
     /// The slot on top of the stack: one that waits, if one does.
@@ -80,16 +94,12 @@ impl Queue {
         self.stack.last().copied()
     }
 
-    /// Makes room for so many more pending slots. It is refused where there would be more than 4,294,967,294.
+    /// Makes room for so many more pending slots.
     pub(crate) fn reserve(&mut self, additional: usize) -> Result<(), AllocError>
         requires few { additional < 2 ^ 32 }
         ensures room { OnOk result (additional ≤ self.new.spare) }
         ensures same { self.new.list ≡ self.old.list }
     {
-        let pending = self.stack.len() + self.held;
-        if additional > MOST_PENDING - pending {
-            return Err(AllocError);
-        }
         self.stack.reserve(additional + self.held)
     }
 
@@ -107,6 +117,7 @@ impl Queue {
     }
 
     /// Makes the slot pending: if it is not, it waits then.
+    #[inline(always)]
     pub(crate) fn push(&mut self, slot: usize)
         requires there { slot < length self.old.list }
         requires room { 0 < self.old.spare }
@@ -116,12 +127,14 @@ impl Queue {
         ensures covered { length self.new.list ≡ length self.old.list }
         ensures room { self.old.spare ≤ self.new.spare + 1 }
     {
-        if self.marks.at(slot) == Mark::Settled {
-            stack_up(&mut self.marks, &mut self.stack, slot);
+        if !self.marks[slot].is_pending() {
+            make_wait(&mut self.marks, &mut self.stack, slot);
+            self.pending += 1;
         }
     }
 
     /// Makes the slot settled.
+    #[inline(always)]
     pub(crate) fn settle(&mut self, slot: usize)
         requires there { slot < length self.old.list }
         ensures pending { SetsPendingSlot slot false self.old.list self.new.list }
@@ -130,21 +143,9 @@ impl Queue {
         ensures covered { length self.new.list ≡ length self.old.list }
         ensures room { self.old.spare ≤ self.new.spare }
     {
-        match self.marks.at(slot) {
-            Mark::Settled => {}
-            Mark::Waiting(position) => {
-                take_off(
-                    &mut self.marks,
-                    &mut self.stack,
-                    slot,
-                    position,
-                    Mark::Settled,
-                );
-            }
-            Mark::Held => {
-                self.held -= 1;
-                self.marks.set(slot, Mark::Settled);
-            }
+        if self.marks[slot].is_pending() {
+            make_settled(&mut self.marks, &mut self.stack, &mut self.held, slot);
+            self.pending -= 1;
         }
     }
 
@@ -168,10 +169,13 @@ impl Queue {
         requires waits { waiting_at self.old.list slot ≡ true }
         ensures { MarksHeld slot true self.old self.new }
     {
-        if let Mark::Waiting(position) = self.marks.get(slot) {
-            take_off(&mut self.marks, &mut self.stack, slot, position, Mark::Held);
-            self.held += 1;
-        }
+        leave(
+            &mut self.marks,
+            &mut self.stack,
+            &mut self.held,
+            slot,
+            Mark::HeldLeft,
+        );
     }
 
     /// Takes the slot, which a hand has claimed, back: it waits then. It takes no memory.
@@ -179,8 +183,10 @@ impl Queue {
         requires held { held_at self.old.list slot ≡ true }
         ensures { MarksHeld slot false self.old self.new }
     {
-        self.held -= 1;
-        stack_up(&mut self.marks, &mut self.stack, slot);
+        if !self.marks[slot].is_stacked() {
+            self.held -= 1;
+        }
+        make_wait(&mut self.marks, &mut self.stack, slot);
     }
 
     /// Makes each slot settled. It takes no memory.
@@ -190,66 +196,177 @@ impl Queue {
         self.marks.clear();
         self.stack.clear();
         self.held = 0;
+        self.pending = 0;
     }
 }
 
 /// Makes a mark for each of the first slots, up to this count: those that are new are settled.
 #[inline(always)]
-fn grow(marks: &mut Marks, count: usize) -> Result<(), AllocError>
+fn grow(marks: &mut Vec<Mark>, count: usize) -> Result<(), AllocError>
     requires few { count < 2 ^ 32 }
-    requires marks { length marks.old < 2 ^ 32 }
-    ensures covered { OnOk result (count ≤ length marks.new) }
-    ensures few { length marks.new < 2 ^ 32 }
-    ensures same { (n : ℕ) → mark_in marks.new n ≡ mark_in marks.old n }
-    ensures counts { SameSums marks.old marks.new }
+    requires marks { length marks.old.items < 2 ^ 32 }
+    ensures covered { OnOk result (count ≤ length marks.new.items) }
+    ensures few { length marks.new.items < 2 ^ 32 }
+    ensures same { (n : ℕ) → mark_in marks.new.items n ≡ mark_in marks.old.items n }
+    ensures counts { SameSums marks.old.items marks.new.items }
 {
-    for _ in marks.len()..count {
-        marks.push_settled()?;
+    if marks.len() < count {
+        marks.resize(count, Mark::Settled)?;
     }
     Ok(())
 }
 
-/// Puts the slot, which does not wait, on the stack.
-fn stack_up(marks: &mut Marks, stack: &mut Vec<u32>, slot: usize)
-    requires there { slot < length marks.old }
-    requires off { waiting_at marks.old slot ≡ false }
-    requires few { length marks.old < 2 ^ 32 }
-    requires counted { waiting_count marks.old ≡ length stack.old.items }
-    requires room { vec_len stack.old < stack_room (vec_capacity stack.old) }
-    requires stacked { AreStacked marks.old stack.old.items }
-    ensures stacked { AreStacked marks.new stack.new.items }
-    ensures pending { SetsPendingSlot slot true marks.old marks.new }
-    ensures held { SetsHeldSlot slot false marks.old marks.new }
-    ensures pending_count { CountsPushed slot marks.old marks.new }
-    ensures waiting { waiting_count marks.new ≡ length stack.new.items }
-    ensures held_count { CountsReleased slot marks.old marks.new }
-    ensures covered { length marks.new ≡ length marks.old }
-    ensures len { vec_len stack.new ≡ vec_len stack.old + 1 }
+/// Makes the slot, which does not wait, wait: it goes on the stack, unless it was left there.
+#[inline(always)]
+fn make_wait(marks: &mut Vec<Mark>, stack: &mut Vec<u32>, slot: usize)
+    requires there { slot < length marks.old.items }
+    requires few { length marks.old.items < 2 ^ 32 }
+    requires room { stacked_at marks.old.items slot ≡ false → vec_len stack.old < vec_capacity stack.old }
+    requires stacked { AreStacked marks.old.items stack.old.items }
+    requires top { TopWaits marks.old.items stack.old.items }
+    ensures stacked { AreStacked marks.new.items stack.new.items }
+    ensures top { TopWaits marks.new.items stack.new.items }
+    ensures pending { SetsPendingSlot slot true marks.old.items marks.new.items }
+    ensures held { SetsHeldSlot slot false marks.old.items marks.new.items }
+    ensures count { CountsPushed slot marks.old.items marks.new.items }
+    ensures returned { CountsReturned slot marks.old.items marks.new.items }
+    ensures covered { length marks.new.items ≡ length marks.old.items }
+    ensures len { vec_len stack.new + one_if (stacked_at marks.old.items slot) ≡ vec_len stack.old + 1 }
     ensures capacity { vec_capacity stack.new ≡ vec_capacity stack.old }
 {
-    marks.set(slot, Mark::Waiting(stack.len() as u32));
-    stack.push_reserved(slot as u32);
+    let was_stacked = marks[slot].is_stacked();
+    marks[slot] = Mark::Waiting;
+    if !was_stacked {
+        stack.push_reserved(slot as u32);
+    }
 }
 
-/// Takes the slot, which waits at this position, off the stack, and gives it the mark.
-fn take_off(marks: &mut Marks, stack: &mut Vec<u32>, slot: usize, position: u32, mark: Mark)
-    requires at { mark_in marks.old slot ≡ Waiting position }
-    requires off { is_waiting_mark mark ≡ false }
-    requires room { vec_len stack.old ≤ stack_room (vec_capacity stack.old) }
-    requires counted { waiting_count marks.old ≡ length stack.old.items }
-    requires stacked { AreStacked marks.old stack.old.items }
-    ensures stacked { AreStacked marks.new stack.new.items }
-    ensures pending { SetsPendingSlot slot (is_pending_mark mark) marks.old marks.new }
-    ensures held { SetsHeldSlot slot (is_held mark) marks.old marks.new }
-    ensures pending_count { CountsPendingMark mark marks.old marks.new }
-    ensures waiting { waiting_count marks.new ≡ length stack.new.items }
-    ensures held_count { CountsHeldMark mark marks.old marks.new }
-    ensures covered { length marks.new ≡ length marks.old }
-    ensures len { vec_len stack.new + 1 ≡ vec_len stack.old }
+/// Makes the slot settled.
+#[inline(always)]
+fn make_settled(marks: &mut Vec<Mark>, stack: &mut Vec<u32>, held: &mut usize, slot: usize)
+    requires there { slot < length marks.old.items }
+    requires stack { IsStack marks.old.items stack.old.items held.old }
+    requires top { TopWaits marks.old.items stack.old.items }
+    ensures stack { IsStack marks.new.items stack.new.items held.new }
+    ensures top { TopWaits marks.new.items stack.new.items }
+    ensures pending { SetsPendingSlot slot false marks.old.items marks.new.items }
+    ensures held { SetsHeldSlot slot false marks.old.items marks.new.items }
+    ensures count { CountsSettled slot marks.old.items marks.new.items }
+    ensures covered { length marks.new.items ≡ length marks.old.items }
+    ensures room { vec_len stack.new + held.new ≤ vec_len stack.old + held.old }
     ensures capacity { vec_capacity stack.new ≡ vec_capacity stack.old }
 {
-    let last = stack[stack.len() - 1];
-    let _ = stack.swap_remove(position as usize);
-    marks.set(last as usize, Mark::Waiting(position));
-    marks.set(slot, mark);
+    match marks[slot] {
+        Mark::Settled | Mark::Left => {}
+        Mark::Waiting => leave(marks, stack, held, slot, Mark::Left),
+        Mark::Held => {
+            *held -= 1;
+            marks[slot] = Mark::Settled;
+        }
+        Mark::HeldLeft => marks[slot] = Mark::Left,
+    }
+}
+
+/// Gives the slot, which waits, a mark of those that were left on the stack, and takes it off where it is near
+/// the top.
+#[inline(always)]
+fn leave(marks: &mut Vec<Mark>, stack: &mut Vec<u32>, held: &mut usize, slot: usize, mark: Mark)
+    requires waits { waiting_at marks.old.items slot ≡ true }
+    requires left { IsLeftMark mark }
+    requires stack { IsStack marks.old.items stack.old.items held.old }
+    ensures stack { IsStack marks.new.items stack.new.items held.new }
+    ensures top { TopWaits marks.new.items stack.new.items }
+    ensures pending { SetsPendingSlot slot (is_pending_mark mark) marks.old.items marks.new.items }
+    ensures held { SetsHeldSlot slot (is_held mark) marks.old.items marks.new.items }
+    ensures count { CountsPendingMark mark marks.old.items marks.new.items }
+    ensures covered { length marks.new.items ≡ length marks.old.items }
+    ensures room { vec_len stack.new + held.new ≤ vec_len stack.old + held.old }
+    ensures capacity { vec_capacity stack.new ≡ vec_capacity stack.old }
+{
+    marks[slot] = mark;
+    take_near(marks, stack, held, slot);
+    clear_top(marks, stack, held);
+}
+
+/// Takes the slot, which was left on the stack, off it, where it is near the top.
+#[inline(always)]
+fn take_near(marks: &mut Vec<Mark>, stack: &mut Vec<u32>, held: &mut usize, slot: usize)
+    requires there { slot < length marks.old.items }
+    requires left { waiting_at marks.old.items slot ≡ false }
+    requires stack { IsStack marks.old.items stack.old.items held.old }
+    ensures stack { IsStack marks.new.items stack.new.items held.new }
+    ensures same { KeepsMarks marks.old.items marks.new.items }
+    ensures room { vec_len stack.new + held.new ≤ vec_len stack.old + held.old }
+    ensures capacity { vec_capacity stack.new ≡ vec_capacity stack.old }
+{
+    if let Some(position) = position_near(stack, slot as u32) {
+        let _ = stack.swap_remove(position);
+        take_off(marks, held, slot);
+    }
+}
+
+/// Takes the slots that were left on top of the stack off it, so that one that waits is on top.
+#[inline(always)]
+fn clear_top(marks: &mut Vec<Mark>, stack: &mut Vec<u32>, held: &mut usize)
+    requires stack { IsStack marks.old.items stack.old.items held.old }
+    ensures stack { IsStack marks.new.items stack.new.items held.new }
+    ensures top { TopWaits marks.new.items stack.new.items }
+    ensures same { KeepsMarks marks.old.items marks.new.items }
+    ensures room { vec_len stack.new + held.new ≤ vec_len stack.old + held.old }
+    ensures capacity { vec_capacity stack.new ≡ vec_capacity stack.old }
+{
+    while let Some(slot) = left_on_top(marks, stack) {
+        let _ = stack.pop();
+        take_off(marks, held, slot);
+    }
+}
+
+/// The slot on top of the stack, if it was left there.
+#[inline(always)]
+fn left_on_top(marks: &[Mark], stack: &[u32]) -> Option<usize>
+    requires { AreStacked marks.now stack.now }
+    ensures at { IfSome result (λ slot. slice_get stack.now (length stack.now - 1) ≡ Some slot) }
+    ensures left { IfSome result (λ slot. waiting_at marks.now slot ≡ false) }
+    ensures none { IfNone result (TopWaits marks.now stack.now) }
+{
+    let slot = *stack.last()? as usize;
+    if marks[slot] == Mark::Waiting {
+        None
+    } else {
+        Some(slot)
+    }
+}
+
+/// Where the slot is on the stack, if it is near the top.
+#[inline(always)]
+fn position_near(stack: &[u32], slot: u32) -> Option<usize>
+    ensures { IfSome result (λ position. slice_get stack.now position ≡ Some slot) }
+{
+    let len = stack.len();
+    for position in (len.saturating_sub(NEAR)..len).rev() {
+        if stack[position] == slot {
+            return Some(position);
+        }
+    }
+    None
+}
+
+/// Gives the slot, which was left on the stack and is taken off it, the mark of one that is not there.
+#[inline(always)]
+fn take_off(marks: &mut Vec<Mark>, held: &mut usize, slot: usize)
+    requires stacked { stacked_at marks.old.items slot ≡ true }
+    requires left { waiting_at marks.old.items slot ≡ false }
+    requires owed { owed_count marks.old.items ≡ held.old }
+    requires few { length marks.old.items < 2 ^ 32 }
+    ensures stacked { SetsMark slot false (stacked_at marks.old.items) (stacked_at marks.new.items) }
+    ensures owed { owed_count marks.new.items ≡ held.new }
+    ensures same { KeepsMarks marks.old.items marks.new.items }
+    ensures room { held.new ≤ held.old + 1 }
+{
+    if marks[slot].is_pending() {
+        marks[slot] = Mark::Held;
+        *held += 1;
+    } else {
+        marks[slot] = Mark::Settled;
+    }
 }

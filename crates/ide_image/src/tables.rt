@@ -1,9 +1,11 @@
 //! The functions of an image's keys, to be read.
-ghost use Rattle.std.specs.Prelude.{◌≡◌, ◌≤◌, ◌↔◌, None, Some, IfSome, length, slice_get};
-ghost use Rattle.std.specs.List.{IsDistinct};
+ghost use Rattle.std.specs.Prelude.{◌≡◌, ◌%◌, None, Some, length, IfSome};
+ghost use Rattle.std.specs.List.{IsDistinct, slice_index_or};
 ghost use Rattle.std.specs.Map.{keys_of};
 ghost use Rattle.ide_wire.specs.Key.{same_key};
-ghost use Rattle.ide_image.specs.Tables.{Table, found, entry_nodes};
+ghost use Rattle.ide_image.specs.Cells.{IsAtNode, ShowTable};
+ghost use Rattle.ide_image.specs.Indexed.{table_of};
+ghost use Rattle.ide_image.specs.Tables.{found};
 
 use crate::indexed::Indexed;
 use ide_lattice::EdgeFn;
@@ -12,56 +14,78 @@ use std::marker::Model;
 
 /// The present keys of an image with their functions: an absent key stands for the function that
 /// always gives top.
+///
+/// They are read by cells. Each key has one, and 64 cells side by side are a page: the keys of one kind
+/// and one pair of facts at 64 nodes that follow each other. So a page tells at which nodes its keys are,
+/// and a walk over some nodes passes over pages at others. Of the order of pages nothing is said but
+/// that it stays.
 #[derive(Drop)]
 pub struct Tables<F: EdgeFn> {
     indexed: Indexed<F>,
 }
 
 impl<F: EdgeFn> Model for Tables<F> {
-    ghost Value = { Table F };
+    ghost use Rattle.ide_image.specs.Cells.{TablesData, tables_of};
 
-    ghost view = { λ t. t.indexed.table };
+    ghost Value = { TablesData F };
+
+    ghost view = { λ t. tables_of t.indexed };
 }
 
 impl<F: EdgeFn> Tables<F> {
     /// The entries of the map, as tables.
     pub(crate) fn of(indexed: Indexed<F>) -> Self
-        ensures { result ≡ indexed.table }
+        ensures { result.table ≡ table_of indexed.cells }
     {
         Tables { indexed }
     }
 
     /// The key's function, if the key is present.
     pub fn get(&self, key: Key) -> Option<F>
-        ensures { result ≡ found self.now key }
+        ensures { result ≡ found self.now.table key }
     {
+        // No two cells are of one key.
+        let _ = self.indexed.cell_count();
         self.indexed.function_at(self.indexed.place(key))
     }
 
     /// How many keys are present.
     pub fn key_count(&self) -> usize
-        ensures count { result ≡ length self.now.entries }
-        ensures distinct { IsDistinct same_key (keys_of self.now.entries) }
+        ensures count { result ≡ length self.now.table.entries }
+        ensures distinct { IsDistinct same_key (keys_of self.now.table.entries) }
     {
         self.indexed.len()
     }
 
-    /// The entry at `index`, in an order of which nothing is said but that it stays: so indices up to
-    /// the count of keys meet each entry once.
-    pub fn entry_at(&self, index: usize) -> Option<(Key, F)>
-        ensures entry { result ≡ slice_get self.now.entries index }
-        ensures end { (result ≡ None) ↔ (length self.now.entries ≤ index) }
-        ensures present { IfSome result (λ entry. found self.now entry.0 ≡ Some entry.1) }
+    /// How many cells there are: 64 for each page.
+    pub fn cell_count(&self) -> usize
+        ensures count { result ≡ length self.now.cells }
+        ensures pages { result % 64 ≡ 0 }
+        ensures shown { ShowTable self.now }
     {
-        self.indexed.entry_at(index)
+        self.indexed.cell_count()
     }
 
-    /// The node of the key of each entry, in the order of `entry_at`. So a walk over the entries of
-    /// some nodes reads 4 bytes of each other one.
-    pub fn nodes(&self) -> &[Node]
-        ensures nodes { result.now ≡ entry_nodes self.now.entries }
-        ensures distinct { IsDistinct same_key (keys_of self.now.entries) }
+    /// The key that has the cell with its function, if it is present: `None` behind the last cell.
+    /// No look-up.
+    #[inline(always)]
+    pub fn entry_in(&self, cell: usize) -> Option<(Key, F)>
+        ensures entry { result ≡ slice_index_or self.now.cells cell None }
+        ensures present { IfSome result (λ entry. found self.now.table entry.0 ≡ Some entry.1) }
     {
-        self.indexed.nodes()
+        // No two cells are of one key.
+        let _ = self.indexed.cell_count();
+        self.indexed.entry_at(cell)
+    }
+
+    /// The node of the page's first cell, where a page is given by its index: 0 where there is no such
+    /// page. Each other cell of the page is that of the node so many further on. No look-up.
+    pub fn first_node(&self, page: usize) -> Node
+        ensures { IsAtNode self.now page result }
+    {
+        match self.indexed.first_key(page) {
+            Some(key) => key.node(),
+            None => 0,
+        }
     }
 }

@@ -6,11 +6,12 @@ use Rattle.std.specs.Map.{keys_of}
 use Rattle.std.specs.Option.{option_map, option_to_list, unwrap_or}
 use Rattle.std.proofs.lemmas.Grind.{get_or_default_zero}
 use Rattle.std.proofs.lemmas.List.{length-append, length-set}
+use Rattle.std.proofs.lemmas.List.FromFn.{fill_by_all}
 use Rattle.std.proofs.lemmas.List.Quantifiers.{position-Some}
 use Rattle.ide_wire.specs.declared.key.Key.{Key}
 use Rattle.ide_wire.specs.declared.key.Key.TheVariants.{Jump}
 use Rattle.ide_wire.specs.Key.{same_key, same_key_exact, node_of}
-use Rattle.ide_pages.specs.Pages.{ArePages, Puts, cell_of, cell_on, entries, key_at, key_on, number_at, number_in, cell_number, numbers_of, own, page_at, page_of, shown, slot_at, slots_from, weight}
+use Rattle.ide_pages.specs.Pages.{ArePaged, ArePages, Puts, cell_of, cell_on, entries, key_at, key_on, number_at, number_in, cell_number, numbers_of, own, page_at, page_of, shown, slot_at, slot_by, slots_from, weight}
 use Rattle.ide_pages.proofs.Places.{key_on-page_of, offset-key_on, page_of-key_on, position-at}
 use Rattle.ide_pages.proofs.Numbering.{IsNumbering, distinct-entries, number-after, number-is}
 use Rattle.ide_pages.proofs.Slots.{full, full-get, full-set, get-slots, length-full, length-shown, length-slots, shown-number, shown-some, slots-set}
@@ -20,9 +21,23 @@ abbrev pub cell_in : List Key → Key → Option ℕ
 cell_in pages key = cell_on pages (node_of key % 64) (page_of key)
 
 -- an offset behind an index, in a cell that is known
-mapped : (o : Option ℕ) (offset c : ℕ) → option_map (λ index. 64 * index + offset) o ≡ Some c → (index : ℕ) × (o ≡ Some index) × (64 * index + offset ≡ c)
+pub mapped : (o : Option ℕ) (offset c : ℕ) → option_map (λ index. 64 * index + offset) o ≡ Some c → (index : ℕ) × (o ≡ Some index) × (64 * index + offset ≡ c)
 mapped None offset c e = absurd (cc)
 mapped (Some index) offset c e = let same : 64 * index + offset ≡ c = cc in (index, refl, same)
+
+-- a key's cell is that of no other key, and not behind the last
+pub cell-back : (pages : List Key) (q : Key) (c : ℕ) → cell_in pages q ≡ Some c → (key_at pages c ≡ q) × (c < 64 * length pages)
+cell-back pages q c is =
+    let found = mapped (position (same_key (page_of q)) pages) (node_of q % 64) c is in
+    let in_page : node_of q % 64 < 64 = omega arith in
+    let at : c ≡ 64 * found.0 + node_of q % 64 = sym found.2 in
+    let block : c / 64 ≡ found.0 = omega (arith, at, in_page) in
+    let offset : c % 64 ≡ node_of q % 64 = omega (arith, at, in_page) in
+    let some = position-Some (same_key (page_of q)) pages found.0 (Jump 0 0 0) found.1 in
+    let page : page_at pages found.0 ≡ page_of q = sym (same_key_exact (page_of q) (page_at pages found.0) some.1) in (
+      ap (λ i. key_on (page_at pages i) (c % 64)) block ∙ ap (λ p. key_on p (c % 64)) page ∙ ap (key_on (page_of q)) offset ∙ key_on-page_of q,
+      omega (arith, some.0, at, in_page),
+    )
 
 module _ (pages : List Key) (apart : IsDistinct same_key pages) where
   cell-there : (c : ℕ) → c < 64 * length pages → cell_in pages (key_at pages c) ≡ Some c
@@ -35,24 +50,11 @@ module _ (pages : List Key) (apart : IsDistinct same_key pages) where
       ∙ ap (option_map (λ index. 64 * index + c % 64)) (position-at pages (c / 64) (Jump 0 0 0) apart (omega arith))
       ∙ ap Some whole
 
-  cell-back : (q : Key) (c : ℕ) → cell_in pages q ≡ Some c → (key_at pages c ≡ q) × (c < 64 * length pages)
-  cell-back q c is =
-      let found = mapped (position (same_key (page_of q)) pages) (node_of q % 64) c is in
-      let in_page : node_of q % 64 < 64 = omega arith in
-      let at : c ≡ 64 * found.0 + node_of q % 64 = sym found.2 in
-      let block : c / 64 ≡ found.0 = omega (arith, at, in_page) in
-      let offset : c % 64 ≡ node_of q % 64 = omega (arith, at, in_page) in
-      let some = position-Some (same_key (page_of q)) pages found.0 (Jump 0 0 0) found.1 in
-      let page : page_at pages found.0 ≡ page_of q = sym (same_key_exact (page_of q) (page_at pages found.0) some.1) in (
-        ap (λ i. key_on (page_at pages i) (c % 64)) block ∙ ap (λ p. key_on p (c % 64)) page ∙ ap (key_on (page_of q)) offset ∙ key_on-page_of q,
-        omega (arith, some.0, at, in_page),
-      )
-
   pub numbering : (cells : List ℕ) → length cells ≡ 64 * length pages → IsNumbering (key_at pages) (cell_in pages) (length cells)
   numbering cells paged = record {
     there = λ c l. cell-there c (omega arith);
-    back = λ q c is. (cell-back q c is).0;
-    within = λ q c is. let l = (cell-back q c is).1 in omega (arith, l);
+    back = λ q c is. (cell-back pages q c is).0;
+    within = λ q c is. let l = (cell-back pages q c is).1 in omega (arith, l);
   }
 
 -- what follows of the fields
@@ -81,6 +83,19 @@ module _ {pages : List Key} {cells places : List ℕ} {count : ℕ} (are : ArePa
   number-in-cell cell =
       ap (λ (slot : Option (Key × ℕ)). unwrap_or (option_map (λ (entry : Key × ℕ). entry.1) slot) 0) (slot-of-cell cell)
       ∙ shown-number (key_at pages cell) (get_or cells cell 0)
+
+  pub are-paged : ArePaged (numbers_of pages cells)
+  are-paged =
+      let numbers = numbers_of pages cells in
+      let long : length numbers.slots ≡ 64 * length pages = length-slots (key_at pages) 0 cells ∙ are.paged in
+      let paged = are.paged in
+      record {
+        slots =
+            fill_by_all (slot_by numbers) numbers.slots (64 * length pages) None long
+            (λ cell l. slot-of-cell cell ∙ ap (shown (key_at pages cell)) (number-of-cell (key_at pages cell) cell (key-of-cell cell (omega (arith, paged, l)))));
+        own = λ cell l. key-of-cell cell (omega (arith, paged, l));
+        absent = λ key none. number-found key ∙ ap (cell_number cells) none;
+      }
 
   -- the key of a cell, as it is answered
   pub key-in : (r : Option Key) (cell : ℕ) → IfSome r (λ key. key ≡ key_at pages cell) → IfSome r (λ _. cell < 64 * length pages)

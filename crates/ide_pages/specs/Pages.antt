@@ -1,6 +1,6 @@
 -- What contracts say of numbers at keys: the number of each key, the cell that has it, and the pages that there are.
-use Rattle.std.specs.Prelude.{◌≡◌, ℕ, ◌+◌, ◌-◌, ◌*◌, ◌/◌, ◌%◌, ◌<◌, ◌^◌, Bool, true, List, [], ◌∷◌, ◌++◌, length, filter, nat_eq, nat_lt, position, Option, None, Some, if◌then◌else◌}
-use Rattle.std.specs.List.{AllByRecursion, IsDistinct, filter_map, list_any, slice_index_or}
+use Rattle.std.specs.Prelude.{◌≡◌, ◌⊎◌, ℕ, ◌+◌, ◌-◌, ◌*◌, ◌/◌, ◌%◌, ◌<◌, ◌^◌, Bool, true, List, [], ◌∷◌, ◌++◌, length, filter, map, nat_eq, nat_lt, position, Option, None, Some, if◌then◌else◌}
+use Rattle.std.specs.List.{AllByRecursion, IsDistinct, filter_map, list_any, range_with_len, slice_index_or}
 use Rattle.std.specs.List.Sorted.{IsStrictlySortedBy}
 use Rattle.std.specs.Map.{lookup, keys_of}
 use Rattle.std.specs.BTreeMap.{is_at}
@@ -119,6 +119,20 @@ cell_number cells (Some cell) = slice_index_or cells cell 0
 -- the number at an offset of the page, or 0
 abbrev pub number_on : List Key → List ℕ → ℕ → Key → ℕ
 number_on pages cells offset page = cell_number cells (cell_on pages offset page)
+
+-- what the cell of a key shows: the key with its number, where that is not 0
+abbrev pub slot_by : Numbers → ℕ → Option (Key × ℕ)
+slot_by numbers cell = shown (key_at numbers.pages cell) (number_at numbers (key_at numbers.pages cell))
+
+-- 64 cells a page, each the cell of one key, show the numbers of their keys; a key that has no cell has 0
+pub record ArePaged (numbers : Numbers) : Type 0 where
+  pub slots : numbers.slots ≡ map (slot_by numbers) (range_with_len 0 (64 * length numbers.pages))
+  pub own : (cell : ℕ) → cell < 64 * length numbers.pages → cell_of numbers (key_at numbers.pages cell) ≡ Some cell
+  pub absent : (key : Key) → cell_of numbers key ≡ None → number_at numbers key ≡ 0
+
+-- the pages are those of before, behind which the key's may stand now
+abbrev pub AddsPage : (old new : Numbers) → Key → Type 0
+AddsPage old new key = (new.pages ≡ old.pages) ⊎ (new.pages ≡ old.pages ++ page_of key ∷ [])
 
 -- how many entries a cell with the number makes
 abbrev pub weight : ℕ → ℕ

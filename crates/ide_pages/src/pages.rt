@@ -7,7 +7,7 @@ ghost use Rattle.ide_wire.specs.declared.key.Key.{Key};
 ghost use Rattle.ide_wire.specs.declared.key.Key.TheVariants.{Jump, Summary};
 ghost use Rattle.ide_wire.specs.declared.refused.Refused.TheVariants.{NoMemory};
 ghost use Rattle.ide_wire.specs.Key.{node_of, same_key};
-ghost use Rattle.ide_pages.specs.Pages.{Numbers, ArePages, IsRowOfJumps, IsRowOfSummaries, IsNumberIn, KeepsCells, KeepsPlaces, Puts, cell_of, entries, has_place, number_at, number_in, numbers_of, slot_at, weight};
+ghost use Rattle.ide_pages.specs.Pages.{AddsPage, Numbers, ArePaged, ArePages, IsRowOfJumps, IsRowOfSummaries, IsNumberIn, KeepsCells, KeepsPlaces, Puts, cell_of, entries, has_place, number_at, number_in, numbers_of, slot_at, weight};
 
 use crate::{keys, rows};
 use ide_wire::{Fact, Key, Node, Refused};
@@ -78,6 +78,7 @@ impl Pages {
 
     /// The key's cell, if there is its page. One look-up at most: none where room was made last for a
     /// key of its page.
+    #[inline(always)]
     pub fn cell(&self, key: Key) -> Option<usize>
         ensures { result ≡ cell_of self.now key }
     {
@@ -91,8 +92,11 @@ impl Pages {
     }
 
     /// How many cells there are: 64 for each page.
+    #[inline(always)]
     pub fn cell_count(&self) -> usize
-        ensures { result ≡ length self.now.slots }
+        ensures count { result ≡ length self.now.slots }
+        ensures pages { result ≡ 64 * length self.now.pages }
+        ensures paged { ArePaged self.now }
     {
         self.cells.len()
     }
@@ -135,6 +139,7 @@ impl Pages {
         ensures there { IfSome (cell_of self.old key) (λ cell. result ≡ Ok cell) }
         ensures entries { entries self.new ≡ entries self.old }
         ensures cells { KeepsCells self.old self.new }
+        ensures pages { AddsPage self.old self.new key }
         ensures err { OnErr result (self.new ≡ self.old) }
         ensures refused { IsOkUnless result NoMemory }
     {

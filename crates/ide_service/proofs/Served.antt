@@ -139,7 +139,7 @@ module _ (P : Type 0) {F L : Type 0} (a : Analysis F L) (knows : Knows a) (graph
           good_now a.lattice a.functions a.targets a.same (forms_of a) (store_at a place) knows.is_same exact laws knows.known w whole.held
           values.program (image.program ∙ ap (λ u. Some u) (sym program)) by
 
-      at_rest : TablesRest a.lattice a.functions a.targets values.graph all values.roots closed.tables
+      at_rest : TablesRest a.lattice a.functions a.targets values.graph all values.roots closed.tables.table
       at_rest = record {
         state = image_state w.world.image;
         run = good.run;
@@ -162,7 +162,7 @@ module _ {P F L : Type 0} (a : Analysis F L) (table : TableData F) (closed : Clo
       → IfOk result (λ values. values.program ≡ program_in closed)
       → IfOk result (λ values. values.graph ≡ graph_in closed)
       → IfOk result (λ values. values.roots ≡ closed.roots.items)
-      → IfOk result (AreBestOf a.lattice a.functions a.targets closed.tables)
+      → IfOk result (AreBestOf a.lattice a.functions a.targets closed.tables.table)
       → IfOk result (AreAnswersOver a table)
   answers_over law result frozen programs graphs rooted bests =
       if-ok {S = AreAnswersOver a table} result programs graphs rooted bests (λ values program graph roots best place w handed reached works.
@@ -175,7 +175,7 @@ pub answers_of_run : {P F L : Type 0} (a : Analysis F L) (closed : Closed P L F)
     → IfOk result (λ values. values.program ≡ program_in closed)
     → IfOk result (λ values. values.graph ≡ graph_in closed)
     → IfOk result (λ values. values.roots ≡ closed.roots.items)
-    → IfOk result (AreBestOf a.lattice a.functions a.targets closed.tables)
+    → IfOk result (AreBestOf a.lattice a.functions a.targets closed.tables.table)
     → IfOk result (AreAnswersOfRun a)
 answers_of_run a closed law run said result programs graphs rooted bests =
     if-ok {S = AreAnswersOfRun a} result programs graphs rooted bests (λ values program graph roots best.
@@ -192,7 +192,7 @@ pub answers_told : {P F L : Type 0} (a : Analysis F L) (closed : Closed P L F) �
     → IfOk result (λ values. values.program ≡ program_in closed)
     → IfOk result (λ values. values.graph ≡ graph_in closed)
     → IfOk result (λ values. values.roots ≡ closed.roots.items)
-    → IfOk result (AreBestOf a.lattice a.functions a.targets closed.tables)
+    → IfOk result (AreBestOf a.lattice a.functions a.targets closed.tables.table)
     → IfOk result (λ values. ∥ AreAnswersOfRun a values ∥₁)
 answers_told a closed law run said (Ok values) program graph roots best = ∥∥₁_map₂ run said (λ (r : IsImageOfRun a closed) (s : IsGraphSaid (Some (program_in closed)) (graph_in closed)).
     answers_of_run a closed law r s (Ok values) program graph roots best)

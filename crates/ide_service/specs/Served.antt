@@ -54,7 +54,7 @@ module _ (P : Type 0) {F L : Type 0} (a : Analysis F L) where
   ValuesOfRunsAreBest =
       (closed : Closed P L F) (values : ValuesData L) → IsGraphSaid (Some (program_in closed)) (graph_in closed)
       → values.program ≡ program_in closed → values.graph ≡ graph_in closed → values.roots ≡ closed.roots.items
-      → AreBestOf a.lattice a.functions a.targets closed.tables values
+      → AreBestOf a.lattice a.functions a.targets closed.tables.table values
       → (place : Place) (w : StoreWorld a place) → IsReached a place w → IsImageOf a place w closed → AreAnswersOf a place w values
 
 module _ {F : Type 0} (table : TableData F) where

@@ -63,7 +63,7 @@ module _ {F L : Type 0} (a : ShownAnalysis F L) (text : List ℕ) (roots : List 
   abbrev pub LeadsToSolved : {P : Type 0} → Closed P L F → Type 0
   LeadsToSolved closed =
       (values : ValuesData L) → values.program ≡ program_in closed → values.graph ≡ graph_in closed → values.roots ≡ closed.roots.items
-      → AreBestOf a.lattice a.functions a.targets closed.tables values → AreSolvedFor values
+      → AreBestOf a.lattice a.functions a.targets closed.tables.table values → AreSolvedFor values
 
 -- a call that is not refused appends the dump of that solution
 abbrev pub SolvesFor : {F L : Type 0} → ShownAnalysis F L → {T E : Type 0} → Result T E → List ℕ → List (Bor (List ℕ)) → (old new : Vec ℕ) → Type 0

@@ -2,6 +2,7 @@
 use Rattle.std.proofs.Common.{◌≡◌, ◌≢◌, ℕ, zero, suc, ◌+◌, ◌-◌, ◌*◌, ◌^◌, ◌<◌, ◌≤◌, inl, inr, Bool, true, false, cond, ◌||◌, get_or, List, [], ◌∷◌, ◌++◌, Some, None, length, slice_get, map, option_map, ap, sym, subst, ◌∙◌, refl, add-one, arith, Option}
 use Rattle.std.specs.Prelude.{◌&&◌, not, filter, IsTrue}
 use Rattle.std.specs.List.{All, IsDistinct, flat_map, list_any}
+use Rattle.std.specs.List.Sorted.{IsPermutation}
 use Rattle.std.specs.Map.{keys_of, lookup}
 use Rattle.std.specs.Option.{is_some}
 use Rattle.std.proofs.lemmas.List.{append_assoc, append-nil, length-append}
@@ -19,11 +20,11 @@ use Rattle.ide_tasks.specs.declared.partners.Partners.TheVariants.{Entries}
 use Rattle.ide_image.specs.Notes.{noted, noted_count, or_entry, with_note}
 use Rattle.ide_image.specs.Spent.{fallen, spent}
 use Rattle.ide_image.specs.Tables.{Table, found, or_top}
-use Rattle.ide_image.specs.Walk.{AreAbsent, AreSettled, GoesTo, absent_entry, walked_entries, jump_behind, with_entered}
+use Rattle.ide_image.specs.Walk.{AreAbsent, AreSettled, EntersWalked, GoesTo, absent_entry, walked_entries, jump_behind, with_entered}
 use Rattle.ide_image.specs.Worklist.{IsFree, claim_at, is_pending, marked}
 use Rattle.ide_image.specs.declared.entry.Entry.{Entry}
-use Rattle.ide_image.proofs.Places.{distinct-put, put-last}
-use Rattle.ide_image.proofs.Walked.{place-absent}
+use Rattle.ide_image.proofs.Places.{distinct-put, place-absent, put-last}
+use Rattle.ide_image.proofs.Sets.{found-with_entry}
 use Rattle.ide_wire.specs.Key.{node_of, same_key, same_key_exact, same_key_refl, same_key_symm}
 use Rattle.ide_wire.specs.declared.key.Key.{Key}
 use Rattle.ide_wire.specs.declared.key.Key.TheVariants.{Jump}
@@ -38,26 +39,16 @@ use Rattle.ide_steps.specs.Steps.{IsChangedBy, IsLoweredBy}
 use Rattle.ide_steps.specs.Walk.{GoesOnUnchanged, PassesAt, PassesFor, WalksOwed}
 use Rattle.ide_steps.proofs.Going.{goes-nowhere, goes-then}
 use Rattle.ide_steps.proofs.Noted.{after-keeps, noted-with, noting-with, remembers-change, remembers-then}
+use Rattle.ide_steps.proofs.Permuted.{found-permuted, long-permuted, spent-permuted}
 use Rattle.ide_steps.proofs.Potential.{falls}
 use Rattle.ide_steps.proofs.Running.{key-begins, key-ended, part-lowers}
 use Rattle.ide_steps.proofs.States.{changes-of, state-lowered}
 
 module _ {F : Type 0} where
-  -- what is found once an entry of an absent key is put behind the others, by cases of a first entry
-  found-first : (e : Key × F) (es : List (Key × F)) (key q : Key) (f : F) (here there own : Bool) → same_key key e.0 ≡ here → same_key q e.0 ≡ there → same_key key q ≡ own
-      → cond here (Some e.1) (lookup (same_key key) es) ≡ None
-      → (lookup (same_key key) es ≡ None → lookup (same_key q) (es ++ (key, f) ∷ []) ≡ cond own (Some f) (lookup (same_key q) es))
-      → cond there (Some e.1) (lookup (same_key q) (es ++ (key, f) ∷ [])) ≡ cond own (Some f) (cond there (Some e.1) (lookup (same_key q) es))
-  found-first e es key q f true there own a b c none rest = absurd (cc (none))
-  found-first e es key q f false true true a b c none rest = absurd (cc (a, b, ap (λ k. same_key k e.0) (same_key_exact key q c)))
-  found-first e es key q f false true false a b c none rest = refl
-  found-first e es key q f false false own a b c none rest = rest none
-
+  -- what is found once an entry of an absent key is put behind the others
   pub found-last : (es : List (Key × F)) (key q : Key) (f : F) → lookup (same_key key) es ≡ None
       → lookup (same_key q) (es ++ (key, f) ∷ []) ≡ cond (same_key key q) (Some f) (lookup (same_key q) es)
-  found-last [] key q f none = ap (λ b. cond b (Some f) None) (same_key_symm q key)
-  found-last (e ∷ es) key q f none =
-      found-first e es key q f (same_key key e.0) (same_key q e.0) (same_key key q) refl refl refl none (found-last es key q f)
+  found-last es key q f none = ap (lookup (same_key q)) (sym (put-last key es f (place-absent key es none))) ∙ found-with_entry es key q f
 
   -- how many are entered
   length-entered : (at : ℕ → Key) (f : F) (n : ℕ) → length (walked_entries at f n) ≡ n
@@ -197,11 +188,11 @@ module _ {F L : Type 0} (B : EdgeAlgebra F L) (targets : Targets F) where
       omega (arith, before, last, less)
 
   -- where some are entered and as many keys are pending as before, there is less to do
-  pub entered-falls : (es fs : List (Key × F)) (at : ℕ → Key) (f : F) (count pending now : ℕ) → B.rank f < B.height → fs ≡ es ++ walked_entries at f count → length fs < 2 ^ 64
+  pub entered-falls : (es fs : List (Key × F)) (at : ℕ → Key) (f : F) (count pending now : ℕ) → B.rank f < B.height → IsPermutation (es ++ walked_entries at f count) fs → length fs < 2 ^ 64
       → now ≡ pending → 0 < count → 2 * (2 ^ 64 * B.height - spent B fs) + now < 2 * (2 ^ 64 * B.height - spent B es) + pending
   entered-falls es fs at f count pending now less entries few same some =
       let more = spent-entered es at f less count in
-      let all = ap (spent B) entries in
+      let all = spent-permuted (es ++ walked_entries at f count) fs entries B in
       falls B es fs pending now few (omega (arith, more, all, some)) (omega (arith, same))
 
 -- from one core by way of another to a third a key gives its turn to the next one: it owes one part, which lowers that, and it is
@@ -474,7 +465,7 @@ module _ {F L : Type 0} (A : LatticeAlgebra L) (B : EdgeAlgebra F L) (targets : 
   distinct-then distinct (suc n) few =
       let key = jump_behind node from to (suc n) in
       subst (λ (es : List (Key × F)). IsDistinct same_key (keys_of es))
-      (put-last key (entries_then n) f (place-absent (entries_then n) key (absent-then n n (omega arith) (omega (arith, few))))
+      (put-last key (entries_then n) f (place-absent key (entries_then n) (absent-then n n (omega arith) (omega (arith, few))))
       ∙ sym (more-entered start.table.entries (jump_behind node from to) f n))
       (distinct-put key (entries_then n) f (distinct-then distinct n (omega (arith, few))))
 
@@ -515,7 +506,8 @@ module _ {F L : Type 0} (A : LatticeAlgebra L) (B : EdgeAlgebra F L) (targets : 
     behind = remembers-after n few;
   }
 
-  module _ (new : CoreData F) (same : IsSameProblem start new) (entries : new.table.entries ≡ start.table.entries ++ walked_entries (jump_behind node from to) f count)
+  module _ (new : CoreData F) (same : IsSameProblem start new) (distinct : IsDistinct same_key (keys_of start.table.entries))
+      (entries : EntersWalked (jump_behind node from to) f count start.table new.table)
       (goes : GoesTo (Jump node from to) (jump_behind node from to count) start.pile new.pile) (claims : new.pile.claims ≡ start.pile.claims) where
     -- the last of them has that of the core then
     last-pending : (q : Key) → is_pending new.pile q ≡ is_pending (core-after count).pile q
@@ -525,11 +517,16 @@ module _ {F L : Type 0} (A : LatticeAlgebra L) (B : EdgeAlgebra F L) (targets : 
         ∙ (λ i. same_key_symm (jump_behind node from to count) q i || (not (same_key (sym first-of-walk i) q) && is_pending start.pile q))
         ∙ ap (λ b. same_key q (jump_behind node from to count) || b) (sym (among-other-keys (jump_behind node from to 0) q start.pile.pending))
 
+    last-found : (q : Key) → lookup (same_key q) new.table.entries ≡ lookup (same_key q) (entries_then count)
+    unfolding entries_then
+    last-found q =
+        found-permuted (start.table.entries ++ walked_entries (jump_behind node from to) f count) new.table.entries entries (distinct-then distinct count (omega arith)) q
+
     pub last-state : state_of B targets new ≡ state_of B targets (core-after count)
-    unfolding core-after entries_then
+    unfolding core-after
     last-state =
         λ i. record {
-          get = λ q. lookup (same_key q) (entries i);
+          get = λ q. last-found q i;
           pending = λ q. last-pending q i;
           claims = λ h. option_map (claim_of B targets) (get_or (claims i) h None);
         }
@@ -539,9 +536,9 @@ module _ {F L : Type 0} (A : LatticeAlgebra L) (B : EdgeAlgebra F L) (targets : 
     walk-ends = goes-nowhere A B targets 0 (core-after count) new (record { program = same.program; graph = same.graph; roots = same.roots }) last-state
 
     pub remembers-last : new.changes ≡ changes_then count → Remembers (core-after count) new
-    unfolding core-after entries_then
+    unfolding core-after
     remembers-last changes =
-        remembers-change (core-after count) new None changes (λ q _. λ i. record { function = lookup (same_key q) (entries i); pending = last-pending q i })
+        remembers-change (core-after count) new None changes (λ q _. λ i. record { function = last-found q i; pending = last-pending q i })
 
     pub walk-remembers : new.changes ≡ changes_then count → Remembers start new
     walk-remembers changes = remembers-then start (core-after count) new (remembers-then-all count (omega arith)) (remembers-last changes)
@@ -558,7 +555,7 @@ module _ {F L : Type 0} (A : LatticeAlgebra L) (B : EdgeAlgebra F L) (targets : 
       goes = walk-goes;
       paid = record {
         keys = omega (arith, long);
-        ranks = let more = spent-entered B targets start.table.entries (jump_behind node from to) f unchanged.less count in let all = ap (spent B) entries in omega (arith, more, all);
+        ranks = let more = spent-entered B targets start.table.entries (jump_behind node from to) f unchanged.less count in let all = spent-permuted (start.table.entries ++ walked_entries (jump_behind node from to) f count) new.table.entries entries B in omega (arith, more, all);
       };
     }
 
@@ -568,12 +565,12 @@ module _ {F L : Type 0} (A : LatticeAlgebra L) (B : EdgeAlgebra F L) (targets : 
   pub walked-pays : GoesOnPaid A B targets count old new
   walked-pays =
       walk-pays A B targets steps top old free walk.may.graph walk.may.loaded walk.node walk.from walk.to walk.function walk.may.may.unchanged walk.waits walk.has
-      count walk.may.may.passes walk.may.may.absent walk.may.may.settled new walk.same walk.entries walk.goes walk.claims walk.long
+      count walk.may.may.passes walk.may.may.absent walk.may.may.settled new walk.same walk.distinct walk.entries walk.goes walk.claims walk.long
 
   pub walked-remembers : Remembers old new
   walked-remembers =
       walk-remembers A B targets steps top old free walk.may.graph walk.may.loaded walk.node walk.from walk.to walk.function walk.may.may.unchanged walk.waits walk.has
-      count walk.may.may.passes walk.may.may.absent walk.may.may.settled new walk.same walk.entries walk.goes walk.claims walk.changes
+      count walk.may.may.passes walk.may.may.absent walk.may.may.settled new walk.same walk.distinct walk.entries walk.goes walk.claims walk.changes
 
   pub walked-falls : 0 < count → HasLess B old new
   walked-falls some =
@@ -605,7 +602,7 @@ module _ {F L : Type 0} (A : LatticeAlgebra L) (B : EdgeAlgebra F L) (targets : 
   core-links =
       passes-then A B targets steps top old free walk.may.graph walk.may.loaded walk.node walk.from walk.to walk.function walk.may.may.unchanged walk.waits walk.has
       count walk.may.may.passes walk.may.may.absent walk.may.may.settled
-      (let all = ap length walk.entries in let more = length-append old.table.entries (walked_entries (jump_behind walk.node walk.from walk.to) walk.function count) in let few = walk.few in
+      (let all = long-permuted (old.table.entries ++ walked_entries (jump_behind walk.node walk.from walk.to) walk.function count) new.table.entries walk.entries in let more = length-append old.table.entries (walked_entries (jump_behind walk.node walk.from walk.to) walk.function count) in let few = walk.few in
       let so_many = length-entered (jump_behind walk.node walk.from walk.to) walk.function count in
       omega (arith, all, more, few, so_many))
 
@@ -622,7 +619,7 @@ module _ {F L : Type 0} (A : LatticeAlgebra L) (B : EdgeAlgebra F L) (targets : 
   pub core-last : Remembers (core_then count) new
   core-last =
       remembers-last A B targets steps top old free walk.may.graph walk.may.loaded walk.node walk.from walk.to walk.function walk.may.may.unchanged walk.waits walk.has
-      count walk.may.may.passes walk.may.may.absent walk.may.may.settled new walk.same walk.entries walk.goes walk.claims walk.changes
+      count walk.may.may.passes walk.may.may.absent walk.may.may.settled new walk.same walk.distinct walk.entries walk.goes walk.claims walk.changes
 
   pub core-same : (n : ℕ) → IsSameProblem old (core_then n)
   core-same =
@@ -632,4 +629,4 @@ module _ {F L : Type 0} (A : LatticeAlgebra L) (B : EdgeAlgebra F L) (targets : 
   pub state-last : state_of B targets new ≡ state_of B targets (core_then count)
   state-last =
       last-state A B targets steps top old free walk.may.graph walk.may.loaded walk.node walk.from walk.to walk.function walk.may.may.unchanged walk.waits walk.has
-      count walk.may.may.passes walk.may.may.absent walk.may.may.settled new walk.same walk.entries walk.goes walk.claims
+      count walk.may.may.passes walk.may.may.absent walk.may.may.settled new walk.same walk.distinct walk.entries walk.goes walk.claims

@@ -1,16 +1,19 @@
 -- Nodes behind each other, of which each passes a fact on unchanged to the next.
-use Rattle.std.specs.Prelude.{◌≡◌, ℕ, ◌+◌, ◌++◌, ◌%◌, ◌<◌, ◌^◌, true, false, Some, length, slice_get}
+use Rattle.std.specs.Prelude.{◌≡◌, ℕ, ◌+◌, ◌%◌, ◌<◌, ◌^◌, true, false, Some, length, slice_get}
+use Rattle.std.specs.List.{IsDistinct}
+use Rattle.std.specs.Map.{keys_of}
 use Rattle.ide_graph.specs.Supergraph.{Supergraph}
 use Rattle.ide_graph.specs.declared.site.Site.{Site}
 use Rattle.ide_image.specs.KeyedImage.{KeyedImageData}
 use Rattle.ide_image.specs.Notes.{with_note}
 use Rattle.ide_image.specs.Tables.{found}
-use Rattle.ide_image.specs.Walk.{AreAbsent, AreSettled, GoesTo, walked_entries, jump_behind, with_entered}
+use Rattle.ide_image.specs.Walk.{AreAbsent, AreSettled, EntersWalked, GoesTo, jump_behind, with_entered}
 use Rattle.ide_image.specs.Worklist.{is_claimed, is_pending}
 use Rattle.ide_lattice.specs.Algebra.{EdgeAlgebra}
 use Rattle.ide_problem.specs.Flow.{Targets}
 use Rattle.ide_tasks.specs.Parts.{PassesBehind}
 use Rattle.ide_tasks.specs.Task.{TaskData}
+use Rattle.ide_wire.specs.Key.{same_key}
 use Rattle.ide_wire.specs.declared.key.Key.TheVariants.{Jump}
 use Rattle.ide_steps.specs.Changed.{standing_entry}
 use Rattle.ide_steps.specs.Core.{CoreData, IsSameProblem}
@@ -60,7 +63,8 @@ module _ {F L : Type 0} (B : EdgeAlgebra F L) where
     pub has : found old.table (Jump node from to) ≡ Some function
     pub may : MayWalkIn targets old node from to count function
     pub same : IsSameProblem old new
-    pub entries : new.table.entries ≡ old.table.entries ++ walked_entries (jump_behind node from to) function count
+    pub distinct : IsDistinct same_key (keys_of old.table.entries)
+    pub entries : EntersWalked (jump_behind node from to) function count old.table new.table
     pub few : length new.table.entries < 2 ^ 64
     pub goes : GoesTo (Jump node from to) (jump_behind node from to count) old.pile new.pile
     pub long : length new.pile.pending ≡ length old.pile.pending

@@ -27,7 +27,7 @@ impl<P: Problem> Core<P> {
         ensures refused { IfErr result (IsFreezeRefusal self.now) }
         ensures program { IfOk result (λ closed. self.now.program ≡ Some (program_in closed)) }
         ensures graph { IfOk result (λ closed. self.now.graph ≡ Some (graph_in closed)) }
-        ensures table { IfOk result (λ closed. closed.tables ≡ self.now.table) }
+        ensures table { IfOk result (λ closed. closed.tables.table ≡ self.now.table) }
         ensures roots { IfOk result (λ closed. closed.roots.items ≡ self.now.roots) }
         ensures quiet { IfOk result (λ _. self.now.pile.pending ≡ []) }
     {
@@ -50,7 +50,7 @@ impl<P: Problem> Core<P> {
     pub fn close(self) -> Result<Closed<P>, (Refused, Core<P>)>
         ensures program { IfOk result (λ closed. self.program ≡ Some (program_in closed)) }
         ensures graph { IfOk result (λ closed. self.graph ≡ Some (graph_in closed)) }
-        ensures table { IfOk result (λ closed. closed.tables ≡ self.table) }
+        ensures table { IfOk result (λ closed. closed.tables.table ≡ self.table) }
         ensures roots { IfOk result (λ closed. closed.roots.items ≡ self.roots) }
         ensures quiet { IfOk result (λ _. self.pile.pending ≡ []) }
         ensures refused { IfErr result (λ e. CloseFault self e.0) }

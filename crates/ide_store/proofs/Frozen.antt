@@ -15,7 +15,7 @@ use Rattle.ide_store.specs.Table.{Analysis, TableData}
 pub image_of : {P F L : Type 0} (a : Analysis F L) (result : Result (Closed P L F) Refused) (table : TableData F)
     → IfOk result (λ closed. table.core.program ≡ Some (program_in closed))
     → IfOk result (λ closed. table.core.graph ≡ Some (graph_in closed))
-    → IfOk result (λ closed. closed.tables ≡ table.core.table)
+    → IfOk result (λ closed. closed.tables.table ≡ table.core.table)
     → IfOk result (λ closed. closed.roots.items ≡ table.core.roots)
     → IfOk result (λ _. table.core.pile.pending ≡ [])
     → IfOk result (IsImageOver a table)

@@ -122,7 +122,7 @@ module _ {F L : Type 0} (a : Analysis F L) (answers : (place : Place) → PlaceA
       let K = frame_by a.lattice a.functions a.targets by in
       let names = on.world.world.image.roots in
       let R = roots_by a.lattice a.functions a.targets by names in
-      let get : on.world.world.image.get ≡ found closed.tables = λ i key. on.image.functions key i in
+      let get : on.world.world.image.get ≡ found closed.tables.table = λ i key. on.image.functions key i in
       let said = (sound on.place on.world on.reached).answers (program_in closed) on.image.program by in
       record {
         names = names;

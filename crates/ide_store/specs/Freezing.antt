@@ -14,7 +14,7 @@ module _ {P F L : Type 0} (a : Analysis F L) where
   pub record IsImageOf (place : Place) (w : StoreWorld a place) (closed : Closed P L F) : Type 0 where
     pub program : w.world.image.program ≡ Some (program_in closed)
     pub roots : map (named_in (Some (graph_in closed))) w.world.image.roots ≡ map (λ root. Some root) closed.roots.items
-    pub functions : (key : Key) → w.world.image.get key ≡ found closed.tables key
+    pub functions : (key : Key) → w.world.image.get key ≡ found closed.tables.table key
     pub quiet : (key : Key) → w.world.image.pending key ≡ false
 
   -- of each world that acts led to, and on which the half works

@@ -43,10 +43,10 @@ module _ {F L : Type 0} (a : Analysis F L) where
     pub names : List (List ℕ)
     pub named : map (named_in (Some (graph_in closed))) names ≡ map (λ root. Some root) closed.roots.items
     pub best : (start : ℕ → ℕ → L)
-        → IsStarted (frame_by a.lattice a.functions a.targets by) (roots_by a.lattice a.functions a.targets by names) (found closed.tables) start
+        → IsStarted (frame_by a.lattice a.functions a.targets by) (roots_by a.lattice a.functions a.targets by names) (found closed.tables.table) start
         → (n d : ℕ) → d < by.graph.facts
         → IsBest (frame_by a.lattice a.functions a.targets by) (roots_by a.lattice a.functions a.targets by names) n d
-        (value_at (frame_by a.lattice a.functions a.targets by) (found closed.tables) start n d)
+        (value_at (frame_by a.lattice a.functions a.targets by) (found closed.tables.table) start n d)
 
 -- a frozen image of a run answers with best values, over each graph of its program
 abbrev pub FrozenImagesAnswer : Type 0 → {F L : Type 0} → Analysis F L → Type 0

@@ -154,7 +154,7 @@ impl<P: Problem> TableHalf<P> {
     pub fn freeze(&self) -> Result<Closed<P>, Refused>
         ensures frozen { IfOk result (IsImageOver ⟦<P as Kept>⟧.analysis self.now) }
         ensures graph { IfOk result (λ closed. self.now.core.graph ≡ Some (graph_in closed)) }
-        ensures table { IfOk result (λ closed. closed.tables ≡ self.now.core.table) }
+        ensures table { IfOk result (λ closed. closed.tables.table ≡ self.now.core.table) }
         ensures roots { IfOk result (λ closed. closed.roots.items ≡ self.now.core.roots) }
         ensures quiet { IfOk result (λ _. self.now.core.pile.pending ≡ []) }
         ensures working { IfOk result (λ _. self.now.failed ≡ false) }

@@ -1,10 +1,6 @@
 -- Values that come of others by steps.
-use Rattle.std.proofs.Common.{◌≡◌, ℕ, ◌<◌, List, [], ◌∷◌, Option, Some, None, true, false, cond, length, refl, subst, sym, arith}
+use Rattle.std.proofs.Common.{◌≡◌, ℕ, ◌<◌, List, Option, Some, None, length, refl, subst, sym, arith}
 use Rattle.std.specs.Prelude.{slice_get}
-use Rattle.std.specs.Map.{lookup}
-use Rattle.ide_theory.specs.Member.{Each}
-use Rattle.ide_wire.specs.Key.{same_key, same_key_exact}
-use Rattle.ide_wire.specs.declared.key.Key.{Key}
 use Rattle.ide_values.specs.Pass.{GoesBy, stays, then}
 use Rattle.ide_values.proofs.Filled.{none_past}
 
@@ -15,19 +11,6 @@ module _ {X V : Type 0} (step : V → X → V) (IsAmong : X → Type 0) where
 
   pub goes_by : {u v w : V} → GoesBy step IsAmong u v → (x : X) → IsAmong x → w ≡ step v x → GoesBy step IsAmong u w
   goes_by {u} so_far x is e = subst (GoesBy step IsAmong u) (sym e) (then so_far x is)
-
--- what holds of each entry holds of each present key with its function
-pub each_found : {F : Type 0} (P : Key × F → Type 0) (entries : List (Key × F)) (key : Key) (f : F)
-    → Each P entries → lookup (same_key key) entries ≡ Some f → P (key, f)
-each_found P [] key f all is = absurd (cc)
-each_found {F} P (e ∷ es) key f all is =
-    elim (same_key key e.0) as (λ b. same_key key e.0 ≡ b → cond b (Some e.1) (lookup (same_key key) es) ≡ Some f → P (key, f)) [
-      | true ↦ λ same here.
-          let own : key ≡ e.0 = same_key_exact key e.0 same in
-          let value : e.1 ≡ f = cc (here) in
-          subst (λ k. P (k, f)) (sym own) (subst (λ v. P (e.0, v)) value all.0)
-      | false ↦ λ other there. each_found P es key f all.1 there
-    ] refl is
 
 -- below the length something stands
 pub none_within : {X : Type 0} (xs : List X) (i : ℕ) → slice_get xs i ≡ None → i < length xs → ⊥

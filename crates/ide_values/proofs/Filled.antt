@@ -1,11 +1,11 @@
--- Lowering by each entry of a table comes to the meet over all facts, in whatever order the entries stand.
-use Rattle.std.proofs.Common.{◌≡◌, ℕ, zero, suc, ◌+◌, ◌*◌, ◌<◌, ◌≤◌, ◌⊎◌, inl, inr, ◌++◌, take, ◌&&◌, true, false, cond, List, [], ◌∷◌, Option, Some, None, length, get_or, ap, sym, subst, refl, ◌∙◌, arith}
+-- Lowering by each entry that cells show comes to the meet over all facts, in whatever order the cells stand.
+use Rattle.std.proofs.Common.{◌≡◌, ℕ, zero, suc, ◌+◌, ◌-◌, ◌*◌, ◌/◌, ◌%◌, ◌<◌, ◌≤◌, ◌⊎◌, inl, inr, take, ◌&&◌, true, false, cond, List, [], ◌∷◌, Option, Some, None, length, get_or, ap, sym, subst, refl, ◌∙◌, arith}
 use Rattle.std.specs.Prelude.{IsTrue, fold, nat_eq, slice_index, slice_get, unwrap_or}
 use Rattle.std.specs.List.{All, IsDistinct}
-use Rattle.std.proofs.lemmas.List.{get_or_past, take_all, take_more}
+use Rattle.std.proofs.lemmas.List.{append-nil, get_or_past, take_all}
 use Rattle.std.proofs.lemmas.List.Elements.{All-get_or}
 use Rattle.std.proofs.lemmas.List.Sums.{fold-append}
-use Rattle.std.proofs.lemmas.Option.{get_or_from_slice_get, slice_get_cases, slice_get_within}
+use Rattle.std.proofs.lemmas.Option.{slice_get_cases}
 use Rattle.std.specs.Map.{lookup, keys_of}
 use Rattle.std.proofs.lemmas.Bool.Decides.{nat_tests}
 use Rattle.std.proofs.lemmas.Map.Entries.{lookup_from_place, place_from_lookup}
@@ -17,13 +17,14 @@ use Rattle.ide_wire.specs.declared.key.Key.{Key}
 use Rattle.ide_wire.specs.declared.key.Key.TheVariants.{Jump, Summary}
 use Rattle.ide_wire.specs.Key.{node_of, same_key, same_key_laws, same_key_exact}
 use Rattle.ide_graph.specs.Supergraph.{Supergraph}
-use Rattle.ide_image.specs.Tables.{Table, found, entry_nodes}
+use Rattle.ide_image.specs.Cells.{IsAtNode, ShowTable, TablesData, shown_entries}
+use Rattle.ide_image.specs.Tables.{Table, found}
 use Rattle.ide_values.specs.Fill.{Fills, FillsFrom, IsFilledAt, IsFilledBy, Meets, lowered, value_from}
-use Rattle.ide_values.specs.Spans.{HasBetween}
-use Rattle.ide_values.specs.declared.spans.Span.{Span}
-use Rattle.ide_values.specs.Start.{value_before}
+use Rattle.ide_values.specs.Near.{AreNear}
+use Rattle.ide_values.specs.Start.{AreTops, value_before}
 use Rattle.ide_values.proofs.Lowered.{meets_elsewhere}
 use Rattle.ide_values.proofs.Places.{place_within}
+use Rattle.ide_values.proofs.Shown.{shown_is_found, shown_more}
 
 module _ {F L : Type 0} (A : LatticeAlgebra L) (laws : IsLattice A) (B : EdgeAlgebra F L) (functions : IsEdgeAlgebra A B)
     (start : ℕ → ℕ → L) (started : (n a : ℕ) → IsTrue (A.proper (start n a))) (n d : ℕ) where
@@ -137,13 +138,6 @@ module _ {F L : Type 0} (A : LatticeAlgebra L) (laws : IsLattice A) (B : EdgeAlg
         subst (λ o. IsBelow A (meet_of A term facts) (B.apply (unwrap_or o B.all_top) (start n a))) found
         (meet_of-below A laws term facts (λ k h. proper_of k) a (within a f found))))
 
--- one element more is folded in
-pub fold_more : {E V : Type 0} (h : V → E → V) (v : V) (es : List E) (i : ℕ) (e : E) → slice_get es i ≡ Some e
-    → fold h v (take (i + 1) es) ≡ h (fold h v (take i es)) e
-fold_more h v es i e is =
-    ap (fold h v) (take_more es i e (slice_get_within es i e is) ∙ ap (λ x. take i es ++ x ∷ []) (get_or_from_slice_get es i e e is))
-    ∙ fold-append h v (take i es) (e ∷ [])
-
 -- a value of a list of proper ones, or top, is proper
 pub proper_at : {L : Type 0} (A : LatticeAlgebra L) → IsLattice A → (xs : List L) → All (λ v. IsTrue (A.proper v)) xs
     → (i : ℕ) → IsTrue (A.proper (get_or xs i A.top))
@@ -155,78 +149,99 @@ proper_at A laws xs all i = elim (inside xs i) [
     inside : {X : Type 0} (xs : List X) (i : ℕ) → (i < length xs) ⊎ (length xs ≤ i)
     inside xs i = grind (arith)
 
--- there are as many nodes as entries, and each is that of the entry at its index
-pub node_count : {F : Type 0} (es : List (Key × F)) → length (entry_nodes es) ≡ length es
-node_count [] = refl
-node_count (e ∷ es) = ap suc (node_count es)
+module _ {F L : Type 0} (A : LatticeAlgebra L) (B : EdgeAlgebra F L) (graph : Supergraph) (tables : TablesData F) (starts : List L) (first : ℕ) where
+  -- before the first cell the rows are tops
+  pub none_filled : (rows : List L) → AreTops A rows → IsFilledBy A B graph tables starts first 0 rows
+  none_filled rows tops = record { filled = λ image k n d within h r place. tops k }
 
-pub entry_of_node : {F : Type 0} (es : List (Key × F)) (i node d : ℕ) → i < length (entry_nodes es) → node ≡ get_or (entry_nodes es) i d
-    → (e : Key × F) × (slice_get es i ≡ Some e) × (node ≡ node_of e.0)
-entry_of_node [] i node d within is = absurd (omega (arith, within))
-entry_of_node (e ∷ es) zero node d within is = (e, refl, is)
-entry_of_node (e ∷ es) (suc i) node d within is = entry_of_node es i node d (omega (arith, within)) is
-
-module _ {F L : Type 0} (A : LatticeAlgebra L) (B : EdgeAlgebra F L) (graph : Supergraph) (table : Table F) (starts : List L) (first : ℕ) where
-  pub filled_more : (i : ℕ) (old new : List L) (e : Key × F) → slice_get table.entries i ≡ Some e → found table e.0 ≡ Some e.1
-      → length new ≡ length old → Meets A B graph starts first e.0 e.1 old new → IsFilledBy A B graph table starts first i old → IsFilledBy A B graph table starts first (i + 1) new
-  filled_more i old new e stands present same step so_far = record {
+  -- a cell that shows nothing changes nothing
+  pub filled_none : (i : ℕ) (rows : List L) → None ≡ get_or tables.cells i None → IsFilledBy A B graph tables starts first i rows
+      → IsFilledBy A B graph tables starts first (i + 1) rows
+  filled_none i rows shows so_far = record {
     filled = λ image k n d within h r place.
-        let there : k < length old = omega (arith, within, same) in
-        step (image.facts e.0 e.1 present) k n d there h r place
-        ∙ ap (λ v. lowered A B (value_before A graph starts) n d v e.0 e.1) (so_far.filled image k n d there h r place)
-        ∙ sym (fold_more (λ v e. lowered A B (value_before A graph starts) n d v e.0 e.1) A.top table.entries i e stands);
+        let lower : L → Key × F → L = λ v e. lowered A B (value_before A graph starts) n d v e.0 e.1 in
+        so_far.filled image k n d within h r place
+        ∙ ap (fold lower A.top)
+        (sym (shown_more tables.cells i None shows ∙ append-nil (shown_entries (take i tables.cells))));
   }
 
-  -- an entry at a node that has none of the rows is passed over
-  pub passed_more : (i more : ℕ) (rows : List L) → IsDistinct same_key (keys_of table.entries)
-      → (0 < graph.facts → length rows < (more + 1) * graph.facts)
-      → (e : Key × F) → slice_get table.entries i ≡ Some e → ((first ≤ node_of e.0) × (node_of e.0 ≤ first + more) → ⊥)
-      → IsFilledBy A B graph table starts first i rows → IsFilledBy A B graph table starts first (i + 1) rows
-  passed_more i more rows distinct few e stands apart so_far =
-      filled_more i rows rows e stands (lookup_from_place same_key_laws table.entries i e.0 e.1 distinct stands) refl
-      (meets_elsewhere A B graph starts first more e.0 e.1 rows few apart) so_far
+  -- the entry that a cell shows lowers what it ends at
+  pub filled_more : (i : ℕ) (old new : List L) (e : Key × F) → Some e ≡ get_or tables.cells i None → found tables.table e.0 ≡ Some e.1
+      → length new ≡ length old → Meets A B graph starts first e.0 e.1 old new → IsFilledBy A B graph tables starts first i old
+      → IsFilledBy A B graph tables starts first (i + 1) new
+  filled_more i old new e shows present same step so_far = record {
+    filled = λ image k n d within h r place.
+        let there : k < length old = omega (arith, within, same) in
+        let lower : L → Key × F → L = λ v e. lowered A B (value_before A graph starts) n d v e.0 e.1 in
+        step (image.facts e.0 e.1 present) k n d there h r place
+        ∙ ap (λ v. lower v e) (so_far.filled image k n d there h r place)
+        ∙ sym (ap (fold lower A.top) (shown_more tables.cells i (Some e) shows) ∙ fold-append lower A.top (shown_entries (take i tables.cells)) (e ∷ []));
+  }
 
-  -- and so are entries in a row at such nodes
-  pub passed_all : (count begin more : ℕ) (rows : List L) → IsDistinct same_key (keys_of table.entries)
-      → (0 < graph.facts → length rows < (more + 1) * graph.facts) → begin + count ≤ length table.entries
-      → ((i : ℕ) → begin ≤ i → i < begin + count
-      → (first ≤ get_or (entry_nodes table.entries) i 0) × (get_or (entry_nodes table.entries) i 0 ≤ first + more) → ⊥)
-      → IsFilledBy A B graph table starts first begin rows → IsFilledBy A B graph table starts first (begin + count) rows
-  passed_all zero begin more rows distinct few within apart so_far =
-      let same : begin ≡ begin + 0 = omega arith in
-      subst (λ n. IsFilledBy A B graph table starts first n rows) same so_far
-  passed_all (suc count) begin more rows distinct few within apart so_far =
-      let before : IsFilledBy A B graph table starts first (begin + count) rows =
-      passed_all count begin more rows distinct few (omega arith) (λ i from to. apart i from (omega arith)) so_far in
-      let inside : begin + count < length (entry_nodes table.entries) = omega (arith, within, node_count table.entries) in
-      let (e, stands, node) = entry_of_node table.entries (begin + count) (get_or (entry_nodes table.entries) (begin + count) 0) 0 inside refl in
-      let next : begin + count + 1 ≡ begin + suc count = omega arith in
-      subst (λ n. IsFilledBy A B graph table starts first n rows) next
-      (passed_more (begin + count) more rows distinct few e stands
-      (λ near. apart (begin + count) (omega arith) (omega arith) (subst (λ n. (first ≤ n) × (n ≤ first + more)) (sym node) near)) before)
+  module _ (show : ShowTable tables) (more : ℕ) (rows : List L) (few : 0 < graph.facts → length rows < (more + 1) * graph.facts) where
+    -- a cell at a node that has none of the rows is passed over
+    passed_more : (i : ℕ) (o : Option (Key × F)) → o ≡ get_or tables.cells i None
+        → ((e : Key × F) → get_or tables.cells i None ≡ Some e → (first ≤ node_of e.0) × (node_of e.0 ≤ first + more) → ⊥)
+        → IsFilledBy A B graph tables starts first i rows → IsFilledBy A B graph tables starts first (i + 1) rows
+    passed_more i None shows apart so_far = filled_none i rows shows so_far
+    passed_more i (Some e) shows apart so_far =
+        filled_more i rows rows e shows (shown_is_found tables show i e (sym shows)) refl
+        (meets_elsewhere A B graph starts first more e.0 e.1 rows few (apart e (sym shows))) so_far
 
-  -- so is each block of entries whose span has no node that has a row
-  pub passed_span : (count begin more : ℕ) (span : Span) (rows : List L) → IsDistinct same_key (keys_of table.entries)
-      → (0 < graph.facts → length rows < (more + 1) * graph.facts) → begin + count ≤ length table.entries
-      → HasBetween (entry_nodes table.entries) begin (begin + count) span → ((first ≤ span.greatest) × (span.least ≤ first + more) → ⊥)
-      → IsFilledBy A B graph table starts first begin rows → IsFilledBy A B graph table starts first (begin + count) rows
-  passed_span count begin more span rows distinct few within has apart so_far =
-      passed_all count begin more rows distinct few within
-      (λ i from to near.
-      let between : (span.least ≤ get_or (entry_nodes table.entries) i 0) × (get_or (entry_nodes table.entries) i 0 ≤ span.greatest) =
-      has i from to (omega (arith, within, to, node_count table.entries)) in
-      apart (omega (arith, near.0, between.1), omega (arith, near.1, between.0)))
-      so_far
+    -- and so are cells in a row at such nodes
+    pub passed_all : (count begin : ℕ)
+        → ((i : ℕ) (e : Key × F) → begin ≤ i → i < begin + count → get_or tables.cells i None ≡ Some e → (first ≤ node_of e.0) × (node_of e.0 ≤ first + more) → ⊥)
+        → IsFilledBy A B graph tables starts first begin rows → IsFilledBy A B graph tables starts first (begin + count) rows
+    passed_all zero begin apart so_far =
+        let same : begin ≡ begin + 0 = omega arith in
+        subst (λ n. IsFilledBy A B graph tables starts first n rows) same so_far
+    passed_all (suc count) begin apart so_far =
+        let before : IsFilledBy A B graph tables starts first (begin + count) rows =
+        passed_all count begin (λ i e from to. apart i e from (omega (arith, to))) so_far in
+        let next : begin + count + 1 ≡ begin + suc count = omega arith in
+        subst (λ n. IsFilledBy A B graph tables starts first n rows) next
+        (passed_more (begin + count) (get_or tables.cells (begin + count) None) refl (λ e. apart (begin + count) e (omega arith) (omega arith)) before)
 
-  -- past the last entry the values are those that follow
-  pub all_filled : IsLattice A → IsEdgeAlgebra A B → IsDistinct same_key (keys_of table.entries)
-      → (i : ℕ) (rows : List L) → length table.entries ≤ i → IsFilledBy A B graph table starts first i rows → FillsFrom A B graph table starts first rows
-  all_filled laws functions distinct i rows past so_far k within image proper n d h r place =
+    module _ (page node begin end : ℕ) (at : IsAtNode tables page node) (near : AreNear first more node begin end) where
+      others : (i : ℕ) (e : Key × F) → i / 64 ≡ page → ((begin ≤ i % 64) × (i % 64 < end) → ⊥) → get_or tables.cells i None ≡ Some e
+          → (first ≤ node_of e.0) × (node_of e.0 ≤ first + more) → ⊥
+      others i e on outside shows has =
+          let node_is : node_of e.0 ≡ node + i % 64 = at i e on shows in
+          outside (near.all (i % 64) (omega arith) (omega (arith, has.0, node_is)) (omega (arith, has.1, node_is)))
+
+      -- the cells of a page in front of those that are near, and behind them
+      pub passed_before : IsFilledBy A B graph tables starts first (64 * page) rows → IsFilledBy A B graph tables starts first (64 * page + begin) rows
+      passed_before so_far =
+          let order = near.order in
+          let page_end = near.page in
+          passed_all begin (64 * page)
+          (λ i e from to.
+          others i e (omega (arith, from, to, order, page_end)) (λ inside. let low = inside.0 in omega (arith, from, to, order, page_end, low)))
+          so_far
+
+      pub passed_behind : IsFilledBy A B graph tables starts first (64 * page + end) rows → IsFilledBy A B graph tables starts first (64 * page + 64) rows
+      passed_behind so_far =
+          let page_end = near.page in
+          let whole : 64 * page + end + (64 - end) ≡ 64 * page + 64 = omega (arith, page_end) in
+          subst (λ n. IsFilledBy A B graph tables starts first n rows) whole
+          (passed_all (64 - end) (64 * page + end)
+          (λ i e from to.
+          others i e (omega (arith, from, to, page_end)) (λ inside. let high = inside.1 in omega (arith, from, to, page_end, high)))
+          so_far)
+
+  -- past the last cell the values are those that follow
+  pub all_filled : IsLattice A → IsEdgeAlgebra A B → ShowTable tables
+      → (i : ℕ) (rows : List L) → length tables.cells ≤ i → IsFilledBy A B graph tables starts first i rows → FillsFrom A B graph tables.table starts first rows
+  all_filled laws functions show i rows past so_far k within image proper n d h r place =
+      let es = shown_entries tables.cells in
+      let lower : L → Key × F → L = λ v e. lowered A B (value_before A graph starts) n d v e.0 e.1 in
+      let same : (λ (key : Key). lookup (same_key key) es) ≡ found tables.table = λ at key. sym (show.found key) at in
       so_far.filled image k n d within h r place
-      ∙ ap (fold (λ v e. lowered A B (value_before A graph starts) n d v e.0 e.1) A.top) (take_all i table.entries past)
+      ∙ ap (λ (cells : List (Option (Key × F))). fold lower A.top (shown_entries cells)) (take_all i tables.cells past)
       ∙ filled-is A laws B functions (value_before A graph starts)
       (λ m a. proper_at A laws starts proper (slice_index graph.owners m * graph.facts + a)) n d
-      table.entries distinct graph.facts (λ a f is. (image.facts (Jump n a d) f is).0) image.proper
+      es show.distinct graph.facts (λ a f is. (image.facts (Jump n a d) f (show.found (Jump n a d) ∙ is)).0) (λ key f is. image.proper key f (show.found key ∙ is))
+      ∙ ap (λ (get : Key → Option F). value_from A B get (value_before A graph starts n) graph.facts n d) same
 
 module _ {F L : Type 0} (A : LatticeAlgebra L) (B : EdgeAlgebra F L) (graph : Supergraph) (table : Table F) (starts : List L) where
   -- rows that are filled from the first node on are the rows of all nodes

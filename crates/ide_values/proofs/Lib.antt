@@ -1,10 +1,7 @@
-pub mod Best
 pub mod Begun
+pub mod Best
 pub mod Coming
 pub mod Edges
-pub mod Sound
-pub mod Started
-pub mod Told
 pub mod Falling
 pub mod Filled
 pub mod Follows
@@ -16,6 +13,10 @@ pub mod Parts
 pub mod Passing
 pub mod Pieces
 pub mod Places
-pub mod Renewed
 pub mod Refused
+pub mod Renewed
+pub mod Shown
+pub mod Sound
+pub mod Started
+pub mod Told
 pub mod Workers

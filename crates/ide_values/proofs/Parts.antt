@@ -119,13 +119,13 @@ module _ {F L : Type 0} (A : LatticeAlgebra L) (B : EdgeAlgebra F L) (targets : 
   -- the rows that are filled from the start values of an image are its values, which are best
   pub values_written : {P T E : Type 0} (closed : Closed P L F) (graph : Supergraph) (roots : List ℕ) (starts : Vec L) (given : List L) (end : Result T E) (before after : Option (List ℕ))
       → graph ≡ graph_in closed → roots ≡ closed.roots.items → given ≡ starts.items
-      → AreStarts A B targets graph closed.tables roots starts.items → LeadOn A B targets graph closed.tables roots starts → FollowingValuesAreBest A B targets
-      → WritesFilled A B shown graph closed.tables given end before after → WritesValues A B targets shown closed end before after
+      → AreStarts A B targets graph closed.tables.table roots starts.items → LeadOn A B targets graph closed.tables.table roots starts → FollowingValuesAreBest A B targets
+      → WritesFilled A B shown graph closed.tables.table given end before after → WritesValues A B targets shown closed end before after
   values_written closed graph roots starts given end before after same those is are lead best rows =
-      let filled : Fills A B graph closed.tables starts.items rows.rows = subst (λ s. Fills A B graph closed.tables s rows.rows) is rows.filled in
-      let follow : FollowFrom A B targets (graph_in closed) closed.tables closed.roots.items rows.rows =
-      subst (λ r. FollowFrom A B targets (graph_in closed) closed.tables r rows.rows) those
-      (subst (λ (k : Supergraph). FollowFrom A B targets k closed.tables roots rows.rows) same (lead rows.rows filled)) in
+      let filled : Fills A B graph closed.tables.table starts.items rows.rows = subst (λ s. Fills A B graph closed.tables.table s rows.rows) is rows.filled in
+      let follow : FollowFrom A B targets (graph_in closed) closed.tables.table closed.roots.items rows.rows =
+      subst (λ r. FollowFrom A B targets (graph_in closed) closed.tables.table r rows.rows) those
+      (subst (λ (k : Supergraph). FollowFrom A B targets k closed.tables.table roots rows.rows) same (lead rows.rows filled)) in
       let values : ValuesData L = record { program = program_in closed; graph = graph_in closed; roots = closed.roots.items; values = rows.rows } in
       record {
         values = values;
@@ -136,10 +136,10 @@ module _ {F L : Type 0} (A : LatticeAlgebra L) (B : EdgeAlgebra F L) (targets : 
         come = record {
           starts = starts.items;
           started =
-              subst (λ r. AreStarts A B targets (graph_in closed) closed.tables r starts.items) those
-              (subst (λ (k : Supergraph). AreStarts A B targets k closed.tables roots starts.items) same are);
-          filled = subst (λ (k : Supergraph). Fills A B k closed.tables starts.items rows.rows) same filled;
+              subst (λ r. AreStarts A B targets (graph_in closed) closed.tables.table r starts.items) those
+              (subst (λ (k : Supergraph). AreStarts A B targets k closed.tables.table roots starts.items) same are);
+          filled = subst (λ (k : Supergraph). Fills A B k closed.tables.table starts.items rows.rows) same filled;
         };
-        best = best (graph_in closed) closed.roots.items closed.tables rows.rows follow;
+        best = best (graph_in closed) closed.roots.items closed.tables.table rows.rows follow;
         written = subst (λ text. OnOk end (WritesOut before after text)) (values_lines A shown values graph graph.nodes rows.rows same refl refl) rows.written;
       }

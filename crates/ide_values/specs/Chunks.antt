@@ -28,7 +28,7 @@ pub record WritesValues {F L P : Type 0} (A : LatticeAlgebra L) (B : EdgeAlgebra
   pub roots : values.roots ≡ closed.roots.items
   pub follow : FollowClosed A B targets closed values
   pub come : AreValuesOf A B targets closed values
-  pub best : AreBestOf A B targets closed.tables values
+  pub best : AreBestOf A B targets closed.tables.table values
   pub written : OnOk end (WritesOut before after (dump_of_values A shown values))
 
 -- a call that is not refused writes the dump of such values

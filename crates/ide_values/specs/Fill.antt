@@ -5,6 +5,7 @@ use Rattle.std.specs.List.{All}
 use Rattle.ide_graph.specs.Supergraph.{Supergraph}
 use Rattle.ide_lattice.specs.Algebra.{LatticeAlgebra, EdgeAlgebra}
 use Rattle.ide_lattice.specs.Meets.{meet_of}
+use Rattle.ide_image.specs.Cells.{TablesData, shown_entries}
 use Rattle.ide_image.specs.Tables.{Table, found}
 use Rattle.ide_wire.specs.declared.key.Key.{Key}
 use Rattle.ide_wire.specs.declared.key.Key.TheVariants.{Jump, Summary}
@@ -53,11 +54,11 @@ abbrev pub FillsFrom : {F L : Type 0} → LatticeAlgebra L → EdgeAlgebra F L �
 FillsFrom A B graph table starts first rows =
     (k : ℕ) → k < length rows → IsFilledAt A B graph table starts (first * graph.facts + k) (slice_index_or rows k A.top)
 
--- the rows from a node on are filled by the first entries of the table
-pub record IsFilledBy {F L : Type 0} (A : LatticeAlgebra L) (B : EdgeAlgebra F L) (graph : Supergraph) (table : Table F) (starts : List L) (first count : ℕ) (rows : List L) : Type 0 where
-  pub filled : IsImage B graph (found table) → (k n d : ℕ) → k < length rows → n < graph.nodes → d < graph.facts
+-- the rows from a node on are filled by what the first cells of the tables show
+pub record IsFilledBy {F L : Type 0} (A : LatticeAlgebra L) (B : EdgeAlgebra F L) (graph : Supergraph) (tables : TablesData F) (starts : List L) (first count : ℕ) (rows : List L) : Type 0 where
+  pub filled : IsImage B graph (found tables.table) → (k n d : ℕ) → k < length rows → n < graph.nodes → d < graph.facts
       → n * graph.facts + d ≡ first * graph.facts + k
-      → slice_index_or rows k A.top ≡ fold (λ v e. lowered A B (value_before A graph starts) n d v e.0 e.1) A.top (take count table.entries)
+      → slice_index_or rows k A.top ≡ fold (λ v e. lowered A B (value_before A graph starts) n d v e.0 e.1) A.top (shown_entries (take count tables.cells))
 
 -- each value of the rows from a node on is met with what the key's function gives it
 abbrev pub Meets : {F L : Type 0} → LatticeAlgebra L → EdgeAlgebra F L → Supergraph → List L → ℕ → Key → F → List L → List L → Type 0

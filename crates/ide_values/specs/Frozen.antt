@@ -11,11 +11,11 @@ use Rattle.ide_values.specs.Values.{AreValues, ValuesData, value_there}
 module _ {F L : Type 0} (A : LatticeAlgebra L) (B : EdgeAlgebra F L) (targets : Targets F) where
   -- the values follow from start values for the roots of the image, over its graph and its tables
   abbrev pub FollowClosed : {P : Type 0} → Closed P L F → ValuesData L → Type 0
-  FollowClosed closed values = FollowFrom A B targets (graph_in closed) closed.tables closed.roots.items values.values
+  FollowClosed closed values = FollowFrom A B targets (graph_in closed) closed.tables.table closed.roots.items values.values
 
   -- the values come of the image's tables by way of start values
   abbrev pub AreValuesOf : {P : Type 0} → Closed P L F → ValuesData L → Type 0
-  AreValuesOf closed values = AreValues A B targets (graph_in closed) closed.tables closed.roots.items values.values
+  AreValuesOf closed values = AreValues A B targets (graph_in closed) closed.tables.table closed.roots.items values.values
 
   -- the values are best, where a run over their graph came to the tables
   abbrev pub AreBestOf : Table F → ValuesData L → Type 0

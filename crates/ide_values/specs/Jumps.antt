@@ -1,36 +1,46 @@
--- The entries of a table that hand values on: jump functions at call nodes.
+-- The cells of tables whose entries hand values on: jump functions at call nodes.
 use Rattle.std.specs.Global.{Vec}
-use Rattle.std.specs.Prelude.{◌≡◌, ℕ, ◌<◌, ◌⊎◌, List, Some, length, slice_get}
+use Rattle.std.specs.Prelude.{◌≡◌, ℕ, ◌<◌, ◌⊎◌, List, [], Some, length}
 use Rattle.std.specs.List.{All, Contains}
 use Rattle.ide_graph.specs.Supergraph.{Supergraph}
 use Rattle.ide_lattice.specs.Algebra.{LatticeAlgebra, EdgeAlgebra}
 use Rattle.ide_problem.specs.Flow.{Targets}
-use Rattle.ide_image.specs.Tables.{Table}
+use Rattle.ide_image.specs.Cells.{ShowTable, TablesData, shown_in}
+use Rattle.ide_wire.specs.Key.{node_of}
 use Rattle.ide_wire.specs.declared.key.Key.{Key}
 use Rattle.ide_wire.specs.declared.key.Key.TheVariants.{Jump, Summary}
 use Rattle.ide_values.specs.declared.starts.CallJump.{CallJump}
-use Rattle.ide_values.specs.Pass.{IsSteadyBy}
+use Rattle.ide_values.specs.Pass.{IsSteadyBy, calls_of}
 
--- the key is that of a summary
-abbrev pub IsSummary : Key → Type 0
-IsSummary (Jump n a b) = ⊥
-IsSummary (Summary c a b) = Unit {0}
+-- the key is that of a summary, or of a jump where no call edge leaves
+abbrev pub IsNoCall : Supergraph → Key → Type 0
+IsNoCall graph (Jump n a b) = calls_of graph n ≡ []
+IsNoCall graph (Summary c a b) = Unit {0}
 
--- among jumps is the entry at an index
-pub record HasJump (jumps : List CallJump) (index : ℕ) : Type 0 where
+-- the cell shows an entry
+abbrev pub Shows : {F : Type 0} → TablesData F → ℕ → Type 0
+Shows {F} tables cell = (e : Key × F) × (shown_in tables cell ≡ Some e)
+
+-- the entry that the cell shows, if it shows one, is at the node
+abbrev pub IsShownAt : {F : Type 0} → TablesData F → (cell node : ℕ) → Type 0
+IsShownAt {F} tables cell node = (e : Key × F) → shown_in tables cell ≡ Some e → node_of e.0 ≡ node
+
+-- among jumps is the one in a cell
+pub record HasJump (jumps : List CallJump) (cell : ℕ) : Type 0 where
   pub jump : CallJump
   pub there : Contains jumps jump
-  pub is : jump.index ≡ index
+  pub is : jump.cell ≡ cell
 
-module _ {F L : Type 0} (A : LatticeAlgebra L) (B : EdgeAlgebra F L) (targets : Targets F) (graph : Supergraph) (table : Table F) where
-  -- the entry at an index hands nothing on, whatever the start values are
+module _ {F L : Type 0} (A : LatticeAlgebra L) (B : EdgeAlgebra F L) (targets : Targets F) (graph : Supergraph) (tables : TablesData F) where
+  -- the entry that the cell shows, if it shows one, hands nothing on, whatever the start values are
   abbrev pub HandsNothing : ℕ → Type 0
-  HandsNothing index = (e : Key × F) → slice_get table.entries index ≡ Some e → (values : List L) → IsSteadyBy A B graph targets values e.0 e.1
+  HandsNothing cell = (e : Key × F) → shown_in tables cell ≡ Some e → (values : List L) → IsSteadyBy A B graph targets values e.0 e.1
 
-  -- jumps are entries of the table, and each other entry hands nothing on
+  -- jumps are entries that cells show, and each other cell hands nothing on
   pub record AreJumps (jumps : List CallJump) : Type 0 where
-    pub within : All (λ (jump : CallJump). jump.index < length table.entries) jumps
-    pub all : (index : ℕ) → index < length table.entries → HasJump jumps index ⊎ HandsNothing index
+    pub table : ShowTable tables
+    pub shown : All (λ (jump : CallJump). Shows tables jump.cell) jumps
+    pub all : (cell : ℕ) → cell < length tables.cells → HasJump jumps cell ⊎ HandsNothing cell
 
   -- the same for jumps that are answered
   abbrev pub AreJumpsIn : Vec CallJump → Type 0

@@ -11,12 +11,12 @@ pub mod Frozen
 pub mod Pass
 pub mod Jumps
 pub mod Lines
+pub mod Near
 pub mod Passing
 pub mod Rows
 pub mod Refusal
 pub mod Settled
 pub mod Share
 pub mod SharedFill
-pub mod Spans
 pub mod Start
 pub mod Values

@@ -1,27 +1,22 @@
 -- What passes say of start values before and after them.
-use Rattle.std.specs.Prelude.{◌≡◌, ℕ, ◌+◌, ◌≤◌, false, List, [], Result, Some, OnOk, length, slice_get}
+use Rattle.std.specs.Prelude.{◌≡◌, ℕ, ◌+◌, ◌≤◌, false, List, Result, Some, OnOk, length}
 use Rattle.ide_graph.specs.Supergraph.{Supergraph}
 use Rattle.ide_graph.specs.declared.edge.EdgeData.{EdgeData}
 use Rattle.ide_lattice.specs.Algebra.{LatticeAlgebra, EdgeAlgebra}
 use Rattle.ide_problem.specs.Flow.{Targets}
+use Rattle.ide_image.specs.Cells.{TablesData, shown_in}
 use Rattle.ide_image.specs.Tables.{Table}
-use Rattle.ide_wire.specs.Key.{node_of}
-use Rattle.ide_theory.specs.Member.{Each}
 use Rattle.ide_wire.specs.declared.key.Key.{Key}
 use Rattle.ide_values.specs.declared.passes.JumpAt.{JumpAt}
 use Rattle.ide_values.specs.declared.passes.Starts.{Starts}
 use Rattle.ide_values.specs.Falling.{ranks}
-use Rattle.ide_values.specs.Pass.{IsSteadyBy, IsSteadyOver, Passes, by_entry, calls_of, lowered_at, over_edge, to_target}
+use Rattle.ide_values.specs.Pass.{IsSteadyBy, IsSteadyOver, Passes, by_entry, lowered_at, over_edge, to_target}
 use Rattle.ide_values.specs.Settled.{ComesTo, IsSteady}
 
 -- where no fall is marked after it, nothing changed, and none was marked before
 pub record Marks {P L F : Type 0} (old new : Starts P L F) : Type 0 where
   pub same : new.has_fallen ≡ false → new.values.items ≡ old.values.items
   pub before : new.has_fallen ≡ false → old.has_fallen ≡ false
-
--- no call edge leaves the node of the entry at an index, if one stands there
-abbrev pub PassesNowhere : {F : Type 0} → Supergraph → Table F → ℕ → Type 0
-PassesNowhere {F} graph table index = (e : Key × F) → slice_get table.entries index ≡ Some e → calls_of graph (node_of e.0) ≡ []
 
 -- one place less waits
 abbrev pub WaitsLess : {P L F : Type 0} → (old new : Starts P L F) → Type 0
@@ -63,15 +58,6 @@ module _ {P F L : Type 0} (A : LatticeAlgebra L) (B : EdgeAlgebra F L) (targets 
     pub steady : new.has_fallen ≡ false → IsSteadyBy A B graph targets old.values.items key f
 
   module _ (table : Table F) where
-    -- where no fall is marked then, nothing changed, and each entry hands nothing on that would change the values
-    pub record LeavesEach (old new : Starts P L F) : Type 0 where
-      pub same : new.has_fallen ≡ false → new.values.items ≡ old.values.items
-      pub steady : new.has_fallen ≡ false → Each (λ e. IsSteadyBy A B graph targets old.values.items e.0 e.1) table.entries
-
-    -- the function of the entry at an index is passed on, if one stands there
-    abbrev pub PassesAt : ℕ → Starts P L F → Starts P L F → Type 0
-    PassesAt index old new = (e : Key × F) → slice_get table.entries index ≡ Some e → PassesBy e.0 e.1 old new
-
     -- unless memory was wanting, the start values come of those before by what functions of present keys hand on
     abbrev pub Comes : {T E : Type 0} → Result T E → (old new : Starts P L F) → Type 0
     Comes result old new = OnOk result (ComesTo A B targets graph table old.values.items new.values.items)
@@ -79,3 +65,12 @@ module _ {P F L : Type 0} (A : LatticeAlgebra L) (B : EdgeAlgebra F L) (targets 
     -- the start values rest: the function of no present key hands anything on that would change them
     abbrev pub Rests : Starts P L F → Type 0
     Rests starts = IsSteady A B targets graph table starts.values.items
+
+    -- where no fall is marked then, nothing changed, and the values rest
+    pub record LeavesEach (old new : Starts P L F) : Type 0 where
+      pub same : new.has_fallen ≡ false → new.values.items ≡ old.values.items
+      pub steady : new.has_fallen ≡ false → IsSteady A B targets graph table old.values.items
+
+  -- the function of the entry that the cell shows is passed on, if it shows one
+  abbrev pub PassesAt : TablesData F → ℕ → Starts P L F → Starts P L F → Type 0
+  PassesAt tables cell old new = (e : Key × F) → shown_in tables cell ≡ Some e → PassesBy e.0 e.1 old new

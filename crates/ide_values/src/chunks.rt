@@ -1,14 +1,11 @@
 //! The values of an image, filled and written a chunk of nodes at a time.
 ghost use Rattle.std.specs.Prelude.{◌≡◌, ◌*◌, ◌<◌, ◌≤◌, ◌^◌, [], length, max};
-ghost use Rattle.ide_image.specs.Tables.{entry_nodes};
 ghost use Rattle.ide_values.specs.Chunks.{WritesFilled};
 ghost use Rattle.ide_values.specs.Refusal.{AreWorkers};
-ghost use Rattle.ide_values.specs.Spans.{AreSpans};
 
 use crate::dump::{write_nodes, write_rest};
 use crate::rows::blank;
 use crate::shared_fill::{NoGate, fill_nodes};
-use crate::spans::Span;
 use ide_graph::Graph;
 use ide_image::Tables;
 use ide_lattice::EdgeFn;
@@ -39,7 +36,6 @@ pub(crate) fn write_chunks<R: Threads + Sync, F: EdgeFn + Sync, W: Write>(
     rt: &R,
     graph: &Graph,
     tables: &Tables<F>,
-    spans: &[Span],
     starts: &[F::L],
     workers: usize,
     size: Node,
@@ -52,9 +48,8 @@ where
     requires workers { AreWorkers workers }
     requires some { 0 < size }
     requires room { length rows.old ≡ size * graph.now.facts }
-    requires spans { AreSpans (entry_nodes tables.now.entries) spans.now }
     requires piece { piece.old.items ≡ [] }
-    ensures { WritesFilled F.L.algebra F.edge F.L.shown graph.now tables.now starts.now result (W.contents out.old) (W.contents out.new) }
+    ensures { WritesFilled F.L.algebra F.edge F.L.shown graph.now tables.now.table starts.now result (W.contents out.old) (W.contents out.new) }
 {
     let nodes = graph.node_count() as Node;
     let mut first = 0;
@@ -63,7 +58,7 @@ where
         let part = &mut rows[..count as usize * graph.fact_count()];
         blank(part);
         fill_nodes(
-            rt, graph, tables, spans, starts, first, count, workers, &NoGate, part,
+            rt, graph, tables, starts, first, count, workers, &NoGate, part,
         );
         write_nodes(graph, first, count, part, piece, out)?;
         first += count;

@@ -17,7 +17,6 @@ mod passes;
 mod rows;
 mod share;
 mod shared_fill;
-mod spans;
 mod starts;
 mod values;
 

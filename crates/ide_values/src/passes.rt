@@ -1,14 +1,13 @@
 //! Handing values on from call nodes to callees' starts.
-ghost use Rattle.std.specs.Prelude.{◌≡◌, ◌<◌, ◌≤◌, ◌+◌, Some, OnOk, IfOk, IfSome, false, length};
+ghost use Rattle.std.specs.Prelude.{false, [], ◌≡◌, ◌<◌, ◌≤◌, ◌+◌, Some, OnOk, IfOk, IfSome, length};
 ghost use Rattle.std.specs.List.{All};
 ghost use Rattle.ide_graph.specs.Edges.{EndsWithin};
 ghost use Rattle.ide_values.specs.Falling.{StartsFall};
 ghost use Rattle.ide_values.specs.Pass.{calls_of};
-ghost use Rattle.ide_values.specs.Passing.{LowersAt, Marks, PassesAll, PassesNowhere, PassesOver, PassesTo, WaitsLess};
+ghost use Rattle.ide_values.specs.Passing.{LowersAt, Marks, PassesAll, PassesOver, PassesTo, WaitsLess};
 
 use crate::rows::{procedure_at, start_place, value_at_place, value_before};
 use ide_graph::{EdgeData, Graph, Site};
-use ide_image::Tables;
 use ide_lattice::{EdgeFn, Lattice};
 use ide_problem::{Problem, TargetList};
 use ide_wire::{Fact, Key, Node};
@@ -181,14 +180,12 @@ impl<P: Problem> Starts<P> {
     }
 }
 
-/// Whether a call has edges at the node of the entry at an index. It reads no more of the entry than the node.
-pub(crate) fn is_at_call<F: EdgeFn>(graph: &Graph, tables: &Tables<F>, index: usize) -> bool
-    ensures { result ≡ false → PassesNowhere graph.now tables.now index }
+/// Whether call edges leave a node, which need not be one of the graph.
+#[inline(always)]
+pub(crate) fn is_call(graph: &Graph, node: usize) -> bool
+    ensures { result ≡ false → calls_of graph.now node ≡ [] }
 {
-    match tables.nodes().get(index) {
-        Some(node) => !calls_at(graph, *node).is_empty(),
-        None => false,
-    }
+    node < graph.node_count() && !calls_at(graph, node as Node).is_empty()
 }
 
 /// The call edges at a node: none where it is no call node.

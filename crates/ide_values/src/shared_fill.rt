@@ -1,16 +1,13 @@
 //! The fill by several threads, of which each fills the rows of a range of nodes.
 ghost use Rattle.std.specs.Prelude.{◌≡◌, ◌+◌, ◌*◌, ◌<◌, ◌≤◌, ◌^◌, IfOk, length};
-ghost use Rattle.ide_image.specs.Tables.{entry_nodes};
 ghost use Rattle.ide_values.specs.Fill.{FillsFrom, FillsRows};
 ghost use Rattle.ide_values.specs.Refusal.{AreWorkers};
 ghost use Rattle.ide_values.specs.SharedFill.{nodes_before, sharing_of};
-ghost use Rattle.ide_values.specs.Spans.{AreSpans};
 ghost use Rattle.ide_values.specs.Start.{AreTops};
 
 use crate::fill::fill_rows;
 use crate::rows::tops;
 use crate::share::{Ranges, fill_shared};
-use crate::spans::{Span, spans_of};
 use ide_graph::Graph;
 use ide_image::Tables;
 use ide_lattice::EdgeFn;
@@ -46,17 +43,15 @@ pub(crate) fn fill_by<R: Threads + Sync, F: EdgeFn + Sync, G: FillGate + Sync>(
 where
     F::L: Send + Sync,
     requires { AreWorkers workers }
-    ensures filled { IfOk result (FillsRows F.L.algebra F.edge graph.now tables.now starts.now) }
+    ensures filled { IfOk result (FillsRows F.L.algebra F.edge graph.now tables.now.table starts.now) }
     ensures count { IfOk result (λ values. length values.items ≡ graph.now.nodes * graph.now.facts) }
 {
     let nodes = graph.node_count() as Node;
     let mut values = tops(alloc, graph.node_count() * graph.fact_count())?;
-    let spans = spans_for(alloc, tables, workers)?;
     fill_nodes(
         rt,
         graph,
         tables,
-        spans.as_slice(),
         starts,
         0,
         nodes,
@@ -73,7 +68,6 @@ pub(crate) fn fill_nodes<R: Threads + Sync, F: EdgeFn + Sync, G: FillGate + Sync
     rt: &R,
     graph: &Graph,
     tables: &Tables<F>,
-    spans: &[Span],
     starts: &[F::L],
     first: Node,
     nodes: Node,
@@ -87,14 +81,12 @@ where
     requires few { first + nodes < 2 ^ 32 }
     requires count { length rows.old ≡ nodes * graph.now.facts }
     requires tops { AreTops F.L.algebra rows.old }
-    requires spans { AreSpans (entry_nodes tables.now.entries) spans.now }
     ensures count { length rows.new ≡ length rows.old }
-    ensures filled { FillsFrom F.L.algebra F.edge graph.now tables.now starts.now first rows.new }
+    ensures filled { FillsFrom F.L.algebra F.edge graph.now tables.now.table starts.now first rows.new }
 {
     let shared = SharedFill {
         graph,
         tables,
-        spans,
         starts,
         first,
         nodes,
@@ -104,33 +96,17 @@ where
     fill_shared(rt, &shared, 0, workers, rows);
 }
 
-/// The spans by which so many workers pass over blocks of entries: none for one, who reads them all.
-fn spans_for<F: EdgeFn>(
-    alloc: Global,
-    tables: &Tables<F>,
-    workers: usize,
-) -> Result<Vec<Span>, AllocError>
-    ensures { IfOk result (λ spans. AreSpans (entry_nodes tables.now.entries) spans.items) }
-{
-    if workers == 1 {
-        return Ok(Vec::new(alloc));
-    }
-    spans_of(alloc, tables.nodes())
-}
-
 /// A fill that workers share: what it reads, the nodes whose rows it fills, so many from the first on,
 /// and how many workers they are.
 #[derive(Drop)]
 struct SharedFill<'a, F: EdgeFn, G> {
     graph: &'a Graph,
     tables: &'a Tables<F>,
-    spans: &'a [Span],
     starts: &'a [F::L],
     first: Node,
     nodes: Node,
     workers: usize,
     gate: &'a G,
-    ghost spanned: { AreSpans (entry_nodes tables.now.entries) spans.now },
     ghost some: { 0 < workers },
     ghost most: { workers ≤ 64 },
     ghost few: { first + nodes < 2 ^ 32 },
@@ -148,7 +124,7 @@ impl<'a, F: EdgeFn, G: FillGate> SharedFill<'a, F, G> {
 }
 
 impl<'a, F: EdgeFn, G: FillGate> Ranges<F::L> for SharedFill<'a, F, G> {
-    ghost sharing = { λ s. sharing_of F.L.algebra F.edge s.graph.now s.tables.now s.starts.now s.first s.nodes s.workers };
+    ghost sharing = { λ s. sharing_of F.L.algebra F.edge s.graph.now s.tables.now.table s.starts.now s.first s.nodes s.workers };
 
     fn start(&self, worker: usize) -> usize {
         self.nodes_before(worker) as usize * self.graph.fact_count()
@@ -157,13 +133,6 @@ impl<'a, F: EdgeFn, G: FillGate> Ranges<F::L> for SharedFill<'a, F, G> {
     fn fill(&self, worker: usize, rows: &mut [F::L]) {
         self.gate.begin(worker);
         let first = self.first + self.nodes_before(worker);
-        fill_rows(
-            self.graph,
-            self.tables,
-            self.spans,
-            self.starts,
-            first,
-            rows,
-        );
+        fill_rows(self.graph, self.tables, self.starts, first, rows);
     }
 }

@@ -1,12 +1,13 @@
 //! Start values: the value of each fact at each procedure's start.
 ghost use Rattle.std.specs.Prelude.{◌≡◌, None, OnOk, IfOk, IfSome};
 ghost use Rattle.ide_values.specs.Falling.{StartsFall};
-ghost use Rattle.ide_values.specs.Jumps.{AreJumps, AreJumpsIn, HandsNothing, IsSummary};
+ghost use Rattle.ide_values.specs.Jumps.{AreJumps, AreJumpsIn, HandsNothing, IsNoCall, IsShownAt, Shows};
 ghost use Rattle.ide_values.specs.Passing.{Comes, LeavesEach, PassesAt, PassesBy, RisesNowhere, Rests};
 ghost use Rattle.ide_values.specs.Settled.{AreStartRows};
 
 use crate::enter::entered_rows;
-use crate::passes::{JumpAt, Starts, calls_at, is_at_call};
+use crate::fill::PAGE;
+use crate::passes::{JumpAt, Starts, calls_at, is_call};
 use crate::rows::{procedure_at, start_place};
 use ide_graph::Graph;
 use ide_image::Tables;
@@ -24,7 +25,7 @@ pub fn start_values<P: Problem>(
     tables: &Tables<P::F>,
     roots: &[usize],
 ) -> Result<Vec<P::L>, AllocError>
-    ensures { IfOk result (AreStartRows P.L.algebra P.F.edge P.targets graph.now tables.now roots.now) }
+    ensures { IfOk result (AreStartRows P.L.algebra P.F.edge P.targets graph.now tables.now.table roots.now) }
 {
     let mut starts = Starts::<P>::of(alloc, entered_rows(alloc, graph, roots)?)?;
     starts.wait_where_entered()?;
@@ -32,11 +33,11 @@ pub fn start_values<P: Problem>(
     Ok(starts.into_values())
 }
 
-/// A jump function at a call node: the place that it starts from, and its index in the tables.
+/// A jump function at a call node: the place that it starts from, and its cell in the tables.
 #[derive(Clone, Copy, Drop)]
 pub(crate) struct CallJump {
     pub(crate) from: usize,
-    pub(crate) index: usize,
+    pub(crate) cell: usize,
 }
 
 impl<P: Problem> Starts<P> {
@@ -48,8 +49,8 @@ impl<P: Problem> Starts<P> {
         graph: &Graph,
         tables: &Tables<P::F>,
     ) -> Result<(), AllocError>
-        ensures comes { Comes P.L.algebra P.F.edge P.targets graph.now tables.now result self.old self.new }
-        ensures steady { OnOk result (Rests P.L.algebra P.F.edge P.targets graph.now tables.now self.new) }
+        ensures comes { Comes P.L.algebra P.F.edge P.targets graph.now tables.now.table result self.old self.new }
+        ensures steady { OnOk result (Rests P.L.algebra P.F.edge P.targets graph.now tables.now.table self.new) }
     {
         let jumps = jumps_at_calls::<P>(alloc, graph, tables)?;
         let mut targets = TargetList::new(alloc);
@@ -72,7 +73,7 @@ impl<P: Problem> Starts<P> {
         jumps: &[CallJump],
         targets: &mut TargetList<P::F>,
     ) -> Result<(), AllocError>
-        ensures comes { Comes P.L.algebra P.F.edge P.targets graph.now tables.now result self.old self.new }
+        ensures comes { Comes P.L.algebra P.F.edge P.targets graph.now tables.now.table result self.old self.new }
         ensures falls { OnOk result (RisesNowhere P.L.algebra self.old self.new) }
     {
         while let Some(place) = self.leave() {
@@ -90,7 +91,7 @@ impl<P: Problem> Starts<P> {
         place: usize,
         targets: &mut TargetList<P::F>,
     ) -> Result<(), AllocError>
-        ensures comes { Comes P.L.algebra P.F.edge P.targets graph.now tables.now result self.old self.new }
+        ensures comes { Comes P.L.algebra P.F.edge P.targets graph.now tables.now.table result self.old self.new }
         ensures falls { OnOk result (StartsFall P.L.algebra self.old self.new) }
     {
         let first = jumps.partition_point(|jump| jump.from < place);
@@ -98,34 +99,32 @@ impl<P: Problem> Starts<P> {
             if jump.from != place {
                 break;
             }
-            self.pass_index(graph, tables, jump.index, targets)?;
+            self.pass_cell(graph, tables, jump.cell, targets)?;
         }
         Ok(())
     }
 
-    /// Hands on by the entry of the tables at an index.
-    fn pass_index(
+    /// Hands on by the entry that a cell of the tables shows.
+    fn pass_cell(
         &mut self,
         graph: &Graph,
         tables: &Tables<P::F>,
-        index: usize,
+        cell: usize,
         targets: &mut TargetList<P::F>,
     ) -> Result<(), AllocError>
-        ensures passes { OnOk result (PassesAt P.L.algebra P.F.edge P.targets graph.now tables.now index self.old self.new) }
-        ensures comes { Comes P.L.algebra P.F.edge P.targets graph.now tables.now result self.old self.new }
+        ensures passes { OnOk result (PassesAt P.L.algebra P.F.edge P.targets graph.now tables.now cell self.old self.new) }
+        ensures comes { Comes P.L.algebra P.F.edge P.targets graph.now tables.now.table result self.old self.new }
         ensures falls { OnOk result (StartsFall P.L.algebra self.old self.new) }
     {
-        if !is_at_call(graph, tables, index) {
-            return Ok(());
-        }
-        let Some(entry) = tables.entry_at(index) else {
+        let Some(entry) = tables.entry_in(cell) else {
             return Ok(());
         };
         self.pass_by(graph, entry.0, entry.1, targets)?;
         Ok(())
     }
 
-    /// Hands on by each of the jump functions at call nodes, which are all entries of the tables that hand anything on.
+    /// Hands on by each of the jump functions at call nodes, which are all entries of the tables that hand
+    /// anything on.
     fn pass_each(
         &mut self,
         graph: &Graph,
@@ -134,12 +133,12 @@ impl<P: Problem> Starts<P> {
         targets: &mut TargetList<P::F>,
     ) -> Result<(), AllocError>
         requires { AreJumps P.L.algebra P.F.edge P.targets graph.now tables.now jumps.now }
-        ensures comes { Comes P.L.algebra P.F.edge P.targets graph.now tables.now result self.old self.new }
-        ensures rests { OnOk result (LeavesEach P.L.algebra P.F.edge P.targets graph.now tables.now self.old self.new) }
+        ensures comes { Comes P.L.algebra P.F.edge P.targets graph.now tables.now.table result self.old self.new }
+        ensures rests { OnOk result (LeavesEach P.L.algebra P.F.edge P.targets graph.now tables.now.table self.old self.new) }
         ensures falls { OnOk result (StartsFall P.L.algebra self.old self.new) }
     {
         for jump in jumps {
-            self.pass_index(graph, tables, jump.index, targets)?;
+            self.pass_cell(graph, tables, jump.cell, targets)?;
         }
         Ok(())
     }
@@ -184,7 +183,7 @@ fn jumps_at_calls<P: Problem>(
     Ok(jumps)
 }
 
-/// The same, in the order of the entries. Of an entry that is not at a call it reads the node alone.
+/// The same, in the order of their cells. Of a cell that is not at a call nothing is read.
 fn listed_jumps<P: Problem>(
     alloc: Global,
     graph: &Graph,
@@ -193,40 +192,52 @@ fn listed_jumps<P: Problem>(
     ensures { IfOk result (AreJumpsIn P.L.algebra P.F.edge P.targets graph.now tables.now) }
 {
     let mut jumps = Vec::new(alloc);
-    for index in 0..tables.key_count() {
-        if let Some(jump) = jump_at::<P>(graph, tables, index) {
+    let mut first = 0;
+    for cell in 0..tables.cell_count() {
+        if cell % PAGE == 0 {
+            first = tables.first_node(cell / PAGE) as usize;
+        }
+        if let Some(jump) = jump_at::<P>(graph, tables, first + cell % PAGE, cell) {
             jumps.push(jump)?;
         }
     }
     Ok(jumps)
 }
 
-/// The entry at an index, if it is a jump function at a call node.
+/// The entry that a cell shows, which is at the node, if it is a jump function at a call node.
 #[inline(always)]
-fn jump_at<P: Problem>(graph: &Graph, tables: &Tables<P::F>, index: usize) -> Option<CallJump>
-    ensures index { IfSome result (λ jump. jump.index ≡ index) }
-    ensures nothing { result ≡ None → HandsNothing P.L.algebra P.F.edge P.targets graph.now tables.now index }
+fn jump_at<P: Problem>(
+    graph: &Graph,
+    tables: &Tables<P::F>,
+    node: usize,
+    cell: usize,
+) -> Option<CallJump>
+    requires { IsShownAt tables.now cell node }
+    ensures cell { IfSome result (λ jump. jump.cell ≡ cell) }
+    ensures shown { IfSome result (λ _. Shows tables.now cell) }
+    ensures nothing { result ≡ None → HandsNothing P.L.algebra P.F.edge P.targets graph.now tables.now cell }
 {
-    if !is_at_call(graph, tables, index) {
+    if !is_call(graph, node) {
         return None;
     }
-    match tables.entry_at(index) {
-        Some(entry) => jump_of(graph, entry.0, index),
-        None => None,
-    }
+    let entry = tables.entry_in(cell)?;
+    jump_of(graph, entry.0, cell)
 }
 
-/// The entry with a key, if it is a jump function.
+/// The jump of a key in a cell, if it is one at a call node.
 #[inline(always)]
-fn jump_of(graph: &Graph, key: Key, index: usize) -> Option<CallJump>
-    ensures index { IfSome result (λ jump. jump.index ≡ index) }
-    ensures nothing { result ≡ None → IsSummary key }
+fn jump_of(graph: &Graph, key: Key, cell: usize) -> Option<CallJump>
+    ensures cell { IfSome result (λ jump. jump.cell ≡ cell) }
+    ensures nothing { result ≡ None → IsNoCall graph.now key }
 {
-    match key {
-        Key::Jump(node, from, _) => Some(CallJump {
-            from: start_place(graph, procedure_at(graph, node), from),
-            index,
-        }),
-        Key::Summary(..) => None,
+    let Key::Jump(node, from, _) = key else {
+        return None;
+    };
+    if calls_at(graph, node).is_empty() {
+        return None;
     }
+    Some(CallJump {
+        from: start_place(graph, procedure_at(graph, node), from),
+        cell,
+    })
 }

@@ -16,7 +16,6 @@ use crate::fill::fill;
 use crate::laws::following_values_are_best;
 use crate::rows::{place_of, tops, value_at_place};
 use crate::shared_fill::{FillGate, NoGate, fill_by};
-use crate::spans::spans_of;
 use crate::starts::start_values;
 use ide_graph::Graph;
 use ide_image::Tables;
@@ -62,9 +61,9 @@ pub trait ValuePhase<P: Problem> {
 
     /// The values of the image, by the calling thread alone.
     ///
-    /// Refusal: `NoMemory`. It reads each entry of the tables once, for the fill, after work in proportion
-    /// to how the start values fall; and before that the node of each once, to list the jump functions at
-    /// calls, and each of these again, to see that no start value falls any more.
+    /// Refusal: `NoMemory`. It reads each cell of the tables once, for the fill, after work in proportion
+    /// to how the start values fall; and before that each once, to list the jump functions at calls, and
+    /// each of these again, to see that no start value falls any more.
     final fn values_alone(&self, alloc: Global) -> Result<Values<P>, Refused>
         ensures refused { IsOkUnless result Refused.NoMemory }
         ensures program { IfOk result (λ values. values.program ≡ program_in (image self.now)) }
@@ -72,7 +71,7 @@ pub trait ValuePhase<P: Problem> {
         ensures roots { IfOk result (λ values. values.roots ≡ (image self.now).roots.items) }
         ensures follow { IfOk result (FollowClosed P.L.algebra P.F.edge P.targets (image self.now)) }
         ensures values { IfOk result (AreValuesOf P.L.algebra P.F.edge P.targets (image self.now)) }
-        ensures best { IfOk result (AreBestOf P.L.algebra P.F.edge P.targets (image self.now).tables) }
+        ensures best { IfOk result (AreBestOf P.L.algebra P.F.edge P.targets (image self.now).tables.table) }
     {
         Ok(values_of(alloc, self.image())?)
     }
@@ -96,7 +95,7 @@ pub trait ValuePhase<P: Problem> {
         ensures roots { IfOk result (λ values. values.roots ≡ (image self.now).roots.items) }
         ensures follow { IfOk result (FollowClosed P.L.algebra P.F.edge P.targets (image self.now)) }
         ensures values { IfOk result (AreValuesOf P.L.algebra P.F.edge P.targets (image self.now)) }
-        ensures best { IfOk result (AreBestOf P.L.algebra P.F.edge P.targets (image self.now).tables) }
+        ensures best { IfOk result (AreBestOf P.L.algebra P.F.edge P.targets (image self.now).tables.table) }
     {
         self.values_with(rt, alloc, workers, &NoGate)
     }
@@ -106,9 +105,8 @@ pub trait ValuePhase<P: Problem> {
     /// exclusive, in a thread of its own, which is joined. Where no thread can be made for it, the
     /// one that was to start it fills them.
     ///
-    /// A worker reads the entries at its nodes, and of each other one at most the node. Start values
-    /// are found before, by the calling thread, and where more than one works, the spans by which
-    /// workers pass over entries.
+    /// A worker reads the cells of the tables that are at its nodes, and of each page at others where it
+    /// begins. Start values are found before, by the calling thread.
     final fn values_with<R: Threads + Sync, G: FillGate + Sync>(
         &self,
         rt: &R,
@@ -126,7 +124,7 @@ pub trait ValuePhase<P: Problem> {
         ensures roots { IfOk result (λ values. values.roots ≡ (image self.now).roots.items) }
         ensures follow { IfOk result (FollowClosed P.L.algebra P.F.edge P.targets (image self.now)) }
         ensures values { IfOk result (AreValuesOf P.L.algebra P.F.edge P.targets (image self.now)) }
-        ensures best { IfOk result (AreBestOf P.L.algebra P.F.edge P.targets (image self.now).tables) }
+        ensures best { IfOk result (AreBestOf P.L.algebra P.F.edge P.targets (image self.now).tables.table) }
     {
         check_workers(workers)?;
         Ok(values_by(rt, alloc, self.image(), workers, gate)?)
@@ -137,8 +135,8 @@ pub trait ValuePhase<P: Problem> {
     /// are filled and written, and then the next ones. Start values are found before anything is written.
     /// Inside is how the output did, or the lines of a node for want of memory.
     ///
-    /// It passes over the tables as often as there are chunks, sixteen times at most, by the spans of blocks
-    /// of entries and the nodes of blocks that may have one of the chunk.
+    /// It passes over the pages of the tables as often as there are chunks, sixteen times at most, and reads
+    /// the cells that are at the nodes of a chunk for that one alone.
     ///
     /// Refusals, in this order: `Limit` where there are no workers or more than 64; `NoMemory`. Nothing is
     /// written then.
@@ -163,7 +161,6 @@ pub trait ValuePhase<P: Problem> {
         let graph = &closed.loaded.graph;
         let tables = &closed.tables;
         let starts = leading_starts::<P>(alloc, graph, tables, closed.roots.as_slice())?;
-        let spans = spans_of(alloc, tables.nodes())?;
         let size = chunk_size(graph);
         let mut rows = tops(alloc, size as usize * graph.fact_count())?;
         let mut piece = Vec::with_capacity(alloc, 2 * PIECE)?;
@@ -171,7 +168,6 @@ pub trait ValuePhase<P: Problem> {
             rt,
             graph,
             tables,
-            spans.as_slice(),
             starts.as_slice(),
             workers,
             size,
@@ -211,7 +207,7 @@ fn values_of<P: Problem>(alloc: Global, closed: &Closed<P>) -> Result<Values<P>,
     ensures roots { IfOk result (λ values. values.roots ≡ closed.now.roots.items) }
     ensures follow { IfOk result (FollowClosed P.L.algebra P.F.edge P.targets closed.now) }
     ensures values { IfOk result (AreValuesOf P.L.algebra P.F.edge P.targets closed.now) }
-    ensures best { IfOk result (AreBestOf P.L.algebra P.F.edge P.targets closed.now.tables) }
+    ensures best { IfOk result (AreBestOf P.L.algebra P.F.edge P.targets closed.now.tables.table) }
 {
     let rows = rows_of::<P>(
         alloc,
@@ -239,7 +235,7 @@ where
     ensures roots { IfOk result (λ values. values.roots ≡ closed.now.roots.items) }
     ensures follow { IfOk result (FollowClosed P.L.algebra P.F.edge P.targets closed.now) }
     ensures values { IfOk result (AreValuesOf P.L.algebra P.F.edge P.targets closed.now) }
-    ensures best { IfOk result (AreBestOf P.L.algebra P.F.edge P.targets closed.now.tables) }
+    ensures best { IfOk result (AreBestOf P.L.algebra P.F.edge P.targets closed.now.tables.table) }
 {
     let rows = rows_by::<R, P, G>(
         rt,
@@ -259,14 +255,14 @@ fn values_from<P: Problem>(
     closed: &Closed<P>,
     rows: Vec<P::L>,
 ) -> Result<Values<P>, AllocError>
-    requires follow { FollowFrom P.L.algebra P.F.edge P.targets (graph_in closed.now) closed.now.tables closed.now.roots.items rows.items }
-    requires values { AreValues P.L.algebra P.F.edge P.targets (graph_in closed.now) closed.now.tables closed.now.roots.items rows.items }
+    requires follow { FollowFrom P.L.algebra P.F.edge P.targets (graph_in closed.now) closed.now.tables.table closed.now.roots.items rows.items }
+    requires values { AreValues P.L.algebra P.F.edge P.targets (graph_in closed.now) closed.now.tables.table closed.now.roots.items rows.items }
     ensures program { IfOk result (λ values. values.program ≡ program_in closed.now) }
     ensures graph { IfOk result (λ values. values.graph ≡ graph_in closed.now) }
     ensures roots { IfOk result (λ values. values.roots ≡ closed.now.roots.items) }
     ensures follow { IfOk result (FollowClosed P.L.algebra P.F.edge P.targets closed.now) }
     ensures values { IfOk result (AreValuesOf P.L.algebra P.F.edge P.targets closed.now) }
-    ensures best { IfOk result (AreBestOf P.L.algebra P.F.edge P.targets closed.now.tables) }
+    ensures best { IfOk result (AreBestOf P.L.algebra P.F.edge P.targets closed.now.tables.table) }
 {
     following_values_are_best::<P>();
     Ok(Values {
@@ -283,8 +279,8 @@ fn rows_of<P: Problem>(
     tables: &Tables<P::F>,
     roots: &[usize],
 ) -> Result<Vec<P::L>, AllocError>
-    ensures follow { IfOk result (λ rows. FollowFrom P.L.algebra P.F.edge P.targets graph.now tables.now roots.now rows.items) }
-    ensures values { IfOk result (λ rows. AreValues P.L.algebra P.F.edge P.targets graph.now tables.now roots.now rows.items) }
+    ensures follow { IfOk result (λ rows. FollowFrom P.L.algebra P.F.edge P.targets graph.now tables.now.table roots.now rows.items) }
+    ensures values { IfOk result (λ rows. AreValues P.L.algebra P.F.edge P.targets graph.now tables.now.table roots.now rows.items) }
 {
     let starts = leading_starts::<P>(alloc, graph, tables, roots)?;
     let values = fill(alloc, graph, tables, starts.as_slice())?;
@@ -305,8 +301,8 @@ where
     P::F: Sync,
     P::L: Send + Sync,
     requires { AreWorkers workers }
-    ensures follow { IfOk result (λ rows. FollowFrom P.L.algebra P.F.edge P.targets graph.now tables.now roots.now rows.items) }
-    ensures values { IfOk result (λ rows. AreValues P.L.algebra P.F.edge P.targets graph.now tables.now roots.now rows.items) }
+    ensures follow { IfOk result (λ rows. FollowFrom P.L.algebra P.F.edge P.targets graph.now tables.now.table roots.now rows.items) }
+    ensures values { IfOk result (λ rows. AreValues P.L.algebra P.F.edge P.targets graph.now tables.now.table roots.now rows.items) }
 {
     let starts = leading_starts::<P>(alloc, graph, tables, roots)?;
     let values = fill_by(rt, alloc, graph, tables, starts.as_slice(), workers, gate)?;
@@ -320,8 +316,8 @@ pub(crate) fn leading_starts<P: Problem>(
     tables: &Tables<P::F>,
     roots: &[usize],
 ) -> Result<Vec<P::L>, AllocError>
-    ensures starts { IfOk result (AreStartRows P.L.algebra P.F.edge P.targets graph.now tables.now roots.now) }
-    ensures lead { IfOk result (LeadOn P.L.algebra P.F.edge P.targets graph.now tables.now roots.now) }
+    ensures starts { IfOk result (AreStartRows P.L.algebra P.F.edge P.targets graph.now tables.now.table roots.now) }
+    ensures lead { IfOk result (LeadOn P.L.algebra P.F.edge P.targets graph.now tables.now.table roots.now) }
 {
     sites_make_a_graph::<P>();
     start_values::<P>(alloc, graph, tables, roots)

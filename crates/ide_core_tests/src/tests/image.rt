@@ -140,13 +140,16 @@ fn sets_what_is_pending(rt: HostRuntime) {
     expect_set(&rt, &mut image);
 }
 
-/// Asserts that the tables have both keys, the first of them as its first entry, and no third one.
+/// Asserts that the tables have both keys, each on a page of its own, and no third one.
 fn expect_tables(rt: &impl Abort, image: Image) {
     let tables = image.into_tables();
     assert!(rt; tables.key_count() == 2);
-    assert!(rt; tables.entry_at(0) == Some((FIRST, ConstFn::id())));
-    assert!(rt; tables.entry_at(2).is_none());
-    assert!(rt; tables.nodes().len() == 2);
+    assert!(rt; tables.cell_count() == 128);
+    assert!(rt; tables.first_node(0) == 0);
+    assert!(rt; tables.entry_in(0).is_none());
+    assert!(rt; tables.entry_in(1) == Some((FIRST, ConstFn::id())));
+    assert!(rt; tables.entry_in(65) == Some((SECOND, ConstFn::id())));
+    assert!(rt; tables.entry_in(129).is_none());
     assert!(rt; tables.get(SECOND) == Some(ConstFn::id()));
 }
 

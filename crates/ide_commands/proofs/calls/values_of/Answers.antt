@@ -7,5 +7,5 @@ returns g c =
     let closed = c.in_ok-closed.closed in
     let frozen = c.in_ok-closed.ensures in
     let values = c.in_ok-values.ensures in
-    are_now _ c.args.table.now c.in_ok-values.values (graph_in closed) closed.tables closed.roots.items frozen.quiet frozen.graph frozen.table
+    are_now _ c.args.table.now c.in_ok-values.values (graph_in closed) closed.tables.table closed.roots.items frozen.quiet frozen.graph frozen.table
     frozen.roots values.graph values.roots values.follow values.best

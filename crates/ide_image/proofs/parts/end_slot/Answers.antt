@@ -1,9 +1,8 @@
 use Rattle.std.proofs.Common.{◌≡◌, ◌+◌, ◌-◌, false, cond, arith, subst, sym, ap, ◌∙◌}
 use Rattle.std.specs.Option.{is_some}
 use Rattle.std.specs.Prelude.{nat_eq}
-use Rattle.ide_image.specs.Tables.{found}
 use Rattle.ide_image.specs.ChangeLog.{noted_at}
-use Rattle.ide_image.specs.Indexed.{place_of_key}
+use Rattle.ide_image.specs.Indexed.{function_of, place_of_key}
 use Rattle.ide_image.specs.Notes.{noted}
 use Rattle.ide_image.specs.Queue.{SetsMark, held_at, one_if, pending_at}
 use Rattle.ide_image.proofs.Agree.{at-index}
@@ -56,7 +55,7 @@ returns-clause-count g c =
 
 pub returns-clause-list : goal.returns-clause-list
 returns-clause-list g c =
-    let function : c.function_at.result ≡ found c.args.indexed.now.table c.args.key = c.function_at.ensures c.args.key c.place-place.ensures.place in
+    let function : c.function_at.result ≡ function_of c.args.indexed.now.cells c.args.key = c.function_at.ensures c.args.key c.place-place.ensures.place in
     let pending = c.requires.pending in
     let list = c.make_room.ensures.list in
     let noted = c.note.ensures.list in

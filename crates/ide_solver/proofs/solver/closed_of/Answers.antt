@@ -13,7 +13,7 @@ returns-in-Ok-clause-leads g c = λ values program graph roots best.
     solved g.P.L.Lattice.algebra g.P.F.EdgeFn.edge g.P.Problem.targets
     (λ graph all joined. c.runs_go_on.ensures (edges_of graph.facts graph.sites all (start_at graph)) (c.sites_make_a_graph.ensures graph.facts graph.sites all (start_at graph) joined).0)
     g.met.P.F.EdgeFn.lawful.proper_id
-    c.args.text.now (map (λ name. name.now) c.args.roots.now) c.in_ok-core.core c.drain.new.self c.in_ok-core.ensures.started.0 values c.in-Ok.closed.tables
+    c.args.text.now (map (λ name. name.now) c.args.roots.now) c.in_ok-core.core c.drain.new.self c.in_ok-core.ensures.started.0 values c.in-Ok.closed.tables.table
     c.in_ok-core.ensures.started.1 c.in_ok-drain.ensures.goes c.in_ok-drain.ensures.quiet
     (c.in-Ok.ensures.program ∙ ap (λ o. Some o) (sym program)) (c.in-Ok.ensures.graph ∙ ap (λ o. Some o) (sym graph)) (roots ∙ c.in-Ok.ensures.roots) c.in-Ok.ensures.table best
 

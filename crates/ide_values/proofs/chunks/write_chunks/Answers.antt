@@ -19,7 +19,7 @@ loop-first-init g c = record {
 
 pub returns-in_err-write_nodes : goal.returns-in_err-write_nodes
 returns-in_err-write_nodes g c =
-    let (rows, filled) = some_filled g.F.L.Lattice.algebra g.F.EdgeFn.edge c.args.graph.now c.args.tables.now c.args.starts.now in
+    let (rows, filled) = some_filled g.F.L.Lattice.algebra g.F.EdgeFn.edge c.args.graph.now c.args.tables.now.table c.args.starts.now in
     record { rows = rows; filled = filled; written = search rules }
 
 pub loop-first-preserved : goal.loop-first-preserved
@@ -46,7 +46,7 @@ loop-first-preserved g c =
       within = within;
       done = done ++ part;
       long = length-append done part ∙ omega (arith, long, c.loop-first.invariant.long, add-mul first count graph.facts);
-      fills = fills_on A g.F.EdgeFn.edge graph c.args.tables.now c.args.starts.now done part first c.loop-first.invariant.long c.loop-first.invariant.fills c.fill_nodes.ensures.filled;
+      fills = fills_on A g.F.EdgeFn.edge graph c.args.tables.now.table c.args.starts.now done part first c.loop-first.invariant.long c.loop-first.invariant.fills c.fill_nodes.ensures.filled;
       moves =
           subst (λ text. Moves text c.write_nodes.new.piece.items (contents c.args.out.now) (contents c.write_nodes.new.out))
           (sym (lines_on A g.F.L.Lattice.shown graph done part first count c.loop-first.invariant.long))
@@ -64,7 +64,7 @@ returns g c =
     let all : c.loop-first.first ≡ graph.nodes = omega (arith, c.loop-first.invariant.within, c.loop-first-test.false, c.node_count-nodes.ensures.count) in
     record {
       rows = done;
-      filled = all_from A g.F.EdgeFn.edge graph c.args.tables.now c.args.starts.now done (c.loop-first.invariant.long ∙ ap (λ n. n * graph.facts) all) c.loop-first.invariant.fills;
+      filled = all_from A g.F.EdgeFn.edge graph c.args.tables.now.table c.args.starts.now done (c.loop-first.invariant.long ∙ ap (λ n. n * graph.facts) all) c.loop-first.invariant.fills;
       written =
           rest_written c.write_rest.result (lines 0 graph.nodes done) c.loop-first.piece.items c.deref.result.now
           (contents c.args.out.now) (contents c.loop-first.out) (contents c.write_rest.new.out)

@@ -11,7 +11,7 @@ invariant-loop-first g l = record {
   within : l.first ≤ l.graph.nodes;
   done : List g.row.F-L.Denot;
   long : length done ≡ l.first * l.graph.facts;
-  fills : FillsFrom g.F.L.Lattice.algebra g.F.EdgeFn.edge l.graph l.tables l.starts 0 done;
+  fills : FillsFrom g.F.L.Lattice.algebra g.F.EdgeFn.edge l.graph l.tables.table l.starts 0 done;
   moves : Moves (lines_of_rows g.F.L.Lattice.algebra g.F.L.Lattice.shown l.graph 0 l.first done) l.piece.items (g.W.Write.contents l.fn.out) (g.W.Write.contents l.out);
 }
 

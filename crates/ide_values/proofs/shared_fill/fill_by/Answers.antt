@@ -9,6 +9,6 @@ returns-clause-filled g c =
     let rows = c.fill_nodes.new.rows in
     let was : length c.as_mut_slice.result.now ≡ c.args.graph.now.nodes * c.args.graph.now.facts =
     ap length c.as_mut_slice.ensures.value ∙ c.in_ok-values.ensures.count ∙ ap₂ ◌*◌ c.node_count.ensures.count c.fact_count.ensures.count in
-    subst (Fills g.F.L.Lattice.algebra g.F.EdgeFn.edge c.args.graph.now c.args.tables.now c.args.starts.now)
+    subst (Fills g.F.L.Lattice.algebra g.F.EdgeFn.edge c.args.graph.now c.args.tables.now.table c.args.starts.now)
     (sym (with_items_is c.in_ok-values.values rows (c.fill_nodes.ensures.count ∙ c.as_mut_slice.ensures.len)))
-    (all_from g.F.L.Lattice.algebra g.F.EdgeFn.edge c.args.graph.now c.args.tables.now c.args.starts.now rows (c.fill_nodes.ensures.count ∙ was) c.fill_nodes.ensures.filled)
+    (all_from g.F.L.Lattice.algebra g.F.EdgeFn.edge c.args.graph.now c.args.tables.now.table c.args.starts.now rows (c.fill_nodes.ensures.count ∙ was) c.fill_nodes.ensures.filled)

@@ -7,7 +7,7 @@ pub returns-clause-values : goal.returns-clause-values
 returns-clause-values g c = record {
   starts = c.as_slice.result.now;
   started =
-      subst (AreStarts g.P.L.Lattice.algebra g.P.F.EdgeFn.edge g.P.Problem.targets c.args.graph.now c.args.tables.now c.args.roots.now)
+      subst (AreStarts g.P.L.Lattice.algebra g.P.F.EdgeFn.edge g.P.Problem.targets c.args.graph.now c.args.tables.now.table c.args.roots.now)
       (sym c.as_slice.ensures.value) c.in_ok-starts.ensures.starts;
   filled = c.in_ok-values.ensures.filled;
 }
@@ -15,5 +15,5 @@ returns-clause-values g c = record {
 pub returns-clause-follow : goal.returns-clause-follow
 returns-clause-follow g c =
     c.in_ok-starts.ensures.lead c.in_ok-values.values.items
-    (subst (λ starts. Fills g.P.L.Lattice.algebra g.P.F.EdgeFn.edge c.args.graph.now c.args.tables.now starts c.in_ok-values.values.items)
+    (subst (λ starts. Fills g.P.L.Lattice.algebra g.P.F.EdgeFn.edge c.args.graph.now c.args.tables.now.table starts c.in_ok-values.values.items)
     c.as_slice.ensures.value c.in_ok-values.ensures.filled)

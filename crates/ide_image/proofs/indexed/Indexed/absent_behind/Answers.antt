@@ -2,10 +2,9 @@ use Rattle.std.proofs.Common.{◌≡◌, suc, ◌+◌, None, Some, arith, sym, a
 use Rattle.std.proofs.lemmas.Bool.{cases_eq}
 use Rattle.ide_pages.specs.Pages.{cell_of}
 use Rattle.ide_image.specs.Tables.{found}
-use Rattle.ide_image.specs.Indexed.{entries_in}
+use Rattle.ide_image.specs.Indexed.{table_of}
 use Rattle.ide_image.specs.Walk.{jump_behind}
-use Rattle.ide_image.proofs.Places.{none-at}
-use Rattle.ide_image.proofs.Walked.{cell-behind}
+use Rattle.ide_image.proofs.Columns.{cell-behind, found-none}
 use Rattle.ide_image.proofs.indexed.Indexed.absent_behind.Goals as goal
 
 pub loop-count-preserved : goal.loop-count-preserved
@@ -17,11 +16,10 @@ loop-count-preserved g c =
     cell-behind c.args.node c.args.from c.args.to places c.in-Some.cell (suc count) (sym c.in-Some.ensures) (omega (arith, c.loop-count-test.true)) in
     let same : c.in-Some.cell + suc count ≡ c.in-Some.cell + 1 + count = omega arith in
     let number = c.number_in.ensures.same (behind (suc count)) (cell ∙ ap Some same) in
-    let nowhere = sym (c.self.invariant.indexed.places_are (behind (suc count))) ∙ sym number ∙ c.if-number_in-ne0.false in
-    let none = none-at {F = g.row.F.Denot} (behind (suc count)) (entries_in places.pages c.self.inside.entries.items) nowhere in
-    let here : found c.args.self.now.table (behind (suc count)) ≡ None = rw (← c.self.view_is) none in
+    let none = found-none places c.self.inside.functions.items c.self.invariant.paged (behind (suc count)) (sym number ∙ c.if-number_in-ne0.false) in
+    let here : found (table_of c.args.self.now.cells) (behind (suc count)) ≡ None = rw (← c.self.view_is) none in
     λ n less.
     ⊎_elim
-    (λ e. subst (λ k. found c.args.self.now.table (behind (suc k)) ≡ None) (sym e) here)
+    (λ e. subst (λ k. found (table_of c.args.self.now.cells) (behind (suc k)) ≡ None) (sym e) here)
     (λ ne. c.loop-count.invariant n (omega (arith, less, ne)))
     (cases_eq n count)

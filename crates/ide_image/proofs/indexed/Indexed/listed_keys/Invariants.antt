@@ -1,7 +1,8 @@
 use Rattle.std.proofs.Common.{◌≡◌, take}
 use Rattle.std.specs.Map.{keys_of}
+use Rattle.ide_image.specs.Indexed.{entries_in}
 use Rattle.ide_image.proofs.indexed.Indexed.listed_keys.Given as goal
 
--- the first keys are listed
-abbrev pub invariant-loop-index : goal.invariant-loop-index
-invariant-loop-index g l = l.keys.items ≡ take l.index (keys_of l.self.table.entries)
+-- the keys of the first cells are listed
+abbrev pub invariant-loop-cell : goal.invariant-loop-cell
+invariant-loop-cell g l = l.keys.items ≡ keys_of (entries_in (take l.cell l.self.cells))

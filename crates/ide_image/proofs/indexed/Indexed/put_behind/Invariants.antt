@@ -1,12 +1,16 @@
-use Rattle.std.proofs.Common.{◌≡◌, ◌++◌, ◌-◌}
-use Rattle.ide_pages.specs.Pages.{KeepsCells}
-use Rattle.ide_image.specs.Indexed.{MayTake}
-use Rattle.ide_image.specs.Walk.{walked_entries, jump_behind}
+use Rattle.std.proofs.Common.{◌≡◌, ◌≤◌, Some, length}
+use Rattle.ide_pages.specs.Pages.{number_at}
+use Rattle.ide_wire.specs.declared.key.Key.{Key}
+use Rattle.ide_image.specs.Indexed.{cells_by, kept_at}
+use Rattle.ide_image.specs.Walk.{jump_behind, with_walked}
 use Rattle.ide_image.proofs.indexed.Indexed.put_behind.Given as goal
 
+-- the first cells have the function, under whose number it is kept
 abbrev pub invariant-loop-step : goal.invariant-loop-step
 invariant-loop-step g l = record {
-  entries : l.self.table.entries ≡ l.fn.self.table.entries ++ walked_entries (jump_behind l.fn.node l.fn.from l.fn.to) l.fn.function l.step;
-  cells : KeepsCells l.fn.self.places l.self.places;
-  room : MayTake {F = g.row.F.Denot} (l.fn.count - l.step) l.self;
+  cells : cells_by l.self-inside.places l.self-inside.functions.items ≡ with_walked l.fn.self.cells (jump_behind l.fn.node l.fn.from l.fn.to) l.fn.function l.step;
+  pages : l.self-inside.places.pages ≡ l.initial.self-inside.places.pages;
+  kept : (key : Key) → number_at l.self-inside.places key ≤ length l.self-inside.functions.items;
+  there : kept_at l.self-inside.functions.items l.number ≡ Some l.fn.function;
+  few : l.number ≤ length l.self-inside.functions.items;
 }

@@ -6,13 +6,14 @@ use Rattle.ide_wire.specs.declared.key.Key.{Key}
 use Rattle.ide_image.specs.declared.claim.Claim.{Claim}
 use Rattle.ide_image.specs.declared.entry.Entry.{Entry}
 use Rattle.ide_image.specs.ChangeLog.{ChangeLog}
-use Rattle.ide_image.specs.Indexed.{Indexed}
-use Rattle.ide_image.specs.KeyedImage.{AreParts, image_by}
+use Rattle.ide_image.specs.Indexed.{Indexed, table_of}
+use Rattle.ide_image.specs.KeyedImage.{AreParts, image_by, pending_by_slot}
 use Rattle.ide_image.specs.Left.{left_by_slot, left_item, left_items, left_of}
 use Rattle.ide_image.specs.Queue.{SlotMarks}
 use Rattle.ide_image.specs.Ranks.{left_by_slots}
 use Rattle.ide_image.specs.Tables.{found}
 use Rattle.ide_image.proofs.Agree.{is-pending}
+use Rattle.ide_image.proofs.Shown.{found-shown}
 use Rattle.ide_image.proofs.keyed_image.KeyedImage.changed_items.Goals as goal
 
 -- what is left by the slots of notes is what is left of the image's
@@ -21,7 +22,9 @@ left-same : {F T : Type 0} (same : F → F → Bool) (indexed : Indexed F) (mark
     → left_by_slots same indexed marks notes ≡ left_items same (image_by indexed marks claims changes)
 left-same {F} same indexed marks claims changes whole notes listed =
     let each : (note : Key × Entry F) → left_by_slot same indexed marks note.0 note.1 ≡ left_item same (image_by indexed marks claims changes) note =
-    λ note. ap (λ b. left_of same note.0 (found indexed.table note.0) b note.1) (sym (is-pending indexed marks claims changes whole note.0)) in
+    λ note.
+    ap (λ o. left_of same note.0 o (pending_by_slot indexed marks note.0) note.1) (sym (found-shown indexed.cells note.0 whole.distinct))
+    ∙ ap (λ b. left_of same note.0 (found (table_of indexed.cells) note.0) b note.1) (sym (is-pending indexed marks claims changes whole note.0)) in
     (λ i. filter_map (λ note. each note i) notes)
     ∙ ap (λ list. filter_map (left_item same (image_by indexed marks claims changes)) (unwrap_or list [])) listed
 

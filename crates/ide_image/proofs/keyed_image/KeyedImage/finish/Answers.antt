@@ -7,10 +7,10 @@ use Rattle.ide_image.specs.Worklist.{claim_in, ends, ends_key, is_claim_of}
 use Rattle.ide_image.specs.Tables.{found}
 use Rattle.ide_image.proofs.Held.{held_settled}
 use Rattle.ide_image.specs.KeyedImage.{keys_where, pending_by_slot}
-use Rattle.ide_image.specs.Indexed.{place_of_key}
+use Rattle.ide_image.specs.Indexed.{place_of_key, table_of}
 use Rattle.ide_image.specs.Notes.{ended_key, with_change}
 use Rattle.ide_image.specs.Queue.{held_at, one_if, pending_at}
-use Rattle.ide_image.proofs.Agree.{is-pending, is-worklist, pending-long, same-spot, whole-gone, whole-noted, whole-same}
+use Rattle.ide_image.proofs.Agree.{is-pending, is-worklist, pending-long, same-cells, still-cells, second-of, whole-gone, whole-noted, whole-same}
 use Rattle.ide_image.proofs.Before.{at-open, at-some, ended-claim, ended-ends, ended-out, not-cond, note-before}
 use Rattle.ide_image.proofs.Marked.{at-set, covers-set}
 use Rattle.ide_image.proofs.keyed_image.KeyedImage.finish.Goals as goal
@@ -60,13 +60,14 @@ invariant_of-self-2 g c =
     let after = c.end_slot.new.queue in
     let left = c.take_claim.new.claims.items in
     let pends : (q : Key) → pending_by_slot inside.indexed after q ≡ (not (same_key key q) && pending_by_slot inside.indexed inside.queue q) =
-    λ q. at-set key inside.indexed.table.entries slot false (pending_at inside.queue.list) (pending_at after.list) stands (c.in_ok-end_slot.ensures.pending slot stands) q
+    λ q. at-set key inside.indexed.cells slot false (pending_at inside.queue.list) (pending_at after.list) stands (c.in_ok-end_slot.ensures.pending slot stands) q
     ∙ not-cond (same_key key q) (pending_by_slot inside.indexed inside.queue q) in
     let gone = whole-gone inside.indexed inside.queue after inside.claims.items left inside.changes hand claim.0 slot
     (stands ∙ ap (place_of_key inside.indexed) (sym claim.2)) claim.1 c.take_claim.ensures.after (c.in_ok-end_slot.ensures.held slot stands)
-    (covers-set key inside.indexed.table.entries slot false (pending_at inside.queue.list) (pending_at after.list) stands (c.in_ok-end_slot.ensures.pending slot stands) c.self.invariant.covered)
+    (covers-set key inside.indexed.cells slot false (pending_at inside.queue.list) (pending_at after.list) stands (c.in_ok-end_slot.ensures.pending slot stands) c.self.invariant.covered)
     (held_settled (pending_by_slot inside.indexed inside.queue) (pending_by_slot inside.indexed after) (λ h. claim_in inside.claims.items h) (λ h. claim_in left h) hand claim.0 claim.1 c.take_claim.ensures.after
     (λ q. pends q ∙ ap (λ k. not (same_key k q) && pending_by_slot inside.indexed inside.queue q) (sym claim.2)) c.self.invariant.held)
+    (λ q is. second-of (same_key key q) (pending_by_slot inside.indexed inside.queue q) (sym (pends q) ∙ is))
     c.self.invariant in
     let whole = whole-noted inside.indexed after left inside.changes c.end_slot.new.changes key _ slot stands
     (c.in_ok-end_slot.ensures.marks slot stands) c.in_ok-end_slot.ensures.list c.in_ok-end_slot.ensures.slots gone in
@@ -87,13 +88,14 @@ returns-clause-pending g c =
     let after = c.end_slot.new.queue in
     let left = c.take_claim.new.claims.items in
     let pends : (q : Key) → pending_by_slot inside.indexed after q ≡ (not (same_key key q) && pending_by_slot inside.indexed inside.queue q) =
-    λ q. at-set key inside.indexed.table.entries slot false (pending_at inside.queue.list) (pending_at after.list) stands (c.in_ok-end_slot.ensures.pending slot stands) q
+    λ q. at-set key inside.indexed.cells slot false (pending_at inside.queue.list) (pending_at after.list) stands (c.in_ok-end_slot.ensures.pending slot stands) q
     ∙ not-cond (same_key key q) (pending_by_slot inside.indexed inside.queue q) in
     let gone = whole-gone inside.indexed inside.queue after inside.claims.items left inside.changes hand claim.0 slot
     (stands ∙ ap (place_of_key inside.indexed) (sym claim.2)) claim.1 c.take_claim.ensures.after (c.in_ok-end_slot.ensures.held slot stands)
-    (covers-set key inside.indexed.table.entries slot false (pending_at inside.queue.list) (pending_at after.list) stands (c.in_ok-end_slot.ensures.pending slot stands) c.self.invariant.covered)
+    (covers-set key inside.indexed.cells slot false (pending_at inside.queue.list) (pending_at after.list) stands (c.in_ok-end_slot.ensures.pending slot stands) c.self.invariant.covered)
     (held_settled (pending_by_slot inside.indexed inside.queue) (pending_by_slot inside.indexed after) (λ h. claim_in inside.claims.items h) (λ h. claim_in left h) hand claim.0 claim.1 c.take_claim.ensures.after
     (λ q. pends q ∙ ap (λ k. not (same_key k q) && pending_by_slot inside.indexed inside.queue q) (sym claim.2)) c.self.invariant.held)
+    (λ q is. second-of (same_key key q) (pending_by_slot inside.indexed inside.queue q) (sym (pends q) ∙ is))
     c.self.invariant in
     let whole = whole-noted inside.indexed after left inside.changes c.end_slot.new.changes key _ slot stands
     (c.in_ok-end_slot.ensures.marks slot stands) c.in_ok-end_slot.ensures.list c.in_ok-end_slot.ensures.slots gone in
@@ -118,13 +120,14 @@ returns-clause-count g c =
     let after = c.end_slot.new.queue in
     let left = c.take_claim.new.claims.items in
     let pends : (q : Key) → pending_by_slot inside.indexed after q ≡ (not (same_key key q) && pending_by_slot inside.indexed inside.queue q) =
-    λ q. at-set key inside.indexed.table.entries slot false (pending_at inside.queue.list) (pending_at after.list) stands (c.in_ok-end_slot.ensures.pending slot stands) q
+    λ q. at-set key inside.indexed.cells slot false (pending_at inside.queue.list) (pending_at after.list) stands (c.in_ok-end_slot.ensures.pending slot stands) q
     ∙ not-cond (same_key key q) (pending_by_slot inside.indexed inside.queue q) in
     let gone = whole-gone inside.indexed inside.queue after inside.claims.items left inside.changes hand claim.0 slot
     (stands ∙ ap (place_of_key inside.indexed) (sym claim.2)) claim.1 c.take_claim.ensures.after (c.in_ok-end_slot.ensures.held slot stands)
-    (covers-set key inside.indexed.table.entries slot false (pending_at inside.queue.list) (pending_at after.list) stands (c.in_ok-end_slot.ensures.pending slot stands) c.self.invariant.covered)
+    (covers-set key inside.indexed.cells slot false (pending_at inside.queue.list) (pending_at after.list) stands (c.in_ok-end_slot.ensures.pending slot stands) c.self.invariant.covered)
     (held_settled (pending_by_slot inside.indexed inside.queue) (pending_by_slot inside.indexed after) (λ h. claim_in inside.claims.items h) (λ h. claim_in left h) hand claim.0 claim.1 c.take_claim.ensures.after
     (λ q. pends q ∙ ap (λ k. not (same_key k q) && pending_by_slot inside.indexed inside.queue q) (sym claim.2)) c.self.invariant.held)
+    (λ q is. second-of (same_key key q) (pending_by_slot inside.indexed inside.queue q) (sym (pends q) ∙ is))
     c.self.invariant in
     let whole = whole-noted inside.indexed after left inside.changes c.end_slot.new.changes key _ slot stands
     (c.in_ok-end_slot.ensures.marks slot stands) c.in_ok-end_slot.ensures.list c.in_ok-end_slot.ensures.slots gone in
@@ -142,7 +145,7 @@ returns-clause-noted g c =
     let claim = ended-claim (claim_in inside.claims.items hand) key ended in
     let held = c.self.invariant.marked hand key (ap (is_claim_of key) claim.1 ∙ ap (λ k. same_key k key) claim.2 ∙ same_key_refl key) in
     let note = note-before inside.indexed inside.indexed inside.queue inside.queue inside.claims.items inside.changes inside.changes c.self.invariant
-    (same-spot inside.indexed inside.indexed inside.queue inside.changes refl (λ q cell is. is)) key c.end_slot.new.changes.list c.in_ok-end_slot.ensures.list in
+    (same-cells inside.indexed inside.indexed inside.queue inside.changes (still-cells inside.indexed inside.indexed refl) (λ apart. apart)) key c.end_slot.new.changes.list c.in_ok-end_slot.ensures.list in
     rw (← c.self.view_is)
     (note
-    ∙ ap (λ k. with_change inside.changes.list k (λ q. record { function = found inside.indexed.table q; pending = list_any (same_key q) (keys_where (pending_at inside.queue.list) inside.indexed.table.entries) })) (sym ended))
+    ∙ ap (λ k. with_change inside.changes.list k (λ q. record { function = found (table_of inside.indexed.cells) q; pending = list_any (same_key q) (keys_where (pending_at inside.queue.list) inside.indexed.cells) })) (sym ended))

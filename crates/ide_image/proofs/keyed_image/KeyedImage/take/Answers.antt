@@ -18,7 +18,7 @@ overflow_sub-slot g c =
     let inside = c.self.inside in
     let pends = sym (is-pending inside.indexed inside.queue inside.claims.items inside.changes c.self.invariant c.args.key) ∙ (rw (← c.self.view_is) at c.requires.pending) in
     let some = at-some (pending_at inside.queue.list) (place_of_key inside.indexed c.args.key) pends in
-    omega (arith, some, c.place.ensures.place)
+    omega (arith, some, c.place-slot.ensures.place)
 
 pub hold-requires : goal.hold-requires
 hold-requires g c =
@@ -26,11 +26,11 @@ hold-requires g c =
     let pends = sym (is-pending inside.indexed inside.queue inside.claims.items inside.changes c.self.invariant c.args.key) ∙ (rw (← c.self.view_is) at c.requires.pending) in
     let free = unclaimed-free inside.indexed inside.queue inside.claims.items inside.changes c.self.invariant c.args.key (rw (← c.self.view_is) at c.requires.unclaimed) in
     let some = at-some (pending_at inside.queue.list) (place_of_key inside.indexed c.args.key) pends in
-    let stands : (c.place.result - 1) + 1 ≡ place_of_key inside.indexed c.args.key = omega (arith, some, c.place.ensures.place) in
+    let stands : (c.place-slot.result - 1) + 1 ≡ place_of_key inside.indexed c.args.key = omega (arith, some, c.place-slot.ensures.place) in
     record {
-      waits = waits-is (mark_in inside.queue.list (c.place.result - 1))
-          (sym (at-index (pending_at inside.queue.list) (place_of_key inside.indexed c.args.key) (c.place.result - 1) stands) ∙ pends)
-          (sym (at-index (held_at inside.queue.list) (place_of_key inside.indexed c.args.key) (c.place.result - 1) stands) ∙ free);
+      waits = waits-is (mark_in inside.queue.list (c.place-slot.result - 1))
+          (sym (at-index (pending_at inside.queue.list) (place_of_key inside.indexed c.args.key) (c.place-slot.result - 1) stands) ∙ pends)
+          (sym (at-index (held_at inside.queue.list) (place_of_key inside.indexed c.args.key) (c.place-slot.result - 1) stands) ∙ free);
     }
 
 pub invariant_of-self-2 : goal.invariant_of-self-2
@@ -39,9 +39,9 @@ invariant_of-self-2 g c =
     let pends = sym (is-pending inside.indexed inside.queue inside.claims.items inside.changes c.self.invariant c.args.key) ∙ (rw (← c.self.view_is) at c.requires.pending) in
     let free = unclaimed-free inside.indexed inside.queue inside.claims.items inside.changes c.self.invariant c.args.key (rw (← c.self.view_is) at c.requires.unclaimed) in
     let some = at-some (pending_at inside.queue.list) (place_of_key inside.indexed c.args.key) pends in
-    let stands : (c.place.result - 1) + 1 ≡ place_of_key inside.indexed c.args.key = omega (arith, some, c.place.ensures.place) in
+    let stands : (c.place-slot.result - 1) + 1 ≡ place_of_key inside.indexed c.args.key = omega (arith, some, c.place-slot.ensures.place) in
     whole-taken inside.indexed inside.queue c.hold.new.self c.grow.new.claims.items c.set_claim.new.claims.items inside.changes c.args.hand
-    (record { key = c.args.key; task = c.args.task; done = 0; lowered = false }) (c.place.result - 1) stands
+    (record { key = c.args.key; task = c.args.task; done = 0; lowered = false }) (c.place-slot.result - 1) stands
     (c.grow.ensures.same c.args.hand ∙ (rw (← c.self.view_is) at c.requires.free)) c.set_claim.ensures pends free c.hold.ensures.held c.hold.ensures.pending
     (whole-claims inside.indexed inside.queue inside.claims.items c.grow.new.claims.items inside.changes
     (λ h q. ap (is_claim_of q) (c.grow.ensures.same h)) (λ h d is. (d, sym (c.grow.ensures.same h) ∙ is, refl)) c.self.invariant)
@@ -49,4 +49,4 @@ invariant_of-self-2 g c =
 pub returns-clause-pending : goal.returns-clause-pending
 returns-clause-pending g c =
     let inside = c.self.inside in
-    rw (← c.self.view_is) (keys-same (pending_at inside.queue.list) (pending_at c.hold.new.self.list) inside.indexed.table.entries c.hold.ensures.pending)
+    rw (← c.self.view_is) (keys-same (pending_at inside.queue.list) (pending_at c.hold.new.self.list) inside.indexed.cells c.hold.ensures.pending)

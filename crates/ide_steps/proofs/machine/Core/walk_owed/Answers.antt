@@ -38,6 +38,7 @@ returns-clause-walks g c = λ some.
       has = ap (found c.self.inside.image.table) (sym c.in-Jump.is) ∙ has;
       may = may;
       same = record { program = refl; graph = refl; roots = refl };
+      distinct = c.walk.ensures.distinct;
       entries = c.in_ok-walk.ensures.entries;
       few = c.in_ok-walk.ensures.few;
       goes = c.in_ok-walk.ensures.pending;

@@ -1,9 +1,9 @@
 use Rattle.std.proofs.Common.{◌≡◌, ◌<◌, Some, arith, false, subst, sym}
 use Rattle.ide_image.specs.Tables.{found}
 use Rattle.ide_values.specs.Falling.{ranks}
-use Rattle.ide_values.specs.Pass.{IsSteadyBy, by_entry, stays}
+use Rattle.ide_values.specs.Pass.{by_entry, stays}
 use Rattle.ide_values.specs.Settled.{IsSteady}
-use Rattle.ide_values.proofs.Coming.{each_found, goes_trans}
+use Rattle.ide_values.proofs.Coming.{goes_trans}
 use Rattle.ide_values.proofs.Falling.{falls_once}
 use Rattle.ide_values.proofs.passes.Starts.come_to_rest.Goals as goal
 
@@ -12,24 +12,21 @@ loop-targets-init g c = stays
 
 pub loop-targets-preserved : goal.loop-targets-preserved
 loop-targets-preserved g c =
-    goes_trans (λ values e. by_entry g.P.L.Lattice.algebra g.P.F.EdgeFn.edge c.args.graph.now g.P.Problem.targets values e.0 e.1) (λ e. found c.args.tables.now e.0 ≡ Some e.1)
-    (goes_trans (λ values e. by_entry g.P.L.Lattice.algebra g.P.F.EdgeFn.edge c.args.graph.now g.P.Problem.targets values e.0 e.1) (λ e. found c.args.tables.now e.0 ≡ Some e.1) c.loop-targets.invariant c.in_ok-settle.ensures.comes)
+    goes_trans (λ values e. by_entry g.P.L.Lattice.algebra g.P.F.EdgeFn.edge c.args.graph.now g.P.Problem.targets values e.0 e.1) (λ e. found c.args.tables.now.table e.0 ≡ Some e.1)
+    (goes_trans (λ values e. by_entry g.P.L.Lattice.algebra g.P.F.EdgeFn.edge c.args.graph.now g.P.Problem.targets values e.0 e.1) (λ e. found c.args.tables.now.table e.0 ≡ Some e.1) c.loop-targets.invariant c.in_ok-settle.ensures.comes)
     c.in_ok-pass_each.ensures.comes
 
 pub returns-then-not-self-clause-comes : goal.returns-then-not-self-clause-comes
 returns-then-not-self-clause-comes g c =
-    goes_trans (λ values e. by_entry g.P.L.Lattice.algebra g.P.F.EdgeFn.edge c.args.graph.now g.P.Problem.targets values e.0 e.1) (λ e. found c.args.tables.now e.0 ≡ Some e.1)
-    (goes_trans (λ values e. by_entry g.P.L.Lattice.algebra g.P.F.EdgeFn.edge c.args.graph.now g.P.Problem.targets values e.0 e.1) (λ e. found c.args.tables.now e.0 ≡ Some e.1) c.loop-targets.invariant c.in_ok-settle.ensures.comes)
+    goes_trans (λ values e. by_entry g.P.L.Lattice.algebra g.P.F.EdgeFn.edge c.args.graph.now g.P.Problem.targets values e.0 e.1) (λ e. found c.args.tables.now.table e.0 ≡ Some e.1)
+    (goes_trans (λ values e. by_entry g.P.L.Lattice.algebra g.P.F.EdgeFn.edge c.args.graph.now g.P.Problem.targets values e.0 e.1) (λ e. found c.args.tables.now.table e.0 ≡ Some e.1) c.loop-targets.invariant c.in_ok-settle.ensures.comes)
     c.in_ok-pass_each.ensures.comes
 
 pub returns-then-not-self-clause-steady : goal.returns-then-not-self-clause-steady
 returns-then-not-self-clause-steady g c =
     let calm : c.pass_each.new.self.has_fallen ≡ false = c.if-not-self.true in
-    subst (IsSteady g.P.L.Lattice.algebra g.P.F.EdgeFn.edge g.P.Problem.targets c.args.graph.now c.args.tables.now)
-    (sym (c.in_ok-pass_each.ensures.rests.same calm))
-    (λ key f is.
-    each_found (λ e. IsSteadyBy g.P.L.Lattice.algebra g.P.F.EdgeFn.edge c.args.graph.now g.P.Problem.targets c.settle.new.self.values.items e.0 e.1)
-    c.args.tables.now.entries key f (c.in_ok-pass_each.ensures.rests.steady calm) is)
+    subst (IsSteady g.P.L.Lattice.algebra g.P.F.EdgeFn.edge g.P.Problem.targets c.args.graph.now c.args.tables.now.table)
+    (sym (c.in_ok-pass_each.ensures.rests.same calm)) (c.in_ok-pass_each.ensures.rests.steady calm)
 
 pub loop-targets-smaller : goal.loop-targets-smaller
 loop-targets-smaller g c =

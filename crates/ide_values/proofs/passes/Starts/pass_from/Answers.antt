@@ -14,6 +14,6 @@ loop-jump-init g c = record {
 pub loop-jump-preserved : goal.loop-jump-preserved
 loop-jump-preserved g c = record {
   comes =
-      goes_trans (λ values e. by_entry g.P.L.Lattice.algebra g.P.F.EdgeFn.edge c.args.graph.now g.P.Problem.targets values e.0 e.1) (λ e. found c.args.tables.now e.0 ≡ Some e.1) c.loop-jump.invariant.comes c.in_ok-pass_index.ensures.comes;
-  falls = falls_then g.P.L.Lattice.algebra c.loop-jump.invariant.falls c.in_ok-pass_index.ensures.falls;
+      goes_trans (λ values e. by_entry g.P.L.Lattice.algebra g.P.F.EdgeFn.edge c.args.graph.now g.P.Problem.targets values e.0 e.1) (λ e. found c.args.tables.now.table e.0 ≡ Some e.1) c.loop-jump.invariant.comes c.in_ok-pass_cell.ensures.comes;
+  falls = falls_then g.P.L.Lattice.algebra c.loop-jump.invariant.falls c.in_ok-pass_cell.ensures.falls;
 }

@@ -4,6 +4,6 @@ use Rattle.ide_values.proofs.passes.Starts.pass_from.Given as goal
 
 abbrev pub invariant-loop-jump : goal.invariant-loop-jump
 invariant-loop-jump g l = record {
-  comes : ComesTo g.P.L.Lattice.algebra g.P.F.EdgeFn.edge g.P.Problem.targets l.graph l.tables l.initial.self.values.items l.self.values.items;
+  comes : ComesTo g.P.L.Lattice.algebra g.P.F.EdgeFn.edge g.P.Problem.targets l.graph l.tables.table l.initial.self.values.items l.self.values.items;
   falls : StartsFall g.P.L.Lattice.algebra l.initial.self l.self;
 }

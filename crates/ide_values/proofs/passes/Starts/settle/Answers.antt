@@ -15,8 +15,8 @@ loop-place-preserved g c =
     ap (λ v. ranks g.P.L.Lattice.algebra v.items) c.leave.ensures.values in
     record {
       comes =
-          goes_trans (λ values e. by_entry g.P.L.Lattice.algebra g.P.F.EdgeFn.edge c.args.graph.now g.P.Problem.targets values e.0 e.1) (λ e. found c.args.tables.now e.0 ≡ Some e.1) c.loop-place.invariant.comes
-          (subst (λ vs. ComesTo g.P.L.Lattice.algebra g.P.F.EdgeFn.edge g.P.Problem.targets c.args.graph.now c.args.tables.now vs c.pass_from.new.self.values.items)
+          goes_trans (λ values e. by_entry g.P.L.Lattice.algebra g.P.F.EdgeFn.edge c.args.graph.now g.P.Problem.targets values e.0 e.1) (λ e. found c.args.tables.now.table e.0 ≡ Some e.1) c.loop-place.invariant.comes
+          (subst (λ vs. ComesTo g.P.L.Lattice.algebra g.P.F.EdgeFn.edge g.P.Problem.targets c.args.graph.now c.args.tables.now.table vs c.pass_from.new.self.values.items)
           (ap (λ v. v.items) c.leave.ensures.values) c.in_ok-pass_from.ensures.comes);
       falls = omega (arith, kept, c.in_ok-pass_from.ensures.falls.least, c.loop-place.invariant.falls);
     }

@@ -5,7 +5,7 @@ use Rattle.ide_values.proofs.passes.Starts.settle.Given as goal
 
 abbrev pub invariant-loop-place : goal.invariant-loop-place
 invariant-loop-place g l = record {
-  comes : ComesTo g.P.L.Lattice.algebra g.P.F.EdgeFn.edge g.P.Problem.targets l.graph l.tables l.initial.self.values.items l.self.values.items;
+  comes : ComesTo g.P.L.Lattice.algebra g.P.F.EdgeFn.edge g.P.Problem.targets l.graph l.tables.table l.initial.self.values.items l.self.values.items;
   falls : ranks g.P.L.Lattice.algebra l.self.values.items ≤ ranks g.P.L.Lattice.algebra l.initial.self.values.items;
 }
 

@@ -1,9 +1,0 @@
-use Rattle.std.proofs.Common.{Some, length, refl, sym, ap, ◌∙◌}
-use Rattle.std.proofs.lemmas.Option.{slice_get_read}
-use Rattle.ide_image.proofs.entries.recent.Goals as goal
-
-pub returns-then-eq : goal.returns-then-eq
-returns-then-eq g c =
-    let functions = c.args.functions.now in
-    slice_get_read functions (length functions) c.loop-index.index c.index-functions-index.result refl c.loop-index-test.true c.index-functions-index.is
-    ∙ ap Some (g.met.F.EdgeFn.exact c.index-functions-index.result c.args.function (sym c.eq.ensures ∙ c.if-eq.true))

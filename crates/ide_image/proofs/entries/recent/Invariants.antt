@@ -1,4 +1,0 @@
-use Rattle.ide_image.proofs.entries.recent.Given as goal
-
-abbrev pub invariant-loop-index : goal.invariant-loop-index
-invariant-loop-index g l = Unit {0}
