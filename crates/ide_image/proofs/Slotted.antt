@@ -1,18 +1,22 @@
--- The marks of the cells of a grid.
-use Rattle.std.proofs.Common.{◌≡◌, ℕ, zero, suc, ◌+◌, ◌-◌, ◌<◌, ◌++◌, refl, sym, ap, subst, ◌∙◌, arith, Bool, true, false, List, [], ◌∷◌, Option, None, Some, drop, get_or, inl, inr, length, replicate}
-use Rattle.std.specs.Prelude.{◌⊎◌, IfSome, slice_get}
-use Rattle.std.specs.List.{All, Contains, cons_option, filter_map}
+-- The marks of the cells of a grid, and the items that its slots tell.
+use Rattle.std.proofs.Common.{◌≡◌, ℕ, zero, suc, ◌+◌, ◌-◌, ◌<◌, ◌++◌, refl, sym, ap, subst, ◌∙◌, arith, cond, Bool, true, false, List, [], ◌∷◌, Option, None, Some, drop, get_or, inl, inr, length, replicate}
+use Rattle.std.specs.Prelude.{◌⊎◌, slice_get}
+use Rattle.std.specs.List.{Contains, cons_option, filter_map}
 use Rattle.std.specs.List.Sorted.{IsPermutation}
 use Rattle.std.specs.Option.{is_some}
 use Rattle.std.proofs.lemmas.Option.{same_Some}
 use Rattle.std.proofs.lemmas.List.Elements.{All-append, All-cons, All-nil, Contains-append_cases}
 use Rattle.ide_wire.specs.declared.key.Key.{Key}
-use Rattle.ide_image.specs.Grid.{AreOnGrid, AreTold, Grid, HasSlot, IsAboveLast, MarksCell, IsToldBy, IsWidened, PutsSlot, TellsOneOf}
-use Rattle.ide_image.specs.Indexed.{Indexed}
-use Rattle.ide_image.specs.Queue.{SlotMarks}
-use Rattle.ide_image.specs.Ranks.{item_in, item_of}
-use Rattle.ide_image.proofs.Left.{next-listed}
+use Rattle.ide_image.specs.Grid.{AreOnGrid, AreTold, Grid, HasSlot, IsAboveLast, IsToldOn, IsWidened, MarksCell, PutsSlot, TellsOneOf}
+use Rattle.ide_image.specs.Indexed.{Indexed, function_of, place_of_key}
+use Rattle.ide_image.specs.KeyedImage.{pending_by_slot}
+use Rattle.ide_image.specs.Left.{is_left, left_by_slot, left_of}
+use Rattle.ide_image.specs.Queue.{SlotMarks, pending_at}
+use Rattle.ide_image.specs.Ranks.{AreSlots, SaysIfLeftAt, item_in, left_by_slots}
+use Rattle.ide_image.specs.declared.entry.Entry.{Entry}
+use Rattle.ide_image.proofs.Agree.{at-index}
 use Rattle.ide_image.proofs.Picked.{picked, picked-more, picked-none}
+use Rattle.ide_image.proofs.Ranks.{item-at}
 
 abbrev zeros : ℕ → List ℕ
 zeros n = replicate n 0
@@ -56,97 +60,123 @@ marks-slot cells shown place (suc slot) same within is some =
     let less : suc slot - 1 ≡ slot = omega arith in
     subst (λ n. Contains cells (suc n)) (sym less) (subst (λ zs. Contains zs (suc slot)) same (place, within, sym is))
 
--- one more slot that is on the grid
-pub one-more-slot : (grid : Grid) (slots : List ℕ) (slot : ℕ) → HasSlot grid slot → All (HasSlot grid) slots → All (HasSlot grid) (slots ++ slot ∷ [])
-one-more-slot grid slots slot has all = All-append (HasSlot grid) slots (slot ∷ []) all (All-cons (HasSlot grid) slot [] has (All-nil (HasSlot grid)))
-
--- what stands at an index is an element
-pub among-at : (xs : List ℕ) (i d : ℕ) → i < length xs → Contains xs (get_or xs i d)
-among-at [] i d within = absurd (omega (arith, within))
-among-at (x ∷ xs) zero d within = (0, within, refl)
-among-at (x ∷ xs) (suc i) d within =
-    let there = among-at xs i d (omega (arith, within)) in
-    (suc there.0, omega (arith, there.1), there.2)
-
 module _ {X Y : Type 0} (f : X → Option Y) where
-  behind-first : (o : Option Y) (ys : List Y) (y : Y) → Contains ys y → Contains (cons_option o ys) y
+  -- what is among others is among them behind what comes of one element more
+  pub behind-first : (o : Option Y) (ys : List Y) (y : Y) → Contains ys y → Contains (cons_option o ys) y
   behind-first None ys y there = there
   behind-first (Some z) ys y there = (suc there.0, omega (arith, there.1), there.2)
 
-  at-first : (o : Option Y) (ys : List Y) (y : Y) → o ≡ Some y → Contains (cons_option o ys) y
-  at-first None ys y is = absurd (cc (is))
-  at-first (Some z) ys y is = (0, omega arith, same_Some z y is)
-
-  -- what comes of an element is among what comes of all
-  pub comes-among : (xs : List X) (i : ℕ) (o : Option Y) → i < length xs → ((x : X) → slice_get xs i ≡ Some x → o ≡ f x) → (y : Y) → o ≡ Some y
-      → Contains (filter_map f xs) y
-  comes-among [] i o within gives y is = absurd (omega (arith, within))
-  comes-among (z ∷ xs) zero o within gives y is = at-first (f z) (filter_map f xs) y (sym (gives z refl) ∙ is)
-  comes-among (z ∷ xs) (suc i) o within gives y is = behind-first (f z) (filter_map f xs) y (comes-among xs i o (omega (arith, within)) gives y is)
-
-  count-first : (o : Option Y) (ys : List Y) → is_some o ≡ true → length ((cons_option o []) ++ ys) ≡ suc (length ys)
+  count-first : (o : Option Y) (ys : List Y) → is_some o ≡ true → length (cons_option o ys) ≡ suc (length ys)
   count-first None ys is = absurd (cc (is))
   count-first (Some y) ys is = refl
 
-  count-none : (o : Option Y) (ys : List Y) → is_some o ≡ false → length ((cons_option o []) ++ ys) ≡ length ys
+  count-none : (o : Option Y) (ys : List Y) → is_some o ≡ false → length (cons_option o ys) ≡ length ys
   count-none None ys is = refl
   count-none (Some y) ys is = absurd (cc (is))
 
-  -- how many come of the elements from here on
-  pub count-some : (xs : List X) (i : ℕ) (o : Option Y) → i < length xs → ((x : X) → slice_get xs i ≡ Some x → o ≡ f x) → is_some o ≡ true
-      → length (filter_map f (drop i xs)) ≡ suc (length (filter_map f (drop (i + 1) xs)))
-  count-some xs i o within gives is = ap length (sym (next-listed f [] xs i o within gives)) ∙ count-first o (filter_map f (drop (i + 1) xs)) is
+  -- how many come of the elements from here on, if something comes of this one
+  pub count-some : (xs : List X) (i j : ℕ) (b : Bool) → i < length xs → ((x : X) → slice_get xs i ≡ Some x → b ≡ is_some (f x)) → b ≡ true → j ≡ suc i
+      → length (filter_map f (drop i xs)) ≡ suc (length (filter_map f (drop j xs)))
+  count-some xs i j b within says is next = from xs i within says ∙ ap (λ k. suc (length (filter_map f (drop k xs)))) (sym next)
+    where
+      from : (xs : List X) (i : ℕ) → i < length xs → ((x : X) → slice_get xs i ≡ Some x → b ≡ is_some (f x))
+          → length (filter_map f (drop i xs)) ≡ suc (length (filter_map f (drop (suc i) xs)))
+      from [] i within says = absurd (omega (arith, within))
+      from (x ∷ xs) zero within says = count-first (f x) (filter_map f xs) (sym (says x refl) ∙ is)
+      from (x ∷ xs) (suc i) within says = from xs i (omega (arith, within)) says
 
-  pub count-same : (xs : List X) (i : ℕ) (o : Option Y) → i < length xs → ((x : X) → slice_get xs i ≡ Some x → o ≡ f x) → is_some o ≡ false
-      → length (filter_map f (drop i xs)) ≡ length (filter_map f (drop (i + 1) xs))
-  count-same xs i o within gives is = ap length (sym (next-listed f [] xs i o within gives)) ∙ count-none o (filter_map f (drop (i + 1) xs)) is
+  -- and if nothing does
+  pub count-same : (xs : List X) (i j : ℕ) (b : Bool) → i < length xs → ((x : X) → slice_get xs i ≡ Some x → b ≡ is_some (f x)) → b ≡ false → j ≡ suc i
+      → length (filter_map f (drop i xs)) ≡ length (filter_map f (drop j xs))
+  count-same xs i j b within says is next = from xs i within says ∙ ap (λ k. length (filter_map f (drop k xs))) (sym next)
+    where
+      from : (xs : List X) (i : ℕ) → i < length xs → ((x : X) → slice_get xs i ≡ Some x → b ≡ is_some (f x))
+          → length (filter_map f (drop i xs)) ≡ length (filter_map f (drop (suc i) xs))
+      from [] i within says = absurd (omega (arith, within))
+      from (x ∷ xs) zero within says = count-none (f x) (filter_map f xs) (sym (says x refl) ∙ is)
+      from (x ∷ xs) (suc i) within says = from xs i (omega (arith, within)) says
+
+module _ {F : Type 0} (same : F → F → Bool) (indexed : Indexed F) (marks : SlotMarks) where
+  abbrev left_of_note : Key × Entry F → Option (Key × F × Bool)
+  left_of_note note = left_by_slot same indexed marks note.0 note.1
+
+  -- what is left of a key is told by its slot
+  left-told : (key : Key) (before : Entry F) (slot : ℕ) (item : Key × F × Bool) → place_of_key indexed key ≡ suc slot
+      → left_by_slot same indexed marks key before ≡ Some item → item_in indexed marks slot ≡ Some item
+  left-told key before slot item place left =
+      let waits = pending_by_slot indexed marks key in
+      let at : slot + 1 ≡ place_of_key indexed key = omega (arith, place) in
+      elim (function_of indexed.cells key) as (λ o. function_of indexed.cells key ≡ o → left_of same key o waits before ≡ Some item → item_in indexed marks slot ≡ Some item) [
+        | None ↦ λ none is. absurd (cc (is))
+        | Some f ↦ λ own is.
+            elim (is_left same (Some f) before.function waits before.pending) as (λ b. cond b (Some (key, f, waits)) None ≡ Some item → item_in indexed marks slot ≡ Some item) [
+              | true ↦ λ is. item-at indexed marks key slot f waits (sym at) own (at-index (pending_at marks.list) (place_of_key indexed key) slot at) ∙ is
+              | false ↦ λ is. absurd (cc (is))
+            ] is
+      ] refl left
+
+  first-told : (note : Key × Entry F) (slot : ℕ) (rest : List (Key × F × Bool)) → place_of_key indexed note.0 ≡ suc slot → is_some (left_of_note note) ≡ true
+      → TellsOneOf indexed marks (cons_option (left_of_note note) rest) slot
+  first-told note slot rest place some =
+      elim (left_of_note note) as (λ o. left_of_note note ≡ o → is_some o ≡ true → TellsOneOf indexed marks (cons_option o rest) slot) [
+        | None ↦ λ none is. absurd (cc (is))
+        | Some item ↦ λ own is. record { item = item; is = left-told note.0 note.1 slot item place own; among = (0, omega arith, refl) }
+      ] refl some
+
+  -- where something is left of a note, the slot beside it tells that
+  pub tells-beside : (notes : List (Key × Entry F)) (slots : List ℕ) (i slot : ℕ) (b : Bool) → AreSlots (place_of_key indexed) notes slots → i < length notes
+      → slice_get slots i ≡ Some slot → SaysIfLeftAt same indexed marks notes i b → b ≡ true → TellsOneOf indexed marks (left_by_slots same indexed marks notes) slot
+  tells-beside [] slots i slot b beside within there says is = absurd (omega (arith, within))
+  tells-beside (n ∷ ns) [] i slot b beside within there says is = absurd (cc)
+  tells-beside (n ∷ ns) (s ∷ ss) zero slot b beside within there says is =
+      let place : place_of_key indexed n.0 ≡ suc s = cc (beside) in
+      subst (TellsOneOf indexed marks (left_by_slots same indexed marks (n ∷ ns))) (same_Some s slot there)
+      (first-told n s (left_by_slots same indexed marks ns) place (sym (says n refl) ∙ is))
+  tells-beside (n ∷ ns) (s ∷ ss) (suc i) slot b beside within there says is =
+      let rest : AreSlots (place_of_key indexed) ns ss = cc (beside) in
+      let tells = tells-beside ns ss i slot b rest (omega (arith, within)) there says is in
+      record {
+        item = tells.item;
+        is = tells.is;
+        among = behind-first left_of_note (left_of_note n) (left_by_slots same indexed marks ns) tells.item tells.among;
+      }
 
 module _ {F : Type 0} (indexed : Indexed F) (marks : SlotMarks) where
-  -- the slot of something that is left is put
-  pub puts-left : (left : List (Key × F × Bool)) (old new : Grid) (slots : List ℕ) (index slot : ℕ) (o : Option (Key × F × Bool)) → is_some o ≡ true
-      → ((s : ℕ) → HasSlot old s → TellsOneOf indexed marks left s) → PutsSlot slot old new
-      → IfSome o (λ item. item_of indexed marks (slice_get slots index) ≡ Some item) → slice_get slots index ≡ Some slot
-      → ((item : Key × F × Bool) → o ≡ Some item → Contains left item) → (s : ℕ) → HasSlot new s → TellsOneOf indexed marks left s
-  puts-left left old new slots index slot None is each puts tells there among s has = absurd (cc (is))
-  puts-left left old new slots index slot (Some item) is each puts tells there among s has =
+  -- a slot that tells something that is left is put
+  pub puts-left : (left : List (Key × F × Bool)) (old new : Grid) (slot : ℕ) → TellsOneOf indexed marks left slot
+      → ((s : ℕ) → HasSlot old s → TellsOneOf indexed marks left s) → PutsSlot slot old new → (s : ℕ) → HasSlot new s → TellsOneOf indexed marks left s
+  puts-left left old new slot tells each puts s has =
       elim (puts s has) [
         | inl before ↦ each s before
-        | inr same ↦ record {
-          item = item;
-          is = ap (item_in indexed marks) same ∙ ap (item_of indexed marks) (sym there) ∙ tells;
-          among = among item refl;
-        }
+        | inr same ↦ subst (TellsOneOf indexed marks left) (sym same) tells
       ]
 
   -- no item is told by no slot
-  pub none-told : (slots : List ℕ) → AreTold indexed marks slots []
-  none-told slots = record { each = All-nil (IsToldBy indexed marks slots); ascend = picked-none (λ (item : Key × F × Bool). item.0) }
+  pub none-told : (grid : Grid) → AreTold indexed marks grid []
+  none-told grid = record { each = All-nil (IsToldOn indexed marks grid); ascend = picked-none (λ (item : Key × F × Bool). item.0) }
 
   -- one more item, which a slot tells, above the others
-  pub tells-more : (slots : List ℕ) (items : List (Key × F × Bool)) (item : Key × F × Bool) (slot : ℕ) → AreTold indexed marks slots items
-      → Contains slots slot → item_in indexed marks slot ≡ Some item → IsAboveLast items item.0 → AreTold indexed marks slots (items ++ item ∷ [])
-  tells-more slots items item slot told among is above =
-      let one : IsToldBy indexed marks slots item = record { slot = slot; among = among; is = is } in
+  pub tells-more : (grid : Grid) (items : List (Key × F × Bool)) (item : Key × F × Bool) (slot : ℕ) → AreTold indexed marks grid items
+      → HasSlot grid slot → item_in indexed marks slot ≡ Some item → IsAboveLast items item.0 → AreTold indexed marks grid (items ++ item ∷ [])
+  tells-more grid items item slot told has is above =
+      let one : IsToldOn indexed marks grid item = record { slot = slot; has = has; is = is } in
       record {
         each =
-            All-append (IsToldBy indexed marks slots) items (item ∷ []) told.each
-            (All-cons (IsToldBy indexed marks slots) item [] one (All-nil (IsToldBy indexed marks slots)));
+            All-append (IsToldOn indexed marks grid) items (item ∷ []) told.each
+            (All-cons (IsToldOn indexed marks grid) item [] one (All-nil (IsToldOn indexed marks grid)));
         ascend = picked-more (λ (item : Key × F × Bool). item.0) items item told.ascend above;
       }
 
   -- an item that a slot on the grid tells is among what is left
-  told-left : (left : List (Key × F × Bool)) (grid : Grid) (slots : List ℕ) (item : Key × F × Bool) → AreOnGrid indexed marks left grid
-      → All (HasSlot grid) slots → IsToldBy indexed marks slots item → Contains left item
-  told-left left grid slots item on all told =
-      let has = told.among in
-      let on_grid : HasSlot grid told.slot = subst (HasSlot grid) has.2 (all has.0 told.slot has.1) in
-      let tells = on.each told.slot on_grid in
+  told-left : (left : List (Key × F × Bool)) (grid : Grid) (item : Key × F × Bool) → AreOnGrid indexed marks left grid → IsToldOn indexed marks grid item → Contains left item
+  told-left left grid item on told =
+      let tells = on.each told.slot told.has in
       let same : tells.item ≡ item = same_Some tells.item item (sym tells.is ∙ told.is) in
       subst (Contains left) same tells.among
 
   -- items that slots on a grid tell, which ascend and are as many as are left, are what is left
-  pub all-left : (left items : List (Key × F × Bool)) (grid : Grid) (slots : List ℕ) → AreOnGrid indexed marks left grid → All (HasSlot grid) slots
-      → AreTold indexed marks slots items → length items ≡ grid.count → IsPermutation left items
-  all-left left items grid slots on all told count =
-      picked (λ (item : Key × F × Bool). item.0) left items
-      (λ k d within. told-left left grid slots (get_or items k d) on all (told.each k d within)) told.ascend (count ∙ on.count)
+  pub all-left : (left items : List (Key × F × Bool)) (grid : Grid) → AreOnGrid indexed marks left grid → AreTold indexed marks grid items → length items ≡ grid.count
+      → IsPermutation left items
+  all-left left items grid on told count =
+      picked (λ (item : Key × F × Bool). item.0) left items (λ k d within. told-left left grid (get_or items k d) on (told.each k d within)) told.ascend
+      (count ∙ on.count)

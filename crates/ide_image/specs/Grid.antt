@@ -1,6 +1,5 @@
 -- Slots in the cells of a grid, and the items that they tell.
 use Rattle.std.specs.Prelude.{◌≡◌, ◌⊎◌, ◌+◌, ◌++◌, ℕ, suc, replicate, Bool, List, Some, length, map, slice_index_or}
-use Rattle.std.specs.Global.{Vec}
 use Rattle.std.specs.List.{All, Contains}
 use Rattle.std.specs.List.Sorted.{IsStrictlySortedBy}
 use Rattle.std.specs.declared.cmp.Ordering.TheVariants.{Less}
@@ -18,10 +17,6 @@ pub record Grid : Type 0 where
 -- a cell has the slot
 abbrev pub HasSlot : Grid → ℕ → Type 0
 HasSlot grid slot = Contains grid.cells (suc slot)
-
--- each of the slots is on it
-abbrev pub StandOn : Grid → Vec ℕ → Type 0
-StandOn grid slots = All (HasSlot grid) slots.items
 
 -- it has no other slot than before and this one
 abbrev pub PutsSlot : ℕ → (old new : Grid) → Type 0
@@ -51,13 +46,13 @@ module _ {F : Type 0} (indexed : Indexed F) (marks : SlotMarks) where
     pub each : (s : ℕ) → HasSlot grid s → TellsOneOf items s
     pub count : grid.count ≡ length items
 
-  -- one of the slots tells the item
-  pub record IsToldBy (slots : List ℕ) (item : Key × F × Bool) : Type 0 where
+  -- a slot on the grid tells the item
+  pub record IsToldOn (grid : Grid) (item : Key × F × Bool) : Type 0 where
     pub slot : ℕ
-    pub among : Contains slots slot
+    pub has : HasSlot grid slot
     pub is : item_in indexed marks slot ≡ Some item
 
-  -- the slots tell the items, which ascend by key
-  pub record AreTold (slots : List ℕ) (items : List (Key × F × Bool)) : Type 0 where
-    pub each : All (IsToldBy slots) items
+  -- slots on the grid tell the items, which ascend by key
+  pub record AreTold (grid : Grid) (items : List (Key × F × Bool)) : Type 0 where
+    pub each : All (IsToldOn grid) items
     pub ascend : IsStrictlySortedBy key_cmp (map (λ (item : Key × F × Bool). item.0) items)

@@ -2,6 +2,7 @@
 use Rattle.std.specs.Prelude.{◌||◌, not, Bool, true, false, List, [], Option, Some, None, if◌then◌else◌, unwrap_or}
 use Rattle.std.specs.Bool.{beq}
 use Rattle.std.specs.List.{filter_map}
+use Rattle.std.specs.Option.{is_some}
 use Rattle.ide_image.specs.Tables.{found}
 use Rattle.ide_wire.specs.declared.key.Key.{Key}
 use Rattle.ide_image.specs.Worklist.{is_pending}
@@ -29,6 +30,10 @@ module _ {F : Type 0} (same : F → F → Bool) where
   -- the same of a key, by its slot
   abbrev pub left_by_slot : Indexed F → SlotMarks → Key → (before : Entry F) → Option (Key × F × Bool)
   left_by_slot indexed marks key before = left_of key (function_of indexed.cells key) (pending_by_slot indexed marks key) before
+
+  -- whether that is something
+  abbrev pub is_left_by_slot : Indexed F → SlotMarks → Key → (before : Entry F) → Bool
+  is_left_by_slot indexed marks key before = is_some (left_by_slot indexed marks key before)
 
   -- what is left, in the order of the notes
   abbrev pub left_items : {T : Type 0} → KeyedImageData F T → List (Key × F × Bool)

@@ -10,7 +10,7 @@ use Rattle.ide_wire.specs.declared.wire.Wire.{Ghosts as Wire}
 use Rattle.ide_wire.specs.KeyOrder.{key_cmp}
 use Rattle.ide_wire.specs.declared.key.Key.{Key}
 use Rattle.ide_image.specs.Grid.{AreOnGrid, AreTold, Grid}
-use Rattle.ide_image.specs.Ranks.{AreNumbers, IsLeftAt, item_of, item_told, left_by_slots}
+use Rattle.ide_image.specs.Ranks.{AreNumbers, IsLeftAt, SaysIfLeftAt, item_of, item_told, left_by_slots}
 use Rattle.ide_image.specs.declared.noted_slots.NotedSlots.{NotedSlots}
 
 -- the items ascend by their keys
@@ -27,9 +27,13 @@ module _ {F L : Type 0} {E : EdgeFn F L} {W : Wire F} {Q : PartialEq F} {D : Def
   abbrev pub IsItemAt : NotedSlots F L E W Q D A P → ℕ → Key × F × Bool → Type 0
   IsItemAt left index item = item_of left.indexed.now left.queue.now (slice_get left.slots.now index) ≡ Some item
 
-  -- the slots tell the items, which ascend by key
-  abbrev pub AreToldBy : NotedSlots F L E W Q D A P → (slots : List ℕ) → Vec (Key × F × Bool) → Type 0
-  AreToldBy left slots items = AreTold left.indexed.now left.queue.now slots items.items
+  -- slots on the grid tell the items, which ascend by key
+  abbrev pub AreToldOn : NotedSlots F L E W Q D A P → Grid → Vec (Key × F × Bool) → Type 0
+  AreToldOn left grid items = AreTold left.indexed.now left.queue.now grid items.items
+
+  -- they do so still, if they did before
+  abbrev pub KeepsTold : NotedSlots F L E W Q D A P → Grid → (old new : Vec (Key × F × Bool)) → Type 0
+  KeepsTold left grid old new = AreToldOn left grid old → AreToldOn left grid new
 
   module _ (same : F → F → Bool) (left : NotedSlots F L E W Q D A P) where
     -- what is left, in the order of the notes
@@ -39,6 +43,10 @@ module _ {F L : Type 0} {E : EdgeFn F L} {W : Wire F} {Q : PartialEq F} {D : Def
     -- it is what is left of the note at the index
     abbrev pub IsLeftOf : ℕ → Option (Key × F × Bool) → Type 0
     IsLeftOf index item = IsLeftAt same left.indexed.now left.queue.now left.notes.now index item
+
+    -- it says whether something is left of the note at the index
+    abbrev pub SaysIfLeft : ℕ → Bool → Type 0
+    SaysIfLeft index is = SaysIfLeftAt same left.indexed.now left.queue.now left.notes.now index is
 
     -- the items are what is left, in some order
     abbrev pub AreLeft : Vec (Key × F × Bool) → Type 0

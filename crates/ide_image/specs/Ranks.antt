@@ -5,7 +5,7 @@ use Rattle.std.specs.Option.{option_map}
 use Rattle.ide_wire.specs.declared.key.Key.{Key}
 use Rattle.ide_wire.specs.declared.key.Key.TheVariants.{Jump, Summary}
 use Rattle.ide_image.specs.Indexed.{Indexed, entry_in}
-use Rattle.ide_image.specs.Left.{left_by_slot}
+use Rattle.ide_image.specs.Left.{is_left_by_slot, left_by_slot}
 use Rattle.ide_image.specs.Queue.{SlotMarks, pending_at}
 use Rattle.ide_image.specs.declared.entry.Entry.{Entry}
 
@@ -54,6 +54,10 @@ module _ {F : Type 0} where
   -- it is what is left of the note at the index, if there is one
   abbrev pub IsLeftAt : (F → F → Bool) → Indexed F → SlotMarks → List (Key × Entry F) → (index : ℕ) → Option (Key × F × Bool) → Type 0
   IsLeftAt same indexed marks notes index left = (note : Key × Entry F) → slice_get notes index ≡ Some note → left ≡ left_by_slot same indexed marks note.0 note.1
+
+  -- it says whether something is left of the note at the index, if there is one
+  abbrev pub SaysIfLeftAt : (F → F → Bool) → Indexed F → SlotMarks → List (Key × Entry F) → (index : ℕ) → Bool → Type 0
+  SaysIfLeftAt same indexed marks notes index is = (note : Key × Entry F) → slice_get notes index ≡ Some note → is ≡ is_left_by_slot same indexed marks note.0 note.1
 
   -- the number tells an item, and has the place of its key
   pub record IsNumber (told : ℕ → Option (Key × F × Bool)) (number : ℕ) : Type 0 where

@@ -3,9 +3,9 @@
 //! A page has the keys of one pair of facts at 64 nodes that stand side by side, and keys are ordered by nodes
 //! before facts. So the keys of a block of 64 nodes ascend where the pages of the block, ordered by facts, are
 //! read offset by offset: pages are sorted, which are few, and no keys. That this is the order of keys is not
-//! proved here. Whoever asks for it looks whether the keys ascend, which costs less than to sort them.
+//! proved here. Whoever reads the rows so looks whether the keys ascend, which costs less than to sort them.
 ghost use Rattle.std.specs.Prelude.{◌≡◌, ◌+◌, ◌<◌, ◌≤◌, ◌^◌, [], length, IfOk, IfSome, OnOk};
-ghost use Rattle.ide_image.specs.Grid.{HasSlot, MarksCell, IsWidened, PutsSlot, StandOn};
+ghost use Rattle.ide_image.specs.Grid.{HasSlot, MarksCell, IsWidened, PutsSlot};
 
 use crate::indexed::Indexed;
 use crate::ordered::number_of;
@@ -13,8 +13,8 @@ use ide_lattice::EdgeFn;
 use std::alloc::{AllocError, Global};
 use std::marker::Model;
 
-/// The offsets of a page.
-const OFFSETS: usize = 64;
+/// The offsets of a page, and of its row.
+pub(crate) const OFFSETS: usize = 64;
 
 /// The rows that a grid may have, so that a row's number has 16 bits.
 const ROWS: usize = 65_536;
@@ -25,7 +25,7 @@ const BLOCK: u64 = 0x100_0000_0000;
 /// A row of cells for each page on which a slot's key is.
 #[derive(Drop)]
 pub(crate) struct Grid {
-    /// For each page one more than the number of its row: 0 where it has none.
+    /// For each page one more than the place of its row's first cell: 0 where it has no row.
     rows: Vec<u32>,
     /// The page of each row.
     pages: Vec<u32>,
@@ -70,60 +70,47 @@ impl Grid {
     }
 
     /// Puts a slot, which is its key's cell. One for which there is no cell is counted all the same.
+    #[inline(always)]
     pub(crate) fn put(&mut self, slot: u32) -> Result<(), AllocError>
         requires few { self.old.count + 1 < 2 ^ 64 }
         ensures slots { OnOk result (PutsSlot slot self.old self.new) }
         ensures count { OnOk result (self.new.count ≡ self.old.count + 1) }
     {
-        let row = self.row_of(slot / 64)?;
-        let place = row
-            .saturating_mul(OFFSETS)
-            .saturating_add((slot % 64) as usize);
+        let first = self.row_of(slot / 64)?;
+        let place = first as usize + (slot % 64) as usize;
         mark(&mut self.cells, place, slot);
         self.count += 1;
         Ok(())
     }
 
-    /// The row of a page, which is made if there is none. Those behind the last that may be have the number of one.
-    fn row_of(&mut self, page: u32) -> Result<usize, AllocError>
+    /// The place of the first cell of a page's row, which is made if there is none.
+    #[inline(always)]
+    fn row_of(&mut self, page: u32) -> Result<u32, AllocError>
         ensures cells { OnOk result (IsWidened self.old self.new) }
         ensures count { self.new.count ≡ self.old.count }
     {
         let found = row_in(&self.rows, page as usize);
         if found != 0 {
-            return Ok(found as usize - 1);
+            return Ok(found - 1);
         }
-        let row = self.pages.len().min(ROWS);
+        self.add_row(page)
+    }
+
+    /// Makes a row for a page, and finds its first cell. Rows behind the last that may be have that of one.
+    fn add_row(&mut self, page: u32) -> Result<u32, AllocError>
+        ensures cells { OnOk result (IsWidened self.old self.new) }
+        ensures count { self.new.count ≡ self.old.count }
+    {
+        let first = (self.pages.len().min(ROWS) * OFFSETS) as u32;
         self.pages.push(page)?;
         self.cells.extend_from_slice(&[0; OFFSETS])?;
-        set_row(&mut self.rows, page as usize, row as u32 + 1);
-        Ok(row)
+        set_row(&mut self.rows, page as usize, first + 1);
+        Ok(first)
     }
 
-    /// The slots in the order of their keys, by pages: `None` where a key has no rank, or there are more rows than
-    /// may be.
-    pub(crate) fn order<F: EdgeFn>(
-        &self,
-        alloc: Global,
-        indexed: &Indexed<F>,
-    ) -> Result<Option<Vec<u32>>, AllocError>
-        ensures { IfOk result (λ order. IfSome order (StandOn self.now)) }
-    {
-        let Some(mut numbers) = self.numbers(alloc, indexed)? else {
-            return Ok(None);
-        };
-        numbers.sort_unstable();
-        let mut order = Vec::with_capacity(alloc, self.count)?;
-        for row in 0..numbers.len() {
-            if begins_block(&numbers, row) {
-                self.push_block(&numbers[row..block_end(&numbers, row)], &mut order);
-            }
-        }
-        Ok(Some(order))
-    }
-
-    /// For each row a number that has its page's place among keys, and the row.
-    fn numbers<F: EdgeFn>(
+    /// For each row a number that has its page's place among keys, and the row. They ascend. `None` where a key has no
+    /// rank, or there are more rows than may be.
+    pub(crate) fn numbers<F: EdgeFn>(
         &self,
         alloc: Global,
         indexed: &Indexed<F>,
@@ -142,37 +129,17 @@ impl Grid {
             };
             numbers.push_reserved(number);
         }
+        numbers.sort_unstable();
         Ok(Some(numbers))
     }
 
-    /// Appends the slots of some rows, offset by offset.
-    fn push_block(&self, block: &[u64], order: &mut Vec<u32>)
-        ensures { StandOn self.now order.old → StandOn self.now order.new }
-    {
-        for offset in 0..OFFSETS {
-            self.push_column(block, offset, order);
-        }
-    }
-
-    /// Appends the slots at an offset of some rows, as many as there is room for.
-    fn push_column(&self, block: &[u64], offset: usize, order: &mut Vec<u32>)
-        ensures { StandOn self.now order.old → StandOn self.now order.new }
-    {
-        for number in block {
-            let row = (*number % 0x1_0000) as usize;
-            if let Some(slot) = self.slot_at(row.saturating_mul(OFFSETS).saturating_add(offset)) {
-                if order.len() < order.capacity() {
-                    order.push_reserved(slot);
-                }
-            }
-        }
-    }
-
-    /// The slot in a cell, if there is one.
-    fn slot_at(&self, place: usize) -> Option<u32>
+    /// The slot at an offset of the row that the number has, if there is one.
+    #[inline(always)]
+    pub(crate) fn slot_at(&self, number: u64, offset: usize) -> Option<u32>
         ensures { IfSome result (HasSlot self.now) }
     {
-        let mark = *self.cells.get(place)?;
+        let first = (number % 0x1_0000) as usize * OFFSETS;
+        let mark = *self.cells.get(first.saturating_add(offset))?;
         if mark == 0 {
             return None;
         }
@@ -180,7 +147,8 @@ impl Grid {
     }
 }
 
-/// One more than the number of a page's row, or 0.
+/// One more than the place of the first cell of a page's row, or 0.
+#[inline(always)]
 fn row_in(rows: &[u32], page: usize) -> u32 {
     match rows.get(page) {
         Some(row) => *row,
@@ -188,7 +156,7 @@ fn row_in(rows: &[u32], page: usize) -> u32 {
     }
 }
 
-/// Makes that one more than the number of a page's row.
+/// Makes that one more than the place of the first cell of a page's row.
 fn set_row(rows: &mut Vec<u32>, page: usize, row: u32) {
     if let Some(there) = rows.get_mut(page) {
         *there = row;
@@ -196,6 +164,7 @@ fn set_row(rows: &mut Vec<u32>, page: usize, row: u32) {
 }
 
 /// Marks a cell with a slot, if there is the cell.
+#[inline(always)]
 fn mark(cells: &mut Vec<u32>, place: usize, slot: u32)
     ensures { MarksCell slot cells.old.items cells.new.items }
 {
@@ -205,14 +174,14 @@ fn mark(cells: &mut Vec<u32>, place: usize, slot: u32)
 }
 
 /// Whether the number at an index is the first of its block.
-fn begins_block(numbers: &[u64], index: usize) -> bool
+pub(crate) fn begins_block(numbers: &[u64], index: usize) -> bool
     requires there { index < length numbers.now }
 {
     index == 0 || numbers[index - 1] / BLOCK != numbers[index] / BLOCK
 }
 
 /// Where the block of the number at an index ends.
-fn block_end(numbers: &[u64], index: usize) -> usize
+pub(crate) fn block_end(numbers: &[u64], index: usize) -> usize
     requires there { index < length numbers.now }
     ensures from { index ≤ result }
     ensures to { result ≤ length numbers.now }

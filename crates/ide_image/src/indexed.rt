@@ -2,6 +2,7 @@
 ghost use Rattle.std.specs.Prelude.{◌≡◌, ℕ, ◌+◌, ◌*◌, ◌%◌, ◌<◌, ◌≤◌, ◌^◌, [], None, Some, length, IfOk, IfSome, OnOk, IsOkUnless};
 ghost use Rattle.std.specs.List.{IsDistinct};
 ghost use Rattle.std.specs.Map.{keys_of};
+ghost use Rattle.std.specs.Option.{is_some};
 ghost use Rattle.ide_wire.specs.declared.key.Key.{Key};
 ghost use Rattle.ide_wire.specs.declared.key.Key.TheVariants.{Jump};
 ghost use Rattle.ide_wire.specs.declared.refused.Refused.TheVariants.{NoMemory};
@@ -97,6 +98,14 @@ impl<F: EdgeFn> Indexed<F> {
             return None;
         }
         self.functions.get(number as usize - 1)
+    }
+
+    /// Whether the key of a cell has a function. No look-up.
+    #[inline(always)]
+    pub(crate) fn has_function(&self, cell: usize) -> bool
+        ensures { ForKeyAt (cell + 1) self.now (λ key. result ≡ is_some (function_of self.now.cells key)) }
+    {
+        self.places.number_in(cell) != 0
     }
 
     /// How many keys have a function.

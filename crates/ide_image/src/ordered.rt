@@ -1,19 +1,21 @@
 //! What is left of notes, in the order of keys.
 //!
 //! Where its keys fill their pages well, a grid finds an order with no sort of keys, and the items are
-//! listed in it while they are seen to ascend. Elsewhere each item is told by one number of 64 bits, which
-//! has its key's place among keys and the index of its note. These are sorted in place of the items, which
-//! are five times as long; so there is one list of items alone, which is written once.
+//! read in it, each of which is listed if it is seen to be above the one before it. Where that leaves one
+//! out, the order is not that of keys, and the list is of no use. There and elsewhere each item is told by
+//! one number of 64 bits, which has its key's place among keys and the index of its note. These are sorted
+//! in place of the items, which are five times as long; so there is one list of items alone, which is
+//! written once.
 ghost use Rattle.std.specs.Prelude.{◌≡◌, ◌<◌, Bool, true, IfOk, IfSome};
 ghost use Rattle.std.specs.List.{filter_map};
 ghost use Rattle.std.specs.List.Sorted.{IsPermutation, IsSortedByKey};
 ghost use Rattle.ide_wire.specs.KeyOrder.{key_cmp};
 ghost use Rattle.ide_wire.specs.declared.key.Key.{Key};
-ghost use Rattle.ide_image.specs.Grid.{IsAboveLast};
-ghost use Rattle.ide_image.specs.Ordered.{AreLeft, AreNumbersOf, AreToldBy, AscendByKey, HasLeft, IsItemAt, IsLeftOf, items_left, told_by};
+ghost use Rattle.ide_image.specs.Grid.{Grid, HasSlot, IsAboveLast};
+ghost use Rattle.ide_image.specs.Ordered.{AreLeft, AreNumbersOf, AreToldOn, AscendByKey, HasLeft, IsItemAt, IsLeftOf, KeepsTold, SaysIfLeft, items_left, told_by};
 ghost use Rattle.ide_image.specs.Ranks.{HasRank, IsNumberOf, item_in, key_rank};
 
-use crate::grid::Grid;
+use crate::grid::{Grid, OFFSETS, begins_block, block_end};
 use crate::noted_slots::NotedSlots;
 use crate::parts;
 use ide_lattice::EdgeFn;
@@ -71,12 +73,10 @@ impl<'a, F: EdgeFn> NotedSlots<'a, F> {
         let Some(grid) = self.grid(alloc)? else {
             return Ok(None);
         };
-        let Some(order) = grid.order(alloc, self.indexed)? else {
+        let Some(rows) = grid.numbers(alloc, self.indexed)? else {
             return Ok(None);
         };
-        let Some(items) = self.ascending_items(alloc, &order)? else {
-            return Ok(None);
-        };
+        let items = self.ascending_items(alloc, &grid, &rows)?;
         if items.len() != grid.count() {
             return Ok(None);
         }
@@ -95,7 +95,7 @@ impl<'a, F: EdgeFn> NotedSlots<'a, F> {
         }
         let mut grid = Grid::new(alloc, pages)?;
         for index in 0..count {
-            if self.left_at(index).is_some() {
+            if self.is_left_at(index) {
                 let Some(slot) = self.slots.get(index) else {
                     return Ok(None);
                 };
@@ -108,26 +108,62 @@ impl<'a, F: EdgeFn> NotedSlots<'a, F> {
         Ok(Some(grid))
     }
 
-    /// The items that the slots tell, in the order of these: `None` where their keys do not ascend.
+    /// The items that slots on the grid tell, block by block of its rows, which the numbers tell. An item whose key is
+    /// not above that of the one before it is passed over, so that there are fewer items than slots then.
     fn ascending_items(
         &self,
         alloc: Global,
-        order: &[u32],
-    ) -> Result<Option<Vec<(Key, F, bool)>>, AllocError>
-        ensures { IfOk result (λ told. IfSome told (AreToldBy self.now order.now)) }
+        grid: &Grid,
+        rows: &[u64],
+    ) -> Result<Vec<(Key, F, bool)>, AllocError>
+        ensures { IfOk result (AreToldOn self.now grid.now) }
     {
-        let count = order.len();
-        let mut items = Vec::with_capacity(alloc, count)?;
-        for index in 0..count {
-            let Some(item) = self.item_at(order[index]) else {
-                return Ok(None);
-            };
-            if !is_above(&items, item.0) {
-                return Ok(None);
+        let mut items = Vec::with_capacity(alloc, grid.count())?;
+        for row in 0..rows.len() {
+            if begins_block(rows, row) {
+                self.push_block(grid, &rows[row..block_end(rows, row)], &mut items);
             }
-            items.push_reserved(item);
         }
-        Ok(Some(items))
+        Ok(items)
+    }
+
+    /// Appends the items of slots in some rows of the grid, offset by offset.
+    fn push_block(&self, grid: &Grid, block: &[u64], items: &mut Vec<(Key, F, bool)>)
+        ensures { KeepsTold self.now grid.now items.old items.new }
+    {
+        for offset in 0..OFFSETS {
+            self.push_column(grid, block, offset, items);
+        }
+    }
+
+    /// Appends the items of slots at an offset of some rows of the grid, row by row.
+    #[inline(always)]
+    fn push_column(
+        &self,
+        grid: &Grid,
+        block: &[u64],
+        offset: usize,
+        items: &mut Vec<(Key, F, bool)>,
+    )
+        ensures { KeepsTold self.now grid.now items.old items.new }
+    {
+        for number in block {
+            if let Some(slot) = grid.slot_at(*number, offset) {
+                self.push_item(slot, items);
+            }
+        }
+    }
+
+    /// Appends the item of a slot, if its key is above that of the last item, and there is room.
+    #[inline(always)]
+    fn push_item(&self, slot: u32, items: &mut Vec<(Key, F, bool)>)
+        ensures { (grid : Grid) → HasSlot grid slot → KeepsTold self.now grid items.old items.new }
+    {
+        if let Some(item) = self.item_at(slot) {
+            if is_above(items, item.0) && items.len() < items.capacity() {
+                items.push_reserved(item);
+            }
+        }
     }
 
     /// The number of each item that is left of the notes, in the order of these: `None` where a key has no
@@ -179,6 +215,21 @@ impl<'a, F: EdgeFn> NotedSlots<'a, F> {
         Ok(items)
     }
 
+    /// Whether something is left of the note at an index: nothing is behind the last one. The note is read where it
+    /// stands, as most of it is not looked at.
+    #[inline(always)]
+    fn is_left_at(&self, index: usize) -> bool
+        ensures { SaysIfLeft F.eq self.now index result }
+    {
+        let Some(note) = self.notes.get(index) else {
+            return false;
+        };
+        let Some(slot) = self.slots.get(index) else {
+            return false;
+        };
+        parts::is_left_at(self.indexed, self.queue, *slot, note.0, &note.1)
+    }
+
     /// What is left of the note at an index: nothing behind the last one.
     #[inline(always)]
     fn left_at(&self, index: usize) -> Option<(Key, F, bool)>
@@ -199,6 +250,7 @@ impl<'a, F: EdgeFn> NotedSlots<'a, F> {
     }
 
     /// The item of a slot, as it stands.
+    #[inline(always)]
     fn item_at(&self, slot: u32) -> Option<(Key, F, bool)>
         ensures { result ≡ item_in self.now.indexed.now self.now.queue.now slot }
     {
@@ -208,6 +260,7 @@ impl<'a, F: EdgeFn> NotedSlots<'a, F> {
 }
 
 /// Whether the key is above that of the last item, if there is one.
+#[inline(always)]
 fn is_above<F: EdgeFn>(items: &[(Key, F, bool)], key: Key) -> bool
     ensures { result ≡ true → IsAboveLast items.now key }
 {

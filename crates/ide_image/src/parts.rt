@@ -6,7 +6,7 @@ ghost use Rattle.ide_image.specs.Worklist.{MarksIn, claim_in, is_claim_of};
 ghost use Rattle.ide_image.specs.ChangeLog.{KeepsSlots, MarksNoted, MayNote, noted_at};
 ghost use Rattle.ide_image.specs.KeyedImage.{AddsAllBySlot, AddsBySlot, AreParts, CountsBySlot, FreesKey, HasRoomFor, IsListed, MarksAllIn, MarksKey, NotesAllBySlot, NotesBySlot, SameOver, SameParts, SettlesKey, UsesRoom, marked_at, pending_by_slot};
 ghost use Rattle.ide_image.specs.Indexed.{HaveCells, PutsEntries, PutsEntry, place_of_key};
-ghost use Rattle.ide_image.specs.Left.{is_left, left_by_slot};
+ghost use Rattle.ide_image.specs.Left.{is_left, is_left_by_slot, left_by_slot};
 ghost use Rattle.ide_image.specs.Queue.{pending_at, pending_count};
 ghost use Rattle.ide_image.specs.Ranks.{item_in};
 ghost use Rattle.ide_image.specs.Walk.{AreListedFrom, KeepsNotesFrom, jump_behind, with_entered};
@@ -34,6 +34,29 @@ pub(crate) fn is_noted_at<F: EdgeFn>(changes: &ChangeLog<F>, place: usize) -> bo
     place != 0 && changes.is_noted(place - 1)
 }
 
+/// Whether the key of a slot has a function, and another entry than before. Where it had no function before, only the
+/// slot's cell is looked at.
+#[inline(always)]
+pub(crate) fn is_left_at<F: EdgeFn>(
+    indexed: &Indexed<F>,
+    queue: &Queue,
+    slot: u32,
+    key: Key,
+    before: &Entry<F>,
+) -> bool
+    requires slot { place_of_key indexed.now key ≡ slot + 1 }
+    ensures { result ≡ is_left_by_slot F.eq indexed.now queue.now key before.now }
+{
+    let slot = slot as usize;
+    if before.function.is_none() {
+        return indexed.has_function(slot);
+    }
+    match indexed.function_at(slot + 1) {
+        Some(now) => is_left(now, queue.is_pending(slot), before),
+        None => false,
+    }
+}
+
 /// The key of a slot with its function and whether it is pending, where its entry is another one than before.
 pub(crate) fn left_at<F: EdgeFn>(
     indexed: &Indexed<F>,
@@ -49,7 +72,7 @@ pub(crate) fn left_at<F: EdgeFn>(
     let slot = slot as usize;
     let now = indexed.function_at(slot + 1)?;
     let pending = queue.is_pending(slot);
-    if is_left(now, pending, before) {
+    if is_left(now, pending, &before) {
         Some((key, now, pending))
     } else {
         None
@@ -57,8 +80,9 @@ pub(crate) fn left_at<F: EdgeFn>(
 }
 
 /// Whether a function and a mark make another entry than before.
-fn is_left<F: EdgeFn>(now: F, pending: bool, before: Entry<F>) -> bool
-    ensures { result ≡ is_left F.eq (Some now) before.function pending before.pending }
+#[inline(always)]
+fn is_left<F: EdgeFn>(now: F, pending: bool, before: &Entry<F>) -> bool
+    ensures { result ≡ is_left F.eq (Some now) before.now.function pending before.now.pending }
 {
     match before.function {
         Some(then) => now != then || pending != before.pending,

@@ -56,6 +56,7 @@ impl Queue {
     }
 
     /// The mark of the slot: settled, where it has none.
+    #[inline(always)]
     fn mark_of(&self, slot: usize) -> Mark
         ensures { result ≡ mark_in self.now.list slot }
     {
@@ -66,6 +67,7 @@ impl Queue {
     }
 
     /// Whether the slot is pending.
+    #[inline(always)]
     pub(crate) fn is_pending(&self, slot: usize) -> bool
         ensures { result ≡ pending_at self.now.list slot }
     {

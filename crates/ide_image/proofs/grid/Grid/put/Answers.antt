@@ -5,5 +5,5 @@ use Rattle.ide_image.proofs.grid.Grid.put.Goals as goal
 
 pub returns-clause-slots : goal.returns-clause-slots
 returns-clause-slots c = λ s has.
-    put-slot c.args.self.now c.row_of.new.self c.args.slot s c.self.inside.cells.items c.mark.new.cells.items c.in_ok-row.ensures.cells
+    put-slot c.args.self.now c.row_of.new.self c.args.slot s c.self.inside.cells.items c.mark.new.cells.items c.in_ok-first.ensures.cells
     (sym (ap (λ (grid : Grid). grid.cells) c.self.view_is)) c.mark.ensures has

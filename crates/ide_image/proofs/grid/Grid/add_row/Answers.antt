@@ -1,6 +1,6 @@
 use Rattle.std.proofs.Common.{◌∙◌, ap, ◌++◌, inr, replicate}
 use Rattle.ide_image.specs.Grid.{Grid}
-use Rattle.ide_image.proofs.grid.Grid.row_of.Goals as goal
+use Rattle.ide_image.proofs.grid.Grid.add_row.Goals as goal
 
 pub returns-clause-cells : goal.returns-clause-cells
 returns-clause-cells c =
