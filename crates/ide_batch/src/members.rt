@@ -1,4 +1,6 @@
 //! Members of a group: the two facts of an item, its function, and whether it is pending.
+ghost use Rattle.std.specs.Prelude.{◌≡◌, ◌++◌, OnOk};
+ghost use Rattle.std.specs.Int.{w16, to_le_bytes};
 ghost use Rattle.ide_batch.specs.Items.{functions_by};
 
 use crate::coded::{Coded, front_of};
@@ -23,12 +25,22 @@ impl<F: EdgeFn> Coded for (Fact, Fact, F, bool) {
         Some(((first, second, function, pending), rest))
     }
 
+    #[inline(always)]
     fn put(&self, out: &mut Vec<u8>) -> Result<(), AllocError> {
         let (first, second, function, pending) = *self;
-        first.put(out)?;
-        second.put(out)?;
+        put_facts(first, second, out)?;
         (function, pending).put(out)
     }
 
     ghost prefix_free = { member_free (functions_by F.proper F.form F.eq F.edge.all_top) F.prefix_free };
+}
+
+/// Appends the forms of two facts, in one go.
+#[inline(always)]
+fn put_facts(first: Fact, second: Fact, out: &mut Vec<u8>) -> Result<(), AllocError>
+    ensures { OnOk result (out.new.items ≡ out.old.items ++ (to_le_bytes w16 first ++ to_le_bytes w16 second)) }
+{
+    let [a, b] = first.to_le_bytes();
+    let [c, d] = second.to_le_bytes();
+    out.extend_from_slice(&[a, b, c, d])
 }
