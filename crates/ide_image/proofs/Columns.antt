@@ -1,6 +1,6 @@
 -- The cells of pages: where each key's stands, which function it has, and what they are once a function is put in or a page is added.
 use Rattle.std.proofs.Common.{◌≡◌, ℕ, zero, suc, ◌+◌, ◌-◌, ◌*◌, ◌/◌, ◌%◌, ◌<◌, ◌≤◌, ◌^◌, refl, sym, ap, subst, ◌∙◌, arith, List, [], ◌∷◌, ◌++◌, length, get_or, Option, Some, None, Result, Ok, Err, Bool, true, false, cond, inl, inr, replicate, take, ⊎_elim}
-use Rattle.std.specs.Prelude.{IfOk, IfSome, map, nat_eq, slice_get, unwrap_or, position}
+use Rattle.std.specs.Prelude.{IfOk, map, nat_eq, slice_get, unwrap_or, position}
 use Rattle.std.specs.BTreeMap.{is_at}
 use Rattle.std.specs.List.{AllByRecursion, IsDistinct, cons_option, filter_map, range_with_len}
 use Rattle.std.specs.List.Sorted.{IsStrictlySortedBy}
@@ -8,20 +8,20 @@ use Rattle.std.specs.Map.{keys_of, lookup}
 use Rattle.std.specs.Option.{option_flatten, option_map, option_to_list}
 use Rattle.std.specs.Ordering.{nat_cmp}
 use Rattle.std.proofs.lemmas.Bool.{cases_lt, ne_eqb}
-use Rattle.std.proofs.lemmas.List.{append-nil, get_or_append_left, length-append, length-replicate}
+use Rattle.std.proofs.lemmas.List.{append-nil, get_or_append_left, get_or_past, length-append, length-replicate}
 use Rattle.std.proofs.lemmas.List.FromFn.{get_or-map-range_with_len, length-map-range_with_len}
 use Rattle.std.proofs.lemmas.Map.Entries.{length-keys_of}
 use Rattle.std.proofs.lemmas.Option.{same_Some, slice_get-get_or, slice_get_past, slice_get_within}
-use Rattle.ide_pages.specs.Pages.{AddsPage, ArePaged, AreRow, KeepsCells, Numbers, Puts, cell_of, cell_on, entries, key_at, key_on, nonzero, number_at, page_at, page_of, shown, slot_by}
+use Rattle.ide_pages.specs.Pages.{AddsPage, ArePaged, AreRow, IsNumberIn, KeepsCells, Numbers, Puts, cell_of, cell_on, entries, key_at, key_on, nonzero, number_at, number_in, page_at, page_of, shown, slot_by}
 use Rattle.ide_pages.proofs.Cells.{cell-back, mapped}
 use Rattle.ide_pages.proofs.Numbering.{IsNumbering, apart-at, same-at}
 use Rattle.ide_wire.specs.declared.key.Key.{Key}
 use Rattle.ide_wire.specs.declared.key.Key.TheVariants.{Jump, Summary}
 use Rattle.ide_wire.specs.Key.{node_of, same_key}
 use Rattle.ide_image.specs.Functions.{MayKeep}
-use Rattle.ide_image.specs.Indexed.{AreIndexed, BeginsPage, cell_by, cells_by, empty_cells, entries_in, entry_in, function_of, kept_at, entry_of_cell, table_of}
+use Rattle.ide_image.specs.Indexed.{AreIndexed, cell_by, cells_by, empty_cells, entries_in, entry_in, function_of, kept_at, kept_in, entry_of_cell, table_of}
 use Rattle.ide_image.specs.Tables.{ArePartners, found, partner_at, place_in, with_entry}
-use Rattle.ide_image.specs.Cells.{ShowTable}
+use Rattle.ide_image.specs.Cells.{BeginsWith, HasRoomBehind, ShowTable, key_behind, tables_of}
 use Rattle.ide_image.proofs.Shown.{distinct-shown, found-shown}
 use Rattle.ide_image.specs.Walk.{jump_behind, with_walked}
 use Rattle.ide_image.proofs.Ranges.{distinct-range, lookup-none, lookup-one, map-more, map-same, place-none, place-one, with-one}
@@ -113,10 +113,22 @@ module _ (numbers : Numbers) (own : HasOwnCells numbers) where
   apart-cells : (i j : ℕ) → i < j → j < 64 * length numbers.pages → same_key (key_at numbers.pages i) (key_at numbers.pages j) ≡ false
   apart-cells i j less l = one-cell (key_at numbers.pages i) i j (own i (omega (arith, less, l))) l ∙ ne_eqb i j (λ e. absurd (omega (arith, e, less)))
 
--- the node of a key on a page
-node-on : (page : Key) (offset : ℕ) → node_of (key_on page offset) ≡ 64 * node_of page + offset
-node-on (Jump block a b) offset = refl
-node-on (Summary block a b) offset = refl
+-- a key on a page is so many nodes behind the page's first
+key-on-behind : (page : Key) (offset : ℕ) → key_on page offset ≡ key_behind (key_on page 0) offset
+key-on-behind (Jump block a b) offset = let same : 64 * block + offset ≡ 64 * block + 0 + offset = omega arith in ap (λ n. Jump n a b) same
+key-on-behind (Summary block a b) offset = let same : 64 * block + offset ≡ 64 * block + 0 + offset = omega arith in ap (λ n. Summary n a b) same
+
+-- the function alone of an entry
+kept-of : {F : Type 0} (key : Key) (o : Option F) → option_map (λ e. e.1) (entry_of_cell (key, o)) ≡ o
+kept-of key None = refl
+kept-of key (Some f) = refl
+
+-- 64 nodes from the first of a page on have 32 bits, where that one has
+pub room-behind : (numbers : Numbers) (page : ℕ) (key : Key) → cell_of numbers key ≡ Some (64 * page) → node_of key < 2 ^ 32 → HasRoomBehind key
+room-behind numbers page key is bound =
+    let found = mapped (position (same_key (page_of key)) numbers.pages) (node_of key % 64) (64 * page) is in
+    let at : 64 * found.0 + node_of key % 64 ≡ 64 * page = found.2 in
+    omega (arith, at, bound)
 
 positive-of : (n : ℕ) → nat_eq n 0 ≡ false → 0 < n
 positive-of zero some = absurd (cc (some))
@@ -193,6 +205,11 @@ module _ {F : Type 0} (numbers : Numbers) (functions : List F) where
 
     -- ---- what cells show
 
+    slots-past : (cell : ℕ) → 64 * length numbers.pages ≤ cell → length numbers.slots ≤ cell
+    slots-past cell m =
+        let long = ap length paged.slots ∙ length-map-range_with_len (slot_by numbers) 0 (64 * length numbers.pages) in
+        omega (arith, long, m)
+
     pub entry-there : (cell : ℕ) → cell < 64 * length numbers.pages → entry_in (cells_by numbers functions) cell ≡ entry_of_cell (cell_by numbers functions cell)
     entry-there cell l = ap (λ o. option_flatten (option_map entry_of_cell o)) (cell-there cell l)
 
@@ -235,24 +252,33 @@ module _ {F : Type 0} (numbers : Numbers) (functions : List F) where
     key-shown key None e is = absurd (cc (is))
     key-shown key (Some f) e is = ap (λ (x : Key × F). x.0) (same_Some (key, f) e is)
 
-    -- the first cell of a page tells the nodes of the others
-    pub begins : (page : ℕ) (key : Key) → cell_of numbers key ≡ Some (64 * page) → BeginsPage (cells_by numbers functions) page (node_of key)
-    begins page key is cell e on shows =
+    -- the function alone of a cell is that of the number in it
+    pub kept-in-is : (cell n : ℕ) → n ≡ number_in numbers cell → IsNumberIn numbers cell n → kept_in (cells_by numbers functions) cell ≡ kept_at functions n
+    kept-in-is cell n number same =
         ⊎_elim
-        (λ l. let first = (cell-back numbers.pages key (64 * page) is).0 in
-        let own = key-shown (key_at numbers.pages cell) (kept_at functions (number_at numbers (key_at numbers.pages cell))) e (sym (entry-there cell l) ∙ shows) in
-        let same : (64 * page) / 64 ≡ cell / 64 = omega (arith, on) in
-        let here = ap node_of (sym own) ∙ node-on (page_at numbers.pages (cell / 64)) (cell % 64) in
-        let there = ap node_of (sym first) ∙ node-on (page_at numbers.pages ((64 * page) / 64)) ((64 * page) % 64) in
-        let blocks = ap (λ i. node_of (page_at numbers.pages i)) same in
-        omega (arith, here, there, blocks))
-        (λ m. absurd (cc (sym (entry-past cell m) ∙ shows)))
+        (λ l. let key = key_at numbers.pages cell in
+        ap (option_map (λ (e : Key × F). e.1)) (entry-there cell l)
+        ∙ kept-of key (kept_at functions (number_at numbers key))
+        ∙ ap (kept_at functions) (sym (same key (paged.own cell l))))
+        (λ m. ap (option_map (λ (e : Key × F). e.1)) (entry-past cell m)
+        ∙ sym (kept-zero functions n (number ∙ ap (λ slot. unwrap_or (option_map (λ (e : Key × ℕ). e.1) slot) 0) (get_or_past numbers.slots cell None (slots-past cell m)))))
         (cases_lt cell (64 * length numbers.pages))
 
-    pub first-begins : (page cell : ℕ) (r : Option Key) → cell ≡ 64 * page → IfSome r (λ key. cell_of numbers key ≡ Some cell)
-        → IfSome r (λ key. BeginsPage (cells_by numbers functions) page (node_of key))
-    first-begins page cell None same is = tt
-    first-begins page cell (Some key) same is = begins page key (is ∙ ap Some same)
+    -- the first cell of a page tells the keys of the others
+    pub begins : (page room : ℕ) (key : Key) → cell_of numbers key ≡ Some (64 * page)
+        → BeginsWith (tables_of (record { cells = cells_by numbers functions; room = room })) page key
+    begins page room key is cell e on shows =
+        ⊎_elim
+        (λ l. let first = (cell-back numbers.pages key (64 * page) is).0 in
+        let own = key-shown (key_at numbers.pages cell) (kept_at functions (number_at numbers (key_at numbers.pages cell))) e (sym (entry-there cell l) ∙ shown-at (cells_by numbers functions) cell ∙ shows) in
+        let same : (64 * page) / 64 ≡ cell / 64 = omega (arith, on) in
+        let zero-there : (64 * page) % 64 ≡ 0 = omega arith in
+        sym own ∙ key-on-behind (page_at numbers.pages (cell / 64)) (cell % 64)
+        ∙ ap (λ i. key_behind (key_on (page_at numbers.pages i) 0) (cell % 64)) (sym same)
+        ∙ ap (λ k. key_behind (key_on (page_at numbers.pages ((64 * page) / 64)) k) (cell % 64)) (sym zero-there)
+        ∙ ap (λ k. key_behind k (cell % 64)) first)
+        (λ m. absurd (cc (sym (entry-past cell m) ∙ shown-at (cells_by numbers functions) cell ∙ shows)))
+        (cases_lt cell (64 * length numbers.pages))
 
     -- ---- the entries, where each number has its function
 

@@ -1,8 +1,10 @@
 -- Tables as they are read: by cells, of which each page has 64 side by side.
-use Rattle.std.specs.Prelude.{◌≡◌, ℕ, ◌+◌, ◌/◌, ◌%◌, List, Option, None, Some, map}
+use Rattle.std.specs.Prelude.{◌≡◌, ℕ, ◌+◌, ◌/◌, ◌%◌, ◌≤◌, ◌^◌, List, Option, None, Some, map}
 use Rattle.std.specs.List.{IsDistinct, filter_map, slice_index_or}
 use Rattle.std.specs.Map.{keys_of, lookup}
+use Rattle.std.specs.Option.{option_map}
 use Rattle.ide_wire.specs.declared.key.Key.{Key}
+use Rattle.ide_wire.specs.declared.key.Key.TheVariants.{Jump, Summary}
 use Rattle.ide_wire.specs.Key.{node_of, same_key}
 use Rattle.ide_image.specs.Indexed.{Indexed, entry_of_cell, table_of}
 use Rattle.ide_image.specs.Tables.{Table, found}
@@ -11,6 +13,15 @@ use Rattle.ide_image.specs.Tables.{Table, found}
 pub record TablesData (F : Type 0) : Type 0 where
   pub table : Table F
   pub cells : List (Option (Key × F))
+
+-- the key so many nodes behind a key, of its kind and its facts
+abbrev pub key_behind : Key → ℕ → Key
+key_behind (Jump n a b) k = Jump (n + k) a b
+key_behind (Summary n a b) k = Summary (n + k) a b
+
+-- those of 64 nodes from the key's on are keys: their nodes have 32 bits
+abbrev pub HasRoomBehind : Key → Type 0
+HasRoomBehind key = node_of key + 64 ≤ 2 ^ 32
 
 module _ {F : Type 0} where
   -- the entries that cells show
@@ -21,14 +32,18 @@ module _ {F : Type 0} where
   abbrev pub shown_in : TablesData F → ℕ → Option (Key × F)
   shown_in tables cell = slice_index_or tables.cells cell None
 
+  -- the function alone of what it shows
+  abbrev pub function_shown_in : TablesData F → ℕ → Option F
+  function_shown_in tables cell = option_map (λ e. e.1) (shown_in tables cell)
+
   -- the cells show the entries of the table, and no two of them are of one key
   pub record ShowTable (tables : TablesData F) : Type 0 where
     pub found : (q : Key) → found tables.table q ≡ lookup (same_key q) (shown_entries tables.cells)
     pub distinct : IsDistinct same_key (keys_of (shown_entries tables.cells))
 
-  -- the page's first cell is that of the node: each cell of the page is that of a node so many further on
-  abbrev pub IsAtNode : TablesData F → (page node : ℕ) → Type 0
-  IsAtNode tables page node = (cell : ℕ) (e : Key × F) → cell / 64 ≡ page → shown_in tables cell ≡ Some e → node_of e.0 ≡ node + cell % 64
+  -- the page's first cell is that of the key: each entry that a cell of the page shows has the key so many nodes behind it
+  abbrev pub BeginsWith : TablesData F → (page : ℕ) → (first : Key) → Type 0
+  BeginsWith tables page first = (cell : ℕ) (e : Key × F) → cell / 64 ≡ page → shown_in tables cell ≡ Some e → e.0 ≡ key_behind first (cell % 64)
 
   -- tables whose keys have these cells
   abbrev pub tables_of : Indexed F → TablesData F

@@ -1,11 +1,11 @@
 -- What contracts say of cells: each has a key, and a function where the key is present.
-use Rattle.std.specs.Prelude.{◌≡◌, ℕ, ◌+◌, ◌-◌, ◌*◌, ◌/◌, ◌%◌, ◌<◌, ◌≤◌, ◌^◌, ◌++◌, List, Option, None, Some, length, map, nat_eq, slice_get, if◌then◌else◌}
+use Rattle.std.specs.Prelude.{◌≡◌, ℕ, ◌-◌, ◌*◌, ◌<◌, ◌≤◌, ◌^◌, ◌++◌, List, Option, None, Some, length, map, nat_eq, slice_get, if◌then◌else◌}
 use Rattle.std.specs.List.{All, IsDistinct, filter_map, range_with_len}
 use Rattle.std.specs.Map.{keys_of, lookup}
 use Rattle.std.specs.Option.{option_flatten, option_map}
 use Rattle.ide_pages.specs.Pages.{ArePaged, Numbers, key_at, number_at}
 use Rattle.ide_image.specs.Tables.{Table, place_in, with_all, with_entry}
-use Rattle.ide_wire.specs.Key.{node_of, same_key}
+use Rattle.ide_wire.specs.Key.{same_key}
 use Rattle.ide_wire.specs.declared.key.Key.{Key}
 
 -- the cells in their order, each with its key and the key's function, if it has one; and for how many more functions there is room
@@ -46,9 +46,9 @@ module _ {F : Type 0} where
   abbrev pub entry_in : List (Key × Option F) → ℕ → Option (Key × F)
   entry_in cells n = option_flatten (option_map entry_of_cell (slice_get cells n))
 
-  -- the entries that a page's cells show are at this node and those behind it, in their order
-  abbrev pub BeginsPage : List (Key × Option F) → (page node : ℕ) → Type 0
-  BeginsPage cells page node = (cell : ℕ) (e : Key × F) → cell / 64 ≡ page → entry_in cells cell ≡ Some e → node_of e.0 ≡ node + cell % 64
+  -- its function alone
+  abbrev pub kept_in : List (Key × Option F) → ℕ → Option F
+  kept_in cells n = option_map (λ e. e.1) (entry_in cells n)
 
   -- cells of keys that have no function
   abbrev pub empty_cells : List Key → List (Key × Option F)

@@ -6,10 +6,11 @@ ghost use Rattle.std.specs.Option.{is_some};
 ghost use Rattle.ide_wire.specs.declared.key.Key.{Key};
 ghost use Rattle.ide_wire.specs.declared.key.Key.TheVariants.{Jump};
 ghost use Rattle.ide_wire.specs.declared.refused.Refused.TheVariants.{NoMemory};
-ghost use Rattle.ide_wire.specs.Key.{node_of, same_key};
+ghost use Rattle.ide_wire.specs.Key.{same_key};
 ghost use Rattle.ide_wire.specs.KeyOrder.{key_cmp};
 ghost use Rattle.ide_image.specs.Tables.{AreJumpsTo, AreKeys, AreSummariesFrom, or_top, partner_at, partners_at};
-ghost use Rattle.ide_image.specs.Indexed.{BeginsPage, ForKeyAt, HasCell, HasDistinctKeys, HaveCells, PutsEntry, Widens, entries_in, entry_in, function_of, place_of_key, table_of};
+ghost use Rattle.ide_image.specs.Indexed.{ForKeyAt, HasCell, HasDistinctKeys, HaveCells, PutsEntry, Widens, entries_in, entry_in, function_of, kept_in, place_of_key, table_of};
+ghost use Rattle.ide_image.specs.Cells.{BeginsWith, HasRoomBehind, tables_of};
 ghost use Rattle.ide_image.specs.Walk.{AreAbsent, StandBehind, jump_behind, with_walked};
 
 use crate::functions::Functions;
@@ -89,7 +90,8 @@ impl<F: EdgeFn> Indexed<F> {
 
     /// The function in a cell, if it has one: none behind the last cell. No look-up.
     #[inline(always)]
-    fn kept_in(&self, cell: usize) -> Option<F>
+    pub(crate) fn kept_in(&self, cell: usize) -> Option<F>
+        ensures kept { result ≡ kept_in self.now.cells cell }
         ensures function { ForKeyAt (cell + 1) self.now (λ key. result ≡ function_of self.now.cells key) }
         ensures end { length self.now.cells ≤ cell → result ≡ None }
     {
@@ -143,14 +145,18 @@ impl<F: EdgeFn> Indexed<F> {
 
     /// The key of a page's first cell, whether it has a function or not, if there is the page. No look-up.
     pub(crate) fn first_key(&self, page: usize) -> Option<Key>
-        ensures node { IfSome result (λ key. BeginsPage self.now.cells page (node_of key)) }
+        ensures first { IfSome result (BeginsWith (tables_of self.now) page) }
+        ensures few { IfSome result HasRoomBehind }
         ensures none { result ≡ None → length self.now.cells ≤ 64 * page }
     {
         let count = self.places.cell_count() / 64;
         if page >= count {
             return None;
         }
-        self.places.key_in(64 * page)
+        let key = self.places.key_in(64 * page)?;
+        // Its node has 32 bits.
+        let _ = key.node();
+        Some(key)
     }
 
     /// The present keys, ascending.

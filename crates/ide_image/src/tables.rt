@@ -1,24 +1,24 @@
 //! The functions of an image's keys, to be read.
-ghost use Rattle.std.specs.Prelude.{◌≡◌, ◌%◌, None, Some, length, IfSome};
+ghost use Rattle.std.specs.Prelude.{◌≡◌, ◌*◌, ◌%◌, ◌≤◌, None, Some, length, IfSome};
 ghost use Rattle.std.specs.List.{IsDistinct, slice_index_or};
 ghost use Rattle.std.specs.Map.{keys_of};
 ghost use Rattle.ide_wire.specs.Key.{same_key};
-ghost use Rattle.ide_image.specs.Cells.{IsAtNode, ShowTable};
+ghost use Rattle.ide_image.specs.Cells.{BeginsWith, HasRoomBehind, ShowTable, function_shown_in};
 ghost use Rattle.ide_image.specs.Indexed.{table_of};
 ghost use Rattle.ide_image.specs.Tables.{found};
 
 use crate::indexed::Indexed;
 use ide_lattice::EdgeFn;
-use ide_wire::{Key, Node};
+use ide_wire::Key;
 use std::marker::Model;
 
 /// The present keys of an image with their functions: an absent key stands for the function that
 /// always gives top.
 ///
 /// They are read by cells. Each key has one, and 64 cells side by side are a page: the keys of one kind
-/// and one pair of facts at 64 nodes that follow each other. So a page tells at which nodes its keys are,
-/// and a walk over some nodes passes over pages at others. Of the order of pages nothing is said but
-/// that it stays.
+/// and one pair of facts at 64 nodes that follow each other. So the key of a page's first cell tells
+/// those of its other cells, and a walk over some nodes passes over pages at others. Of the order of
+/// pages nothing is said but that it stays.
 #[derive(Drop)]
 pub struct Tables<F: EdgeFn> {
     indexed: Indexed<F>,
@@ -78,14 +78,23 @@ impl<F: EdgeFn> Tables<F> {
         self.indexed.entry_at(cell)
     }
 
-    /// The node of the page's first cell, where a page is given by its index: 0 where there is no such
-    /// page. Each other cell of the page is that of the node so many further on. No look-up.
-    pub fn first_node(&self, page: usize) -> Node
-        ensures { IsAtNode self.now page result }
+    /// The function in the cell, if its key is present: `None` behind the last cell. No look-up, and
+    /// the key is not computed.
+    #[inline(always)]
+    pub fn function_in(&self, cell: usize) -> Option<F>
+        ensures { result ≡ function_shown_in self.now cell }
     {
-        match self.indexed.first_key(page) {
-            Some(key) => key.node(),
-            None => 0,
-        }
+        self.indexed.kept_in(cell)
+    }
+
+    /// The key of the page's first cell, be it present or absent, where a page is given by its index:
+    /// `None` where there is no such page. Each other cell of the page is that of the key so many nodes
+    /// further on. No look-up.
+    pub fn first_key(&self, page: usize) -> Option<Key>
+        ensures first { IfSome result (BeginsWith self.now page) }
+        ensures few { IfSome result HasRoomBehind }
+        ensures none { result ≡ None → length self.now.cells ≤ 64 * page }
+    {
+        self.indexed.first_key(page)
     }
 }

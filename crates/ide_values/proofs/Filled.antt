@@ -17,12 +17,12 @@ use Rattle.ide_wire.specs.declared.key.Key.{Key}
 use Rattle.ide_wire.specs.declared.key.Key.TheVariants.{Jump, Summary}
 use Rattle.ide_wire.specs.Key.{node_of, same_key, same_key_laws, same_key_exact}
 use Rattle.ide_graph.specs.Supergraph.{Supergraph}
-use Rattle.ide_image.specs.Cells.{IsAtNode, ShowTable, TablesData, shown_entries}
+use Rattle.ide_image.specs.Cells.{BeginsWith, ShowTable, TablesData, shown_entries}
 use Rattle.ide_image.specs.Tables.{Table, found}
 use Rattle.ide_values.specs.Fill.{Fills, FillsFrom, IsFilledAt, IsFilledBy, Meets, lowered, value_from}
-use Rattle.ide_values.specs.Near.{AreNear}
+use Rattle.ide_values.specs.Near.{AreNear, HasNoJump}
 use Rattle.ide_values.specs.Start.{AreTops, value_before}
-use Rattle.ide_values.proofs.Lowered.{meets_elsewhere}
+use Rattle.ide_values.proofs.Lowered.{meets_elsewhere, meets_summary}
 use Rattle.ide_values.proofs.Places.{place_within}
 use Rattle.ide_values.proofs.Shown.{shown_is_found, shown_more}
 
@@ -178,19 +178,18 @@ module _ {F L : Type 0} (A : LatticeAlgebra L) (B : EdgeAlgebra F L) (graph : Su
         ∙ sym (ap (fold lower A.top) (shown_more tables.cells i (Some e) shows) ∙ fold-append lower A.top (shown_entries (take i tables.cells)) (e ∷ []));
   }
 
-  module _ (show : ShowTable tables) (more : ℕ) (rows : List L) (few : 0 < graph.facts → length rows < (more + 1) * graph.facts) where
-    -- a cell at a node that has none of the rows is passed over
+  module _ (show : ShowTable tables) (rows : List L) where
+    -- a cell whose entry lowers none of the rows is passed over
     passed_more : (i : ℕ) (o : Option (Key × F)) → o ≡ get_or tables.cells i None
-        → ((e : Key × F) → get_or tables.cells i None ≡ Some e → (first ≤ node_of e.0) × (node_of e.0 ≤ first + more) → ⊥)
+        → ((e : Key × F) → get_or tables.cells i None ≡ Some e → Meets A B graph starts first e.0 e.1 rows rows)
         → IsFilledBy A B graph tables starts first i rows → IsFilledBy A B graph tables starts first (i + 1) rows
     passed_more i None shows apart so_far = filled_none i rows shows so_far
     passed_more i (Some e) shows apart so_far =
-        filled_more i rows rows e shows (shown_is_found tables show i e (sym shows)) refl
-        (meets_elsewhere A B graph starts first more e.0 e.1 rows few (apart e (sym shows))) so_far
+        filled_more i rows rows e shows (shown_is_found tables show i e (sym shows)) refl (apart e (sym shows)) so_far
 
-    -- and so are cells in a row at such nodes
-    pub passed_all : (count begin : ℕ)
-        → ((i : ℕ) (e : Key × F) → begin ≤ i → i < begin + count → get_or tables.cells i None ≡ Some e → (first ≤ node_of e.0) × (node_of e.0 ≤ first + more) → ⊥)
+    -- and so are such cells in a row
+    passed_all : (count begin : ℕ)
+        → ((i : ℕ) (e : Key × F) → begin ≤ i → i < begin + count → get_or tables.cells i None ≡ Some e → Meets A B graph starts first e.0 e.1 rows rows)
         → IsFilledBy A B graph tables starts first begin rows → IsFilledBy A B graph tables starts first (begin + count) rows
     passed_all zero begin apart so_far =
         let same : begin ≡ begin + 0 = omega arith in
@@ -202,12 +201,24 @@ module _ {F L : Type 0} (A : LatticeAlgebra L) (B : EdgeAlgebra F L) (graph : Su
         subst (λ n. IsFilledBy A B graph tables starts first n rows) next
         (passed_more (begin + count) (get_or tables.cells (begin + count) None) refl (λ e. apart (begin + count) e (omega arith) (omega arith)) before)
 
-    module _ (page node begin end : ℕ) (at : IsAtNode tables page node) (near : AreNear first more node begin end) where
+    -- a page that has no jump is passed over
+    pub passed_page : (page : ℕ) → HasNoJump tables page
+        → IsFilledBy A B graph tables starts first (64 * page) rows → IsFilledBy A B graph tables starts first (64 * page + 64) rows
+    passed_page page none so_far =
+        passed_all 64 (64 * page)
+        (λ i e from to shows. meets_summary A B graph starts first e.0 e.1 rows (none i e (omega (arith, from, to)) shows))
+        so_far
+
+    module _ (more : ℕ) (few : 0 < graph.facts → length rows < (more + 1) * graph.facts)
+        (page node from to begin end : ℕ) (at : BeginsWith tables page (Jump node from to)) (near : AreNear first more node begin end) where
+      -- an entry at a node that has none of the rows lowers none of them
       others : (i : ℕ) (e : Key × F) → i / 64 ≡ page → ((begin ≤ i % 64) × (i % 64 < end) → ⊥) → get_or tables.cells i None ≡ Some e
-          → (first ≤ node_of e.0) × (node_of e.0 ≤ first + more) → ⊥
-      others i e on outside shows has =
-          let node_is : node_of e.0 ≡ node + i % 64 = at i e on shows in
-          outside (near.all (i % 64) (omega arith) (omega (arith, has.0, node_is)) (omega (arith, has.1, node_is)))
+          → Meets A B graph starts first e.0 e.1 rows rows
+      others i e on outside shows =
+          meets_elsewhere A B graph starts first more e.0 e.1 rows few
+          (λ has.
+          let node_is : node_of e.0 ≡ node + i % 64 = ap node_of (at i e on shows) in
+          outside (near.all (i % 64) (omega arith) (omega (arith, has.0, node_is)) (omega (arith, has.1, node_is))))
 
       -- the cells of a page in front of those that are near, and behind them
       pub passed_before : IsFilledBy A B graph tables starts first (64 * page) rows → IsFilledBy A B graph tables starts first (64 * page + begin) rows

@@ -8,6 +8,7 @@ use Rattle.ide_wire.specs.declared.key.Key.{Key}
 use Rattle.ide_wire.specs.declared.key.Key.TheVariants.{Jump, Summary}
 use Rattle.ide_wire.specs.Key.{node_of}
 use Rattle.ide_values.specs.Fill.{Meets}
+use Rattle.ide_values.specs.Near.{IsSummary}
 use Rattle.ide_values.specs.Start.{value_before}
 use Rattle.ide_values.proofs.Places.{chosen_apart, chosen_same, row_before, same_place}
 
@@ -77,3 +78,9 @@ meets_elsewhere A B graph starts first more (Jump node from to) f rows few apart
   ]
 ]
 meets_elsewhere A B graph starts first more (Summary call from to) f rows few apart = λ _ k n d within h r at. refl
+
+-- and so does a summary
+pub meets_summary : {F L : Type 0} (A : LatticeAlgebra L) (B : EdgeAlgebra F L) (graph : Supergraph) (starts : List L) (first : ℕ) (key : Key) (f : F) (rows : List L)
+    → IsSummary key → Meets A B graph starts first key f rows rows
+meets_summary A B graph starts first (Jump node from to) f rows is = absurd is
+meets_summary A B graph starts first (Summary call from to) f rows is = λ _ k n d within h r at. refl

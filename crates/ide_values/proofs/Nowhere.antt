@@ -1,9 +1,9 @@
 -- An entry at whose node no call has edges hands nothing on, and so does each cell that is not listed.
-use Rattle.std.proofs.Common.{◌≡◌, ℕ, ◌+◌, ◌<◌, ◌⊎◌, ◌++◌, List, [], ◌∷◌, Option, Some, None, inl, inr, arith, length, ap, subst, sym, ◌∙◌}
+use Rattle.std.proofs.Common.{◌≡◌, ℕ, ◌+◌, ◌*◌, ◌<◌, ◌⊎◌, ◌++◌, List, [], ◌∷◌, Option, Some, None, inl, inr, arith, length, ap, subst, sym, ◌∙◌}
 use Rattle.std.proofs.lemmas.Bool.{cases_lt}
-use Rattle.std.proofs.lemmas.List.Elements.{Contains-append_left, Contains-push}
+use Rattle.std.proofs.lemmas.List.Elements.{All-push, Contains-append_left, Contains-push}
 use Rattle.std.proofs.lemmas.List.Sorted.{All-permutation, Contains-permutation}
-use Rattle.std.specs.List.{Contains}
+use Rattle.std.specs.List.{All, Contains}
 use Rattle.std.specs.List.Sorted.{IsPermutation}
 use Rattle.std.specs.Prelude.{IfSome, slice_index_or}
 use Rattle.ide_graph.specs.Supergraph.{Supergraph}
@@ -16,7 +16,8 @@ use Rattle.ide_wire.specs.declared.key.Key.{Key}
 use Rattle.ide_wire.specs.declared.key.Key.TheVariants.{Jump, Summary}
 use Rattle.ide_values.specs.declared.starts.CallJump.{CallJump}
 use Rattle.ide_values.specs.Pass.{IsSteadyBy, IsSteadyOver, calls_of}
-use Rattle.ide_values.specs.Jumps.{AreJumps, HasJump, IsNoCall, Shows}
+use Rattle.ide_values.specs.Jumps.{AreJumps, AreListed, HandsNothing, HasJump, IsNoCall, Shows}
+use Rattle.ide_values.specs.Near.{HasNoJump, IsSummary}
 use Rattle.ide_values.specs.Settled.{IsSteady}
 use Rattle.ide_values.proofs.Shown.{found_is_shown}
 
@@ -24,6 +25,11 @@ module _ {L F : Type 0} (A : LatticeAlgebra L) (B : EdgeAlgebra F L) (targets : 
   pub steady-none : (values : List L) (key : Key) (f : F) → IsNoCall graph key → IsSteadyBy A B graph targets values key f
   steady-none values (Jump n a b) f none = subst (λ calls. Each (IsSteadyOver A B graph targets n a b f values) calls) (sym none) tt
   steady-none values (Summary c a b) f none = tt
+
+-- a summary
+pub no-call-summary : (graph : Supergraph) (key : Key) → IsSummary key → IsNoCall graph key
+no-call-summary graph (Jump n a b) is = absurd is
+no-call-summary graph (Summary c a b) is = tt
 
 -- a key at a node that no call edge leaves
 pub no-call-at : (graph : Supergraph) (key : Key) (node : ℕ) → node_of key ≡ node → calls_of graph node ≡ [] → IsNoCall graph key
@@ -60,6 +66,35 @@ jump_none N jumps n none all i within = elim (cases_lt i n) [
 ]
 
 module _ {F L : Type 0} (A : LatticeAlgebra L) (B : EdgeAlgebra F L) (targets : Targets F) (graph : Supergraph) (tables : TablesData F) where
+  -- before the first cell nothing is listed
+  pub none_listed : AreListed A B targets graph tables 0 []
+  none_listed = record { shown = λ i d less. absurd (omega (arith, less)); all = λ i less. absurd (omega (arith, less)) }
+
+  -- one cell more is listed, or hands nothing on
+  pub listed_more : (jumps new : List CallJump) (x : CallJump) (n : ℕ) → new ≡ jumps ++ x ∷ [] → x.cell ≡ n → Shows tables n
+      → AreListed A B targets graph tables n jumps → AreListed A B targets graph tables (n + 1) new
+  listed_more jumps new x n is at shows are =
+      let shown : CallJump → Type 0 = λ jump. Shows tables jump.cell in
+      record {
+        shown = subst (All shown) (sym is) (All-push shown jumps x are.shown (subst (Shows tables) (sym at) shows));
+        all = jump_more (HandsNothing A B targets graph tables) jumps new x n is at are.all;
+      }
+
+  pub listed_none : (jumps : List CallJump) (n : ℕ) → HandsNothing A B targets graph tables n
+      → AreListed A B targets graph tables n jumps → AreListed A B targets graph tables (n + 1) jumps
+  listed_none jumps n none are = record { shown = are.shown; all = jump_none (HandsNothing A B targets graph tables) jumps n none are.all }
+
+  -- a page that has no jump hands nothing on
+  pub listed_page : (jumps : List CallJump) (page : ℕ) → HasNoJump tables page
+      → AreListed A B targets graph tables (64 * page) jumps → AreListed A B targets graph tables (64 * page + 64) jumps
+  listed_page jumps page none are = record {
+    shown = are.shown;
+    all = λ i within. elim (cases_lt i (64 * page)) [
+      | inl before ↦ are.all i before
+      | inr behind ↦ inr (λ e is values. steady-none A B targets graph values e.0 e.1 (no-call-summary graph e.0 (none i e (omega (arith, within, behind)) is)))
+    ];
+  }
+
   -- jumps in another order
   pub jumps_sorted : (jumps new : List CallJump) → IsPermutation jumps new → AreJumps A B targets graph tables jumps → AreJumps A B targets graph tables new
   jumps_sorted jumps new moved are = record {

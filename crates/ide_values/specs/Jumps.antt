@@ -36,6 +36,11 @@ module _ {F L : Type 0} (A : LatticeAlgebra L) (B : EdgeAlgebra F L) (targets : 
   abbrev pub HandsNothing : ℕ → Type 0
   HandsNothing cell = (e : Key × F) → shown_in tables cell ≡ Some e → (values : List L) → IsSteadyBy A B graph targets values e.0 e.1
 
+  -- jumps are entries that cells show, and each other one of the first cells hands nothing on
+  pub record AreListed (count : ℕ) (jumps : List CallJump) : Type 0 where
+    pub shown : All (λ (jump : CallJump). Shows tables jump.cell) jumps
+    pub all : (cell : ℕ) → cell < count → HasJump jumps cell ⊎ HandsNothing cell
+
   -- jumps are entries that cells show, and each other cell hands nothing on
   pub record AreJumps (jumps : List CallJump) : Type 0 where
     pub table : ShowTable tables

@@ -1,10 +1,10 @@
 //! The fill: each jump function lowers the value where it ends.
-ghost use Rattle.std.specs.Prelude.{◌≡◌, ◌+◌, ◌*◌, ◌^◌, ◌<◌, ◌≤◌, IfOk, length};
-ghost use Rattle.ide_image.specs.Cells.{ShowTable};
+ghost use Rattle.std.specs.Prelude.{◌≡◌, ◌+◌, ◌*◌, ◌^◌, ◌<◌, ◌≤◌, None, IfOk, IfSome, length};
+ghost use Rattle.ide_image.specs.Cells.{BeginsWith, ShowTable};
 ghost use Rattle.ide_values.specs.Fill.{FillsFrom, FillsRows, IsFilledBy, Meets};
-ghost use Rattle.ide_values.specs.Near.{AreNear};
+ghost use Rattle.ide_values.specs.Near.{AreNear, HasNoJump};
 ghost use Rattle.ide_values.specs.Start.{AreTops, value_before};
-ghost use Rattle.ide_wire.specs.Key.{node_of};
+ghost use Rattle.ide_wire.specs.declared.key.Key.TheVariants.{Jump};
 
 use crate::rows::{lower, procedure_at, tops, value_at_place};
 use ide_graph::Graph;
@@ -15,6 +15,15 @@ use std::alloc::{AllocError, Global};
 
 /// How many cells a page has.
 pub(crate) const PAGE: usize = 64;
+
+/// The first of the 64 jumps that have the cells of a page: each other one goes between the same facts, and
+/// ends so many nodes further on.
+#[derive(Clone, Copy, Drop)]
+pub(crate) struct PageJump {
+    pub(crate) node: Node,
+    pub(crate) from: Fact,
+    pub(crate) to: Fact,
+}
 
 /// The values of an image whose start values these are: rows by node, one value for each fact.
 pub fn fill<F: EdgeFn>(
@@ -32,7 +41,7 @@ pub fn fill<F: EdgeFn>(
 }
 
 /// Fills rows of tops, of which the first is that of a node. It passes over each page of the tables that
-/// is at other nodes, and reads the cells of the others that are at the nodes of the rows.
+/// has summaries or is at other nodes, and reads the cells of the others that are at the nodes of the rows.
 pub(crate) fn fill_rows<F: EdgeFn>(
     graph: &Graph,
     tables: &Tables<F>,
@@ -68,12 +77,31 @@ fn fill_page<F: EdgeFn>(
     ensures count { length rows.new ≡ length rows.old }
     ensures filled { IsFilledBy F.L.algebra F.edge graph.now tables.now starts.now first (64 * page + 64) rows.new }
 {
+    let Some(jump) = first_jump(tables, page) else {
+        return;
+    };
     let facts = graph.fact_count();
-    let (begin, end) = near_offsets(first, more, tables.first_node(page));
+    let (begin, end) = near_offsets(first, more, jump.node);
     for offset in begin..end {
-        if let Some(entry) = tables.entry_in(PAGE * page + offset) {
-            lower_by(graph, starts, first, facts, entry.0, entry.1, rows);
+        if let Some(function) = tables.function_in(PAGE * page + offset) {
+            let node = jump.node + offset as Node;
+            lower_by(
+                graph, starts, first, facts, node, jump.from, jump.to, function, rows,
+            );
         }
+    }
+}
+
+/// The jump whose cell is the first of a page: none where the page has summaries, which lower no value and
+/// hand none on, and where there is no such page.
+pub(crate) fn first_jump<F: EdgeFn>(tables: &Tables<F>, page: usize) -> Option<PageJump>
+    ensures first { IfSome result (λ jump. BeginsWith tables.now page (Jump jump.node jump.from jump.to)) }
+    ensures few { IfSome result (λ jump. jump.node + 64 ≤ 2 ^ 32) }
+    ensures none { result ≡ None → HasNoJump tables.now page }
+{
+    match tables.first_key(page)? {
+        Key::Jump(node, from, to) => Some(PageJump { node, from, to }),
+        Key::Summary(_, _, _) => None,
     }
 }
 
@@ -96,30 +124,29 @@ fn whole_rows(graph: &Graph, count: usize) -> usize
     count / graph.fact_count().max(1)
 }
 
-/// Lowers the value where the key ends, if the rows have it, by what its function makes of the value
-/// where it begins. How many facts there are is given too.
+/// Lowers the value where a jump ends, which is at a node and a fact, if the rows have it, by what its
+/// function makes of the value of the fact where it begins. How many facts there are is given too.
 #[inline(always)]
 fn lower_by<F: EdgeFn>(
     graph: &Graph,
     starts: &[F::L],
     first: Node,
     facts: usize,
-    key: Key,
+    node: Node,
+    from: Fact,
+    to: Fact,
     function: F,
     rows: &mut [F::L],
 )
     requires facts { facts ≡ graph.now.facts }
     requires few { facts ≤ 2 ^ 16 }
-    requires near { first ≤ node_of key }
+    requires near { first ≤ node }
     ensures count { length rows.new ≡ length rows.old }
-    ensures lowered { Meets F.L.algebra F.edge graph.now starts.now first key function rows.old rows.new }
+    ensures lowered { Meets F.L.algebra F.edge graph.now starts.now first (Jump node from to) function rows.old rows.new }
 {
-    let Key::Jump(end, from, to) = key else {
-        return;
-    };
-    let place = (end - first) as usize * facts + to as usize;
+    let place = (node - first) as usize * facts + to as usize;
     if place < rows.len() {
-        let start = start_of(graph, starts, facts, end, from);
+        let start = start_of(graph, starts, facts, node, from);
         lower(rows, place, function.apply(start));
     }
 }

@@ -182,10 +182,10 @@ impl<P: Problem> Starts<P> {
 
 /// Whether call edges leave a node, which need not be one of the graph.
 #[inline(always)]
-pub(crate) fn is_call(graph: &Graph, node: usize) -> bool
+pub(crate) fn is_call(graph: &Graph, node: Node) -> bool
     ensures { result ≡ false → calls_of graph.now node ≡ [] }
 {
-    node < graph.node_count() && !calls_at(graph, node as Node).is_empty()
+    !calls_at(graph, node).is_empty()
 }
 
 /// The call edges at a node: none where it is no call node.

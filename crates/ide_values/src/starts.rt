@@ -1,18 +1,18 @@
 //! Start values: the value of each fact at each procedure's start.
-ghost use Rattle.std.specs.Prelude.{◌≡◌, None, OnOk, IfOk, IfSome};
+ghost use Rattle.std.specs.Prelude.{◌≡◌, ◌+◌, ◌*◌, ◌<◌, ◌^◌, None, OnOk, IfOk, IfSome};
 ghost use Rattle.ide_values.specs.Falling.{StartsFall};
-ghost use Rattle.ide_values.specs.Jumps.{AreJumps, AreJumpsIn, HandsNothing, IsNoCall, IsShownAt, Shows};
+ghost use Rattle.ide_values.specs.Jumps.{AreJumps, AreJumpsIn, AreListed, HandsNothing, IsShownAt, Shows};
 ghost use Rattle.ide_values.specs.Passing.{Comes, LeavesEach, PassesAt, PassesBy, RisesNowhere, Rests};
 ghost use Rattle.ide_values.specs.Settled.{AreStartRows};
 
 use crate::enter::entered_rows;
-use crate::fill::PAGE;
+use crate::fill::{PAGE, first_jump};
 use crate::passes::{JumpAt, Starts, calls_at, is_call};
 use crate::rows::{procedure_at, start_place};
 use ide_graph::Graph;
 use ide_image::Tables;
 use ide_problem::{Problem, TargetList};
-use ide_wire::Key;
+use ide_wire::{Fact, Key, Node};
 use std::alloc::{AllocError, Global};
 
 /// The start values of a quiet image: a row for each procedure, one value for each fact.
@@ -183,7 +183,7 @@ fn jumps_at_calls<P: Problem>(
     Ok(jumps)
 }
 
-/// The same, in the order of their cells. Of a cell that is not at a call nothing is read.
+/// The same, in the order of their cells.
 fn listed_jumps<P: Problem>(
     alloc: Global,
     graph: &Graph,
@@ -192,24 +192,43 @@ fn listed_jumps<P: Problem>(
     ensures { IfOk result (AreJumpsIn P.L.algebra P.F.edge P.targets graph.now tables.now) }
 {
     let mut jumps = Vec::new(alloc);
-    let mut first = 0;
-    for cell in 0..tables.cell_count() {
-        if cell % PAGE == 0 {
-            first = tables.first_node(cell / PAGE) as usize;
-        }
-        if let Some(jump) = jump_at::<P>(graph, tables, first + cell % PAGE, cell) {
-            jumps.push(jump)?;
-        }
+    for page in 0..tables.cell_count() / PAGE {
+        list_page::<P>(graph, tables, page, &mut jumps)?;
     }
     Ok(jumps)
 }
 
-/// The entry that a cell shows, which is at the node, if it is a jump function at a call node.
+/// Lists those of a page behind those of the pages before it. A page of summaries is passed over, and of a
+/// cell that is not at a call nothing is read.
+fn list_page<P: Problem>(
+    graph: &Graph,
+    tables: &Tables<P::F>,
+    page: usize,
+    jumps: &mut Vec<CallJump>,
+) -> Result<(), AllocError>
+    requires page { 64 * page + 64 < 2 ^ 64 }
+    requires listed { AreListed P.L.algebra P.F.edge P.targets graph.now tables.now (64 * page) jumps.old.items }
+    ensures { OnOk result (AreListed P.L.algebra P.F.edge P.targets graph.now tables.now (64 * page + 64) jumps.new.items) }
+{
+    let Some(first) = first_jump(tables, page) else {
+        return Ok(());
+    };
+    for offset in 0..PAGE {
+        let node = first.node + offset as Node;
+        if let Some(jump) = jump_at::<P>(graph, tables, node, first.from, PAGE * page + offset) {
+            jumps.push(jump)?;
+        }
+    }
+    Ok(())
+}
+
+/// The entry that a cell shows, which is a jump from the fact to the node, if that is a call node.
 #[inline(always)]
 fn jump_at<P: Problem>(
     graph: &Graph,
     tables: &Tables<P::F>,
-    node: usize,
+    node: Node,
+    from: Fact,
     cell: usize,
 ) -> Option<CallJump>
     requires { IsShownAt tables.now cell node }
@@ -220,22 +239,8 @@ fn jump_at<P: Problem>(
     if !is_call(graph, node) {
         return None;
     }
-    let entry = tables.entry_in(cell)?;
-    jump_of(graph, entry.0, cell)
-}
-
-/// The jump of a key in a cell, if it is one at a call node.
-#[inline(always)]
-fn jump_of(graph: &Graph, key: Key, cell: usize) -> Option<CallJump>
-    ensures cell { IfSome result (λ jump. jump.cell ≡ cell) }
-    ensures nothing { result ≡ None → IsNoCall graph.now key }
-{
-    let Key::Jump(node, from, _) = key else {
-        return None;
-    };
-    if calls_at(graph, node).is_empty() {
-        return None;
-    }
+    // Whether there is a function is enough.
+    let _ = tables.function_in(cell)?;
     Some(CallJump {
         from: start_place(graph, procedure_at(graph, node), from),
         cell,

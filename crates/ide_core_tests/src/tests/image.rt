@@ -1,6 +1,6 @@
 //! Each public call of what an image has at each key, at a task that is a number.
 use super::cores::given;
-use ide_image::{Change, KeyedImage};
+use ide_image::{Change, KeyedImage, Tables};
 use ide_instances::ConstFn;
 use ide_lattice::EdgeFn;
 use ide_wire::Key;
@@ -145,12 +145,22 @@ fn expect_tables(rt: &impl Abort, image: Image) {
     let tables = image.into_tables();
     assert!(rt; tables.key_count() == 2);
     assert!(rt; tables.cell_count() == 128);
-    assert!(rt; tables.first_node(0) == 0);
     assert!(rt; tables.entry_in(0).is_none());
     assert!(rt; tables.entry_in(1) == Some((FIRST, ConstFn::id())));
     assert!(rt; tables.entry_in(65) == Some((SECOND, ConstFn::id())));
     assert!(rt; tables.entry_in(129).is_none());
     assert!(rt; tables.get(SECOND) == Some(ConstFn::id()));
+    expect_pages(rt, &tables);
+}
+
+/// Asserts of these tables that each page begins with the key at node 0, and which cells have functions.
+fn expect_pages(rt: &impl Abort, tables: &Tables<ConstFn>) {
+    assert!(rt; tables.first_key(0) == Some(Key::Jump(0, 0, 2)));
+    assert!(rt; tables.first_key(1) == Some(Key::Summary(0, 0, 2)));
+    assert!(rt; tables.first_key(2).is_none());
+    assert!(rt; tables.function_in(0).is_none());
+    assert!(rt; tables.function_in(1) == Some(ConstFn::id()));
+    assert!(rt; tables.function_in(129).is_none());
 }
 
 #[test]

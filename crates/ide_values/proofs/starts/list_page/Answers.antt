@@ -1,0 +1,50 @@
+use Rattle.std.proofs.Common.{◌≡◌, ◌+◌, ◌*◌, ◌%◌, None, ap, arith, rules, subst, sym, ◌∙◌}
+use Rattle.ide_wire.specs.Key.{node_of}
+use Rattle.ide_values.specs.Jumps.{AreListed}
+use Rattle.ide_values.proofs.Nowhere.{listed_more, listed_none, listed_page}
+use Rattle.ide_values.proofs.starts.list_page.Goals as goal
+use Rattle.ide_values.proofs.starts.list_page.Goals.{in-Some-jump_at+in_ok-push, in_default-jump_at}
+
+pub returns-in_default : goal.returns-in_default
+returns-in_default g c =
+    listed_page g.P.L.Lattice.algebra g.P.F.EdgeFn.edge g.P.Problem.targets c.args.graph.now c.args.tables.now c.args.jumps.now.items c.args.page
+    (c.first_jump.ensures.none c.in_default.is) c.requires.listed
+
+pub loop-offset-init : goal.loop-offset-init
+loop-offset-init g c =
+    let same : 64 * c.args.page ≡ 64 * c.args.page + 0 = omega arith in
+    subst (λ n. AreListed g.P.L.Lattice.algebra g.P.F.EdgeFn.edge g.P.Problem.targets c.args.graph.now c.args.tables.now n c.args.jumps.now.items) same c.requires.listed
+
+pub jump_at-requires : goal.jump_at-requires
+jump_at-requires g c =
+    let cell = 64 * c.args.page + c.loop-offset.offset in
+    let less = c.loop-offset-test.true in
+    let here : c.in-Some.first.node + cell % 64 ≡ c.in-Some.first.node + c.loop-offset.offset = omega (arith, less) in
+    λ e is. ap node_of (c.in-Some.ensures.first cell e (omega (arith, less)) is) ∙ here
+
+pub loop-offset-preserved : goal.loop-offset-preserved
+loop-offset-preserved g c =
+    let A = g.P.L.Lattice.algebra in
+    let B = g.P.F.EdgeFn.edge in
+    let targets = g.P.Problem.targets in
+    let graph = c.args.graph.now in
+    let tables = c.args.tables.now in
+    let jumps = c.loop-offset.jumps.items in
+    let cell = 64 * c.args.page + c.loop-offset.offset in
+    let next : cell + 1 ≡ 64 * c.args.page + (c.loop-offset.offset + 1) = omega arith in
+    subst (λ n. AreListed A B targets graph tables n c.match-jump_at.jumps.items) next
+    (elim c.match-jump_at.branch [
+      | in-Some-jump_at+in_ok-push w ↦
+          listed_more A B targets graph tables jumps c.match-jump_at.jumps.items w.in-Some-jump_at.jump cell
+          (ap (λ v. v.items) w.jumps-is ∙ w.in_ok-push.ensures.items) w.in-Some-jump_at.ensures.cell w.in-Some-jump_at.ensures.shown c.loop-offset.invariant
+      | in_default-jump_at w ↦
+          let none : c.jump_at.result ≡ None = search rules in
+          subst (AreListed A B targets graph tables (cell + 1)) (sym (ap (λ v. v.items) w.jumps-is))
+          (listed_none A B targets graph tables jumps cell (c.jump_at.ensures.nothing none) c.loop-offset.invariant)
+    ])
+
+pub returns : goal.returns
+returns g c =
+    let end : c.loop-offset.offset ≡ 64 = omega (arith, c.loop-offset-test.false, c.loop-offset.auto.offset-end) in
+    subst (λ n. AreListed g.P.L.Lattice.algebra g.P.F.EdgeFn.edge g.P.Problem.targets c.args.graph.now c.args.tables.now (64 * c.args.page + n) c.loop-offset.jumps.items)
+    end c.loop-offset.invariant
