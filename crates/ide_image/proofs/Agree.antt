@@ -74,6 +74,30 @@ module _ {F : Type 0} where
       already true same there = sym (ap (λ k. is_some (lookup (same_key k) list)) (sym (same_key_exact key q same)) ∙ there)
       already false other there = refl
 
+  -- where no changes are noted, none is
+  pub note-silent : (list : Option (List (Key × Entry F))) (key : Key) (entry : Entry F) → is_some list ≡ false → list ≡ with_note list key entry
+  note-silent None key entry is = refl
+  note-silent (Some list) key entry is = absurd (cc (is))
+
+  -- nor where the key is noted
+  pub note-idle : (list : Option (List (Key × Entry F))) (key : Key) (entry : Entry F) → (is_some list && not (is_some (noted list key))) ≡ false
+      → list ≡ with_note list key entry
+  note-idle None key entry is = refl
+  note-idle (Some list) key entry is =
+      elim (is_some (lookup (same_key key) list)) as (λ b. not b ≡ false → Some list ≡ Some (cond b list (list ++ (key, entry) ∷ []))) [
+        | true ↦ λ _. refl
+        | false ↦ λ no. absurd (cc (no))
+      ] is
+
+  pub noted-idle : (list : Option (List (Key × Entry F))) (key : Key) → (is_some list && not (is_some (noted list key))) ≡ false
+      → is_some (noted list key) ≡ is_some list
+  noted-idle None key is = refl
+  noted-idle (Some list) key is =
+      elim (is_some (lookup (same_key key) list)) as (λ b. not b ≡ false → b ≡ true) [
+        | true ↦ λ _. refl
+        | false ↦ λ no. absurd (cc (no))
+      ] is
+
   unfound : (o : Option (Entry F)) → is_some o ≡ false → o ≡ None
   unfound None none = refl
   unfound (Some e) none = absurd (cc (none))

@@ -49,6 +49,13 @@ same-set slot b mark after is sets n =
       | false ↦ λ other. refl
     ] refl)
 
+pub still-set : (slot : ℕ) (b : Bool) (mark : ℕ → Bool) → mark slot ≡ b → SetsMark slot b mark mark
+still-set slot b mark is n =
+    elim (nat_eq slot n) as (λ own. nat_eq slot n ≡ own → mark n ≡ cond own b (mark n)) [
+      | true ↦ λ one. ap mark (sym (eqb-true slot n one)) ∙ is
+      | false ↦ λ other. refl
+    ] refl
+
 pub covers-same : (count : ℕ) (mark after : ℕ → Bool) → ((n : ℕ) → after n ≡ mark n) → Covers count mark → Covers count after
 covers-same count mark after same covered n more = same n ∙ covered n more
 

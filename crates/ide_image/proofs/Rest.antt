@@ -132,7 +132,7 @@ module _ {F : Type 0} (indexed after : Indexed F) (marks marks_after : SlotMarks
 
 module _ {F : Type 0} where
   -- room for some is room for one
-  pub room-one : (indexed : Indexed F) (marks : SlotMarks) (changes : ChangeLog F) (n : ℕ) → 1 ≤ n → HasRoomFor n indexed marks changes → HasRoomFor 1 indexed marks changes
+  pub room-one : (indexed : Indexed F) (marks : SlotMarks) (changes : ChangeLog F) (n : ℕ) → 1 ≤ n → HasRoomFor n n indexed marks changes → HasRoomFor 1 1 indexed marks changes
   room-one indexed marks changes n some room = record {
     functions = omega (arith, some, room.functions);
     marked = room.marked;

@@ -1,13 +1,14 @@
 -- Slots on the stack of those that wait, and those that are taken off it.
 use Rattle.std.proofs.Common.{◌≡◌, ℕ, zero, suc, ◌+◌, ◌<◌, ◌≤◌, ◌++◌, refl, sym, ap, ◌∙◌, arith, List, [], ◌∷◌, get_or, length, Bool, true, false, cond, Some, ⊎_elim}
-use Rattle.std.specs.Prelude.{nat_eq, slice_get}
+use Rattle.std.specs.Prelude.{nat_eq, slice_get, slice_set}
 use Rattle.std.specs.List.{count_by, swap_remove}
-use Rattle.std.proofs.lemmas.Bool.{cases_eq, eq-eqb, ne_eqb}
-use Rattle.std.proofs.lemmas.List.Sums.{count_by-le-length, get_or-le-sum_by, sum_by-swap_remove, sum_by_push}
+use Rattle.std.proofs.lemmas.Bool.{both_ways, cases_Bool, cases_eq, eq-eqb, eqb-true, ne_eqb}
+use Rattle.std.proofs.lemmas.Grind.{common_steps}
+use Rattle.std.proofs.lemmas.List.Sums.{count_by-le-length, get_or-le-sum_by, sum_by-set, sum_by-swap_remove, sum_by_push}
 use Rattle.std.proofs.lemmas.Option.{get_or_from_slice_get, slice_get_within}
 use Rattle.ide_image.specs.declared.mark.Mark.{Mark}
 use Rattle.ide_image.specs.declared.mark.Mark.TheVariants.{Settled}
-use Rattle.ide_image.specs.Queue.{AreStacked, KeepsMarks, SetsMark, is_owed, is_pending_mark, is_stacked, mark_in, one_if, owed_count, pending_count, stacked_at}
+use Rattle.ide_image.specs.Queue.{AreStacked, KeepsMarks, SetsMark, held_at, is_owed, is_pending_mark, is_stacked, mark_in, one_if, owed_count, pending_at, pending_count, stacked_at}
 
 -- ---- marks
 -- a slot whose mark is not that of a settled one has a mark of its own
@@ -25,6 +26,13 @@ owed-few marks = count_by-le-length is_owed marks
 
 pub pending-few : (marks : List Mark) → pending_count marks ≤ length marks
 pending-few marks = count_by-le-length is_pending_mark marks
+
+-- a slot that is settled is pending no longer, nor claimed
+pub pending-settled : (marks : List Mark) (slot : ℕ) → slot < length marks → SetsMark slot false (pending_at marks) (pending_at (slice_set marks slot Settled))
+pending-settled marks slot within n = grind (arith, common_steps)
+
+pub held-settled : (marks : List Mark) (slot : ℕ) → slot < length marks → SetsMark slot false (held_at marks) (held_at (slice_set marks slot Settled))
+held-settled marks slot within n = grind (arith, common_steps)
 
 -- what stays in each of two steps stays in both
 pub keeps-both : (old mid new : List Mark) → KeepsMarks old mid → KeepsMarks mid new → KeepsMarks old new
@@ -92,3 +100,31 @@ swapped-times stack position slot d at n =
 pub popped-times : (stack left : List ℕ) (slot : ℕ) → stack ≡ left ++ slot ∷ []
     → (n : ℕ) → count_by (λ s. nat_eq s n) left + one_if (nat_eq slot n) ≡ count_by (λ s. nat_eq s n) stack
 popped-times stack left slot is n = sym (sum_by_push (λ s. one_if (nat_eq s n)) left slot) ∙ sym (ap (count_by (λ s. nat_eq s n)) is)
+
+moved-step : (times was : ℕ) (own other on : Bool) → was ≡ one_if on → times + one_if other ≡ was + one_if own → (own ≡ true → on ≡ false) → (own ≡ true → other ≡ false)
+    → (other ≡ true → on ≡ true) → times ≡ one_if (cond own true (cond other false on))
+moved-step times was true other on is counts off apart stood =
+    let none : one_if on ≡ 0 = ap one_if (off refl) in
+    let no : one_if other ≡ 0 = ap one_if (apart refl) in
+    omega (arith, is, counts, none, no)
+moved-step times was false true on is counts off apart stood =
+    let one : one_if on ≡ 1 = ap one_if (stood refl) in
+    omega (arith, is, counts, one)
+moved-step times was false false on is counts off apart stood = omega (arith, is, counts)
+
+-- marks and stack agree once one slot is written over another, and their marks say so
+pub stacked-moved : (marks after : List Mark) (stack : List ℕ) (position from to : ℕ) → AreStacked marks stack → slice_get stack position ≡ Some from
+    → stacked_at marks to ≡ false → SetsMark to true (λ n. cond (nat_eq from n) false (stacked_at marks n)) (stacked_at after)
+    → AreStacked after (slice_set stack position to)
+stacked-moved marks after stack position from to w at off sets n =
+    let on = stacked-is marks stack position from w at in
+    let sums = sum_by-set (λ s. one_if (nat_eq s n)) stack position to 0 (slice_get_within stack position from at) in
+    let read : one_if (nat_eq (get_or stack position 0) n) ≡ one_if (nat_eq from n) = ap (λ s. one_if (nat_eq s n)) (get_or_from_slice_get stack position from 0 at) in
+    let both = ap (λ k. count_by (λ s. nat_eq s n) (slice_set stack position to) + k) (sym read) ∙ sums in
+    let out : nat_eq to n ≡ true → stacked_at marks n ≡ false = λ own. ap (stacked_at marks) (sym (eqb-true to n own)) ∙ off in
+    let stood : nat_eq from n ≡ true → stacked_at marks n ≡ true = λ other. ap (stacked_at marks) (sym (eqb-true from n other)) ∙ on in
+    moved-step (count_by (λ s. nat_eq s n) (slice_set stack position to)) (count_by (λ s. nat_eq s n) stack) (nat_eq to n) (nat_eq from n) (stacked_at marks n) (w n) both
+    out
+    (λ own. ⊎_elim (λ other. absurd (both_ways (stacked_at marks n) (out own) (stood other))) (λ no. no) (cases_Bool (nat_eq from n)))
+    stood
+    ∙ sym (ap one_if (sets n))

@@ -1,6 +1,6 @@
 -- A walk: a function is put at the jumps between two facts at nodes behind each other, which have cells and were absent.
 use Rattle.std.proofs.Common.{◌≡◌, ℕ, zero, suc, ◌+◌, ◌<◌, ◌≤◌, ◌++◌, refl, sym, ap, subst, ◌∙◌, arith, List, [], ◌∷◌, length, Option, None, Some, Bool, true, false, cond, ⊎_elim}
-use Rattle.std.specs.Prelude.{◌||◌, ◌&&◌, nat_eq, not}
+use Rattle.std.specs.Prelude.{◌||◌, ◌&&◌, nat_eq, not, slice_set}
 use Rattle.std.specs.List.{cons_option, list_any}
 use Rattle.std.specs.List.Sorted.{IsPermutation}
 use Rattle.std.specs.Map.{lookup}
@@ -14,20 +14,18 @@ use Rattle.ide_wire.specs.declared.key.Key.TheVariants.{Jump}
 use Rattle.ide_wire.specs.Key.{same_key, same_key_exact, same_key_refl}
 use Rattle.ide_image.specs.Tables.{place_in, with_entry}
 use Rattle.ide_image.specs.declared.claim.Claim.{Claim}
+use Rattle.ide_image.specs.declared.mark.Mark.TheVariants.{Settled}
 use Rattle.ide_image.specs.ChangeLog.{ChangeLog}
 use Rattle.ide_image.specs.Indexed.{Indexed, entries_in, function_of, place_of_key, table_of}
-use Rattle.ide_image.specs.KeyedImage.{AreParts, held_by_slot, keys_where, marked_at, pending_by_slot}
-use Rattle.ide_image.specs.Queue.{CountsPushed, CountsSettled, SameMarks, SetsMark, SlotMarks, held_at, one_if, pending_at, pending_count}
+use Rattle.ide_image.specs.KeyedImage.{AreParts, SameParts, entry_by, held_by_slot, keys_where, marked_at, pending_by_slot}
+use Rattle.ide_image.specs.Queue.{MovesOn, SameMarks, SetsMark, SlotMarks, held_at, pending_at}
 use Rattle.ide_image.specs.Walk.{AreAbsent, EntersWalked, StandBehind, jump_behind, walked_entries, with_walked}
-use Rattle.ide_image.proofs.Agree.{at-index, is-pending, whole-pushed, whole-put, whole-settled}
+use Rattle.ide_image.proofs.Agree.{at-index, cell-same, is-pending, whole-pushed, whole-put, whole-settled}
+use Rattle.ide_image.proofs.Before.{function-before}
 use Rattle.ide_image.proofs.Marked.{at-set, same-set}
 use Rattle.ide_image.proofs.Places.{long-stays, place-stays}
 use Rattle.ide_image.proofs.Shown.{found-shown, function-with}
-
-module _ (node from to : ℕ) where
-  -- two of the jumps are two keys
-  pub jumps-apart : (m n : ℕ) → n < m → same_key (jump_behind node from to m) (jump_behind node from to n) ≡ false
-  jumps-apart m n less = grind (arith, nat_tests)
+use Rattle.ide_image.proofs.Stack.{held-settled, pending-settled, pending-there}
 
 module _ {F : Type 0} (key : Key) (f : F) where
   -- an entry that comes into a cell stands somewhere among the others
@@ -66,6 +64,17 @@ module _ {F : Type 0} (node from to : ℕ) (f : F) (cells : List (Key × Option 
       earlier-apart : (n m : ℕ) → n < m → same_key (jump_behind node from to n) (jump_behind node from to m) ≡ false
       earlier-apart n m less = grind (arith, nat_tests)
 
+  -- nor is the one at the node
+  pub first-walked : (n : ℕ) → function_of (walked n) (Jump node from to) ≡ function_of cells (Jump node from to)
+  first-walked zero = refl
+  first-walked (suc n) =
+      function-with (walked n) (jump_behind node from to (suc n)) (Jump node from to) f
+      ∙ ap (λ b. cond b (Some f) (function_of (walked n) (Jump node from to))) (first-apart (suc n) (omega arith))
+      ∙ first-walked n
+    where
+      first-apart : (n : ℕ) → 0 < n → same_key (jump_behind node from to n) (Jump node from to) ≡ false
+      first-apart n some = grind (arith, nat_tests)
+
   module _ (count : ℕ) (absent : (n : ℕ) → n < count → function_of cells (jump_behind node from to (suc n)) ≡ None) where
     -- the entries are those of before and the walked ones
     pub entries-walked : (n : ℕ) → n ≤ count → IsPermutation (entries_in cells ++ walked_entries (jump_behind node from to) f n) (entries_in (walked n))
@@ -96,7 +105,7 @@ module _ {F : Type 0} (node from to : ℕ) (f : F) (cells : List (Key × Option 
         let key = jump_behind node from to (suc n) in
         place-stays key (walked n) q (Some f) (cell + suc n) (stands (suc n) most ∙ sym (place-walked n less key)) ∙ place-walked n less q
 
-    pub long-walked : (n : ℕ) → n ≤ count → length (walked n) ≡ length cells
+    long-walked : (n : ℕ) → n ≤ count → length (walked n) ≡ length cells
     long-walked zero most = refl
     long-walked (suc n) most =
         let less : n ≤ count = omega (arith, most) in
@@ -114,105 +123,72 @@ whole-walked {F} node from to f indexed after marks claims changes (suc (suc n))
     whole-put mid after marks claims changes (jump_behind node from to (suc (suc n))) f is
     (whole-walked node from to f indexed mid marks claims changes (suc n) refl w (omega arith))
 
--- what a walk does: from the jump at the node, which is pending and which no hand has claimed, and whose slot is `cell`, it goes to
--- the last one behind it
-pub record Walks {F : Type 0} (node from to : ℕ) (f : F) (count cell : ℕ) (indexed after : Indexed F) (marks settled pushed : SlotMarks) : Type 0 where
+-- what a walk puts: the function at so many jumps behind the one at the node, which has the cell, where there was none
+pub record Walks {F : Type 0} (node from to : ℕ) (f : F) (count cell : ℕ) (indexed after : Indexed F) : Type 0 where
   pub some : 0 < count
   pub absent : (n : ℕ) → n < count → function_of indexed.cells (jump_behind node from to (suc n)) ≡ None
   pub stands : StandBehind cell (jump_behind node from to) count indexed
   pub starts : cell + 1 ≡ place_of_key indexed (Jump node from to)
   pub cells : after.cells ≡ with_walked indexed.cells (jump_behind node from to) f count
-  pub pending : pending_by_slot indexed marks (Jump node from to) ≡ true
-  pub free : held_by_slot indexed marks (Jump node from to) ≡ false
-  pub settles : SetsMark cell false (pending_at marks.list) (pending_at settled.list)
-  pub frees : SetsMark cell false (held_at marks.list) (held_at settled.list)
-  pub uncounts : CountsSettled cell marks.list settled.list
-  pub pushes : SetsMark (cell + count) true (pending_at settled.list) (pending_at pushed.list)
-  pub keeps : SameMarks (held_at settled.list) (held_at pushed.list)
-  pub counts : CountsPushed (cell + count) settled.list pushed.list
+
+-- a walk puts that where parts grew that it was asked of
+pub walks : {F T : Type 0} {indexed grown : Indexed F} {marks more : SlotMarks} {claims : List (Option (Claim T))} {changes ready : ChangeLog F}
+    (w : AreParts indexed marks claims changes) (same : SameParts indexed grown marks more changes ready)
+    (node from to : ℕ) (f : F) (count cell : ℕ) (after : Indexed F) → 0 < count → AreAbsent (table_of indexed.cells) (jump_behind node from to) count
+    → cell + 1 ≡ place_of_key indexed (Jump node from to) → StandBehind cell (jump_behind node from to) count grown
+    → after.cells ≡ with_walked grown.cells (jump_behind node from to) f count → Walks node from to f count cell grown after
+walks {F} {T} {indexed} {grown} {marks} {more} {claims} {changes} {ready} w same node from to f count cell after some absent starts stands cells = record {
+  some = some;
+  absent = λ n less. function-before indexed grown marks more claims changes ready w same (jump_behind node from to (suc n)) ∙ absent n less;
+  stands = stands;
+  starts = cell-same indexed grown (Jump node from to) cell same.cells starts;
+  cells = cells;
+}
 
 goes-cond : (first last was : Bool) → cond last true (cond first false was) ≡ (last || (not first && was))
 goes-cond first true was = refl
 goes-cond true false was = refl
 goes-cond false false was = refl
 
-module _ {F T : Type 0} (node from to : ℕ) (f : F) (count cell : ℕ) (indexed after : Indexed F) (marks settled pushed : SlotMarks)
-    (claims : List (Option (Claim T))) (changes : ChangeLog F) (w : AreParts indexed marks claims changes)
-    (walk : Walks node from to f count cell indexed after marks settled pushed) where
+-- an absent key is not pending, by its slot
+absent-quiet : {F T : Type 0} (indexed : Indexed F) (marks : SlotMarks) (claims : List (Option (Claim T))) (changes : ChangeLog F) → AreParts indexed marks claims changes
+    → (q : Key) → function_of indexed.cells q ≡ None → pending_by_slot indexed marks q ≡ false
+absent-quiet {F} indexed marks claims changes w q absent =
+    ⊎_elim
+    (λ is. absurd (no-function (function_of indexed.cells q) absent (w.present q is)))
+    (λ no. no)
+    (cases_Bool (pending_by_slot indexed marks q))
+  where
+    no-function : (o : Option F) → o ≡ None → is_some o ≡ true → ⊥
+    no-function None none has = absurd (cc (has))
+    no-function (Some g) none has = absurd (cc (none))
+
+module _ {F : Type 0} {node from to : ℕ} {f : F} {count cell : ℕ} {indexed after : Indexed F} (walk : Walks node from to f count cell indexed after) where
   -- each key stands where it stood
-  pub stays-walked : (q : Key) → place_of_key after q ≡ place_of_key indexed q
+  stays-walked : (q : Key) → place_of_key after q ≡ place_of_key indexed q
   stays-walked q = ap (place_in q) walk.cells ∙ place-walked node from to f indexed.cells cell count walk.stands count (omega arith) q
 
-  starts-after : cell + 1 ≡ place_of_key after (Jump node from to)
+  pub starts-after : cell + 1 ≡ place_of_key after (Jump node from to)
   starts-after = walk.starts ∙ sym (stays-walked (Jump node from to))
 
-  ends-after : (cell + count) + 1 ≡ place_of_key after (jump_behind node from to count)
-  ends-after = walk.stands count (omega arith) ∙ sym (stays-walked (jump_behind node from to count))
-
-  free-still : held_at marks.list cell ≡ false
-  free-still = sym (at-index (held_at marks.list) (place_of_key indexed (Jump node from to)) cell walk.starts) ∙ walk.free
-
-  same-held : SameMarks (held_at marks.list) (held_at settled.list)
-  same-held = same-set cell false (held_at marks.list) (held_at settled.list) free-still walk.frees
-
-  whole-walk-settled : AreParts after settled claims changes
-  whole-walk-settled =
-      whole-settled after marks settled claims changes (Jump node from to) cell false starts-after
-      (ap (marked_at (held_at marks.list)) (stays-walked (Jump node from to)) ∙ walk.free) (λ no. absurd (cc (no))) walk.settles same-held
-      (whole-walked node from to f indexed after marks claims changes count walk.cells w walk.some)
+  pub stands-after : StandBehind cell (jump_behind node from to) count after
+  stands-after n most = walk.stands n most ∙ sym (stays-walked (jump_behind node from to n))
 
   there-after : is_some (function_of after.cells (jump_behind node from to count)) ≡ true
   there-after =
       ap (λ cells. is_some (function_of cells (jump_behind node from to count))) walk.cells
       ∙ ap is_some (last-walked node from to f indexed.cells count walk.absent count walk.some)
 
-  -- the parts agree after it
-  pub whole-walk : AreParts after pushed claims changes
-  whole-walk =
-      whole-pushed after settled pushed claims changes (jump_behind node from to count) (cell + count) ends-after there-after walk.pushes walk.keeps
-      whole-walk-settled
+  -- there are as many cells
+  pub cells-walked : length after.cells ≡ length indexed.cells
+  cells-walked = ap length walk.cells ∙ long-walked node from to f indexed.cells cell count walk.stands count (omega arith)
 
-  -- the last key is pending in the place of the first
-  pub pending-walk : (q : Key) → list_any (same_key q) (keys_where (pending_at pushed.list) after.cells)
-      ≡ (same_key (jump_behind node from to count) q || (not (same_key (Jump node from to) q) && pending_by_slot indexed marks q))
-  pending-walk q =
-      let here = Jump node from to in
-      let there = jump_behind node from to count in
-      is-pending after pushed claims changes whole-walk q
-      ∙ at-set there after.cells (cell + count) true (pending_at settled.list) (pending_at pushed.list) ends-after walk.pushes q
-      ∙ ap (cond (same_key there q) true) (at-set here after.cells cell false (pending_at marks.list) (pending_at settled.list) starts-after walk.settles q)
-      ∙ ap (λ b. cond (same_key there q) true (cond (same_key here q) false b)) (ap (marked_at (pending_at marks.list)) (stays-walked q))
-      ∙ goes-cond (same_key here q) (same_key there q) (pending_by_slot indexed marks q)
-
-  -- a key that is absent is not pending
-  last-quiet : (n : ℕ) → n < count → pending_by_slot indexed marks (jump_behind node from to (suc n)) ≡ false
-  last-quiet n less =
-      ⊎_elim
-      (λ is. absurd (no-function (function_of indexed.cells (jump_behind node from to (suc n))) (walk.absent n less) (w.present (jump_behind node from to (suc n)) is)))
-      (λ no. no)
-      (cases_Bool (pending_by_slot indexed marks (jump_behind node from to (suc n))))
-    where
-      no-function : (o : Option F) → o ≡ None → is_some o ≡ true → ⊥
-      no-function None none has = absurd (cc (has))
-      no-function (Some g) none has = absurd (cc (none))
-
-  last-unmarked : (n : ℕ) → n ≡ count → 0 < n → one_if (pending_at settled.list (cell + n)) ≡ 0
-  last-unmarked zero is some = absurd (omega (arith, some))
-  last-unmarked (suc n) is some =
-      let less : n < count = omega (arith, is) in
-      let stands = walk.stands (suc n) (omega (arith, is)) in
-      let quiet : pending_at marks.list (cell + suc n) ≡ false =
-      sym (at-index (pending_at marks.list) (place_of_key indexed (jump_behind node from to (suc n))) (cell + suc n) stands) ∙ last-quiet n less in
-      let apart : nat_eq cell (cell + suc n) ≡ false = grind (arith, nat_tests) in
-      ap one_if (walk.settles (cell + suc n) ∙ ap (λ b. cond b false (pending_at marks.list (cell + suc n))) apart ∙ quiet)
-
-  -- as many are pending
-  pub count-walk : pending_count pushed.list ≡ pending_count marks.list
-  count-walk =
-      let first : one_if (pending_at marks.list cell) ≡ 1 =
-      ap one_if (sym (at-index (pending_at marks.list) (place_of_key indexed (Jump node from to)) cell walk.starts) ∙ walk.pending) in
-      let last = last-unmarked count refl walk.some in
-      omega (arith, first, last, walk.uncounts, walk.counts)
+  -- the jump at the node has the entry that it had
+  pub entry-walked : (marks : SlotMarks) → entry_by after marks (Jump node from to) ≡ entry_by indexed marks (Jump node from to)
+  entry-walked marks =
+      let function = ap (λ cells. function_of cells (Jump node from to)) walk.cells ∙ first-walked node from to f indexed.cells count in
+      let pending = ap (marked_at (pending_at marks.list)) (stays-walked (Jump node from to)) in
+      cc (function, pending)
 
   -- the entries are those of before and the walked ones
   pub enters-walk : EntersWalked (jump_behind node from to) f count (table_of indexed.cells) (table_of after.cells)
@@ -220,17 +196,68 @@ module _ {F T : Type 0} (node from to : ℕ) (f : F) (count cell : ℕ) (indexed
       subst (λ cells. IsPermutation (entries_in indexed.cells ++ walked_entries (jump_behind node from to) f count) (entries_in cells)) (sym walk.cells)
       (entries-walked node from to f indexed.cells count walk.absent count (omega arith))
 
+  module _ {T : Type 0} {marks : SlotMarks} {claims : List (Option (Claim T))} {changes : ChangeLog F} (w : AreParts indexed marks claims changes) where
+    -- the parts agree once the function is put
+    pub whole-entered : AreParts after marks claims changes
+    whole-entered = whole-walked node from to f indexed after marks claims changes count walk.cells w walk.some
+
+    last-quiet : (n : ℕ) → n ≡ count → 0 < n → pending_at marks.list (cell + n) ≡ false
+    last-quiet zero is some = absurd (omega (arith, some))
+    last-quiet (suc n) is some =
+        sym (at-index (pending_at marks.list) (place_of_key indexed (jump_behind node from to (suc n))) (cell + suc n) (walk.stands (suc n) (omega (arith, is))))
+        ∙ absent-quiet indexed marks claims changes w (jump_behind node from to (suc n)) (walk.absent n (omega (arith, is)))
+
+    -- the last key was not pending
+    pub quiet-last : pending_at marks.list (cell + count) ≡ false
+    quiet-last = last-quiet count refl walk.some
+
+    module _ (moved : SlotMarks) (pends : pending_by_slot indexed marks (Jump node from to) ≡ true) (free : held_by_slot indexed marks (Jump node from to) ≡ false)
+        (moves : MovesOn cell (cell + count) marks.list moved.list) (keeps : SameMarks (held_at marks.list) (held_at moved.list)) where
+      -- between the two steps neither the first slot nor the last is pending
+      abbrev between : SlotMarks
+      between = record { list = slice_set marks.list cell Settled; spare = 0 }
+
+      within : cell < length marks.list
+      within = pending-there marks.list cell (sym (at-index (pending_at marks.list) (place_of_key indexed (Jump node from to)) cell walk.starts) ∙ pends)
+
+      settles : SetsMark cell false (pending_at marks.list) (pending_at between.list)
+      settles = pending-settled marks.list cell within
+
+      moves-then : SetsMark (cell + count) true (pending_at between.list) (pending_at moved.list)
+      moves-then n = moves n ∙ ap (cond (nat_eq (cell + count) n) true) (sym (settles n))
+
+      same-held : SameMarks (held_at marks.list) (held_at between.list)
+      same-held =
+          same-set cell false (held_at marks.list) (held_at between.list)
+          (sym (at-index (held_at marks.list) (place_of_key indexed (Jump node from to)) cell walk.starts) ∙ free) (held-settled marks.list cell within)
+
+      whole-between : AreParts after between claims changes
+      whole-between =
+          whole-settled after marks between claims changes (Jump node from to) cell false starts-after
+          (ap (marked_at (held_at marks.list)) (stays-walked (Jump node from to)) ∙ free) (λ no. absurd (cc (no))) settles same-held whole-entered
+
+      -- the parts agree after it
+      pub whole-walk : AreParts after moved claims changes
+      whole-walk =
+          whole-pushed after between moved claims changes (jump_behind node from to count) (cell + count) (stands-after count (omega arith)) there-after
+          moves-then (λ n. keeps n ∙ sym (same-held n)) whole-between
+
+      -- the last key is pending in the place of the first
+      pub pending-walk : (q : Key) → list_any (same_key q) (keys_where (pending_at moved.list) after.cells)
+          ≡ (same_key (jump_behind node from to count) q || (not (same_key (Jump node from to) q) && pending_by_slot indexed marks q))
+      pending-walk q =
+          let here = Jump node from to in
+          let there = jump_behind node from to count in
+          is-pending after moved claims changes whole-walk q
+          ∙ at-set there after.cells (cell + count) true (pending_at between.list) (pending_at moved.list) (stands-after count (omega arith)) moves-then q
+          ∙ ap (cond (same_key there q) true) (at-set here after.cells cell false (pending_at marks.list) (pending_at between.list) starts-after settles q)
+          ∙ ap (λ b. cond (same_key there q) true (cond (same_key here q) false b)) (ap (marked_at (pending_at marks.list)) (stays-walked q))
+          ∙ goes-cond (same_key here q) (same_key there q) (pending_by_slot indexed marks q)
+
 -- an absent key is not pending
 pub absent-settled : {F T : Type 0} (indexed : Indexed F) (marks : SlotMarks) (claims : List (Option (Claim T))) (changes : ChangeLog F) (at : ℕ → Key) (count : ℕ)
     → AreParts indexed marks claims changes → AreAbsent (table_of indexed.cells) at count
     → (n : ℕ) → n < count → list_any (same_key (at (suc n))) (keys_where (pending_at marks.list) indexed.cells) ≡ false
-absent-settled {F} indexed marks claims changes at count w absent n less =
-    ⊎_elim
-    (λ is. absurd (no-function (function_of indexed.cells (at (suc n))) (sym (found-shown indexed.cells (at (suc n)) w.distinct) ∙ absent n less)
-    (w.present (at (suc n)) (sym (is-pending indexed marks claims changes w (at (suc n))) ∙ is))))
-    (λ no. no)
-    (cases_Bool (list_any (same_key (at (suc n))) (keys_where (pending_at marks.list) indexed.cells)))
-  where
-    no-function : (o : Option F) → o ≡ None → is_some o ≡ true → ⊥
-    no-function None none has = absurd (cc (has))
-    no-function (Some g) none has = absurd (cc (none))
+absent-settled indexed marks claims changes at count w absent n less =
+    is-pending indexed marks claims changes w (at (suc n))
+    ∙ absent-quiet indexed marks claims changes w (at (suc n)) (sym (found-shown indexed.cells (at (suc n)) w.distinct) ∙ absent n less)

@@ -1,5 +1,5 @@
 -- Notes of the jumps that a walk enters, one after the other.
-use Rattle.std.proofs.Common.{◌≡◌, ℕ, zero, suc, ◌+◌, refl, sym, ap, subst, ◌∙◌, arith, List, [], Option, None, Some, false, cond}
+use Rattle.std.proofs.Common.{◌≡◌, ℕ, zero, suc, ◌+◌, refl, sym, ap, subst, ◌∙◌, arith, List, [], Option, false, cond}
 use Rattle.std.specs.Prelude.{nat_eq, unwrap_or}
 use Rattle.std.specs.List.{IsDistinct}
 use Rattle.std.specs.Map.{keys_of}
@@ -14,10 +14,9 @@ use Rattle.ide_image.specs.Indexed.{Indexed, place_of_key}
 use Rattle.ide_image.specs.KeyedImage.{AreParts}
 use Rattle.ide_image.specs.Notes.{noted, with_note}
 use Rattle.ide_image.specs.Queue.{SlotMarks}
-use Rattle.ide_image.specs.Walk.{AreListedFrom, AreNotesIn, KeepsNotesFrom, StandBehind, StandFrom, absent_entry, jump_behind, with_entered}
-use Rattle.ide_image.proofs.Agree.{at-index, noted-with, once-with}
+use Rattle.ide_image.specs.Walk.{AreListedFrom, AreNotesIn, StandBehind, StandFrom, absent_entry, jump_behind, with_entered}
+use Rattle.ide_image.proofs.Agree.{at-index, note-silent, noted-with, once-with}
 use Rattle.ide_image.proofs.Marked.{at-set, covers-set}
-use Rattle.ide_image.proofs.Walked.{Walks, stays-walked, whole-walk}
 
 -- the key behind the node so many behind is one that is entered
 pub behind-key : (node from to n : ℕ) → jump_behind node from to (suc n) ≡ Jump (node + 1 + n) from to
@@ -26,9 +25,8 @@ behind-key node from to n = let same : node + suc n ≡ node + 1 + n = omega ari
 module _ {F : Type 0} where
   -- where no changes are noted, none are
   pub entered-silent : (list : Option (List (Key × Entry F))) (at : ℕ → Key) (n : ℕ) → is_some list ≡ false → list ≡ with_entered list at n
-  entered-silent (Some list) at n is = absurd (cc (is))
-  entered-silent None at zero is = refl
-  entered-silent None at (suc n) is = ap (λ o. with_note o (at (suc n)) absent_entry) (entered-silent None at n is)
+  entered-silent list at zero is = refl
+  entered-silent list at (suc n) is = note-silent list (at (suc n)) absent_entry is ∙ ap (λ o. with_note o (at (suc n)) absent_entry) (entered-silent list at n is)
 
   -- one more is noted behind the others
   pub entered-more : (old now new : Option (List (Key × Entry F))) (at : ℕ → Key) (key : Key) (n : ℕ) → now ≡ with_entered old at n → at (suc n) ≡ key
@@ -61,6 +59,12 @@ module _ {F : Type 0} where
     slotted = slots (place_of_key indexed) (sym stands) w.slotted;
   }
 
+  -- keys that have these slots are noted where the slots are marked
+  pub listed-from : (indexed : Indexed F) (changes : ChangeLog F) (first count : ℕ) (at : ℕ → Key) → AreNotesIn indexed changes → StandFrom first at count indexed
+      → AreListedFrom first at count changes
+  listed-from indexed changes first count at w stands n less =
+      sym (at-index (noted_at changes) (place_of_key indexed (at (suc n))) (first + n) (stands n less)) ∙ w.listed (at (suc n))
+
 module _ {F T : Type 0} (indexed : Indexed F) (marks : SlotMarks) (claims : List (Option (Claim T))) (changes : ChangeLog F)
     (w : AreParts indexed marks claims changes) where
   -- the notes of parts that agree do
@@ -82,26 +86,9 @@ module _ {F T : Type 0} (indexed : Indexed F) (marks : SlotMarks) (claims : List
     slotted = notes.slotted;
   }
 
-  -- keys that have these slots are noted where the slots are marked
-  pub listed-from : (first count : ℕ) (at : ℕ → Key) → StandFrom first at count indexed → AreListedFrom first at count changes
-  listed-from first count at stands n less =
-      sym (at-index (noted_at changes) (place_of_key indexed (at (suc n))) (first + n) (stands n less)) ∙ w.listed (at (suc n))
-
 -- keys that stand behind a cell have the slots from the next one on
 pub stands-from : {F : Type 0} (cell : ℕ) (at : ℕ → Key) (count : ℕ) (indexed : Indexed F) → StandBehind cell at count indexed → StandFrom (cell + 1) at count indexed
 stands-from cell at count indexed stands n less =
     let here = stands (suc n) (omega (arith, less)) in
     let same : (cell + 1 + n) + 1 ≡ (cell + suc n) + 1 = omega arith in
     same ∙ here
-
--- the parts agree after a walk that notes the keys which it enters
-pub whole-noted-walk : {F T : Type 0} (node from to : ℕ) (f : F) (count cell : ℕ) (indexed after : Indexed F) (marks settled pushed : SlotMarks)
-    (claims : List (Option (Claim T))) (changes : ChangeLog F) → AreParts indexed marks claims changes
-    → Walks node from to f count cell indexed after marks settled pushed → (new : ChangeLog F)
-    → KeepsNotesFrom (cell + 1) (jump_behind node from to) count changes new → AreParts after pushed claims new
-whole-noted-walk node from to f count cell indexed after marks settled pushed claims changes w walk new keeps =
-    let all = whole-walk node from to f count cell indexed after marks settled pushed claims changes w walk in
-    let stays : StandBehind cell (jump_behind node from to) count after =
-    λ n most. walk.stands n most ∙ sym (stays-walked node from to f count cell indexed after marks settled pushed claims changes w walk (jump_behind node from to n)) in
-    whole-notes after pushed claims changes all new
-    (keeps after (stands-from cell (jump_behind node from to) count after stays) (notes-in after pushed claims changes all))

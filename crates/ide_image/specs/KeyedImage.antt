@@ -112,17 +112,17 @@ module _ {F : Type 0} where
   abbrev pub NotesAllBySlot : Indexed F → SlotMarks → List (Key × F) → (old new : ChangeLog F) → Type 0
   NotesAllBySlot indexed marks list old new = NotesAll old.list new.list (keys_of list) (entry_by indexed marks)
 
-  -- there is room for so many keys more, that are pending and noted
-  pub record HasRoomFor (count : ℕ) (indexed : Indexed F) (marks : SlotMarks) (changes : ChangeLog F) : Type 0 where
+  -- there is room for so many keys more, that are pending, and for so many notes
+  pub record HasRoomFor (count noted : ℕ) (indexed : Indexed F) (marks : SlotMarks) (changes : ChangeLog F) : Type 0 where
     pub functions : count ≤ indexed.room
     pub marked : length indexed.cells ≤ length marks.list
     pub stacked : count ≤ marks.spare
-    pub notes : MayNote count (length indexed.cells) changes
+    pub notes : MayNote noted (length indexed.cells) changes
 
   -- the room that is used is that of one key at most
   abbrev pub UsesRoom : (indexed after : Indexed F) → (marks marks_after : SlotMarks) → (changes changes_after : ChangeLog F) → Type 0
   UsesRoom indexed after marks marks_after changes changes_after =
-      (n : ℕ) → HasRoomFor (n + 1) indexed marks changes → HasRoomFor n after marks_after changes_after
+      (n : ℕ) → HasRoomFor (n + 1) (n + 1) indexed marks changes → HasRoomFor n n after marks_after changes_after
 
   -- the parts make the same image: there may be more cells, of keys that have no function
   pub record SameParts (indexed after : Indexed F) (marks marks_after : SlotMarks) (changes changes_after : ChangeLog F) : Type 0 where

@@ -93,6 +93,10 @@ SetsMark slot b old new = (n : ℕ) → new n ≡ (if nat_eq slot n then b else 
 abbrev pub SetsPendingSlot : ℕ → Bool → (old new : List Mark) → Type 0
 SetsPendingSlot slot b old new = SetsMark slot b (pending_at old) (pending_at new)
 
+-- the second slot is pending in the place of the first, and each other one is as it was
+abbrev pub MovesOn : (from to : ℕ) → (old new : List Mark) → Type 0
+MovesOn from to old new = SetsMark to true (λ n. if nat_eq from n then false else pending_at old n) (pending_at new)
+
 -- a hand has claimed it now, or has not
 abbrev pub SetsHeldSlot : ℕ → Bool → (old new : List Mark) → Type 0
 SetsHeldSlot slot b old new = SetsMark slot b (held_at old) (held_at new)

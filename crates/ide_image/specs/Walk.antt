@@ -6,8 +6,9 @@ use Rattle.std.specs.Map.{keys_of}
 use Rattle.std.specs.Option.{is_some}
 use Rattle.ide_image.specs.ChangeLog.{AreSlotsOf, ChangeLog, noted_at}
 use Rattle.ide_image.specs.Indexed.{Indexed, place_of_key}
-use Rattle.ide_image.specs.KeyedImage.{Covers, IsListed, KeyedImageData, entry_now}
+use Rattle.ide_image.specs.KeyedImage.{Covers, IsListed, KeyedImageData, entry_by, entry_now}
 use Rattle.ide_image.specs.Notes.{noted, with_note}
+use Rattle.ide_image.specs.Queue.{SlotMarks}
 use Rattle.ide_image.specs.Tables.{Table, found, with_entry}
 use Rattle.ide_image.specs.Worklist.{Pile, is_pending}
 use Rattle.ide_image.specs.declared.entry.Entry.{Entry}
@@ -63,6 +64,11 @@ module _ {F : Type 0} where
   abbrev pub NotesWalk : {T : Type 0} → (node from to count : ℕ) → (old new : KeyedImageData F T) → Type 0
   NotesWalk node from to count old new =
       new.changes ≡ with_entered (with_note old.changes (Jump node from to) (entry_now old (Jump node from to))) (jump_behind node from to) count
+
+  -- the same, by the slot of the jump at the node
+  abbrev pub WalksBySlot : (node from to count : ℕ) → Indexed F → SlotMarks → (old new : ChangeLog F) → Type 0
+  WalksBySlot node from to count indexed marks old new =
+      new.list ≡ with_entered (with_note old.list (Jump node from to) (entry_by indexed marks (Jump node from to))) (jump_behind node from to) count
 
   -- the notes agree with the places of their keys: their marks and slots are those of these, and each key is noted once
   pub record AreNotesIn (indexed : Indexed F) (changes : ChangeLog F) : Type 0 where

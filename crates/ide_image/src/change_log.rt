@@ -1,5 +1,5 @@
 //! Notes of what changed, with a mark at each slot whose key is noted.
-ghost use Rattle.std.specs.Prelude.{◌≡◌, ℕ, ◌+◌, ◌<◌, ◌≤◌, ◌^◌, [], None, Some, false, true, length, slice_index, OnOk, IsOk, option_map};
+ghost use Rattle.std.specs.Prelude.{◌≡◌, ℕ, ◌+◌, ◌<◌, ◌≤◌, ◌^◌, ◌&&◌, [], None, Some, false, true, not, length, slice_index, OnOk, IsOk, option_map};
 ghost use Rattle.std.specs.Option.{is_some, option_copied};
 ghost use Rattle.ide_image.specs.ChangeLog.{AreStamps, KeepsSlotsAt, MarksNoted, MayNote, list_of, noted_at};
 ghost use Rattle.ide_image.specs.Notes.{noted, noted_count, with_note};
@@ -50,6 +50,7 @@ impl<F: Copy + Drop> ChangeLog<F> {
     }
 
     /// Whether changes are noted.
+    #[inline(always)]
     pub(crate) fn is_noting(&self) -> bool
         ensures { result ≡ is_some self.now.list }
     {
@@ -78,6 +79,14 @@ impl<F: Copy + Drop> ChangeLog<F> {
         ensures { result ≡ noted_at self.now slot }
     {
         stamp_in(&self.stamps, slot) == self.epoch
+    }
+
+    /// Whether changes are noted, and the slot's key is not yet.
+    #[inline(always)]
+    pub(crate) fn wants(&self, slot: usize) -> bool
+        ensures { result ≡ (is_some self.now.list && not (noted_at self.now slot)) }
+    {
+        self.list.is_some() && !self.is_noted(slot)
     }
 
     /// Makes room for so many notes more, of keys at the first slots, where changes are noted.

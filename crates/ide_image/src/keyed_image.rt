@@ -252,7 +252,7 @@ impl<F: EdgeFn, T: Drop> KeyedImage<F, T> {
         if new == old {
             return Ok(Change::Same);
         }
-        parts::make_room(&mut self.indexed, &mut self.queue, &mut self.changes, 1)?;
+        parts::make_room(&mut self.indexed, &mut self.queue, &mut self.changes, 1, 1)?;
         parts::enter(
             &mut self.indexed,
             &mut self.queue,
@@ -427,23 +427,27 @@ impl<F: EdgeFn, T: Drop> KeyedImage<F, T> {
         ensures refused { IsOkUnless result NoMemory }
     {
         let key = Key::Jump(node, from, to);
-        let cell = self.indexed.make_cell(key)?;
+        let cell = self.indexed.cell_of(key);
         parts::make_room(
             &mut self.indexed,
             &mut self.queue,
             &mut self.changes,
+            1,
             count + 1,
         )?;
-        let before = Entry {
-            function: self.indexed.function_at(cell + 1),
-            pending: true,
-        };
-        self.changes.note(cell, key, before);
         self.indexed
             .put_behind(cell, node, from, to, function, count);
-        parts::note_behind(&mut self.changes, cell + 1, node, from, to, count);
-        self.queue.settle(cell);
-        self.queue.push(cell + count);
+        parts::note_walk(
+            &self.indexed,
+            &self.queue,
+            &mut self.changes,
+            cell,
+            node,
+            from,
+            to,
+            count,
+        );
+        self.queue.move_on(cell, cell + count);
         Ok(())
     }
 
@@ -463,7 +467,7 @@ impl<F: EdgeFn, T: Drop> KeyedImage<F, T> {
         ensures refused { IsOkUnless result NoMemory }
     {
         let cell = self.indexed.make_cell(key)?;
-        parts::make_room(&mut self.indexed, &mut self.queue, &mut self.changes, 1)?;
+        parts::make_room(&mut self.indexed, &mut self.queue, &mut self.changes, 1, 1)?;
         parts::put_noted(
             &mut self.indexed,
             &self.queue,
@@ -489,11 +493,13 @@ impl<F: EdgeFn, T: Drop> KeyedImage<F, T> {
         ensures refused { IsOkUnless result NoMemory }
     {
         self.indexed.make_cells(list)?;
+        let count = list.len();
         parts::make_room(
             &mut self.indexed,
             &mut self.queue,
             &mut self.changes,
-            list.len(),
+            count,
+            count,
         )?;
         parts::enter_all(
             &mut self.indexed,

@@ -1,15 +1,16 @@
 //! Steps of the parts that an image is made of, after which they agree again.
 ghost use Rattle.std.specs.Prelude.{◌≡◌, ℕ, ◌+◌, ◌%◌, ◌<◌, ◌≤◌, ◌^◌, None, Some, false, true, length, IfSome, IsOk, OnOk, OnErr, IsOkUnless};
 ghost use Rattle.std.specs.Option.{is_some};
+ghost use Rattle.ide_wire.specs.declared.key.Key.TheVariants.{Jump};
 ghost use Rattle.ide_wire.specs.declared.refused.Refused.TheVariants.{NoMemory};
 ghost use Rattle.ide_image.specs.Worklist.{MarksIn, claim_in, is_claim_of};
-ghost use Rattle.ide_image.specs.ChangeLog.{KeepsSlots, MarksNoted, MayNote, noted_at};
+ghost use Rattle.ide_image.specs.ChangeLog.{KeepsSlots, KeepsSlotsAt, MarksNoted, MayNote, noted_at};
 ghost use Rattle.ide_image.specs.KeyedImage.{AddsAllBySlot, AddsBySlot, AreParts, CountsBySlot, FreesKey, HasRoomFor, IsListed, MarksAllIn, MarksKey, NotesAllBySlot, NotesBySlot, SameOver, SameParts, SettlesKey, UsesRoom, marked_at, pending_by_slot};
 ghost use Rattle.ide_image.specs.Indexed.{HaveCells, PutsEntries, PutsEntry, place_of_key};
 ghost use Rattle.ide_image.specs.Left.{is_left, is_left_by_slot, left_by_slot};
 ghost use Rattle.ide_image.specs.Queue.{pending_at, pending_count};
 ghost use Rattle.ide_image.specs.Ranks.{item_in};
-ghost use Rattle.ide_image.specs.Walk.{AreListedFrom, KeepsNotesFrom, jump_behind, with_entered};
+ghost use Rattle.ide_image.specs.Walk.{AreListedFrom, AreNotesIn, KeepsNotesFrom, StandBehind, WalksBySlot, jump_behind, with_entered};
 
 use crate::change_log::ChangeLog;
 use crate::claim::Claim;
@@ -90,24 +91,26 @@ fn is_left<F: EdgeFn>(now: F, pending: bool, before: &Entry<F>) -> bool
     }
 }
 
-/// Makes room for so many keys more, that are pending and noted, and have cells.
+/// Makes room for so many keys more, that are pending and have cells, and for so many notes, where changes are noted.
 #[inline(always)]
 pub(crate) fn make_room<F: EdgeFn>(
     indexed: &mut Indexed<F>,
     queue: &mut Queue,
     changes: &mut ChangeLog<F>,
     additional: usize,
+    notes: usize,
 ) -> Result<(), Refused>
     ensures same { SameParts indexed.old indexed.new queue.old queue.new changes.old changes.new }
     ensures count { pending_count queue.new.list ≡ pending_count queue.old.list }
     ensures bound { length indexed.new.cells ≡ length indexed.old.cells }
-    ensures room { OnOk result (HasRoomFor additional indexed.new queue.new changes.new) }
+    ensures room { OnOk result (HasRoomFor additional notes indexed.new queue.new changes.new) }
+    ensures few { OnOk result (length indexed.new.cells < 2 ^ 32) }
     ensures refused { IsOkUnless result NoMemory }
 {
     indexed.reserve(additional)?;
     queue.reserve(additional)?;
     let slots = indexed.cell_count();
-    changes.make_room(additional, slots)?;
+    changes.make_room(notes, slots)?;
     queue.cover(slots)?;
     Ok(())
 }
@@ -133,16 +136,40 @@ pub(crate) fn end_slot<F: EdgeFn>(
     ensures nobody { changes.old.list ≡ None → IsOk result }
     ensures refused { IsOkUnless result NoMemory }
 {
-    let place = indexed.place(key);
-    let slot = place - 1;
-    let before = Entry {
-        function: indexed.function_at(place),
-        pending: true,
-    };
+    let slot = indexed.place(key) - 1;
     changes.make_room(1, slot + 1)?;
-    changes.note(slot, key, before);
+    note_now(indexed, queue, changes, slot, key);
     queue.settle(slot);
     Ok(())
+}
+
+/// Notes the entry of the key, whose slot this is, as it stands, if changes are noted and the key is not yet. Elsewhere it
+/// does not read it.
+#[inline(always)]
+fn note_now<F: EdgeFn>(
+    indexed: &Indexed<F>,
+    queue: &Queue,
+    changes: &mut ChangeLog<F>,
+    slot: usize,
+    key: Key,
+)
+    requires slot { slot + 1 ≡ place_of_key indexed.now key }
+    requires few { slot + 1 < 2 ^ 32 }
+    requires room { MayNote 1 (slot + 1) changes.old }
+    requires listed { IsListed indexed.now changes.old key }
+    ensures list { NotesBySlot indexed.now queue.now key changes.old changes.new }
+    ensures slots { KeepsSlotsAt slot key changes.old changes.new }
+    ensures marks { MarksNoted slot changes.old changes.new }
+    ensures room { (n s : ℕ) → MayNote (n + 1) s changes.old → MayNote n s changes.new }
+{
+    if !changes.wants(slot) {
+        return;
+    }
+    let before = Entry {
+        function: indexed.function_at(slot + 1),
+        pending: queue.is_pending(slot),
+    };
+    changes.note(slot, key, before);
 }
 
 /// Puts the function into the key's cell, which this is, and notes the entry of before.
@@ -157,7 +184,7 @@ pub(crate) fn put_noted<F: EdgeFn>(
 )
     requires cell { cell + 1 ≡ place_of_key indexed.old key }
     requires few { cell + 1 < 2 ^ 32 }
-    requires room { HasRoomFor 1 indexed.old queue.now changes.old }
+    requires room { HasRoomFor 1 1 indexed.old queue.now changes.old }
     requires listed { IsListed indexed.old changes.old key }
     ensures cells { PutsEntry key function indexed.old indexed.new }
     ensures stands { cell + 1 ≡ place_of_key indexed.new key }
@@ -167,12 +194,8 @@ pub(crate) fn put_noted<F: EdgeFn>(
     ensures taken { indexed.old.room ≤ indexed.new.room + 1 }
     ensures notes { (n s : ℕ) → MayNote (n + 1) s changes.old → MayNote n s changes.new }
 {
-    let before = Entry {
-        function: indexed.function_at(cell + 1),
-        pending: queue.is_pending(cell),
-    };
+    note_now(indexed, queue, changes, cell, key);
     indexed.put(cell, key, function);
-    changes.note(cell, key, before);
 }
 
 /// Marks the claim of the key as lowered, if a hand has claimed it.
@@ -199,7 +222,7 @@ pub(crate) fn enter<F: EdgeFn, T: Drop>(
 )
     requires cell { cell + 1 ≡ place_of_key indexed.old key }
     requires few { cell + 1 < 2 ^ 32 }
-    requires room { HasRoomFor 1 indexed.old queue.old changes.old }
+    requires room { HasRoomFor 1 1 indexed.old queue.old changes.old }
     requires whole { AreParts indexed.old queue.old claims.old.items changes.old }
     ensures whole { AreParts indexed.new queue.new claims.new.items changes.new }
     ensures cells { PutsEntry key function indexed.old indexed.new }
@@ -210,8 +233,8 @@ pub(crate) fn enter<F: EdgeFn, T: Drop>(
     ensures room { UsesRoom indexed.old indexed.new queue.old queue.new changes.old changes.new }
 {
     put_noted(indexed, queue, changes, cell, key, function);
-    queue.push(cell);
-    mark_held(claims, queue.is_held(cell), key);
+    let is_held = queue.push(cell);
+    mark_held(claims, is_held, key);
 }
 
 /// Enters the keys of the entries, which have cells, with their functions, one after the other, for which there is room.
@@ -222,7 +245,7 @@ pub(crate) fn enter_all<F: EdgeFn, T: Drop>(
     changes: &mut ChangeLog<F>,
     list: &[(Key, F)],
 )
-    requires room { HasRoomFor (length list.now) indexed.old queue.old changes.old }
+    requires room { HasRoomFor (length list.now) (length list.now) indexed.old queue.old changes.old }
     requires made { HaveCells indexed.old list.now }
     requires whole { AreParts indexed.old queue.old claims.old.items changes.old }
     ensures whole { AreParts indexed.new queue.new claims.new.items changes.new }
@@ -238,10 +261,39 @@ pub(crate) fn enter_all<F: EdgeFn, T: Drop>(
     }
 }
 
+/// Notes the entry of the jump between the facts at the node, which has the cell, as it stands, and those at so many nodes
+/// behind it as absent, if changes are noted. These have the cells behind that one.
+#[inline(always)]
+pub(crate) fn note_walk<F: EdgeFn>(
+    indexed: &Indexed<F>,
+    queue: &Queue,
+    changes: &mut ChangeLog<F>,
+    cell: usize,
+    node: Node,
+    from: Fact,
+    to: Fact,
+    count: usize,
+)
+    requires cell { cell + 1 ≡ place_of_key indexed.now (Jump node from to) }
+    requires page { node % 64 + count < 64 }
+    requires few { cell + count + 1 < 2 ^ 32 }
+    requires stands { StandBehind cell (jump_behind node from to) count indexed.now }
+    requires room { MayNote (count + 1) (length indexed.now.cells) changes.old }
+    requires notes { AreNotesIn indexed.now changes.old }
+    ensures list { WalksBySlot node from to count indexed.now queue.now changes.old changes.new }
+    ensures notes { AreNotesIn indexed.now changes.new }
+{
+    if !changes.is_noting() {
+        return;
+    }
+    note_now(indexed, queue, changes, cell, Key::Jump(node, from, to));
+    note_behind(changes, cell + 1, node, from, to, count);
+}
+
 /// Notes as absent the jumps between the facts at so many nodes behind this one, which have the slots from the first on, if
 /// changes are noted.
 #[inline(always)]
-pub(crate) fn note_behind<F: EdgeFn>(
+fn note_behind<F: EdgeFn>(
     changes: &mut ChangeLog<F>,
     first: usize,
     node: Node,
@@ -256,9 +308,6 @@ pub(crate) fn note_behind<F: EdgeFn>(
     ensures list { changes.new.list ≡ with_entered changes.old.list (jump_behind node from to) count }
     ensures notes { KeepsNotesFrom first (jump_behind node from to) count changes.old changes.new }
 {
-    if !changes.is_noting() {
-        return;
-    }
     for step in 0..count {
         let absent = Entry {
             function: None,

@@ -4,8 +4,9 @@
 //! A mark does not say where its slot is on the stack. One that is settled or claimed is looked for among the
 //! slots near the top, where it nearly always is. Elsewhere it is left on the stack, and forgotten once it
 //! comes to the top.
-ghost use Rattle.std.specs.Prelude.{◌≡◌, ℕ, ◌+◌, ◌-◌, ◌<◌, ◌≤◌, ◌^◌, [], true, false, length, slice_get, Some, IfSome, IfNone, OnOk, vec_capacity, vec_len};
-ghost use Rattle.ide_image.specs.Queue.{AreStacked, CountsPendingMark, CountsPushed, CountsReturned, CountsSettled, IsLeftMark, IsStack, KeepsMarks, MarksHeld, SameMarks, SameSums, SetsHeldSlot, SetsMark, SetsPendingSlot, TopWaits, held_at, is_held, is_pending_mark, mark_in, owed_count, pending_at, pending_count, one_if, stacked_at, waiting_at};
+ghost use Rattle.std.specs.Prelude.{◌≡◌, ℕ, ◌+◌, ◌-◌, ◌<◌, ◌≤◌, ◌^◌, [], true, false, length, slice_get, Some, IfSome, IfNone, OnOk, IsTrue, vec_capacity, vec_len};
+ghost use Rattle.ide_image.specs.declared.mark.Mark.TheVariants.{Settled};
+ghost use Rattle.ide_image.specs.Queue.{AreStacked, CountsPendingMark, CountsPushed, CountsReturned, CountsSettled, IsLeftMark, IsStack, KeepsMarks, MarksHeld, MovesOn, SameMarks, SameSums, SetsHeldSlot, SetsMark, SetsPendingSlot, TopWaits, held_at, is_held, is_pending_mark, mark_in, owed_count, pending_at, pending_count, one_if, stacked_at, waiting_at};
 
 use crate::mark::Mark;
 use std::alloc::{AllocError, Global};
@@ -74,13 +75,6 @@ impl Queue {
         self.mark_of(slot).is_pending()
     }
 
-    /// Whether a hand has claimed the slot.
-    pub(crate) fn is_held(&self, slot: usize) -> bool
-        ensures { result ≡ held_at self.now.list slot }
-    {
-        self.mark_of(slot).is_held()
-    }
-
     /// How many slots are pending.
     pub(crate) fn pending_count(&self) -> usize
         ensures { result ≡ pending_count self.now.list }
@@ -118,21 +112,24 @@ impl Queue {
         grow(&mut self.marks, count)
     }
 
-    /// Makes the slot pending: if it is not, it waits then.
+    /// Makes the slot pending: if it is not, it waits then. Answers whether a hand has claimed it.
     #[inline(always)]
-    pub(crate) fn push(&mut self, slot: usize)
+    pub(crate) fn push(&mut self, slot: usize) -> bool
         requires there { slot < length self.old.list }
         requires room { 0 < self.old.spare }
+        ensures claimed { result ≡ held_at self.old.list slot }
         ensures pending { SetsPendingSlot slot true self.old.list self.new.list }
         ensures held { SameMarks (held_at self.old.list) (held_at self.new.list) }
         ensures count { CountsPushed slot self.old.list self.new.list }
         ensures covered { length self.new.list ≡ length self.old.list }
         ensures room { self.old.spare ≤ self.new.spare + 1 }
     {
+        let is_held = self.marks[slot].is_held();
         if !self.marks[slot].is_pending() {
             make_wait(&mut self.marks, &mut self.stack, slot);
             self.pending += 1;
         }
+        is_held
     }
 
     /// Makes the slot settled.
@@ -151,6 +148,28 @@ impl Queue {
         }
     }
 
+    /// Makes the slot `to`, which is settled, wait in the place of `from`, which waits. On top of the stack it writes the
+    /// one over the other.
+    #[inline(always)]
+    pub(crate) fn move_on(&mut self, from: usize, to: usize)
+        requires waits { waiting_at self.old.list from ≡ true }
+        requires settled { pending_at self.old.list to ≡ false }
+        requires there { to < length self.old.list }
+        requires room { 0 < self.old.spare }
+        ensures pending { MovesOn from to self.old.list self.new.list }
+        ensures held { SameMarks (held_at self.old.list) (held_at self.new.list) }
+        ensures count { pending_count self.new.list ≡ pending_count self.old.list }
+        ensures covered { length self.new.list ≡ length self.old.list }
+        ensures room { self.old.spare ≤ self.new.spare + 1 }
+    {
+        if is_top(&self.stack, from) && self.marks[to] == Mark::Settled {
+            move_top(&mut self.marks, &mut self.stack, from, to);
+        } else {
+            self.settle(from);
+            let _ = self.push(to);
+        }
+    }
+
     /// Makes the slot, which no hand has claimed, pending or settled.
     pub(crate) fn set_pending(&mut self, slot: usize, pending: bool)
         requires there { slot < length self.old.list }
@@ -160,7 +179,7 @@ impl Queue {
         ensures held { SameMarks (held_at self.old.list) (held_at self.new.list) }
     {
         if pending {
-            self.push(slot);
+            let _ = self.push(slot);
         } else {
             self.settle(slot);
         }
@@ -241,6 +260,43 @@ fn make_wait(marks: &mut Vec<Mark>, stack: &mut Vec<u32>, slot: usize)
     if !was_stacked {
         stack.push_reserved(slot as u32);
     }
+}
+
+/// Whether the slot is on top of the stack.
+#[inline(always)]
+fn is_top(stack: &[u32], slot: usize) -> bool
+    ensures { IsTrue result → slice_get stack.now (length stack.now - 1) ≡ Some slot }
+{
+    match stack.last() {
+        Some(top) => *top as usize == slot,
+        None => false,
+    }
+}
+
+/// Makes the slot `to`, which is settled and not on the stack, wait on top of it, where `from` waits, which is settled
+/// then.
+#[inline(always)]
+fn move_top(marks: &mut Vec<Mark>, stack: &mut Vec<u32>, from: usize, to: usize)
+    requires top { slice_get stack.old.items (length stack.old.items - 1) ≡ Some from }
+    requires waits { waiting_at marks.old.items from ≡ true }
+    requires settled { mark_in marks.old.items to ≡ Settled }
+    requires there { to < length marks.old.items }
+    requires few { length marks.old.items < 2 ^ 32 }
+    requires stacked { AreStacked marks.old.items stack.old.items }
+    ensures stacked { AreStacked marks.new.items stack.new.items }
+    ensures top { TopWaits marks.new.items stack.new.items }
+    ensures pending { MovesOn from to marks.old.items marks.new.items }
+    ensures held { SameMarks (held_at marks.old.items) (held_at marks.new.items) }
+    ensures count { pending_count marks.new.items ≡ pending_count marks.old.items }
+    ensures owed { owed_count marks.new.items ≡ owed_count marks.old.items }
+    ensures covered { length marks.new.items ≡ length marks.old.items }
+    ensures len { vec_len stack.new ≡ vec_len stack.old }
+    ensures capacity { vec_capacity stack.new ≡ vec_capacity stack.old }
+{
+    let top = stack.len() - 1;
+    stack[top] = to as u32;
+    marks[from] = Mark::Settled;
+    marks[to] = Mark::Waiting;
 }
 
 /// Makes the slot settled.

@@ -2,26 +2,30 @@ use Rattle.std.proofs.Common.{◌≡◌, ◌+◌, ◌-◌, false, cond, arith, s
 use Rattle.std.specs.Option.{is_some}
 use Rattle.std.specs.Prelude.{nat_eq}
 use Rattle.ide_image.specs.ChangeLog.{noted_at}
-use Rattle.ide_image.specs.Indexed.{function_of, place_of_key}
-use Rattle.ide_image.specs.Notes.{noted}
+use Rattle.ide_image.specs.Indexed.{place_of_key}
+use Rattle.ide_image.specs.KeyedImage.{entry_by}
+use Rattle.ide_image.specs.Notes.{noted, with_note}
 use Rattle.ide_image.specs.Queue.{SetsMark, held_at, one_if, pending_at}
 use Rattle.ide_image.proofs.Agree.{at-index}
 use Rattle.ide_image.proofs.Before.{at-some}
+use Rattle.ide_image.proofs.Marked.{at-same}
 use Rattle.ide_image.proofs.Stack.{pending-there}
 use Rattle.ide_image.proofs.parts.end_slot.Goals as goal
 
 pub overflow_sub-slot : goal.overflow_sub-slot
 overflow_sub-slot g c =
     let some = at-some (pending_at c.args.queue.now.list) (place_of_key c.args.indexed.now c.args.key) c.requires.pending in
-    omega (arith, some, c.place-place.ensures.place)
+    omega (arith, some, c.place-slot.ensures.place)
 
-pub note-requires-clause-mark : goal.note-requires-clause-mark
-note-requires-clause-mark g c =
+pub note_now-requires-clause-slot : goal.note_now-requires-clause-slot
+note_now-requires-clause-slot g c =
+    let some = at-some (pending_at c.args.queue.now.list) (place_of_key c.args.indexed.now c.args.key) c.requires.pending in
+    omega (arith, some, c.place-slot.ensures.place)
+
+pub note_now-requires-clause-listed : goal.note_now-requires-clause-listed
+note_now-requires-clause-listed g c =
     let place = place_of_key c.args.indexed.now c.args.key in
-    let some = at-some (pending_at c.args.queue.now.list) place c.requires.pending in
-    let stands : (c.place-place.result - 1) + 1 ≡ place = omega (arith, some, c.place-place.ensures.place) in
-    c.make_room.ensures.marks (c.place-place.result - 1)
-    ∙ sym (at-index (noted_at c.args.changes.now) place (c.place-place.result - 1) stands)
+    at-same (noted_at c.args.changes.now) (noted_at c.make_room.new.self) place c.make_room.ensures.marks
     ∙ c.requires.listed
     ∙ ap (λ list. is_some (noted list c.args.key)) (sym c.make_room.ensures.list)
 
@@ -29,43 +33,39 @@ pub settle-requires : goal.settle-requires
 settle-requires g c =
     let place = place_of_key c.args.indexed.now c.args.key in
     let some = at-some (pending_at c.args.queue.now.list) place c.requires.pending in
-    let stands : (c.place-place.result - 1) + 1 ≡ place = omega (arith, some, c.place-place.ensures.place) in
-    record { there = pending-there c.args.queue.now.list (c.place-place.result - 1) (sym (at-index (pending_at c.args.queue.now.list) place (c.place-place.result - 1) stands) ∙ c.requires.pending) }
+    let stands : (c.place-slot.result - 1) + 1 ≡ place = omega (arith, some, c.place-slot.ensures.place) in
+    record { there = pending-there c.args.queue.now.list (c.place-slot.result - 1) (sym (at-index (pending_at c.args.queue.now.list) place (c.place-slot.result - 1) stands) ∙ c.requires.pending) }
 
 pub returns-clause-pending : goal.returns-clause-pending
 returns-clause-pending g c = λ slot is.
     let some = at-some (pending_at c.args.queue.now.list) (place_of_key c.args.indexed.now c.args.key) c.requires.pending in
-    let same : c.place-place.result - 1 ≡ slot = omega (arith, is, some, c.place-place.ensures.place) in
+    let same : c.place-slot.result - 1 ≡ slot = omega (arith, is, some, c.place-slot.ensures.place) in
     subst (λ s. SetsMark s false (pending_at c.args.queue.now.list) (pending_at c.settle.new.self.list)) same c.settle.ensures.pending
 
 pub returns-clause-held : goal.returns-clause-held
 returns-clause-held g c = λ slot is.
     let some = at-some (pending_at c.args.queue.now.list) (place_of_key c.args.indexed.now c.args.key) c.requires.pending in
-    let same : c.place-place.result - 1 ≡ slot = omega (arith, is, some, c.place-place.ensures.place) in
+    let same : c.place-slot.result - 1 ≡ slot = omega (arith, is, some, c.place-slot.ensures.place) in
     subst (λ s. SetsMark s false (held_at c.args.queue.now.list) (held_at c.settle.new.self.list)) same c.settle.ensures.held
 
 pub returns-clause-count : goal.returns-clause-count
 returns-clause-count g c =
     let place = place_of_key c.args.indexed.now c.args.key in
     let some = at-some (pending_at c.args.queue.now.list) place c.requires.pending in
-    let stands : (c.place-place.result - 1) + 1 ≡ place = omega (arith, some, c.place-place.ensures.place) in
-    let one : one_if (pending_at c.args.queue.now.list (c.place-place.result - 1)) ≡ 1 =
-    ap one_if (sym (at-index (pending_at c.args.queue.now.list) place (c.place-place.result - 1) stands) ∙ c.requires.pending) in
+    let stands : (c.place-slot.result - 1) + 1 ≡ place = omega (arith, some, c.place-slot.ensures.place) in
+    let one : one_if (pending_at c.args.queue.now.list (c.place-slot.result - 1)) ≡ 1 =
+    ap one_if (sym (at-index (pending_at c.args.queue.now.list) place (c.place-slot.result - 1) stands) ∙ c.requires.pending) in
     omega (arith, one, c.settle.ensures.count)
 
 pub returns-clause-list : goal.returns-clause-list
 returns-clause-list g c =
-    let function : c.function_at.result ≡ function_of c.args.indexed.now.cells c.args.key = c.function_at.ensures c.args.key c.place-place.ensures.place in
-    let pending = c.requires.pending in
-    let list = c.make_room.ensures.list in
-    let noted = c.note.ensures.list in
-    cc (function, pending, list, noted)
+    c.note_now.ensures.list ∙ ap (λ list. with_note list c.args.key (entry_by c.args.indexed.now c.args.queue.now c.args.key)) c.make_room.ensures.list
 
 pub returns-clause-marks : goal.returns-clause-marks
 returns-clause-marks g c = λ slot is n.
     let some = at-some (pending_at c.args.queue.now.list) (place_of_key c.args.indexed.now c.args.key) c.requires.pending in
-    let same : c.place-place.result - 1 ≡ slot = omega (arith, is, some, c.place-place.ensures.place) in
-    c.note.ensures.marks n
-    ∙ ap (λ b. cond (nat_eq (c.place-place.result - 1) n) b (noted_at c.make_room.new.self n)) (ap is_some c.make_room.ensures.list)
-    ∙ ap (cond (nat_eq (c.place-place.result - 1) n) (is_some c.args.changes.now.list)) (c.make_room.ensures.marks n)
+    let same : c.place-slot.result - 1 ≡ slot = omega (arith, is, some, c.place-slot.ensures.place) in
+    c.note_now.ensures.marks n
+    ∙ ap (λ b. cond (nat_eq (c.place-slot.result - 1) n) b (noted_at c.make_room.new.self n)) (ap is_some c.make_room.ensures.list)
+    ∙ ap (cond (nat_eq (c.place-slot.result - 1) n) (is_some c.args.changes.now.list)) (c.make_room.ensures.marks n)
     ∙ ap (λ s. cond (nat_eq s n) (is_some c.args.changes.now.list) (noted_at c.args.changes.now n)) same

@@ -41,7 +41,7 @@ loop-entry-preserved g c =
     let same : length (drop index list) ≡ length rest + 1 = omega (arith, left) in
     let next : drop index list ≡ entry ∷ rest = drop_more list index entry c.loop-entry-test.true ∙ ap (λ e. e ∷ rest) (sym c.entry-item.is) in
     record {
-      room = c.enter.ensures.room (length rest) (subst (λ n. HasRoomFor n indexed queue changes) same c.loop-entry.invariant.room);
+      room = c.enter.ensures.room (length rest) (subst (λ n. HasRoomFor n n indexed queue changes) same c.loop-entry.invariant.room);
       made = λ k d less.
           let stays = place-stays entry.0 indexed.cells (get_or list k d).0 (Some entry.1) c.cell_of-cell.result c.cell_of-cell.ensures.place in
           let put = ap (place_in (get_or list k d).0) c.enter.ensures.cells in

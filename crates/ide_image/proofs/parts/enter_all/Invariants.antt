@@ -15,7 +15,7 @@ use Rattle.ide_image.proofs.parts.enter_all.Given as goal
 -- there is room for the entries that are left, and these make of what stands what all of them make of what stood
 abbrev pub invariant-loop-entry : goal.invariant-loop-entry
 invariant-loop-entry g l = record {
-  room : HasRoomFor (length (drop l.entry-index l.list)) l.indexed l.queue l.changes;
+  room : HasRoomFor (length (drop l.entry-index l.list)) (length (drop l.entry-index l.list)) l.indexed l.queue l.changes;
   made : HaveCells l.indexed l.list;
   whole : AreParts l.indexed l.queue l.claims.items l.changes;
   cells : with_all l.indexed.cells (full_cells (drop l.entry-index l.list)) ≡ with_all l.initial.indexed.cells (full_cells l.list);

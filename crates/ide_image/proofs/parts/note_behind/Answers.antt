@@ -1,19 +1,13 @@
-use Rattle.std.proofs.Common.{rules, ◌≡◌, ◌+◌, ◌-◌, false, subst, ap, ◌∙◌, arith, suc}
+use Rattle.std.proofs.Common.{◌≡◌, ◌+◌, ◌-◌, false, subst, ap, ◌∙◌, arith, suc}
 use Rattle.std.proofs.lemmas.Bool.Decides.{nat_tests}
-use Rattle.std.specs.Option.{is_some}
 use Rattle.std.specs.Prelude.{nat_eq}
 use Rattle.ide_wire.specs.Key.{same_key}
 use Rattle.ide_wire.specs.declared.key.Key.TheVariants.{Jump}
 use Rattle.ide_image.specs.ChangeLog.{MayNote}
 use Rattle.ide_image.specs.Indexed.{place_of_key}
 use Rattle.ide_image.specs.Walk.{absent_entry, jump_behind}
-use Rattle.ide_image.proofs.Walking.{behind-key, entered-more, entered-silent, listed-beside, notes-more}
+use Rattle.ide_image.proofs.Walking.{behind-key, entered-more, listed-beside, notes-more}
 use Rattle.ide_image.proofs.parts.note_behind.Goals as goal
-
-pub returns-then-not-is_noting-clause-list : goal.returns-then-not-is_noting-clause-list
-returns-then-not-is_noting-clause-list g c =
-    let silent : is_some c.args.changes.now.list ≡ false = search rules in
-    entered-silent c.args.changes.now.list (jump_behind c.args.node c.args.from c.args.to) c.args.count silent
 
 pub loop-step-preserved : goal.loop-step-preserved
 loop-step-preserved g c =

@@ -1,25 +1,18 @@
 use Rattle.std.proofs.Common.{Some, arith, sym, ◌∙◌, ap}
-use Rattle.ide_image.specs.ChangeLog.{noted_at}
 use Rattle.ide_image.specs.Indexed.{place_of_key}
 use Rattle.ide_image.specs.Tables.{place_in}
-use Rattle.ide_image.proofs.Agree.{at-index}
 use Rattle.ide_image.proofs.Places.{place-stays}
 use Rattle.ide_image.proofs.Spots.{place-few}
 use Rattle.ide_image.proofs.parts.put_noted.Goals as goal
 
-pub note-requires-clause-room : goal.note-requires-clause-room
-note-requires-clause-room g c =
+pub note_now-requires-clause-room : goal.note_now-requires-clause-room
+note_now-requires-clause-room g c =
     let few = place-few c.args.key c.args.indexed.now.cells in
     let notes = c.requires.room.notes in
     record {
       free = notes.free;
       stamped = λ is. let stamped = notes.stamped is in omega (arith, few, c.requires.cell, stamped);
     }
-
-pub note-requires-clause-mark : goal.note-requires-clause-mark
-note-requires-clause-mark g c =
-    sym (at-index (noted_at c.args.changes.now) (place_of_key c.args.indexed.now c.args.key) c.args.cell c.requires.cell)
-    ∙ c.requires.listed
 
 pub returns-clause-stands : goal.returns-clause-stands
 returns-clause-stands g c =
@@ -28,6 +21,6 @@ returns-clause-stands g c =
 
 pub returns-clause-slots : goal.returns-clause-slots
 returns-clause-slots g c =
-    c.note.ensures.slots (place_of_key c.put.new.self)
+    c.note_now.ensures.slots (place_of_key c.put.new.self)
     (sym (c.requires.cell
     ∙ sym (ap (place_in c.args.key) c.put.ensures.cells ∙ place-stays c.args.key c.args.indexed.now.cells c.args.key (Some c.args.function) c.args.cell c.requires.cell)))
