@@ -24,7 +24,6 @@ use Rattle.ide_image.specs.Queue.{SlotMarks, held_at, is_held, is_pending_mark, 
 use Rattle.ide_image.proofs.Agree.{at-more, claim-done, function-same, is-pending, pending-long, table-same}
 use Rattle.ide_image.proofs.Shown.{count-shown, entry-at, found-shown, function-with, spent-shown}
 use Rattle.ide_image.proofs.Marked.{at-same}
-use Rattle.ide_image.proofs.Stack.{pending-there}
 use Rattle.std.proofs.lemmas.Option.{same_Some}
 
 -- a place that is marked is of a slot
@@ -68,9 +67,6 @@ held-open Left is = absurd (cc (is))
 held-open Waiting is = refl
 held-open Held is = refl
 held-open HeldLeft is = refl
-
-pub held-there : (marks : List Mark) (slot : ℕ) → held_at marks slot ≡ true → slot < length marks
-held-there marks slot is = pending-there marks slot (held-open (mark_in marks slot) is)
 
 pub at-open : (marks : List Mark) (place : ℕ) → marked_at (held_at marks) place ≡ true → marked_at (pending_at marks) place ≡ true
 at-open marks zero is = is

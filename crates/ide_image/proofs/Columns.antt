@@ -63,10 +63,6 @@ module _ {F : Type 0} where
   shown-at (x ∷ cells) zero = refl
   shown-at (x ∷ cells) (suc n) = shown-at cells n
 
-  -- nothing is shown behind the last cell
-  pub entry-behind : (cells : List (Key × Option F)) (n : ℕ) (e : Key × F) → length cells ≤ n → entry_in cells n ≡ Some e → ⊥
-  entry-behind cells n e past shows = cc (sym (ap (λ o. option_flatten (option_map entry_of_cell o)) (slice_get_past cells n past)) ∙ shows)
-
   pub show-table : (cells : List (Key × Option F)) → IsDistinct same_key (keys_of cells) → ShowTable (record { table = table_of cells; cells = map entry_of_cell cells })
   show-table cells apart = record {
     found = λ q. ap (lookup (same_key q)) (sym (shown-same cells));
@@ -486,10 +482,6 @@ module _ {F : Type 0} (old new : Numbers) (functions : List F) (paged : ArePaged
     map (key_at new.pages) (range_with_len (64 * length old.pages) 64),
     page-added (page_of key) added absent,
   )
-
-  pub pages-few : (key : Key) → AddsPage old new key → length new.pages ≤ length old.pages + 1
-  pages-few key (inl same) = let long = ap length same in omega (arith, long)
-  pages-few key (inr added) = let long = ap length added ∙ length-append old.pages (page_of key ∷ []) in omega (arith, long)
 
 -- ---- the cells behind a jump's on its page
 

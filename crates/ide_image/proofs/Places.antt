@@ -15,10 +15,6 @@ behind-zero : (p : ℕ) → behind p ≡ 0 → p ≡ 0
 behind-zero zero is = refl
 behind-zero (suc p) is = absurd (omega (arith, is))
 
-behind-one : (p : ℕ) → behind p ≡ 1 → p ≡ 1
-behind-one zero is = absurd (omega (arith, is))
-behind-one (suc p) is = absurd (omega (arith, is))
-
 behind-more : (p n : ℕ) → behind p ≡ suc (suc n) → p ≡ suc n
 behind-more zero n is = absurd (omega (arith, is))
 behind-more (suc p) n is = omega (arith, is)

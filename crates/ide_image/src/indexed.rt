@@ -183,7 +183,7 @@ impl<F: EdgeFn> Indexed<F> {
         Ok(keys)
     }
 
-    /// The jumps at the node to the fact. It takes a look-up for each.
+    /// The jumps at the node to the fact. It takes one search, and no look-up.
     pub(crate) fn jumps_at(
         &self,
         alloc: Global,
@@ -198,7 +198,7 @@ impl<F: EdgeFn> Indexed<F> {
         Ok(partners)
     }
 
-    /// The summaries at the call node from the fact. It takes a look-up for each.
+    /// The summaries at the call node from the fact. It takes one search, and no look-up.
     pub(crate) fn summaries_at(
         &self,
         alloc: Global,
@@ -248,6 +248,7 @@ impl<F: EdgeFn> Indexed<F> {
     }
 
     /// The cell of a key that has one. One look-up.
+    #[inline(always)]
     pub(crate) fn cell_of(&self, key: Key) -> usize
         requires cell { HasCell self.now key }
         ensures place { result + 1 ≡ place_of_key self.now key }

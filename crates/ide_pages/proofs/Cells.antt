@@ -58,7 +58,7 @@ module _ (pages : List Key) (apart : IsDistinct same_key pages) where
   }
 
 -- what follows of the fields
-module _ {pages : List Key} {cells places : List ℕ} {count : ℕ} (are : ArePages pages cells places count) where
+module _ {pages : List Key} {cells : List ℕ} {places : List (ℕ × ℕ)} {count : ℕ} (are : ArePages pages cells places count) where
   abbrev by : IsNumbering (key_at pages) (cell_in pages) (length cells)
   by = numbering pages are.distinct cells are.paged
 
@@ -208,6 +208,7 @@ module _ {pages : List Key} {cells places : List ℕ} {count : ℕ} (are : ArePa
         distinct = are.distinct;
         small = are.small;
         placed = are.placed;
+        told = are.told;
         counted =
             let w = count-was in
             let o = ap weight old-is in

@@ -1,6 +1,6 @@
 -- The rows, read from the ordered places, are exact and ascend. `first` is the first place of a row, `at d` the page that it asks for at
 -- the fact d, and `get` gives what a page has.
-use Rattle.std.proofs.Common.{◌≡◌, ℕ, ◌+◌, ◌/◌, ◌%◌, ◌<◌, ◌^◌, refl, sym, ap, ◌∙◌, arith, List, [], ◌∷◌, Option, None, Some, Bool, true, false, cond, ◌||◌}
+use Rattle.std.proofs.Common.{◌≡◌, ℕ, ◌+◌, ◌*◌, ◌/◌, ◌%◌, ◌<◌, ◌^◌, refl, sym, ap, subst, ◌∙◌, arith, List, [], ◌∷◌, Option, None, Some, Bool, true, false, cond, ◌||◌}
 use Rattle.std.specs.Prelude.{filter}
 use Rattle.std.specs.BTreeMap.{is_at}
 use Rattle.std.specs.List.{filter_map, list_any, cons_option, AllByRecursion}
@@ -14,7 +14,7 @@ use Rattle.std.proofs.lemmas.Bool.Decides.{nat_tests}
 use Rattle.ide_wire.specs.declared.key.Key.{Key}
 use Rattle.ide_wire.specs.declared.key.Key.TheVariants.{Jump, Summary}
 use Rattle.ide_wire.specs.Key.{same_key, node_of}
-use Rattle.ide_pages.specs.Pages.{ArePages, AreRow, cell_on, has_place, is_of_row, listed_fact, nonzero, cell_number, number_on, numbers_of, page_of, page_place, partner_of, place_number, placed_page, row_of}
+use Rattle.ide_pages.specs.Pages.{ArePages, AreRow, TellPages, cell_on, is_of_row, listed_fact, nonzero, cell_number, number_by, number_on, numbers_of, page_of, page_place, partner_of, place_number, placed_page, row_of}
 use Rattle.ide_pages.proofs.Cells.{number-found}
 use Rattle.ide_pages.proofs.Places.{placed-jump, placed-summary, position-absent}
 
@@ -162,7 +162,7 @@ module _ {V : Type 0} (at : ℕ → Key) (first : ℕ) (row : IsRow at first) (g
       ] refl
 
   -- the row has at a fact what the page at it has, where a page that has anything is placed
-  pub exact : (places : List ℕ) (d : ℕ) → d < 2 ^ 16 → (is_some (get (at d)) ≡ true → has_place places (at d) ≡ true)
+  pub exact : (places : List ℕ) (d : ℕ) → d < 2 ^ 16 → (is_some (get (at d)) ≡ true → list_any (is_at (nat_cmp (page_place (at d)))) places ≡ true)
       → lookup (is_at (nat_cmp d)) (row_in places) ≡ get (at d)
   exact places d l placed =
       found places d l
@@ -177,22 +177,51 @@ has-page pages cells offset page some =
     true_from_ne_false (list_any (same_key page) pages)
     (λ none. absurd (cc (some, position-absent (same_key page) pages none)))
 
+-- what a page has at an offset
+abbrev get_on : List Key → List ℕ → ℕ → Key → Option ℕ
+get_on pages cells offset page = nonzero (number_on pages cells offset page)
+
+-- what the page at the index of each place has is what the page of the place has
+module _ (pages : List Key) (cells : List ℕ) (offset first : ℕ) where
+  abbrev by_index : List (ℕ × ℕ) → List (ℕ × ℕ)
+  by_index places = filter_map (partner_of (number_by cells offset)) (filter (λ (entry : ℕ × ℕ). is_of_row first entry.0) places)
+
+  abbrev by_page : List (ℕ × ℕ) → List (ℕ × ℕ)
+  by_page places = filter_map (listed (get_on pages cells offset)) (filter (is_of_row first) (keys_of places))
+
+  row-told : (places : List (ℕ × ℕ)) → TellPages places pages → by_index places ≡ by_page places
+  row-told [] told = refl
+  row-told (e ∷ es) told =
+      let rest : by_index es ≡ by_page es = row-told es told.1 in
+      let own : number_by cells offset e.1 ≡ number_on pages cells offset (placed_page e.0) =
+      sym (ap (λ o. cell_number cells (option_map (λ index. 64 * index + offset) o)) told.0) in
+      elim (is_of_row first e.0)
+      as (λ b. filter_map (partner_of (number_by cells offset)) (cond b (e ∷ filter (λ (entry : ℕ × ℕ). is_of_row first entry.0) es) (filter (λ (entry : ℕ × ℕ). is_of_row first entry.0) es))
+      ≡ filter_map (listed (get_on pages cells offset)) (cond b (e.0 ∷ filter (is_of_row first) (keys_of es)) (filter (is_of_row first) (keys_of es)))) [
+        | true ↦
+            ap (λ n. cons_option (option_map (λ v. (listed_fact e.0, v)) (nonzero n)) (by_index es)) own
+            ∙ ap (λ r. cons_option (listed (get_on pages cells offset) e.0) r) rest
+        | false ↦ rest
+      ]
+
 -- the row is that of the keys `to` a fact, whose pages are those `at` it
-are-row : (at to : ℕ → Key) (first offset : ℕ) {pages : List Key} {cells places : List ℕ} {count : ℕ}
+are-row : (at to : ℕ → Key) (first offset : ℕ) {pages : List Key} {cells : List ℕ} {places : List (ℕ × ℕ)} {count : ℕ}
     → ArePages pages cells places count → IsRow at first
     → ((d : ℕ) → cell_on pages (node_of (to d) % 64) (page_of (to d)) ≡ cell_on pages offset (at d))
-    → IsStrictlySortedBy nat_cmp places
-    → AreRow to (numbers_of pages cells) (filter_map (partner_of (number_on pages cells offset)) (filter (is_of_row first) places))
+    → IsStrictlySortedBy nat_cmp (keys_of places)
+    → AreRow to (numbers_of pages cells) (filter_map (partner_of (number_by cells offset)) (filter (λ (entry : ℕ × ℕ). is_of_row first entry.0) places))
 are-row at to first offset {pages = pages} {cells = cells} {places = places} are row same ordered =
-    let get : Key → Option ℕ = λ page. nonzero (number_on pages cells offset page) in
-    record {
-      ascending = ascending at first row get places ordered;
-      within = within at first row get places;
+    let get : Key → Option ℕ = get_on pages cells offset in
+    let keys : List ℕ = keys_of places in
+    subst (AreRow to (numbers_of pages cells)) (sym (row-told pages cells offset first places are.told))
+    (record {
+      ascending = ascending at first row get keys ordered;
+      within = within at first row get keys;
       exact = λ d l.
-          exact at first row get places d l (λ some. are.placed (at d) (has-page pages cells offset (at d) some))
+          exact at first row get keys d l (λ some. are.placed (at d) (has-page pages cells offset (at d) some))
           ∙ ap (λ cell. nonzero (cell_number cells cell)) (sym (same d))
           ∙ ap nonzero (sym (number-found are (to d)));
-    }
+    })
 
 -- the numbers of a row's places
 whole-row : (kind block fact : ℕ) → place_number kind block fact 0 % 65536 ≡ 0
@@ -202,9 +231,9 @@ row-place : (kind block fact d : ℕ) → place_number kind block fact d ≡ pla
 row-place kind block fact d = omega arith
 
 -- the row of the jumps at a node to a fact
-pub jump_row : (node fact : ℕ) {pages : List Key} {cells places : List ℕ} {count : ℕ} → node < 2 ^ 32 → fact < 2 ^ 16
-    → ArePages pages cells places count → IsStrictlySortedBy nat_cmp places
-    → AreRow (λ d. Jump node d fact) (numbers_of pages cells) (row_of pages cells places (Jump node 0 fact))
+pub jump_row : (node fact : ℕ) {pages : List Key} {cells : List ℕ} {places : List (ℕ × ℕ)} {count : ℕ} → node < 2 ^ 32 → fact < 2 ^ 16
+    → ArePages pages cells places count → IsStrictlySortedBy nat_cmp (keys_of places)
+    → AreRow (λ d. Jump node d fact) (numbers_of pages cells) (row_of cells places (Jump node 0 fact))
 jump_row node fact small sixteen are ordered =
     are-row (λ d. Jump (node / 64) d fact) (λ d. Jump node d fact) (place_number 0 (node / 64) fact 0) (node % 64) are
     (record {
@@ -215,9 +244,9 @@ jump_row node fact small sixteen are ordered =
     (λ d. refl) ordered
 
 -- the row of the summaries at a call from a fact
-pub summary_row : (call fact : ℕ) {pages : List Key} {cells places : List ℕ} {count : ℕ} → fact < 2 ^ 16
-    → ArePages pages cells places count → IsStrictlySortedBy nat_cmp places
-    → AreRow (Summary call fact) (numbers_of pages cells) (row_of pages cells places (Summary call fact 0))
+pub summary_row : (call fact : ℕ) {pages : List Key} {cells : List ℕ} {places : List (ℕ × ℕ)} {count : ℕ} → fact < 2 ^ 16
+    → ArePages pages cells places count → IsStrictlySortedBy nat_cmp (keys_of places)
+    → AreRow (Summary call fact) (numbers_of pages cells) (row_of cells places (Summary call fact 0))
 summary_row call fact sixteen are ordered =
     are-row (Summary (call / 64) fact) (Summary call fact) (place_number 1 (call / 64) fact 0) (call % 64) are
     (record {

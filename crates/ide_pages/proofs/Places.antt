@@ -84,6 +84,18 @@ module _ {X : Type 0} (test : X → Bool) where
       let same : (i + 1) + length xs ≡ i + length (x ∷ xs) = omega arith in
       ap (λ b. cond b (Some i) (position_from test (i + 1) (xs ++ y ∷ []))) parts.0 ∙ from-last (i + 1) xs y parts.1 own ∙ ap Some same
 
+  from-kept : (i n : ℕ) (xs ys : List X) → position_from test i xs ≡ Some n → position_from test i (xs ++ ys) ≡ Some n
+  from-kept i n [] ys e = absurd (cc (e))
+  from-kept i n (x ∷ xs) ys e =
+      elim (test x) as (λ b. cond b (Some i) (position_from test (i + 1) xs) ≡ Some n → cond b (Some i) (position_from test (i + 1) (xs ++ ys)) ≡ Some n) [
+        | true ↦ λ e. e
+        | false ↦ λ e. from-kept (i + 1) n xs ys e
+      ] e
+
+  -- it is the same where more comes behind
+  pub position-kept : (xs ys : List X) (n : ℕ) → position test xs ≡ Some n → position test (xs ++ ys) ≡ Some n
+  position-kept xs ys n e = position_from-zero test (xs ++ ys) ∙ from-kept 0 n xs ys (sym (position_from-zero test xs) ∙ e)
+
   pub position-none : (xs : List X) → position test xs ≡ None → list_any test xs ≡ false
   position-none xs e = from-none 0 xs (sym (position_from-zero test xs) ∙ e)
 

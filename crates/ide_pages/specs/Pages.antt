@@ -158,21 +158,29 @@ placed_page place =
     if nat_lt place 288230376151711744 then Jump (place / 4294967296) (place % 65536) (place / 65536 % 65536)
     else Summary ((place - 288230376151711744) / 4294967296) (place / 65536 % 65536) (place % 65536)
 
--- whether the places have the page's
-abbrev pub has_place : List ℕ → Key → Bool
-has_place places page = list_any (is_at (nat_cmp (page_place page))) places
+-- whether the places, each with the index of a page, have the page's
+abbrev pub has_place : List (ℕ × ℕ) → Key → Bool
+has_place places page = list_any (is_at (nat_cmp (page_place page))) (keys_of places)
 
 -- the places that there were are there
-abbrev pub KeepsPlaces : (old new : List ℕ) → Type 0
+abbrev pub KeepsPlaces : (old new : List (ℕ × ℕ)) → Type 0
 KeepsPlaces old new = (q : Key) → has_place old q ≡ true → has_place new q ≡ true
 
--- the places have those of the pages; the place of a page that is not there lists nothing
-abbrev pub ArePlaced : (places : List ℕ) (pages : List Key) → Type 0
+-- the places have those of the pages
+abbrev pub ArePlaced : (places : List (ℕ × ℕ)) (pages : List Key) → Type 0
 ArePlaced places pages = (page : Key) → list_any (same_key page) pages ≡ true → has_place places page ≡ true
 
--- the fact that a place lists, with the number on its page, where that is not 0
-abbrev pub partner_of : (Key → ℕ) → ℕ → Option (ℕ × ℕ)
-partner_of number place = option_map (λ n. (listed_fact place, n)) (nonzero (number (placed_page place)))
+-- each place has the index of its page, which is there
+abbrev pub TellPages : (places : List (ℕ × ℕ)) (pages : List Key) → Type 0
+TellPages places pages = AllByRecursion (λ entry. position (same_key (placed_page entry.0)) pages ≡ Some entry.1) places
+
+-- the number at an offset of the page at an index, or 0
+abbrev pub number_by : (cells : List ℕ) → (offset index : ℕ) → ℕ
+number_by cells offset index = slice_index_or cells (64 * index + offset) 0
+
+-- the fact that a place lists, with the number on the page at its index, where that is not 0
+abbrev pub partner_of : (ℕ → ℕ) → ℕ × ℕ → Option (ℕ × ℕ)
+partner_of number entry = option_map (λ n. (listed_fact entry.0, n)) (nonzero (number entry.1))
 
 -- whether a place is of the row whose first place is given: of its kind, its block and its fact
 abbrev pub is_of_row : (first : ℕ) → ℕ → Bool
@@ -180,15 +188,16 @@ is_of_row first = range_contains nat_cmp (Included first) (Included (first + 655
 
 -- the row that begins with the first key, whose listed fact is 0: the facts that the places of its row list, with the numbers at the
 -- key's node, where those are not 0
-abbrev pub row_of : (pages : List Key) (cells places : List ℕ) → (first : Key) → List (ℕ × ℕ)
-row_of pages cells places first =
-    filter_map (partner_of (number_on pages cells (node_of first % 64))) (filter (is_of_row (page_place (page_of first))) places)
+abbrev pub row_of : (cells : List ℕ) (places : List (ℕ × ℕ)) → (first : Key) → List (ℕ × ℕ)
+row_of cells places first =
+    filter_map (partner_of (number_by cells (node_of first % 64))) (filter (λ entry. is_of_row (page_place (page_of first)) entry.0) places)
 
 -- what holds of the fields: each page has 64 cells and stands once, its keys' nodes are numbers of 32 bits, its place is among the
--- places, and the count is that of the entries
-pub record ArePages (pages : List Key) (cells places : List ℕ) (count : ℕ) : Type 0 where
+-- places, of which each has the index of its page, and the count is that of the entries
+pub record ArePages (pages : List Key) (cells : List ℕ) (places : List (ℕ × ℕ)) (count : ℕ) : Type 0 where
   pub paged : length cells ≡ 64 * length pages
   pub distinct : IsDistinct same_key pages
   pub small : (index : ℕ) → node_of (page_at pages index) < 2 ^ 26
   pub placed : ArePlaced places pages
+  pub told : TellPages places pages
   pub counted : count ≡ length (entries (numbers_of pages cells))

@@ -1,28 +1,33 @@
 //! The map from keys to numbers.
 ghost use Rattle.std.specs.Prelude.{◌≡◌, ◌≢◌, ℕ, Some, Ok, ◌+◌, ◌*◌, ◌<◌, ◌≤◌, ◌^◌, ◌↔◌, ◌++◌, [], ◌∷◌, true, false, length, replicate, slice_set, slice_index_or, if◌then◌else◌, None, IfSome, IfOk, OnOk, OnErr, IsOkUnless, vec_capacity, vec_len};
 ghost use Rattle.std.specs.List.{AllByRecursion, IsDistinct, list_any};
+ghost use Rattle.std.specs.BTreeMap.{insert_entry};
 ghost use Rattle.std.specs.Map.{keys_of};
+ghost use Rattle.std.specs.Ordering.{nat_cmp};
 ghost use Rattle.indexmap.specs.IndexSet.{spare};
 ghost use Rattle.ide_wire.specs.declared.key.Key.{Key};
 ghost use Rattle.ide_wire.specs.declared.key.Key.TheVariants.{Jump, Summary};
 ghost use Rattle.ide_wire.specs.declared.refused.Refused.TheVariants.{NoMemory};
 ghost use Rattle.ide_wire.specs.Key.{node_of, same_key};
-ghost use Rattle.ide_pages.specs.Pages.{AddsPage, Numbers, ArePaged, ArePages, IsRowOfJumps, IsRowOfSummaries, IsNumberIn, KeepsCells, KeepsPlaces, Puts, cell_of, entries, has_place, number_at, number_in, numbers_of, slot_at, weight};
+ghost use Rattle.ide_pages.specs.Pages.{AddsPage, Numbers, ArePaged, ArePages, IsRowOfJumps, IsRowOfSummaries, IsNumberIn, KeepsCells, Puts, cell_of, entries, number_at, number_in, numbers_of, page_place, placed_page, slot_at, weight};
 
 use crate::{keys, rows};
 use ide_wire::{Fact, Key, Node, Refused};
 use indexmap::IndexSet;
 use std::alloc::{AllocError, Global};
-use std::collections::BTreeSet;
+use std::collections::BTreeMap;
 use std::marker::Model;
+
+/// The most pages, so that the index of each has 32 bits.
+const MOST_PAGES: usize = 4_294_967_295;
 
 /// A finite map from keys to numbers, where an absent key has 0.
 #[derive(Drop)]
 pub struct Pages {
     pages: IndexSet<Key>,
     cells: Vec<u32>,
-    /// The place of each page, in order, so that the pages of a row stand side by side.
-    places: BTreeSet<u64>,
+    /// The index of each page at its place, in order, so that the pages of a row stand side by side.
+    places: BTreeMap<u64, u32>,
     count: usize,
     /// The index of the page that was asked for last: keys that follow each other along a procedure
     /// are on one page, which is found again with no look-up.
@@ -34,7 +39,7 @@ impl Model for Pages {
 
     ghost view = { λ p. numbers_of p.pages.keys p.cells.items };
 
-    ghost invariant = { λ p. ArePages p.pages.keys p.cells.items p.places.keys p.count };
+    ghost invariant = { λ p. ArePages p.pages.keys p.cells.items p.places.entries p.count };
 }
 
 impl Pages {
@@ -46,7 +51,7 @@ impl Pages {
         Pages {
             pages: IndexSet::new(alloc),
             cells: Vec::new(alloc),
-            places: BTreeSet::new(alloc),
+            places: BTreeMap::new(alloc),
             count: 0,
             last: 0,
         }
@@ -131,8 +136,8 @@ impl Pages {
         Some((key, number))
     }
 
-    /// The key's cell, for which a page of 64 zeros is made where there is none. `NoMemory` leaves
-    /// the map as it was. Where there is the page it takes one look-up at most, and no memory.
+    /// The key's cell, for which a page of 64 zeros is made where there is none: one more than
+    /// 4,294,967,295 pages are refused as `NoMemory`, which leaves the map as it was. Where there is the page it takes one look-up at most, and no memory.
     #[inline(always)]
     pub fn make_room(&mut self, key: Key) -> Result<usize, Refused>
         ensures cell { IfOk result (λ cell. cell_of self.new key ≡ Some cell) }
@@ -149,9 +154,12 @@ impl Pages {
             self.last = cell / 64;
             return Ok(cell);
         }
+        if self.pages.len() >= MOST_PAGES {
+            return Err(Refused::NoMemory);
+        }
         self.cells.reserve(64)?;
         self.pages.reserve(1)?;
-        add_place(&mut self.places, page)?;
+        add_place(&mut self.places, page, self.pages.len() as u32)?;
         let index = add_page(&mut self.pages, &mut self.cells, page);
         self.last = index;
         Ok(64 * index + offset)
@@ -169,7 +177,7 @@ impl Pages {
     }
 
     /// The jumps at the node to the fact whose number is not 0: for each the fact at the start of
-    /// its procedure, and its number, ascending by fact. One look-up for each page of such jumps.
+    /// its procedure, and its number, ascending by fact. A search among the places, and no look-up.
     pub fn jumps_to(
         &self,
         alloc: Global,
@@ -180,12 +188,12 @@ impl Pages {
         ensures refused { IsOkUnless result NoMemory }
     {
         let first = Key::Jump(node, 0, fact);
-        let row = rows::row(alloc, &self.pages, &self.cells, &self.places, first)?;
+        let row = rows::row(alloc, &self.cells, &self.places, first)?;
         Ok(row)
     }
 
     /// The summaries at the call from the fact whose number is not 0: for each the fact at the
-    /// return site, and its number, ascending by fact. One look-up for each page of such summaries.
+    /// return site, and its number, ascending by fact. A search among the places, and no look-up.
     pub fn summaries_from(
         &self,
         alloc: Global,
@@ -196,7 +204,7 @@ impl Pages {
         ensures refused { IsOkUnless result NoMemory }
     {
         let first = Key::Summary(call, fact, 0);
-        let row = rows::row(alloc, &self.pages, &self.cells, &self.places, first)?;
+        let row = rows::row(alloc, &self.cells, &self.places, first)?;
         Ok(row)
     }
 
@@ -233,13 +241,14 @@ fn counted(count: usize, old: u32, number: u32) -> usize
     }
 }
 
-// Adds the page's place.
-fn add_place(places: &mut BTreeSet<u64>, page: Key) -> Result<(), AllocError>
+// Adds the page's place, with the page's index.
+fn add_place(places: &mut BTreeMap<u64, u32>, page: Key, index: u32) -> Result<(), AllocError>
     requires small { node_of page < 2 ^ 26 }
-    ensures added { OnOk result (has_place places.new.keys page ≡ true) }
-    ensures kept { KeepsPlaces places.old.keys places.new.keys }
+    ensures entries { OnOk result (places.new.entries ≡ insert_entry nat_cmp places.old.entries (page_place page) index) }
+    ensures page { placed_page (page_place page) ≡ page }
+    ensures same { OnErr result (places.new.entries ≡ places.old.entries) }
 {
-    places.insert(keys::place_of(page))?;
+    let _ = places.insert(keys::place_of(page), index)?;
     Ok(())
 }
 
@@ -266,9 +275,9 @@ fn copied_pages(pages: &IndexSet<Key>) -> Result<IndexSet<Key>, AllocError>
     pages.clone()
 }
 
-// The same places.
-fn copied_places(places: &BTreeSet<u64>) -> Result<BTreeSet<u64>, AllocError>
-    ensures { IfOk result (λ copy. copy.keys ≡ places.now.keys) }
+// The same places, with the same indices.
+fn copied_places(places: &BTreeMap<u64, u32>) -> Result<BTreeMap<u64, u32>, AllocError>
+    ensures { IfOk result (λ copy. copy.entries ≡ places.now.entries) }
 {
     places.clone()
 }

@@ -2,15 +2,16 @@
 ghost use Rattle.std.specs.Prelude.{◌≡◌, ℕ, ◌*◌, ◌<◌, ◌≤◌, ◌^◌, Some, true, length, slice_get, slice_index_or, IfOk, IfSome, IfNone};
 ghost use Rattle.std.specs.List.{IsDistinct};
 ghost use Rattle.std.specs.List.Sorted.{IsStrictlySortedBy};
+ghost use Rattle.std.specs.Map.{keys_of};
 ghost use Rattle.std.specs.Ordering.{nat_cmp};
 ghost use Rattle.ide_wire.specs.Key.{node_of, same_key};
-ghost use Rattle.ide_pages.specs.Pages.{cell_number, cell_on, key_at, number_on, page_at, partner_of, row_of};
+ghost use Rattle.ide_pages.specs.Pages.{cell_number, cell_on, key_at, number_by, page_at, partner_of, row_of};
 
 use crate::keys;
 use ide_wire::{Fact, Key};
 use indexmap::IndexSet;
 use std::alloc::{AllocError, Global};
-use std::collections::BTreeSet;
+use std::collections::BTreeMap;
 
 // The cell at an offset of the page, if there is the page. One look-up.
 pub(crate) fn cell_on(
@@ -80,15 +81,6 @@ pub(crate) fn number_in(cells: &[u32], cell: usize) -> u32
     }
 }
 
-// The number in the cell at an offset of the page, or 0. One look-up.
-pub(crate) fn number_on(pages: &IndexSet<Key>, cells: &[u32], offset: usize, page: Key) -> u32
-    requires paged { length cells.now ≡ 64 * length pages.now.keys }
-    requires within { offset < 64 }
-    ensures { result ≡ number_on pages.now.keys cells.now offset page }
-{
-    number_of(cells, cell_on(pages, cells, offset, page))
-}
-
 // The number in the cell, or 0 where there is none.
 pub(crate) fn number_of(cells: &[u32], cell: Option<usize>) -> u32
     ensures { result ≡ cell_number cells.now cell }
@@ -99,13 +91,13 @@ pub(crate) fn number_of(cells: &[u32], cell: Option<usize>) -> u32
     }
 }
 
-// The fact that the place lists, with the number at the offset of its page, where that is not 0.
-fn partner(pages: &IndexSet<Key>, cells: &[u32], offset: usize, place: u64) -> Option<(Fact, u32)>
-    requires paged { length cells.now ≡ 64 * length pages.now.keys }
+// The fact that the place lists, with the number at the offset of the page at the index, where that is not 0.
+#[inline(always)]
+fn partner(cells: &[u32], offset: usize, place: u64, index: u32) -> Option<(Fact, u32)>
     requires within { offset < 64 }
-    ensures { result ≡ partner_of (number_on pages.now.keys cells.now offset) place }
+    ensures { result ≡ partner_of (number_by cells.now offset) (place, index) }
 {
-    let number = number_on(pages, cells, offset, keys::placed_page(place));
+    let number = number_in(cells, 64 * index as usize + offset);
     if number == 0 {
         None
     } else {
@@ -117,19 +109,17 @@ fn partner(pages: &IndexSet<Key>, cells: &[u32], offset: usize, place: u64) -> O
 // row list, with the numbers at the key's node, where those are not 0.
 pub(crate) fn row(
     alloc: Global,
-    pages: &IndexSet<Key>,
     cells: &[u32],
-    places: &BTreeSet<u64>,
+    places: &BTreeMap<u64, u32>,
     first: Key,
 ) -> Result<Vec<(Fact, u32)>, AllocError>
-    requires paged { length cells.now ≡ 64 * length pages.now.keys }
-    ensures row { IfOk result (λ row. row.items ≡ row_of pages.now.keys cells.now places.now.keys first) }
-    ensures ordered { IsStrictlySortedBy nat_cmp places.now.keys }
+    ensures row { IfOk result (λ row. row.items ≡ row_of cells.now places.now.entries first) }
+    ensures ordered { IsStrictlySortedBy nat_cmp (keys_of places.now.entries) }
 {
     let offset = keys::offset_of(first);
     let start = keys::place_of(keys::page_of(first));
     places
         .range(start..=start + keys::LAST)
-        .filter_map(|place| partner(pages, cells, offset, *place))
+        .filter_map(|(place, index)| partner(cells, offset, *place, *index))
         .collect(alloc)
 }

@@ -16,7 +16,10 @@ invariant_of-self-2 c =
     c.add_page-index.new.pages.keys c.add_page-index.new.cells.items
     (c.add_page-index.ensures.pages ∙ ap (λ pages. pages ++ c.page_of-page.result ∷ []) c.in_ok-reserve-2.ensures.keys)
     (c.add_page-index.ensures.cells ∙ ap (λ cells. cells ++ replicate 64 0) c.in_ok-reserve.ensures.items)
-    c.add_place.new.places.keys c.page_of-page.ensures.small c.add_page-index.ensures.distinct c.in_ok-add_place.ensures.kept c.in_ok-add_place.ensures.added
+    c.add_place.new.places.entries c.len-2.result c.page_of-page.ensures.small c.add_page-index.ensures.distinct
+    (absent-page c.self.inside.pages.keys c.offset_of-offset.result c.page_of-page.result (sym c.in_default.ensures.cell))
+    c.add_place.ensures.page (c.len-2.ensures.len ∙ ap length c.in_ok-reserve-2.ensures.keys)
+    (c.in_ok-add_place.ensures.entries)
 
 pub returns-clause-cell : goal.returns-clause-cell
 returns-clause-cell c =
