@@ -183,7 +183,7 @@ impl<F: EdgeFn> Indexed<F> {
         Ok(keys)
     }
 
-    /// The jumps at the node to the fact. It takes one search, and no look-up.
+    /// The jumps at the node to the fact. It takes one look-up.
     pub(crate) fn jumps_at(
         &self,
         alloc: Global,
@@ -198,7 +198,7 @@ impl<F: EdgeFn> Indexed<F> {
         Ok(partners)
     }
 
-    /// The summaries at the call node from the fact. It takes one search, and no look-up.
+    /// The summaries at the call node from the fact. It takes one look-up.
     pub(crate) fn summaries_at(
         &self,
         alloc: Global,

@@ -122,7 +122,7 @@ impl<F: EdgeFn, T: Drop> KeyedImage<F, T> {
     }
 
     /// The jumps at the node to the fact: for each the fact at the start of its procedure, and its
-    /// function, ascending by fact. It takes one search, and no look-up.
+    /// function, ascending by fact. It takes one look-up.
     pub fn jumps_at(&self, alloc: Global, node: Node, fact: Fact) -> Result<Vec<(Fact, F)>, Refused>
         ensures partners { IfOk result (λ list. AreJumpsTo node fact self.now.table list.items) }
         ensures refused { IsOkUnless result NoMemory }
@@ -131,7 +131,7 @@ impl<F: EdgeFn, T: Drop> KeyedImage<F, T> {
     }
 
     /// The summaries at the call node from the fact: for each the fact at the return site, and its
-    /// function, ascending by fact. It takes one search, and no look-up.
+    /// function, ascending by fact. It takes one look-up.
     pub fn summaries_at(
         &self,
         alloc: Global,

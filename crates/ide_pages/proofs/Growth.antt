@@ -1,22 +1,17 @@
 -- A page of zeros behind the others: no entry comes or goes.
-use Rattle.std.proofs.Common.{◌≡◌, ℕ, zero, suc, ◌+◌, ◌-◌, ◌*◌, ◌/◌, ◌%◌, ◌<◌, ◌^◌, lit<, refl, sym, ap, subst, ◌∙◌, arith, List, [], ◌∷◌, ◌++◌, length, get_or, Some, None, Bool, true, false, ◌||◌, replicate, ⊎_elim}
-use Rattle.std.specs.Prelude.{position}
+use Rattle.std.proofs.Common.{◌≡◌, ℕ, zero, suc, ◌+◌, ◌-◌, ◌*◌, ◌/◌, ◌%◌, ◌<◌, ◌^◌, lit<, refl, sym, ap, subst, ◌∙◌, arith, List, [], ◌∷◌, ◌++◌, length, get_or, Some, None, Bool, true, false, replicate, ⊎_elim}
+use Rattle.std.specs.Prelude.{position, nat_eq, ◌&&◌, if◌then◌else◌}
 use Rattle.std.specs.List.{IsDistinct, list_any}
-use Rattle.std.specs.BTreeMap.{insert_entry, is_at}
-use Rattle.std.specs.Map.{keys_of}
 use Rattle.std.specs.Option.{option_map}
-use Rattle.std.specs.Ordering.{is_eq, match_ordering, nat_cmp}
-use Rattle.std.specs.declared.cmp.Ordering.{Ordering}
-use Rattle.std.specs.declared.cmp.Ordering.TheVariants.{Less, Equal, Greater}
-use Rattle.std.proofs.lemmas.Bool.Decides.{nat_tests}
-use Rattle.std.proofs.lemmas.Bool.{cases_lt, or_cases}
+use Rattle.std.proofs.lemmas.Bool.{and_parts, cases_lt, eq-eqb, eqb-true, false_from_ne_true}
 use Rattle.std.proofs.lemmas.List.{get_or_append_left, get_or-append_right, length-append, length-replicate}
-use Rattle.std.proofs.lemmas.List.Folds.{list_any-append}
+use Rattle.std.proofs.lemmas.Map.Keys.{IsDistinct-push}
 use Rattle.ide_wire.specs.declared.key.Key.{Key}
-use Rattle.ide_wire.specs.declared.key.Key.TheVariants.{Jump}
-use Rattle.ide_wire.specs.Key.{same_key, same_key_exact, same_key_refl, node_of}
-use Rattle.ide_pages.specs.Pages.{ArePages, ArePlaced, TellPages, cell_of, cell_on, entries, has_place, key_at, key_on, numbers_of, page_at, page_of, page_place, placed_page}
-use Rattle.ide_pages.proofs.Places.{position-kept, position-last, position-none}
+use Rattle.ide_wire.specs.declared.key.Key.TheVariants.{Jump, Summary}
+use Rattle.ide_wire.specs.Key.{same_key, same_key_exact, same_key_laws, same_key_refl, node_of}
+use Rattle.ide_pages.specs.Pages.{ArePages, IsPage, TellPages, cell_of, cell_on, entries, key_at, key_on, listed_fact, numbers_of, page_at, page_of, row_of}
+use Rattle.ide_pages.specs.Rows.{KeepsPages, ListsIn, RowsData, page_in, row_at, row_in}
+use Rattle.ide_pages.proofs.Places.{position-last, position-none, position-other}
 use Rattle.ide_pages.proofs.Slots.{full-grown}
 
 -- a page that has no cell is not there
@@ -57,110 +52,125 @@ small-push pages page d default small own index =
     one zero = own
     one (suc k) = default
 
--- ---- places, with one put among them
+-- ---- rows, where a page more is told
 
--- numbers that compare as equal are one
-same_number : (a b : ℕ) → nat_cmp a b ≡ Equal → a ≡ b
-same_number a b is = grind (arith, nat_tests)
+-- pages of one row that list one fact are one
+same_page : (p q : Key) → IsPage p → IsPage q → row_of p ≡ row_of q → listed_fact p ≡ listed_fact q → p ≡ q
+same_page (Jump n a b) (Jump m c d) own other row fact =
+    let block : n ≡ m = omega (arith, row, own.2, other.2) in
+    let same : b ≡ d = omega (arith, row, own.2, other.2) in
+    ap (λ k. Jump k a b) block ∙ ap (λ k. Jump m k b) fact ∙ ap (Jump m c) same
+same_page (Jump n a b) (Summary m c d) own other row fact = absurd (omega (arith, row, own.0, own.2))
+same_page (Summary n a b) (Jump m c d) own other row fact = absurd (omega (arith, row, other.0, other.2))
+same_page (Summary n a b) (Summary m c d) own other row fact =
+    let block : n ≡ m = omega (arith, row, own.1, other.1) in
+    let same : a ≡ c = omega (arith, row, own.1, other.1) in
+    ap (λ k. Summary k a b) block ∙ ap (λ k. Summary m k b) same ∙ ap (Summary m c) fact
 
-at_itself : (a : ℕ) → is_at (nat_cmp a) a ≡ true
-at_itself a = grind (arith, nat_tests)
+-- of another page the row or the fact is another one
+other_page : (p q : Key) → IsPage p → IsPage q → same_key q p ≡ false → (nat_eq (row_of p) (row_of q) && nat_eq (listed_fact p) (listed_fact q)) ≡ false
+other_page p q own other differ =
+    false_from_ne_true (nat_eq (row_of p) (row_of q) && nat_eq (listed_fact p) (listed_fact q))
+    (λ both.
+    let parts = and_parts (nat_eq (row_of p) (row_of q)) (nat_eq (listed_fact p) (listed_fact q)) both in
+    let same : p ≡ q = same_page p q own other (eqb-true (row_of p) (row_of q) parts.0) (eqb-true (listed_fact p) (listed_fact q) parts.1) in
+    let is : same_key q p ≡ true = ap (same_key q) same ∙ same_key_refl q in
+    absurd (cc (is, differ)))
 
-module _ (k index : ℕ) where
-  abbrev insert : List (ℕ × ℕ) → List (ℕ × ℕ)
-  insert places = insert_entry nat_cmp places k index
+-- a page that is told at its index
+own_page : (p : Key) → (nat_eq (row_of p) (row_of p) && nat_eq (listed_fact p) (listed_fact p)) ≡ true
+own_page p =
+    ap (λ b. b && nat_eq (listed_fact p) (listed_fact p)) (eq-eqb (row_of p) (row_of p) refl) ∙ eq-eqb (listed_fact p) (listed_fact p) refl
 
-  -- the places with this one, which stands before, at or behind the first of them
-  abbrev insert_by : Ordering → ℕ × ℕ → List (ℕ × ℕ) → List (ℕ × ℕ)
-  insert_by r e es = match_ordering r ((k, index) ∷ e ∷ es) ((e.0, index) ∷ es) (e ∷ insert es)
+module _ (rows new_rows : RowsData) (pages : List Key) (page : Key) (index : ℕ) (is : IsPage page)
+    (none : list_any (same_key page) pages ≡ false) (at : index ≡ length pages)
+    (told : TellPages rows pages) (lists : ListsIn (row_of page) (listed_fact page) index rows new_rows) where
+  abbrev told-there : Bool → Key → Type 0
+  told-there same q = (if same then Some index else page_in (row_at rows (row_of q)) (listed_fact q)) ≡ position (same_key q) (pages ++ page ∷ [])
 
-  abbrev has_number : List (ℕ × ℕ) → ℕ → Bool
-  has_number places q = list_any (is_at (nat_cmp q)) (keys_of places)
+  told-own : (q : Key) → IsPage q → same_key q page ≡ true → told-there (nat_eq (row_of page) (row_of q) && nat_eq (listed_fact page) (listed_fact q)) q
+  told-own q proper own =
+      subst (λ p. told-there (nat_eq (row_of page) (row_of p) && nat_eq (listed_fact page) (listed_fact p)) p) (sym (same_key_exact q page own))
+      (subst (λ b. told-there b page) (sym (own_page page)) (ap Some at ∙ sym (position-last (same_key page) pages page none (same_key_refl page))))
 
-  kept-insert : (places : List (ℕ × ℕ)) (q : ℕ) → has_number places q ≡ true → has_number (insert places) q ≡ true
-  kept-insert [] q any = absurd (cc (any))
-  kept-insert (e ∷ es) q any = by (nat_cmp k e.0) (kept-insert es q)
-    where
-      by : (r : Ordering) → (has_number es q ≡ true → has_number (insert es) q ≡ true) → has_number (insert_by r e es) q ≡ true
-      by Less rest = grind (arith, any)
-      by Equal rest = any
-      by Greater rest = ⊎_elim (λ own. grind (arith, own)) (λ more. let there = rest more in grind (arith, there)) (or_cases (is_at (nat_cmp q) e.0) (has_number es q) any)
+  told-other : (q : Key) → IsPage q → same_key q page ≡ false → told-there (nat_eq (row_of page) (row_of q) && nat_eq (listed_fact page) (listed_fact q)) q
+  told-other q proper differ =
+      subst (λ b. told-there b q) (sym (other_page page q is proper differ)) (told q proper ∙ sym (position-other (same_key q) page differ pages))
 
-  added-insert : (places : List (ℕ × ℕ)) → has_number (insert places) k ≡ true
-  added-insert [] = let own = at_itself k in grind (arith, own)
-  added-insert (e ∷ es) = by (nat_cmp k e.0) refl (added-insert es)
-    where
-      by : (r : Ordering) → nat_cmp k e.0 ≡ r → has_number (insert es) k ≡ true → has_number (insert_by r e es) k ≡ true
-      by Less is rest = let own = at_itself k in grind (arith, own)
-      by Equal is rest = ap (λ r. is_eq r || has_number es k) is
-      by Greater is rest = grind (arith, rest)
+  told-grown : TellPages new_rows (pages ++ page ∷ [])
+  told-grown q proper =
+      lists (row_of q) (listed_fact q)
+      ∙ elim (same_key q page) as (λ b. same_key q page ≡ b → told-there (nat_eq (row_of page) (row_of q) && nat_eq (listed_fact page) (listed_fact q)) q) [
+        | true ↦ λ own. told-own q proper own
+        | false ↦ λ differ. told-other q proper differ
+      ] refl
 
-  told-insert : (places : List (ℕ × ℕ)) (pages : List Key) → TellPages places pages
-      → position (same_key (placed_page k)) pages ≡ Some index → TellPages (insert places) pages
-  told-insert [] pages told own = (own, tt)
-  told-insert (e ∷ es) pages told own = by (nat_cmp k e.0) refl (told-insert es pages told.1 own)
-    where
-      by : (r : Ordering) → nat_cmp k e.0 ≡ r → TellPages (insert es) pages → TellPages (insert_by r e es) pages
-      by Less is rest = (own, told)
-      by Equal is rest = (subst (λ p. position (same_key (placed_page p)) pages ≡ Some index) (same_number k e.0 is) own, told.1)
-      by Greater is rest = (told.0, rest)
+-- a page that its row does not list is not there
+pub unlisted-page : (rows : RowsData) (pages : List Key) (page : Key) → TellPages rows pages → IsPage page
+    → page_in (row_at rows (row_of page)) (listed_fact page) ≡ None → list_any (same_key page) pages ≡ false
+unlisted-page rows pages page told is none = position-none (same_key page) pages (sym (told page is) ∙ none)
 
--- the places tell their pages where there is one more
-told-kept : (places : List (ℕ × ℕ)) (pages : List Key) (page : Key) → TellPages places pages → TellPages places (pages ++ page ∷ [])
-told-kept [] pages page told = tt
-told-kept (e ∷ es) pages page told =
-    (position-kept (same_key (placed_page e.0)) pages (page ∷ []) e.1 told.0, told-kept es pages page told.1)
-
--- the page's place is added
-placed-push : (pages : List Key) (places new : List (ℕ × ℕ)) (page : Key)
-    → ArePlaced places pages → ((q : Key) → has_place places q ≡ true → has_place new q ≡ true) → has_place new page ≡ true
-    → ArePlaced new (pages ++ page ∷ [])
-placed-push pages places new page placed kept own q any =
-    ⊎_elim
-    (λ old. kept q (placed q old))
-    (λ last. subst (λ (p : Key). has_place new p ≡ true) (sym (same_key_exact q page (only last))) own)
-    (or_cases (list_any (same_key q) pages) (list_any (same_key q) (page ∷ [])) (sym (list_any-append (same_key q) pages (page ∷ [])) ∙ any))
+-- no page
+pub are-none : (pages : List Key) (cells : List ℕ) (rows : RowsData) → pages ≡ [] → cells ≡ [] → rows.numbers ≡ [] → ArePages pages cells rows 0
+unfolding IsDistinct
+are-none pages cells rows no_pages no_cells no_rows =
+    subst (λ ps. ArePages ps cells rows 0) (sym no_pages)
+    (subst (λ ns. ArePages [] ns rows 0) (sym no_cells)
+    (record {
+      paged = refl;
+      few = lit< tt;
+      distinct = tt;
+      small = λ index. none-small index;
+      told = λ page is. ap (λ numbers. page_in (row_in rows.rows (position (nat_eq (row_of page)) numbers)) (listed_fact page)) no_rows;
+      counted = refl;
+    }))
   where
-    only : (same_key q page || false) ≡ true → same_key q page ≡ true
-    only t = grind (arith, t)
+    none-small : (index : ℕ) → node_of (page_at [] index) < 2 ^ 26
+    none-small zero = lit< tt
+    none-small (suc index) = lit< tt
 
-module _ {pages : List Key} {cells : List ℕ} {places : List (ℕ × ℕ)} {count : ℕ} (are : ArePages pages cells places count)
-    (page : Key) (new_pages : List Key) (new_cells : List ℕ) (pushed : new_pages ≡ pages ++ page ∷ []) (zeros : new_cells ≡ cells ++ replicate 64 0) where
-  pub entries-grown : entries (numbers_of new_pages new_cells) ≡ entries (numbers_of pages cells)
-  entries-grown =
-      ap (λ ps. entries (numbers_of ps new_cells)) pushed ∙ ap (λ ns. entries (numbers_of (pages ++ page ∷ []) ns)) zeros
-      ∙ entries-kept pages (page ∷ []) cells 64 are.paged
+small-page : (page : Key) → IsPage page → node_of page < 2 ^ 26
+small-page (Jump n a b) is = is.0
+small-page (Summary n a b) is = is.0
 
-  pub are-grown : (new_places : List (ℕ × ℕ)) (index : ℕ) → node_of page < 2 ^ 26 → IsDistinct same_key new_pages
-      → list_any (same_key page) pages ≡ false → placed_page (page_place page) ≡ page → index ≡ length pages
-      → new_places ≡ insert_entry nat_cmp places (page_place page) index → ArePages new_pages new_cells new_places count
-  are-grown new_places index small distinct none back at inserted =
-      let long_pages : length new_pages ≡ length pages + 1 = ap length pushed ∙ length-append pages (page ∷ []) in
-      let long_cells : length new_cells ≡ length cells + 64 = ap length zeros ∙ length-append cells (replicate 64 0) ∙ ap (λ n. length cells + n) (length-replicate {A = ℕ} 64 0) in
-      let paged = are.paged in
-      let k : ℕ = page_place page in
-      let own : position (same_key (placed_page k)) (pages ++ page ∷ []) ≡ Some index =
-      subst (λ p. position (same_key p) (pages ++ page ∷ []) ≡ Some index) (sym back) (position-last (same_key page) pages page none (same_key_refl page) ∙ ap Some (sym at)) in
-      record {
-        paged = omega (arith, long_pages, long_cells, paged);
-        distinct = distinct;
-        small = λ index. subst (λ ps. node_of (page_at ps index) < 2 ^ 26) (sym pushed) (small-push pages page (Jump 0 0 0) (lit< tt) are.small small index);
-        placed =
-            subst (λ ps. ArePlaced ps new_pages) (sym inserted)
-            (subst (ArePlaced (insert k index places)) (sym pushed)
-            (placed-push pages places (insert k index places) page are.placed (λ q there. kept-insert k index places (page_place q) there) (added-insert k index places)));
-        told =
-            subst (λ ps. TellPages ps new_pages) (sym inserted)
-            (subst (TellPages (insert k index places)) (sym pushed)
-            (told-insert k index places (pages ++ page ∷ []) (told-kept places pages page are.told) own));
-        counted = are.counted ∙ ap length (sym entries-grown);
-      }
+module _ {pages : List Key} {cells : List ℕ} {rows : RowsData} {count : ℕ} (are : ArePages pages cells rows count) where
+  -- other rows that list the same pages
+  pub are-kept : (new_rows : RowsData) → KeepsPages rows new_rows → ArePages pages cells new_rows count
+  are-kept new_rows same = record {
+    paged = are.paged;
+    few = are.few;
+    distinct = are.distinct;
+    small = are.small;
+    told = λ page is. same (row_of page) (listed_fact page) ∙ are.told page is;
+    counted = are.counted;
+  }
 
-  pub cell-grown : (key : Key) (index offset : ℕ) → page ≡ page_of key → list_any (same_key page) pages ≡ false → index ≡ length pages → offset ≡ node_of key % 64
-      → cell_of (numbers_of new_pages new_cells) key ≡ Some (64 * index + offset)
-  cell-grown key index offset is none at on =
-      ap (λ ps. cell_on ps (node_of key % 64) (page_of key)) pushed
-      ∙ ap (λ o. cell_on (pages ++ page ∷ []) o (page_of key)) (sym on)
-      ∙ ap (cell_on (pages ++ page ∷ []) offset) (sym is)
-      ∙ cell-last pages offset page none
-      ∙ ap (λ i. Some (64 * i + offset)) (sym at)
+  module _ (page : Key) (new_pages : List Key) (new_cells : List ℕ) (pushed : new_pages ≡ pages ++ page ∷ []) (zeros : new_cells ≡ cells ++ replicate 64 0) where
+    pub entries-grown : entries (numbers_of new_pages new_cells) ≡ entries (numbers_of pages cells)
+    entries-grown =
+        ap (λ ps. entries (numbers_of ps new_cells)) pushed ∙ ap (λ ns. entries (numbers_of (pages ++ page ∷ []) ns)) zeros
+        ∙ entries-kept pages (page ∷ []) cells 64 are.paged
+
+    pub are-grown : (new_rows : RowsData) (index : ℕ) → IsPage page → list_any (same_key page) pages ≡ false → index ≡ length pages → index + 1 < 2 ^ 32
+        → ListsIn (row_of page) (listed_fact page) index rows new_rows → ArePages new_pages new_cells new_rows count
+    are-grown new_rows index is none at few lists =
+        let long_pages : length new_pages ≡ length pages + 1 = ap length pushed ∙ length-append pages (page ∷ []) in
+        let long_cells : length new_cells ≡ length cells + 64 = ap length zeros ∙ length-append cells (replicate 64 0) ∙ ap (λ n. length cells + n) (length-replicate {A = ℕ} 64 0) in
+        let paged = are.paged in
+        record {
+          paged = omega (arith, long_pages, long_cells, paged);
+          few = omega (arith, long_pages, at, few);
+          distinct = subst (IsDistinct same_key) (sym pushed) (IsDistinct-push same_key_laws pages page are.distinct none);
+          small = λ k. subst (λ ps. node_of (page_at ps k) < 2 ^ 26) (sym pushed) (small-push pages page (Jump 0 0 0) (lit< tt) are.small (small-page page is) k);
+          told = subst (TellPages new_rows) (sym pushed) (told-grown rows new_rows pages page index is none at are.told lists);
+          counted = are.counted ∙ ap length (sym entries-grown);
+        }
+
+    pub cell-grown : (key : Key) (index offset : ℕ) → page ≡ page_of key → list_any (same_key page) pages ≡ false → index ≡ length pages → offset ≡ node_of key % 64
+        → cell_of (numbers_of new_pages new_cells) key ≡ Some (64 * index + offset)
+    cell-grown key index offset is none at on =
+        ap (λ ps. cell_on ps (node_of key % 64) (page_of key)) pushed
+        ∙ ap (λ o. cell_on (pages ++ page ∷ []) o (page_of key)) (sym on)
+        ∙ ap (cell_on (pages ++ page ∷ []) offset) (sym is)
+        ∙ cell-last pages offset page none
+        ∙ ap (λ i. Some (64 * i + offset)) (sym at)

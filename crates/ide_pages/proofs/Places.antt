@@ -1,16 +1,16 @@
 -- Keys and their pages, and the place at which a list has what passes a test.
-use Rattle.std.proofs.Common.{◌≡◌, ℕ, zero, suc, ◌+◌, ◌-◌, ◌*◌, ◌/◌, ◌%◌, ◌<◌, ◌≤◌, ◌^◌, refl, sym, ap, subst, ◌∙◌, arith, List, [], ◌∷◌, ◌++◌, length, get_or, Some, None, Bool, true, false, cond, ◌||◌}
+use Rattle.std.proofs.Common.{◌≡◌, ℕ, zero, suc, ◌+◌, ◌*◌, ◌/◌, ◌%◌, ◌<◌, refl, sym, ap, subst, ◌∙◌, arith, List, [], ◌∷◌, ◌++◌, length, get_or, Some, None, Bool, true, false, cond, ◌||◌}
 use Rattle.std.specs.Prelude.{position, slice_get}
+use Rattle.std.specs.Cmp.{IsEquivalence}
 use Rattle.std.specs.List.{IsDistinct, list_any, position_from}
 use Rattle.std.proofs.lemmas.Bool.{or_parts}
-use Rattle.std.proofs.lemmas.Bool.Decides.{nat_tests}
 use Rattle.std.proofs.lemmas.Iterator.Adapters.{position_from-zero}
 use Rattle.std.proofs.lemmas.Map.Keys.{IsDistinct-tail, apart_from_distinct}
 use Rattle.std.proofs.lemmas.Option.{get_or_from_slice_get, slice_get_within}
 use Rattle.ide_wire.specs.declared.key.Key.{Key}
 use Rattle.ide_wire.specs.declared.key.Key.TheVariants.{Jump, Summary}
-use Rattle.ide_wire.specs.Key.{same_key, same_key_refl, same_key_symm, node_of}
-use Rattle.ide_pages.specs.Pages.{key_on, page_of, place_number, placed_page}
+use Rattle.ide_wire.specs.Key.{same_key, same_key_laws, node_of}
+use Rattle.ide_pages.specs.Pages.{key_on, page_of}
 
 -- ---- a key, its page and its offset
 
@@ -34,31 +34,6 @@ offset-key_on (Summary block a b) offset l = offset-of block offset l
 pub key_on-page_of : (key : Key) → key_on (page_of key) (node_of key % 64) ≡ key
 key_on-page_of (Jump n a b) = ap (λ m. Jump m a b) (node-of n)
 key_on-page_of (Summary n a b) = ap (λ m. Summary m a b) (node-of n)
-
--- ---- the page at a place
-
--- what the parts of a place are: its block, its fact and the fact that it lists
-parts : (block fact listed place : ℕ) → fact < 2 ^ 16 → listed < 2 ^ 16 → place ≡ block * 4294967296 + fact * 65536 + listed
-    → (place / 4294967296 ≡ block) × (place / 65536 % 65536 ≡ fact) × (place % 65536 ≡ listed)
-parts block fact listed place few little is =
-    (omega (arith, few, little, is), omega (arith, few, little, is), omega (arith, few, little, is))
-
--- a page is the one at its place
-pub placed-jump : (block fact listed place : ℕ) → block < 2 ^ 26 → fact < 2 ^ 16 → listed < 2 ^ 16 → place ≡ place_number 0 block fact listed
-    → placed_page place ≡ Jump block listed fact
-placed-jump block fact listed place small few little is =
-    let has = parts block fact listed place few little (omega (arith, is)) in
-    let below : place < 288230376151711744 = omega (arith, small, few, little, is) in
-    grind (arith, nat_tests, has.0, has.1, has.2, below)
-
-pub placed-summary : (block fact listed place : ℕ) → fact < 2 ^ 16 → listed < 2 ^ 16 → place ≡ place_number 1 block fact listed
-    → placed_page place ≡ Summary block fact listed
-placed-summary block fact listed place few little is =
-    let has = parts block fact listed (place - 288230376151711744) few little (omega (arith, is)) in
-    let over : 288230376151711744 ≤ place = omega (arith, is) in
-    let same_fact : place / 65536 % 65536 ≡ fact = omega (arith, few, little, is) in
-    let same_listed : place % 65536 ≡ listed = omega (arith, few, little, is) in
-    grind (arith, nat_tests, has.0, same_fact, same_listed, over)
 
 -- ---- the place of what passes a test
 
@@ -107,22 +82,35 @@ module _ {X : Type 0} (test : X → Bool) where
       let same : 0 + length xs ≡ length xs = omega arith in
       position_from-zero test (xs ++ y ∷ []) ∙ from-last 0 xs y none own ∙ ap Some same
 
--- a key of a list of keys that differ stands where it stands
-from-at : (i : ℕ) (keys : List Key) (k : ℕ) (d : Key) → IsDistinct same_key keys → k < length keys → position_from (same_key (get_or keys k d)) i keys ≡ Some (i + k)
-from-at i [] k d apart l = absurd (omega arith)
-from-at i (x ∷ xs) zero d apart l =
-    let same : i ≡ i + zero = omega arith in
-    ap (λ b. cond b (Some i) (position_from (same_key x) (i + 1) xs)) (same_key_refl x) ∙ ap Some same
-from-at i (x ∷ xs) (suc k) d apart l =
-    let other : same_key (get_or xs k d) x ≡ false = same_key_symm (get_or xs k d) x ∙ apart_from_distinct same_key (x ∷ xs) zero (suc k) d apart (omega arith) l in
-    let same : (i + 1) + k ≡ i + suc k = omega arith in
-    ap (λ b. cond b (Some i) (position_from (same_key (get_or xs k d)) (i + 1) xs)) other
-    ∙ from-at (i + 1) xs k d (IsDistinct-tail same_key x xs apart) (omega arith) ∙ ap Some same
+-- one more element, which does not pass, changes no place
+module _ {X : Type 0} (test : X → Bool) (y : X) (other : test y ≡ false) where
+  from-other : (i : ℕ) (xs : List X) → position_from test i (xs ++ y ∷ []) ≡ position_from test i xs
+  from-other i [] = ap (λ b. cond b (Some i) None) other
+  from-other i (x ∷ xs) = ap (cond (test x) (Some i)) (from-other (i + 1) xs)
+
+  pub position-other : (xs : List X) → position test (xs ++ y ∷ []) ≡ position test xs
+  position-other xs = position_from-zero test (xs ++ y ∷ []) ∙ from-other 0 xs ∙ sym (position_from-zero test xs)
+
+-- what stands in a list whose elements differ is found where it stands
+module _ {X : Type 0} (eq : X → X → Bool) (laws : IsEquivalence eq) where
+  from-at : (i : ℕ) (xs : List X) (k : ℕ) (d : X) → IsDistinct eq xs → k < length xs → position_from (eq (get_or xs k d)) i xs ≡ Some (i + k)
+  from-at i [] k d apart l = absurd (omega arith)
+  from-at i (x ∷ xs) zero d apart l =
+      let same : i ≡ i + zero = omega arith in
+      ap (λ b. cond b (Some i) (position_from (eq x) (i + 1) xs)) (laws.refl x) ∙ ap Some same
+  from-at i (x ∷ xs) (suc k) d apart l =
+      let other : eq (get_or xs k d) x ≡ false = laws.symm (get_or xs k d) x ∙ apart_from_distinct eq (x ∷ xs) zero (suc k) d apart (omega arith) l in
+      let same : (i + 1) + k ≡ i + suc k = omega arith in
+      ap (λ b. cond b (Some i) (position_from (eq (get_or xs k d)) (i + 1) xs)) other
+      ∙ from-at (i + 1) xs k d (IsDistinct-tail eq x xs apart) (omega arith) ∙ ap Some same
+
+  pub found-where : (xs : List X) (k : ℕ) (d : X) → IsDistinct eq xs → k < length xs → position (eq (get_or xs k d)) xs ≡ Some k
+  found-where xs k d apart l =
+      let same : 0 + k ≡ k = omega arith in
+      position_from-zero (eq (get_or xs k d)) xs ∙ from-at 0 xs k d apart l ∙ ap Some same
 
 pub position-at : (keys : List Key) (k : ℕ) (d : Key) → IsDistinct same_key keys → k < length keys → position (same_key (get_or keys k d)) keys ≡ Some k
-position-at keys k d apart l =
-    let same : 0 + k ≡ k = omega arith in
-    position_from-zero (same_key (get_or keys k d)) keys ∙ from-at 0 keys k d apart l ∙ ap Some same
+position-at = found-where same_key same_key_laws
 
 -- a key that stands at an index is found there
 pub found-at : (keys : List Key) (k : ℕ) (key : Key) → IsDistinct same_key keys → slice_get keys k ≡ Some key → position (same_key key) keys ≡ Some k

@@ -1,16 +1,15 @@
 -- What contracts say of numbers at keys: the number of each key, the cell that has it, and the pages that there are.
-use Rattle.std.specs.Prelude.{◌≡◌, ◌⊎◌, ℕ, ◌+◌, ◌-◌, ◌*◌, ◌/◌, ◌%◌, ◌<◌, ◌^◌, Bool, true, List, [], ◌∷◌, ◌++◌, length, filter, map, nat_eq, nat_lt, position, Option, None, Some, if◌then◌else◌}
-use Rattle.std.specs.List.{AllByRecursion, IsDistinct, filter_map, list_any, range_with_len, slice_index_or}
+use Rattle.std.specs.Prelude.{◌≡◌, ◌⊎◌, ℕ, ◌+◌, ◌*◌, ◌/◌, ◌%◌, ◌<◌, ◌^◌, List, [], ◌∷◌, ◌++◌, length, map, nat_eq, position, Option, None, Some, if◌then◌else◌}
+use Rattle.std.specs.List.{AllByRecursion, IsDistinct, filter_map, range_with_len, slice_index_or}
 use Rattle.std.specs.List.Sorted.{IsStrictlySortedBy}
 use Rattle.std.specs.Map.{lookup, keys_of}
 use Rattle.std.specs.BTreeMap.{is_at}
-use Rattle.std.specs.BTreeMap.Range.{range_contains}
 use Rattle.std.specs.Option.{option_map, option_to_list, unwrap_or}
 use Rattle.std.specs.Ordering.{nat_cmp}
-use Rattle.std.specs.declared.ops.Bound.TheVariants.{Included}
 use Rattle.ide_wire.specs.declared.key.Key.{Key}
 use Rattle.ide_wire.specs.declared.key.Key.TheVariants.{Jump, Summary}
 use Rattle.ide_wire.specs.Key.{same_key, node_of}
+use Rattle.ide_pages.specs.Rows.{RowsData, page_in, row_at}
 
 -- numbers at keys: for each cell its key with its number, where that is not 0; and the pages, 64 cells each, in the order of their cells
 pub record Numbers : Type 0 where
@@ -138,66 +137,49 @@ AddsPage old new key = (new.pages ≡ old.pages) ⊎ (new.pages ≡ old.pages ++
 abbrev pub weight : ℕ → ℕ
 weight n = if nat_eq n 0 then 0 else 1
 
--- the place of a page among the places is one number, in whose highest part is the kind, 0 of a jump and 1 of a summary; then come the
--- page's block of nodes, the fact that a row is of, and the fact that the place lists
-abbrev pub place_number : (kind block fact listed : ℕ) → ℕ
-place_number kind block fact listed = kind * 288230376151711744 + block * 4294967296 + fact * 65536 + listed
+-- the number of a row: in its highest part is the kind, 0 of jumps and 1 of summaries; then come the block of nodes, and the fact
+-- that its pages have in common
+abbrev pub row_number : (kind block fact : ℕ) → ℕ
+row_number kind block fact = kind * 4398046511104 + block * 65536 + fact
 
--- a jump's facts change places, so that the pages of the jumps to one fact stand side by side
-abbrev pub page_place : Key → ℕ
-page_place (Jump n a b) = place_number 0 n b a
-page_place (Summary n a b) = place_number 1 n a b
+-- the row of a page: that of the jumps to its fact, or of the summaries from it
+abbrev pub row_of : Key → ℕ
+row_of (Jump n a b) = row_number 0 n b
+row_of (Summary n a b) = row_number 1 n a
 
--- the fact that a place lists: of a jump where it starts, of a summary where it returns
-abbrev pub listed_fact : ℕ → ℕ
-listed_fact place = place % 65536
+-- the fact that tells the page from the others of its row: of a jump where it starts, of a summary where it returns
+abbrev pub listed_fact : Key → ℕ
+listed_fact (Jump n a b) = a
+listed_fact (Summary n a b) = b
 
--- the page at the place
-abbrev pub placed_page : ℕ → Key
-placed_page place =
-    if nat_lt place 288230376151711744 then Jump (place / 4294967296) (place % 65536) (place / 65536 % 65536)
-    else Summary ((place - 288230376151711744) / 4294967296) (place / 65536 % 65536) (place % 65536)
+-- the key of the same kind, at the same node, in the same row, with this fact to tell it from the others
+abbrev pub key_beside : Key → ℕ → Key
+key_beside (Jump n a b) d = Jump n d b
+key_beside (Summary n a b) d = Summary n a d
 
--- whether the places, each with the index of a page, have the page's
-abbrev pub has_place : List (ℕ × ℕ) → Key → Bool
-has_place places page = list_any (is_at (nat_cmp (page_place page))) (keys_of places)
+-- the block of a page and its facts are numbers that fit
+abbrev pub IsPage : Key → Type 0
+IsPage (Jump n a b) = (n < 2 ^ 26) × (a < 2 ^ 16) × (b < 2 ^ 16)
+IsPage (Summary n a b) = (n < 2 ^ 26) × (a < 2 ^ 16) × (b < 2 ^ 16)
 
--- the places that there were are there
-abbrev pub KeepsPlaces : (old new : List (ℕ × ℕ)) → Type 0
-KeepsPlaces old new = (q : Key) → has_place old q ≡ true → has_place new q ≡ true
-
--- the places have those of the pages
-abbrev pub ArePlaced : (places : List (ℕ × ℕ)) (pages : List Key) → Type 0
-ArePlaced places pages = (page : Key) → list_any (same_key page) pages ≡ true → has_place places page ≡ true
-
--- each place has the index of its page, which is there
-abbrev pub TellPages : (places : List (ℕ × ℕ)) (pages : List Key) → Type 0
-TellPages places pages = AllByRecursion (λ entry. position (same_key (placed_page entry.0)) pages ≡ Some entry.1) places
+-- each page is told by its row, with its index
+abbrev pub TellPages : RowsData → List Key → Type 0
+TellPages rows pages = (page : Key) → IsPage page → page_in (row_at rows (row_of page)) (listed_fact page) ≡ position (same_key page) pages
 
 -- the number at an offset of the page at an index, or 0
 abbrev pub number_by : (cells : List ℕ) → (offset index : ℕ) → ℕ
 number_by cells offset index = slice_index_or cells (64 * index + offset) 0
 
--- the fact that a place lists, with the number on the page at its index, where that is not 0
+-- the fact with the number on its page, where that is not 0
 abbrev pub partner_of : (ℕ → ℕ) → ℕ × ℕ → Option (ℕ × ℕ)
-partner_of number entry = option_map (λ n. (listed_fact entry.0, n)) (nonzero (number entry.1))
+partner_of number listed = option_map (λ n. (listed.0, n)) (nonzero (number listed.1))
 
--- whether a place is of the row whose first place is given: of its kind, its block and its fact
-abbrev pub is_of_row : (first : ℕ) → ℕ → Bool
-is_of_row first = range_contains nat_cmp (Included first) (Included (first + 65535))
-
--- the row that begins with the first key, whose listed fact is 0: the facts that the places of its row list, with the numbers at the
--- key's node, where those are not 0
-abbrev pub row_of : (cells : List ℕ) (places : List (ℕ × ℕ)) → (first : Key) → List (ℕ × ℕ)
-row_of cells places first =
-    filter_map (partner_of (number_by cells (node_of first % 64))) (filter (λ entry. is_of_row (page_place (page_of first)) entry.0) places)
-
--- what holds of the fields: each page has 64 cells and stands once, its keys' nodes are numbers of 32 bits, its place is among the
--- places, of which each has the index of its page, and the count is that of the entries
-pub record ArePages (pages : List Key) (cells : List ℕ) (places : List (ℕ × ℕ)) (count : ℕ) : Type 0 where
+-- what holds of the fields: each page has 64 cells and stands once, they and the nodes of their keys are counted by 32 bits, the row of a
+-- page tells its index, and the count is that of the entries
+pub record ArePages (pages : List Key) (cells : List ℕ) (rows : RowsData) (count : ℕ) : Type 0 where
   pub paged : length cells ≡ 64 * length pages
+  pub few : length pages < 2 ^ 32
   pub distinct : IsDistinct same_key pages
   pub small : (index : ℕ) → node_of (page_at pages index) < 2 ^ 26
-  pub placed : ArePlaced places pages
-  pub told : TellPages places pages
+  pub told : TellPages rows pages
   pub counted : count ≡ length (entries (numbers_of pages cells))

@@ -2,12 +2,15 @@
 //!
 //! A [`Pages`] holds a number for each key; an absent key has 0. A page has the cells of 64 keys of
 //! one kind and one pair of facts, whose nodes stand side by side: so the numbers of a pair at the
-//! nodes of a procedure lie together, and one look-up leads to all 64. A cell keeps its place, by
+//! nodes of a procedure lie together, and one look-up leads to all 64. The pages of one row stand side
+//! by side: from a node and a fact it leads to all keys between them and another fact. A cell keeps its place, by
 //! which it is read and written with no look-up.
 #![tactic(auto)]
 
+mod cells;
 mod keys;
 mod pages;
+mod row;
 mod rows;
 
 pub use pages::Pages;

@@ -1,33 +1,35 @@
 //! The map from keys to numbers.
-ghost use Rattle.std.specs.Prelude.{◌≡◌, ◌≢◌, ℕ, Some, Ok, ◌+◌, ◌*◌, ◌<◌, ◌≤◌, ◌^◌, ◌↔◌, ◌++◌, [], ◌∷◌, true, false, length, replicate, slice_set, slice_index_or, if◌then◌else◌, None, IfSome, IfOk, OnOk, OnErr, IsOkUnless, vec_capacity, vec_len};
-ghost use Rattle.std.specs.List.{AllByRecursion, IsDistinct, list_any};
-ghost use Rattle.std.specs.BTreeMap.{insert_entry};
+ghost use Rattle.std.specs.Prelude.{◌≡◌, ◌≢◌, Some, Ok, ◌+◌, ◌*◌, ◌<◌, ◌≤◌, ◌^◌, ◌↔◌, ◌++◌, [], ◌∷◌, length, replicate, None, IfSome, IfOk, OnOk, OnErr, IsOkUnless};
+ghost use Rattle.std.specs.List.{AllByRecursion, IsDistinct};
 ghost use Rattle.std.specs.Map.{keys_of};
-ghost use Rattle.std.specs.Ordering.{nat_cmp};
-ghost use Rattle.indexmap.specs.IndexSet.{spare};
 ghost use Rattle.ide_wire.specs.declared.key.Key.{Key};
 ghost use Rattle.ide_wire.specs.declared.key.Key.TheVariants.{Jump, Summary};
 ghost use Rattle.ide_wire.specs.declared.refused.Refused.TheVariants.{NoMemory};
-ghost use Rattle.ide_wire.specs.Key.{node_of, same_key};
-ghost use Rattle.ide_pages.specs.Pages.{AddsPage, Numbers, ArePaged, ArePages, IsRowOfJumps, IsRowOfSummaries, IsNumberIn, KeepsCells, Puts, cell_of, entries, number_at, number_in, numbers_of, page_place, placed_page, slot_at, weight};
+ghost use Rattle.ide_wire.specs.Key.{same_key};
+ghost use Rattle.ide_pages.specs.Pages.{AddsPage, ArePaged, AreRow, IsPage, IsRowOfJumps, IsRowOfSummaries, IsNumberIn, KeepsCells, Puts, cell_of, entries, key_beside, listed_fact, number_at, number_in, row_of, slot_at, weight};
+ghost use Rattle.ide_pages.specs.Rows.{KeepsPages, ListsIn, page_in, row_at};
 
-use crate::{keys, rows};
+use crate::rows::Rows;
+use crate::{cells, keys};
 use ide_wire::{Fact, Key, Node, Refused};
-use indexmap::IndexSet;
-use std::alloc::{AllocError, Global};
-use std::collections::BTreeMap;
+use std::alloc::Global;
 use std::marker::Model;
 
 /// The most pages, so that the index of each has 32 bits.
 const MOST_PAGES: usize = 4_294_967_295;
 
-/// A finite map from keys to numbers, where an absent key has 0.
+/// A finite map from keys to numbers, where an absent key has 0. It has 4,294,967,295 pages at most.
+///
+/// A look-up finds the row of a key's page, by a number, and a search in the row finds the page: a row has those of one
+/// kind and one block of nodes that have one fact in common, a jump's its end and a summary's its start. None is
+/// needed for a page, or a row, that was asked for last.
 #[derive(Drop)]
 pub struct Pages {
-    pages: IndexSet<Key>,
+    /// The key of each page.
+    pages: Vec<Key>,
     cells: Vec<u32>,
-    /// The index of each page at its place, in order, so that the pages of a row stand side by side.
-    places: BTreeMap<u64, u32>,
+    /// The index of each page, by its row.
+    rows: Rows,
     count: usize,
     /// The index of the page that was asked for last: keys that follow each other along a procedure
     /// are on one page, which is found again with no look-up.
@@ -35,11 +37,13 @@ pub struct Pages {
 }
 
 impl Model for Pages {
+    ghost use Rattle.ide_pages.specs.Pages.{ArePages, Numbers, numbers_of};
+
     ghost Value = { Numbers };
 
-    ghost view = { λ p. numbers_of p.pages.keys p.cells.items };
+    ghost view = { λ p. numbers_of p.pages.items p.cells.items };
 
-    ghost invariant = { λ p. ArePages p.pages.keys p.cells.items p.places.entries p.count };
+    ghost invariant = { λ p. ArePages p.pages.items p.cells.items p.rows p.count };
 }
 
 impl Pages {
@@ -49,9 +53,9 @@ impl Pages {
         ensures pages { result.pages ≡ [] }
     {
         Pages {
-            pages: IndexSet::new(alloc),
+            pages: Vec::new(alloc),
             cells: Vec::new(alloc),
-            places: BTreeMap::new(alloc),
+            rows: Rows::new(alloc),
             count: 0,
             last: 0,
         }
@@ -66,30 +70,29 @@ impl Pages {
         self.count
     }
 
-    /// The key's number. One look-up at most: none where room was made last for a key of its page.
+    /// The key's number. One look-up at most.
     #[inline(always)]
     pub fn number(&self, key: Key) -> u32
         ensures { result ≡ number_at self.now key }
     {
-        let cell = rows::cell_near(
+        let cell = cells::cell_near(
             &self.pages,
-            &self.cells,
+            &self.rows,
             self.last,
             keys::offset_of(key),
             keys::page_of(key),
         );
-        rows::number_of(&self.cells, cell)
+        cells::number_of(&self.cells, cell)
     }
 
-    /// The key's cell, if there is its page. One look-up at most: none where room was made last for a
-    /// key of its page.
+    /// The key's cell, if there is its page. One look-up at most.
     #[inline(always)]
     pub fn cell(&self, key: Key) -> Option<usize>
         ensures { result ≡ cell_of self.now key }
     {
-        rows::cell_near(
+        cells::cell_near(
             &self.pages,
-            &self.cells,
+            &self.rows,
             self.last,
             keys::offset_of(key),
             keys::page_of(key),
@@ -111,7 +114,7 @@ impl Pages {
         ensures number { result ≡ number_in self.now cell }
         ensures same { IsNumberIn self.now cell result }
     {
-        rows::number_in(&self.cells, cell)
+        cells::number_in(&self.cells, cell)
     }
 
     /// The cell's key, or `None` behind the last cell. No look-up.
@@ -119,7 +122,7 @@ impl Pages {
         ensures key { IfSome result (λ key. cell_of self.now key ≡ Some cell) }
         ensures end { (result ≡ None) ↔ (length self.now.slots ≤ cell) }
     {
-        rows::key_at(&self.pages, cell)
+        cells::key_at(&self.pages, cell)
     }
 
     /// The cell's key with its number, or `None` where the number is 0, and behind the last cell.
@@ -128,16 +131,17 @@ impl Pages {
         ensures slot { result ≡ slot_at self.now cell }
         ensures present { IfSome result (λ entry. number_at self.now entry.0 ≡ entry.1) }
     {
-        let number = rows::number_in(&self.cells, cell);
+        let number = cells::number_in(&self.cells, cell);
         if number == 0 {
             return None;
         }
-        let key = rows::key_at(&self.pages, cell)?;
+        let key = cells::key_at(&self.pages, cell)?;
         Some((key, number))
     }
 
-    /// The key's cell, for which a page of 64 zeros is made where there is none: one more than
-    /// 4,294,967,295 pages are refused as `NoMemory`, which leaves the map as it was. Where there is the page it takes one look-up at most, and no memory.
+    /// The key's cell, for which a page of 64 zeros is made where there is none: one page too many is refused
+    /// as `NoMemory`, which leaves the map as it was. Where there is the page it takes one look-up at most, and no
+    /// memory; a new page takes time in proportion to those of its row.
     #[inline(always)]
     pub fn make_room(&mut self, key: Key) -> Result<usize, Refused>
         ensures cell { IfOk result (λ cell. cell_of self.new key ≡ Some cell) }
@@ -150,17 +154,15 @@ impl Pages {
     {
         let page = keys::page_of(key);
         let offset = keys::offset_of(key);
-        if let Some(cell) = rows::cell_near(&self.pages, &self.cells, self.last, offset, page) {
-            self.last = cell / 64;
-            return Ok(cell);
+        if cells::is_page_at(&self.pages, self.last, page) {
+            return Ok(64 * self.last + offset);
         }
-        if self.pages.len() >= MOST_PAGES {
-            return Err(Refused::NoMemory);
+        let found = self.rows.seek(keys::row_of(page), keys::listed_fact(page));
+        if let Some(index) = found {
+            self.last = index as usize;
+            return Ok(64 * self.last + offset);
         }
-        self.cells.reserve(64)?;
-        self.pages.reserve(1)?;
-        add_place(&mut self.places, page, self.pages.len() as u32)?;
-        let index = add_page(&mut self.pages, &mut self.cells, page);
+        let index = add_page(&mut self.pages, &mut self.cells, &mut self.rows, page)?;
         self.last = index;
         Ok(64 * index + offset)
     }
@@ -177,7 +179,7 @@ impl Pages {
     }
 
     /// The jumps at the node to the fact whose number is not 0: for each the fact at the start of
-    /// its procedure, and its number, ascending by fact. A search among the places, and no look-up.
+    /// its procedure, and its number, ascending by fact. One look-up.
     pub fn jumps_to(
         &self,
         alloc: Global,
@@ -187,13 +189,11 @@ impl Pages {
         ensures row { IfOk result (λ row. IsRowOfJumps node fact self.now row.items) }
         ensures refused { IsOkUnless result NoMemory }
     {
-        let first = Key::Jump(node, 0, fact);
-        let row = rows::row(alloc, &self.cells, &self.places, first)?;
-        Ok(row)
+        self.row(alloc, Key::Jump(node, 0, fact))
     }
 
     /// The summaries at the call from the fact whose number is not 0: for each the fact at the
-    /// return site, and its number, ascending by fact. A search among the places, and no look-up.
+    /// return site, and its number, ascending by fact. One look-up.
     pub fn summaries_from(
         &self,
         alloc: Global,
@@ -203,9 +203,18 @@ impl Pages {
         ensures row { IfOk result (λ row. IsRowOfSummaries call fact self.now row.items) }
         ensures refused { IsOkUnless result NoMemory }
     {
-        let first = Key::Summary(call, fact, 0);
-        let row = rows::row(alloc, &self.cells, &self.places, first)?;
-        Ok(row)
+        self.row(alloc, Key::Summary(call, fact, 0))
+    }
+
+    /// The facts of the key's row whose keys at its node have a number that is not 0, each with that number.
+    fn row(&self, alloc: Global, key: Key) -> Result<Vec<(Fact, u32)>, Refused>
+        ensures row { IfOk result (λ row. AreRow (key_beside key) self.now row.items) }
+        ensures refused { IsOkUnless result NoMemory }
+    {
+        let page = keys::page_of(key);
+        let row = self.rows.row(keys::row_of(page));
+        let partners = cells::partners(alloc, &self.cells, keys::offset_of(key), row)?;
+        Ok(partners)
     }
 
     /// A map with the same numbers in the same cells.
@@ -213,13 +222,13 @@ impl Pages {
         ensures ok { IfOk result (λ copy. copy ≡ self.now) }
         ensures refused { IsOkUnless result NoMemory }
     {
-        let pages = copied_pages(&self.pages)?;
+        let pages = self.pages.to_vec(alloc)?;
         let cells = self.cells.to_vec(alloc)?;
-        let places = copied_places(&self.places)?;
+        let rows = self.rows.copy(alloc)?;
         Ok(Pages {
             pages,
             cells,
-            places,
+            rows,
             count: self.count,
             last: self.last,
         })
@@ -241,43 +250,33 @@ fn counted(count: usize, old: u32, number: u32) -> usize
     }
 }
 
-// Adds the page's place, with the page's index.
-fn add_place(places: &mut BTreeMap<u64, u32>, page: Key, index: u32) -> Result<(), AllocError>
-    requires small { node_of page < 2 ^ 26 }
-    ensures entries { OnOk result (places.new.entries ≡ insert_entry nat_cmp places.old.entries (page_place page) index) }
-    ensures page { placed_page (page_place page) ≡ page }
-    ensures same { OnErr result (places.new.entries ≡ places.old.entries) }
-{
-    let _ = places.insert(keys::place_of(page), index)?;
-    Ok(())
-}
-
-// Adds a page of zeros behind the others, for which there is room, and answers its index.
-fn add_page(pages: &mut IndexSet<Key>, cells: &mut Vec<u32>, page: Key) -> usize
-    requires absent { list_any (same_key page) pages.old.keys ≡ false }
-    requires room { 0 < spare pages.old }
-    requires cells { vec_len cells.old + 64 ≤ vec_capacity cells.old }
-    ensures index { result ≡ length pages.old.keys }
-    ensures pages { pages.new.keys ≡ pages.old.keys ++ page ∷ [] }
-    ensures cells { cells.new.items ≡ cells.old.items ++ replicate 64 0 }
-    ensures distinct { IsDistinct same_key pages.new.keys }
+// Adds a page of zeros behind the others, and answers its index. One more than 4,294,967,295 pages are refused.
+fn add_page(
+    pages: &mut Vec<Key>,
+    cells: &mut Vec<u32>,
+    rows: &mut Rows,
+    page: Key,
+) -> Result<usize, Refused>
+    requires page { IsPage page }
+    requires absent { page_in (row_at rows.old (row_of page)) (listed_fact page) ≡ None }
+    ensures index { IfOk result (λ index. index ≡ length pages.old.items) }
+    ensures few { IfOk result (λ index. index + 1 < 2 ^ 32) }
+    ensures pages { OnOk result (pages.new.items ≡ pages.old.items ++ page ∷ []) }
+    ensures cells { OnOk result (cells.new.items ≡ cells.old.items ++ replicate 64 0) }
+    ensures rows { IfOk result (λ index. ListsIn (row_of page) (listed_fact page) index rows.old rows.new) }
+    ensures same_pages { OnErr result (pages.new.items ≡ pages.old.items) }
+    ensures same_cells { OnErr result (cells.new.items ≡ cells.old.items) }
+    ensures same_rows { OnErr result (KeepsPages rows.old rows.new) }
+    ensures refused { IsOkUnless result NoMemory }
 {
     let index = pages.len();
+    if index >= MOST_PAGES {
+        return Err(Refused::NoMemory);
+    }
+    cells.reserve(64)?;
+    pages.reserve(1)?;
+    rows.insert(keys::row_of(page), keys::listed_fact(page), index as u32)?;
     let _ = cells.extend_from_slice(&[0; 64]);
-    let _ = pages.insert(page);
-    index
-}
-
-// The same pages, in the same order.
-fn copied_pages(pages: &IndexSet<Key>) -> Result<IndexSet<Key>, AllocError>
-    ensures { IfOk result (λ copy. copy.keys ≡ pages.now.keys) }
-{
-    pages.clone()
-}
-
-// The same places, with the same indices.
-fn copied_places(places: &BTreeMap<u64, u32>) -> Result<BTreeMap<u64, u32>, AllocError>
-    ensures { IfOk result (λ copy. copy.entries ≡ places.now.entries) }
-{
-    places.clone()
+    pages.push_reserved(page);
+    Ok(index)
 }

@@ -1,125 +1,176 @@
-//! The cells of pages, one page or a row of pages at a time.
-ghost use Rattle.std.specs.Prelude.{◌≡◌, ℕ, ◌*◌, ◌<◌, ◌≤◌, ◌^◌, Some, true, length, slice_get, slice_index_or, IfOk, IfSome, IfNone};
-ghost use Rattle.std.specs.List.{IsDistinct};
-ghost use Rattle.std.specs.List.Sorted.{IsStrictlySortedBy};
-ghost use Rattle.std.specs.Map.{keys_of};
-ghost use Rattle.std.specs.Ordering.{nat_cmp};
-ghost use Rattle.ide_wire.specs.Key.{node_of, same_key};
-ghost use Rattle.ide_pages.specs.Pages.{cell_number, cell_on, key_at, number_by, page_at, partner_of, row_of};
+//! Rows, each under a number.
+ghost use Rattle.std.specs.Prelude.{◌≡◌, ℕ, ◌<◌, [], None, Some, false, length, nat_eq, position, slice_index_or, IfOk, IfSome, OnErr, OnOk};
+ghost use Rattle.ide_pages.specs.Rows.{IsPlace, IsRow, KeepsPages, Lists, ListsIn, page_in, row_at};
 
-use crate::keys;
-use ide_wire::{Fact, Key};
+use crate::row::Row;
+use ide_wire::Fact;
 use indexmap::IndexSet;
 use std::alloc::{AllocError, Global};
-use std::collections::BTreeMap;
+use std::marker::Model;
 
-// The cell at an offset of the page, if there is the page. One look-up.
-pub(crate) fn cell_on(
-    pages: &IndexSet<Key>,
-    cells: &[u32],
-    offset: usize,
-    page: Key,
-) -> Option<usize>
-    requires paged { length cells.now ≡ 64 * length pages.now.keys }
-    requires within { offset < 64 }
-    ensures cell { result ≡ cell_on pages.now.keys offset page }
-    ensures there { IfSome result (λ cell. cell < length cells.now) }
-{
-    let index = pages.get_index_of(&page)?;
-    Some(64 * index + offset)
-}
-
-// The same, with no look-up where the page is the one at `last`.
-#[inline(always)]
-pub(crate) fn cell_near(
-    pages: &IndexSet<Key>,
-    cells: &[u32],
-    last: usize,
-    offset: usize,
-    page: Key,
-) -> Option<usize>
-    requires paged { length cells.now ≡ 64 * length pages.now.keys }
-    requires distinct { IsDistinct same_key pages.now.keys }
-    requires within { offset < 64 }
-    ensures cell { result ≡ cell_on pages.now.keys offset page }
-    ensures there { IfSome result (λ cell. cell < length cells.now) }
-{
-    if is_page_at(pages, last, page) {
-        return Some(64 * last + offset);
-    }
-    cell_on(pages, cells, offset, page)
-}
-
-// Whether the page is the one at the index.
-fn is_page_at(pages: &IndexSet<Key>, index: usize, page: Key) -> bool
-    ensures { result ≡ true → slice_get pages.now.keys index ≡ Some page }
-{
-    match pages.get_index(index) {
-        Some(there) => *there == page,
-        None => false,
-    }
-}
-
-// The key of the cell, or `None` behind the last cell. No look-up.
-pub(crate) fn key_at(pages: &IndexSet<Key>, cell: usize) -> Option<Key>
-    requires { (index : ℕ) → node_of (page_at pages.now.keys index) < 2 ^ 26 }
-    ensures key { IfSome result (λ key. key ≡ key_at pages.now.keys cell) }
-    ensures there { IfSome result (λ _. cell < 64 * length pages.now.keys) }
-    ensures end { IfNone result (64 * length pages.now.keys ≤ cell) }
-{
-    let page = pages.get_index(cell / 64)?;
-    Some(keys::key_on(*page, cell % 64))
-}
-
-// The number in the cell, or 0 behind the last cell. No look-up.
-pub(crate) fn number_in(cells: &[u32], cell: usize) -> u32
-    ensures { result ≡ slice_index_or cells.now cell 0 }
-{
-    match cells.get(cell) {
-        Some(number) => *number,
-        None => 0,
-    }
-}
-
-// The number in the cell, or 0 where there is none.
-pub(crate) fn number_of(cells: &[u32], cell: Option<usize>) -> u32
-    ensures { result ≡ cell_number cells.now cell }
-{
-    match cell {
-        Some(cell) => number_in(cells, cell),
-        None => 0,
-    }
-}
-
-// The fact that the place lists, with the number at the offset of the page at the index, where that is not 0.
-#[inline(always)]
-fn partner(cells: &[u32], offset: usize, place: u64, index: u32) -> Option<(Fact, u32)>
-    requires within { offset < 64 }
-    ensures { result ≡ partner_of (number_by cells.now offset) (place, index) }
-{
-    let number = number_in(cells, 64 * index as usize + offset);
-    if number == 0 {
-        None
-    } else {
-        Some((keys::listed_fact(place), number))
-    }
-}
-
-// The row that begins with the first key, whose listed fact is 0: the facts that the places of its
-// row list, with the numbers at the key's node, where those are not 0.
-pub(crate) fn row(
+/// Rows, each under a number. One that has no fact is as one that is not there.
+#[derive(Drop)]
+pub(crate) struct Rows {
     alloc: Global,
-    cells: &[u32],
-    places: &BTreeMap<u64, u32>,
-    first: Key,
-) -> Result<Vec<(Fact, u32)>, AllocError>
-    ensures row { IfOk result (λ row. row.items ≡ row_of cells.now places.now.entries first) }
-    ensures ordered { IsStrictlySortedBy nat_cmp (keys_of places.now.entries) }
+    numbers: IndexSet<u64>,
+    rows: Vec<Row>,
+    /// The index of the row that was asked for last, and the place of the fact there. A fact that follows in the same
+    /// row is found with no look-up and no search.
+    last: usize,
+    place: usize,
+}
+
+impl Model for Rows {
+    ghost use Rattle.std.specs.Prelude.{◌≡◌, length};
+    ghost use Rattle.ide_pages.specs.Rows.{RowsData};
+
+    ghost Value = { RowsData };
+
+    ghost view = { λ r. record { numbers = r.numbers.keys; rows = r.rows.items } };
+
+    ghost invariant = { λ r. length r.rows.items ≡ length r.numbers.keys };
+}
+
+impl Rows {
+    /// No row. It allocates nothing.
+    pub(crate) fn new(alloc: Global) -> Self
+        ensures { result.numbers ≡ [] }
+    {
+        Rows {
+            alloc,
+            numbers: IndexSet::new(alloc),
+            rows: Vec::new(alloc),
+            last: 0,
+            place: 0,
+        }
+    }
+
+    /// The page of the fact in the row of the number, if it has one. One look-up at most, and a search in the row.
+    pub(crate) fn find(&self, number: u64, fact: Fact) -> Option<u32>
+        ensures { result ≡ page_in (row_at self.now number) fact }
+    {
+        let row = &self.rows[self.index(number)?];
+        row.page_at(row.place(self.place, fact), fact)
+    }
+
+    /// The same, where it is remembered which row and which place were asked for.
+    #[inline(always)]
+    pub(crate) fn seek(&mut self, number: u64, fact: Fact) -> Option<u32>
+        ensures page { result ≡ page_in (row_at self.old number) fact }
+        ensures same { self.new ≡ self.old }
+    {
+        let index = self.index(number)?;
+        let row = &self.rows[index];
+        let place = row.place(self.place, fact);
+        let page = row.page_at(place, fact);
+        self.last = index;
+        self.place = place;
+        page
+    }
+
+    /// Puts the fact, which has no page in the row of the number, there with this one. Where there is no such row it
+    /// is made.
+    pub(crate) fn insert(&mut self, number: u64, fact: Fact, page: u32) -> Result<(), AllocError>
+        requires absent { page_in (row_at self.old number) fact ≡ None }
+        ensures lists { OnOk result (ListsIn number fact page self.old self.new) }
+        ensures same { OnErr result (KeepsPages self.old self.new) }
+    {
+        let index = self.make_row(number)?;
+        let place = self.rows[index].place(self.place, fact);
+        insert_in(&mut self.rows, index, place, fact, page)?;
+        self.last = index;
+        self.place = place;
+        Ok(())
+    }
+
+    /// The facts of the row of the number, each with its page. One look-up.
+    pub(crate) fn row(&self, number: u64) -> &[(Fact, u32)]
+        ensures row { result.now ≡ row_at self.now number }
+        ensures is { IsRow result.now }
+    {
+        match self.index(number) {
+            Some(index) => self.rows[index].pages(),
+            None => &[],
+        }
+    }
+
+    /// The index of the row of the number, if there is one. One look-up at most.
+    #[inline(always)]
+    fn index(&self, number: u64) -> Option<usize>
+        ensures index { result ≡ position (nat_eq number) self.now.numbers }
+        ensures there { IfSome result (λ index. index < length self.now.rows) }
+    {
+        if let Some(last) = self.numbers.as_slice().get(self.last) {
+            if *last == number {
+                return Some(self.last);
+            }
+        }
+        self.numbers.get_index_of(&number)
+    }
+
+    /// The index of the row of the number, which is made, with no fact, if there is none.
+    fn make_row(&mut self, number: u64) -> Result<usize, AllocError>
+        ensures index { IfOk result (λ index. position (nat_eq number) self.new.numbers ≡ Some index) }
+        ensures there { IfOk result (λ index. index < length self.new.rows) }
+        ensures rows { (r : ℕ) → row_at self.new r ≡ row_at self.old r }
+    {
+        if let Some(index) = self.index(number) {
+            return Ok(index);
+        }
+        let index = self.rows.len();
+        self.rows.reserve(1)?;
+        let _ = self.numbers.insert(number)?;
+        self.rows.push_reserved(Row::new(self.alloc));
+        Ok(index)
+    }
+
+    /// The same rows.
+    pub(crate) fn copy(&self, alloc: Global) -> Result<Rows, AllocError>
+        ensures { IfOk result (λ copy. copy ≡ self.now) }
+    {
+        Ok(Rows {
+            alloc,
+            numbers: copied_numbers(&self.numbers)?,
+            rows: copied_rows(alloc, &self.rows)?,
+            last: self.last,
+            place: self.place,
+        })
+    }
+}
+
+/// Puts the fact, which has no page in the row at the index, there with this one at its place.
+fn insert_in(
+    rows: &mut Vec<Row>,
+    index: usize,
+    place: usize,
+    fact: Fact,
+    page: u32,
+) -> Result<(), AllocError>
+    requires there { index < length rows.old.items }
+    requires place { IsPlace fact (slice_index_or rows.old.items index []) place }
+    requires absent { page_in (slice_index_or rows.old.items index []) fact ≡ None }
+    ensures lists { OnOk result (Lists fact page (slice_index_or rows.old.items index []) (slice_index_or rows.new.items index [])) }
+    ensures others { (k : ℕ) → nat_eq index k ≡ false → slice_index_or rows.new.items k [] ≡ slice_index_or rows.old.items k [] }
+    ensures same { OnErr result (rows.new.items ≡ rows.old.items) }
+    ensures length { length rows.new.items ≡ length rows.old.items }
 {
-    let offset = keys::offset_of(first);
-    let start = keys::place_of(keys::page_of(first));
-    places
-        .range(start..=start + keys::LAST)
-        .filter_map(|(place, index)| partner(cells, offset, *place, *index))
-        .collect(alloc)
+    rows[index].insert(place, fact, page)
+}
+
+/// The same numbers, in the same order.
+fn copied_numbers(numbers: &IndexSet<u64>) -> Result<IndexSet<u64>, AllocError>
+    ensures { IfOk result (λ copy. copy.keys ≡ numbers.now.keys) }
+{
+    numbers.clone()
+}
+
+/// The same rows, in the same order.
+fn copied_rows(alloc: Global, rows: &[Row]) -> Result<Vec<Row>, AllocError>
+    ensures { IfOk result (λ copy. copy.items ≡ rows.now) }
+{
+    let mut copies = Vec::with_capacity(alloc, rows.len())?;
+    for row in rows {
+        copies.push(row.copy(alloc)?)?;
+    }
+    Ok(copies)
 }

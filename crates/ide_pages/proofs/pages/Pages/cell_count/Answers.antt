@@ -1,13 +1,13 @@
 use Rattle.std.proofs.Common.{sym, ◌∙◌}
 use Rattle.ide_pages.specs.Pages.{key_at}
-use Rattle.ide_pages.proofs.Cells.{are-paged}
+use Rattle.ide_pages.proofs.KeyCells.{are-paged}
 use Rattle.ide_pages.proofs.Slots.{length-slots}
 use Rattle.ide_pages.proofs.pages.Pages.cell_count.Goals as goal
 
 pub returns-clause-count : goal.returns-clause-count
 returns-clause-count c =
     let cells = c.self.inside.cells in
-    rw (← c.self.view_is) (c.len.ensures ∙ cells.ok.0 ∙ sym (length-slots (key_at c.self.inside.pages.keys) 0 cells.items))
+    rw (← c.self.view_is) (c.len.ensures ∙ cells.ok.0 ∙ sym (length-slots (key_at c.self.inside.pages.items) 0 cells.items))
 
 pub returns-clause-pages : goal.returns-clause-pages
 returns-clause-pages c =

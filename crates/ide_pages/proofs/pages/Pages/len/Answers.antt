@@ -1,5 +1,5 @@
 use Rattle.ide_pages.specs.Pages.{key_at}
-use Rattle.ide_pages.proofs.Cells.{distinct-keys}
+use Rattle.ide_pages.proofs.KeyCells.{distinct-keys}
 use Rattle.ide_pages.proofs.Slots.{all-nonzero}
 use Rattle.ide_pages.proofs.pages.Pages.len.Goals as goal
 
@@ -9,4 +9,4 @@ returns-clause-distinct c =
     (distinct-keys c.self.invariant)
 
 pub returns-clause-nonzero : goal.returns-clause-nonzero
-returns-clause-nonzero c = rw (← c.self.view_is) (all-nonzero (key_at c.self.inside.pages.keys) 0 c.self.inside.cells.items)
+returns-clause-nonzero c = rw (← c.self.view_is) (all-nonzero (key_at c.self.inside.pages.items) 0 c.self.inside.cells.items)

@@ -1,5 +1,5 @@
 use Rattle.std.proofs.Common.{sym}
-use Rattle.ide_pages.proofs.Cells.{number-in-cell, number-of-cell}
+use Rattle.ide_pages.proofs.KeyCells.{number-in-cell, number-of-cell}
 use Rattle.ide_pages.proofs.pages.Pages.number_in.Goals as goal
 
 pub returns-clause-number : goal.returns-clause-number

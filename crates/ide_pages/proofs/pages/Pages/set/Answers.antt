@@ -1,5 +1,5 @@
 use Rattle.std.proofs.Common.{◌<◌, ◌^◌, arith, length}
-use Rattle.ide_pages.proofs.Cells.{are-written, puts, weight-few, weight-within}
+use Rattle.ide_pages.proofs.KeyCells.{are-written, puts, weight-few, weight-within}
 use Rattle.ide_pages.proofs.pages.Pages.set.Goals as goal
 
 pub counted-self-inside-requires-clause-within : goal.counted-self-inside-requires-clause-within

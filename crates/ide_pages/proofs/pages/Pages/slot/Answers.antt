@@ -1,5 +1,5 @@
 use Rattle.std.proofs.Common.{sym, ap, ◌∙◌, get_or}
-use Rattle.ide_pages.proofs.Cells.{slot-empty, slot-full, slot-number}
+use Rattle.ide_pages.proofs.KeyCells.{slot-empty, slot-full, slot-number}
 use Rattle.ide_pages.proofs.pages.Pages.slot.Goals as goal
 
 pub returns-then-number-eq0-clause-slot : goal.returns-then-number-eq0-clause-slot
@@ -12,10 +12,10 @@ pub returns-clause-slot : goal.returns-clause-slot
 returns-clause-slot c =
     rw (← c.self.view_is)
     (sym (slot-full c.self.invariant c.args.cell c.in_ok-key.key c.number_in-number.result
-    c.in_ok-key.ensures.key (c.number_in-number.ensures ∙ ap (λ cells. get_or cells c.args.cell 0) c.deref.ensures.value) c.if-number-eq0.false))
+    (rw (c.deref-2.ensures.value) at c.in_ok-key.ensures.key) (c.number_in-number.ensures ∙ ap (λ cells. get_or cells c.args.cell 0) c.deref.ensures.value) c.if-number-eq0.false))
 
 pub returns-clause-present : goal.returns-clause-present
 returns-clause-present c =
     rw (← c.self.view_is)
-    (slot-number c.self.invariant c.args.cell c.in_ok-key.key c.in_ok-key.ensures.key c.in_ok-key.ensures.there
+    (slot-number c.self.invariant c.args.cell c.in_ok-key.key (rw (c.deref-2.ensures.value) at c.in_ok-key.ensures.key) (rw (c.deref-2.ensures.value) at c.in_ok-key.ensures.there)
     ∙ sym (c.number_in-number.ensures ∙ ap (λ cells. get_or cells c.args.cell 0) c.deref.ensures.value))

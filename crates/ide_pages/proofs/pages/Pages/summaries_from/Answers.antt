@@ -1,8 +1,0 @@
-use Rattle.std.proofs.Common.{arith}
-use Rattle.ide_pages.proofs.Partners.{summary_row}
-use Rattle.ide_pages.proofs.pages.Pages.summaries_from.Goals as goal
-
-pub returns-clause-row : goal.returns-clause-row
-returns-clause-row c =
-    rw (← c.self.view_is, c.in_ok-row.ensures.row, c.deref.ensures.value)
-    (summary_row c.args.call c.args.fact (omega (arith, c.ranges.fact)) c.self.invariant c.row.ensures.ordered)
