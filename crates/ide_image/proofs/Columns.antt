@@ -13,7 +13,7 @@ use Rattle.std.proofs.lemmas.List.FromFn.{get_or-map-range_with_len, length-map-
 use Rattle.std.proofs.lemmas.Map.Entries.{length-keys_of}
 use Rattle.std.proofs.lemmas.Option.{same_Some, slice_get-get_or, slice_get_past, slice_get_within}
 use Rattle.ide_pages.specs.Pages.{AddsPage, ArePaged, AreRow, IsNumberIn, KeepsCells, Numbers, Puts, cell_of, cell_on, entries, key_at, key_on, nonzero, number_at, number_in, page_at, page_of, shown, slot_by}
-use Rattle.ide_pages.proofs.Cells.{cell-back, mapped}
+use Rattle.ide_pages.proofs.KeyCells.{cell-back, mapped}
 use Rattle.ide_pages.proofs.Numbering.{IsNumbering, apart-at, same-at}
 use Rattle.ide_wire.specs.declared.key.Key.{Key}
 use Rattle.ide_wire.specs.declared.key.Key.TheVariants.{Jump, Summary}

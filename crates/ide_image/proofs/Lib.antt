@@ -1,7 +1,6 @@
 pub mod Agree
 pub mod Before
 pub mod Columns
-pub mod Defaults
 pub mod Falls
 pub mod Firsts
 pub mod Held

@@ -1,8 +1,8 @@
 //! Notes of what changed, with a mark at each slot whose key is noted.
-ghost use Rattle.std.specs.Prelude.{◌≡◌, ℕ, ◌+◌, ◌<◌, ◌≤◌, ◌^◌, ◌&&◌, [], None, Some, false, true, not, length, slice_index, OnOk, IsOk, option_map};
+ghost use Rattle.std.specs.Prelude.{◌≡◌, ℕ, ◌+◌, ◌<◌, ◌≤◌, ◌^◌, ◌&&◌, [], None, Some, false, not, length, slice_index, OnOk, IsOk, option_map};
 ghost use Rattle.std.specs.Option.{is_some, option_copied};
 ghost use Rattle.ide_image.specs.ChangeLog.{AreStamps, KeepsSlotsAt, MarksNoted, MayNote, list_of, noted_at};
-ghost use Rattle.ide_image.specs.Notes.{noted, noted_count, with_note};
+ghost use Rattle.ide_image.specs.Notes.{noted, with_note};
 ghost use Rattle.ide_image.specs.Queue.{SameMarks};
 
 use crate::entry::Entry;
@@ -18,10 +18,11 @@ pub(crate) struct ChangeLog<F: Drop> {
     list: Option<Vec<(Key, Entry<F>)>>,
     /// The slot of each note's key.
     slots: Vec<u32>,
-    /// For each slot the number of the list that its key was last noted in: 0 for none.
-    stamps: Vec<u32>,
+    /// For each slot the number of the list that its key was last noted in: 0 for none. One byte, so that those of a
+    /// page's slots lie together.
+    stamps: Vec<u8>,
     /// The number of the list.
-    epoch: u32,
+    epoch: u8,
 }
 
 impl<F: Drop> Model for ChangeLog<F> {
@@ -167,7 +168,7 @@ impl<F: Copy + Drop> ChangeLog<F> {
 }
 
 /// The slot's stamp.
-fn stamp_in(stamps: &[u32], slot: usize) -> u32
+fn stamp_in(stamps: &[u8], slot: usize) -> u8
     ensures { result ≡ slice_index stamps.now slot }
 {
     match stamps.get(slot) {
@@ -178,23 +179,23 @@ fn stamp_in(stamps: &[u32], slot: usize) -> u32
 
 /// Makes a stamp for each of the first slots, up to this count: those that are new are of no list.
 #[inline(always)]
-fn grow(stamps: &mut Vec<u32>, count: usize) -> Result<(), AllocError>
+fn grow(stamps: &mut Vec<u8>, count: usize) -> Result<(), AllocError>
     ensures covered { OnOk result (count ≤ length stamps.new.items) }
     ensures same { (n : ℕ) → slice_index stamps.new.items n ≡ slice_index stamps.old.items n }
 {
-    for _ in stamps.len()..count {
-        stamps.push(0)?;
+    if stamps.len() < count {
+        stamps.resize(count, 0)?;
     }
     Ok(())
 }
 
-/// Begins another list, which no stamp is of. Once in 4,294,967,295 lists the stamps begin anew.
-fn begin_list(stamps: &mut Vec<u32>, epoch: &mut u32)
+/// Begins another list, which no stamp is of. Once in 255 lists the stamps begin anew.
+fn begin_list(stamps: &mut Vec<u8>, epoch: &mut u8)
     requires { AreStamps stamps.old.items epoch.old }
     ensures stamps { AreStamps stamps.new.items epoch.new }
     ensures anew { (n : ℕ) → slice_index stamps.new.items n < epoch.new }
 {
-    if *epoch == u32::MAX {
+    if *epoch == u8::MAX {
         stamps.clear();
         *epoch = 1;
     } else {

@@ -1,5 +1,5 @@
 //! Functions that are kept, each under an index that stays.
-ghost use Rattle.std.specs.Prelude.{◌≡◌, ◌+◌, ◌<◌, ◌≤◌, ◌^◌, [], Some, length, slice_get, IfOk, IfSome, OnOk};
+ghost use Rattle.std.specs.Prelude.{◌≡◌, ◌+◌, ◌<◌, ◌≤◌, ◌^◌, [], Some, slice_get, IfOk, IfSome, OnOk};
 ghost use Rattle.ide_image.specs.Functions.{MayKeep};
 
 use ide_lattice::EdgeFn;

@@ -1,7 +1,7 @@
 use Rattle.std.proofs.Common.{◌<◌, sym, arith}
 use Rattle.ide_image.specs.Tables.{place_in}
 use Rattle.ide_image.specs.Indexed.{cells_by}
-use Rattle.ide_pages.proofs.Cells.{cell-back}
+use Rattle.ide_pages.proofs.KeyCells.{cell-back}
 use Rattle.ide_image.proofs.Columns.{place-nowhere, place-there}
 use Rattle.ide_image.proofs.indexed.Indexed.cell_of.Goals as goal
 

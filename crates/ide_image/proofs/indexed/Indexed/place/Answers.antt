@@ -1,5 +1,5 @@
 use Rattle.std.proofs.Common.{sym, arith}
-use Rattle.ide_pages.proofs.Cells.{cell-back}
+use Rattle.ide_pages.proofs.KeyCells.{cell-back}
 use Rattle.ide_image.proofs.Columns.{function-none, length-cells, place-nowhere, place-there}
 use Rattle.ide_image.proofs.indexed.Indexed.place.Goals as goal
 

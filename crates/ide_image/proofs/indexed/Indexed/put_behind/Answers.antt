@@ -1,6 +1,6 @@
 use Rattle.std.proofs.Common.{◌≡◌, ◌+◌, refl, ◌∙◌, arith}
 use Rattle.std.proofs.lemmas.Option.{slice_get_within}
-use Rattle.ide_pages.proofs.Cells.{cell-back}
+use Rattle.ide_pages.proofs.KeyCells.{cell-back}
 use Rattle.ide_wire.specs.declared.key.Key.TheVariants.{Jump}
 use Rattle.ide_image.specs.Indexed.{cells_by}
 use Rattle.ide_image.specs.Walk.{jump_behind}
