@@ -95,9 +95,6 @@ module _ {F : Type 0} (functions : Functions F) where
   groups_none bytes =
       (record { groups = []; are = record { counted = refl; few = omega arith; ascending = tt; each = tt; proper = refl }; found = refl; items_are = refl }, refl)
 
-  pub few_so_far : (taken : ℕ) (before : Option Place) (items : List (Item F)) (bytes rest : List ℕ) → ReadSoFar taken before items bytes rest → length items ≤ 65536
-  few_so_far taken before items bytes rest (reads, last) = let few = reads.are.few in let same = ap length reads.items_are in omega (arith, few, same)
-
   items_count : (group : Group F) → length (items_of group) ≡ length group.members
   items_count group = length-map group.members (λ member. (key_of_kind group.kind group.node member.0 member.1, member.2, member.3))
 

@@ -6,9 +6,10 @@ pub mod Headers
 pub mod MembersRead
 pub mod Apart
 pub mod Grouping
-pub mod Spelling
 pub mod Short
-pub mod Proper
+pub mod OneMore
+pub mod Writing
+pub mod RecordsSpelled
 pub mod GroupsRead
 pub mod Folding
 pub mod Sets

@@ -59,13 +59,6 @@ module _ {F : Type 0} (functions : Functions F) (free : IsPrefixFree functions.p
   no_more body rest behind count items small found counts proper lists some xs is =
       some (list_is body rest behind count items small found counts proper lists xs is).1
 
-  pub none_empty : (body rest behind : List ℕ) (count : ℕ) (items : List (Item F)) → IsTrue (fits 32 count) → body ≡ to_le_bytes w32 count ++ rest
-      → length items ≡ count → IsTrue (all_proper (is_proper_item functions) items) → rest ≡ flat_map (item_form functions) items ++ behind
-      → length items ≡ 0 → (xs : List (Item F)) → ¬ (IsListBody functions xs body)
-  none_empty body rest behind count items small found counts proper lists empty xs is =
-      let same = ap length (list_is body rest behind count items small found counts proper lists xs is).0 in
-      omega (arith, same, empty, is.written.some)
-
   pub none_mixed : (body rest behind : List ℕ) (count : ℕ) (items : List (Item F)) → IsTrue (fits 32 count) → body ≡ to_le_bytes w32 count ++ rest
       → length items ≡ count → IsTrue (all_proper (is_proper_item functions) items) → rest ≡ flat_map (item_form functions) items ++ behind
       → ¬ (IsStrictlySortedBy key_cmp (map (λ item. item.0) items)) → (xs : List (Item F)) → ¬ (IsListBody functions xs body)

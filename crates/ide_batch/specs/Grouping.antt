@@ -1,5 +1,5 @@
 -- The groups of items, in which the second version of a store spells them.
-use Rattle.std.specs.Prelude.{◌≡◌, ℕ, ◌≤◌, ◌<◌, ◌⊎◌, Bool, true, false, ◌&&◌, cond, nat_eq, List, [], ◌∷◌, ◌++◌, length, map, get_or}
+use Rattle.std.specs.Prelude.{ℕ, Bool, ◌&&◌, cond, nat_eq, List, [], ◌∷◌}
 use Rattle.ide_wire.specs.Key.{node_of}
 use Rattle.ide_wire.specs.declared.key.Key.{Key}
 use Rattle.ide_wire.specs.declared.key.Key.TheVariants.{Jump, Summary}
@@ -43,24 +43,6 @@ groups_of (item ∷ items) = joined_to_groups item (groups_of items)
 -- the keys have one kind and node
 abbrev pub share_place : Key → Key → Bool
 share_place x y = nat_eq (kind_at x) (kind_at y) && nat_eq (node_of x) (node_of y)
-
--- the key of the item at a place
-abbrev pub key_in : {F : Type 0} → List (Item F) → ℕ → Key
-key_in items k = get_or (map (λ item. item.0) items) k (Jump 0 0 0)
-
--- the items, as a group of the key's kind and node
-abbrev pub run_of : {F : Type 0} → Key → List (Item F) → Group F
-run_of key items = record { kind = kind_at key; node = node_of key; members = map member_of items }
-
--- so many items have the key's kind and node, and what follows them has not
-pub record IsRun {F : Type 0} (key : Key) (items : List (Item F)) (count : ℕ) : Type 0 where
-  pub within : count ≤ length items
-  pub share : (k : ℕ) → k < count → share_place key (key_in items k) ≡ true
-  pub ends : (count ≡ length items) ⊎ (share_place key (key_in items count) ≡ false)
-
--- what was appended is a body of the items in the second version
-abbrev pub AppendsGroups : {F : Type 0} → Functions F → List (Item F) → (old new : List ℕ) → Type 0
-AppendsGroups functions items old new = (body : List ℕ) × IsGroupedBody functions items body × (new ≡ old ++ body)
 
 -- items that the first version spells have a body in the second too
 abbrev pub GroupsSpellLists : {F : Type 0} → Functions F → Type 0

@@ -1,5 +1,6 @@
 -- What is known of groups that are read from the front of bytes, one after the other, with their items.
 use Rattle.std.specs.Prelude.{◌≡◌, ℕ, ◌+◌, ◌≤◌, Bool, ◌&&◌, List, [], ◌∷◌, ◌++◌, Option, Some, None, length, nat_lt, IsTrue}
+use Rattle.std.specs.Borrow.{Bor}
 use Rattle.std.specs.Int.{w32, to_le_bytes}
 use Rattle.std.specs.List.{AllByRecursion, flat_map}
 use Rattle.std.specs.List.Sorted.{IsStrictlySortedBy}
@@ -58,6 +59,10 @@ module _ {F : Type 0} (functions : Functions F) where
     pub found : bytes ≡ flat_map (member_form functions) members ++ rest
     pub items_are : new ≡ old ++ items_of (record { kind = place.0; node = place.1; members = members })
 
+  -- so they do, before the rest that is found
+  abbrev pub Listed : Place → ℕ → (old new : List (Item F)) → List ℕ → Bor (List ℕ) → Type 0
+  Listed place count old new bytes rest = ReadsMembers place count old new bytes rest.now
+
   abbrev pub NoMembers : ℕ → List ℕ → Type 0
   NoMembers count bytes = (members : List (Member F)) (rest : List ℕ) → AreMembers count members → bytes ≡ flat_map (member_form functions) members ++ rest → ⊥
 
@@ -75,6 +80,10 @@ module _ {F : Type 0} (functions : Functions F) where
     pub place_is : place ≡ group_place group
     pub found : bytes ≡ group_form functions group ++ rest
     pub items_are : new ≡ old ++ items_of group
+
+  -- so it does, at the place that is found, before the rest that is found
+  abbrev pub GroupInFront : Option Place → (old new : List (Item F)) → List ℕ → Place × Bor (List ℕ) → Type 0
+  GroupInFront before old new bytes found = ReadsGroup before found.0 old new bytes found.1.now
 
   abbrev pub NoGroup : Option Place → ℕ → List ℕ → Type 0
   NoGroup before so_far bytes = (group : Group F) (rest : List ℕ) → GroupMayFollow before so_far group → bytes ≡ group_form functions group ++ rest → ⊥

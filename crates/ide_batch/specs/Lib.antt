@@ -6,6 +6,7 @@ pub mod Grouping
 pub mod GroupsRead
 pub mod Records
 pub mod Bodies
+pub mod Writing
 pub mod Fold
 pub mod Laws
 pub mod Applied

@@ -1,11 +1,10 @@
 //! The body of a batch, in the version of its store.
-ghost use Rattle.std.specs.Prelude.{List};
-ghost use Rattle.ide_batch.specs.Bodies.{AreSpelled};
+ghost use Rattle.ide_batch.specs.Bodies.{AreSpelled, SpellsNone};
 ghost use Rattle.ide_batch.specs.Forms.{IfNotRead, IfRead};
-ghost use Rattle.ide_batch.specs.Items.{functions_by, Item};
 
 use crate::groups::read_groups;
 use crate::items::read_items;
+use crate::spelled::Spelled;
 use ide_journal::Version;
 use ide_lattice::EdgeFn;
 use ide_wire::Key;
@@ -17,8 +16,8 @@ pub(crate) fn read_body<F: EdgeFn>(
     version: Version,
     body: &[u8],
 ) -> Result<Option<Vec<(Key, F, bool)>>, AllocError>
-    ensures items { IfRead result (λ items. AreSpelled (functions_by F.proper F.form F.eq F.edge.all_top) version items.items body.now) }
-    ensures none { IfNotRead result ((items : List (Item F)) → ¬ (AreSpelled (functions_by F.proper F.form F.eq F.edge.all_top) version items body.now)) }
+    ensures items { IfRead result (λ items. AreSpelled ⟦<F as Spelled>⟧.forms version items.items body.now) }
+    ensures none { IfNotRead result (SpellsNone ⟦<F as Spelled>⟧.forms version body.now) }
 {
     match version {
         Version::One => read_items(alloc, body),

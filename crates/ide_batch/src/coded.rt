@@ -1,5 +1,5 @@
 //! Things that bodies list: their forms follow each other with nothing between.
-ghost use Rattle.std.specs.Prelude.{◌≡◌, ℕ, ◌<◌, ◌^◌, ◌++◌, Bool, List, length, IsTrue, IfOk, IfSome, IfNone, OnOk};
+ghost use Rattle.std.specs.Prelude.{◌≡◌, ℕ, ◌<◌, ◌^◌, ◌++◌, ◌≤◌, Bool, List, length, IsTrue, IfOk, IfSome, IfNone, OnOk};
 ghost use Rattle.std.specs.List.{flat_map};
 ghost use Rattle.ide_batch.specs.Forms.{all_proper};
 ghost use Rattle.ide_wire.specs.Form.{NoFormInFront, IsPrefixFree};
@@ -19,9 +19,10 @@ pub(crate) trait Coded: Copy {
         ensures found { IfSome result (λ front. bytes.now ≡ form front.0 ++ front.1.now) }
         ensures none { IfNone result (NoFormInFront proper form bytes.now) };
 
-    /// Appends the form.
+    /// Appends the form. At a refusal the vector may have a part of it.
     fn put(&self, out: &mut Vec<u8>) -> Result<(), AllocError>
-        ensures ok { OnOk result (out.new.items ≡ out.old.items ++ form self.now) };
+        ensures ok { OnOk result (out.new.items ≡ out.old.items ++ form self.now) }
+        ensures kept { length out.old.items ≤ length out.new.items };
 
     ghost prefix_free: { IsPrefixFree proper form };
 }

@@ -1,10 +1,11 @@
 //! The body of a batch in the second version of a store: how many groups, then each, with the items
 //! of one node and kind.
-ghost use Rattle.std.specs.Prelude.{◌≡◌, ℕ, ◌++◌, ◌≤◌, ◌↔◌, length, List, IfSome, IfNone, IsTrue};
+ghost use Rattle.std.specs.Prelude.{◌≡◌, ℕ, ◌++◌, ◌≤◌, ◌↔◌, length, IfSome, IfNone, IsTrue};
+ghost use Rattle.ide_batch.specs.Bodies.{SpellsNone};
 ghost use Rattle.ide_batch.specs.Forms.{IfNotRead, IfRead};
 ghost use Rattle.ide_batch.specs.Groups.{IsGroupedBody, key_of_kind};
-ghost use Rattle.ide_batch.specs.GroupsRead.{IsAbove, NoGroup, NoGroups, NoMembers, ReadsGroup, ReadsGroups, ReadsMembers, header_form, is_proper_header};
-ghost use Rattle.ide_batch.specs.Items.{functions_by, Item};
+ghost use Rattle.ide_batch.specs.GroupsRead.{GroupInFront, IsAbove, Listed, NoGroup, NoGroups, NoMembers, ReadsGroups, header_form, is_proper_header};
+ghost use Rattle.ide_journal.specs.declared.version.Version.TheVariants.{Two};
 ghost use Rattle.ide_wire.specs.Form.{NoFormInFront};
 
 use crate::coded::{Coded, front_of};
@@ -21,8 +22,8 @@ pub(crate) fn read_groups<F: EdgeFn>(
     alloc: Global,
     body: &[u8],
 ) -> Result<Option<Vec<(Key, F, bool)>>, AllocError>
-    ensures items { IfRead result (λ items. IsGroupedBody (functions_by F.proper F.form F.eq F.edge.all_top) items.items body.now) }
-    ensures none { IfNotRead result ((items : List (Item F)) → ¬ (IsGroupedBody (functions_by F.proper F.form F.eq F.edge.all_top) items body.now)) }
+    ensures items { IfRead result (λ items. IsGroupedBody ⟦<F as Spelled>⟧.forms items.items body.now) }
+    ensures none { IfNotRead result (SpellsNone ⟦<F as Spelled>⟧.forms Two body.now) }
 {
     let Some((count, rest)) = front_of::<u32>(body) else {
         return Ok(None);
@@ -45,7 +46,7 @@ fn groups_in_front<F: EdgeFn>(
     count: u32,
     bytes: &[u8],
 ) -> Result<Option<(Vec<(Key, F, bool)>, &[u8])>, AllocError>
-    ensures read { IfRead result (λ front. ReadsGroups ⟦<F as Spelled>⟧.forms count front.0.items bytes.now front.1.now) }
+    ensures read { IfRead result (λ got. ReadsGroups ⟦<F as Spelled>⟧.forms count got.0.items bytes.now got.1.now) }
     ensures none { IfNotRead result (NoGroups ⟦<F as Spelled>⟧.forms count bytes.now) }
 {
     let mut items = Vec::new(alloc);
@@ -69,7 +70,7 @@ fn group_in_front<'a, F: EdgeFn>(
     bytes: &'a [u8],
 ) -> Result<Option<((u32, Node), &'a [u8])>, AllocError>
     requires { length items.old.items ≤ 65536 }
-    ensures read { IfRead result (λ front. ReadsGroup ⟦<F as Spelled>⟧.forms before front.0 items.old.items items.new.items bytes.now front.1.now) }
+    ensures read { IfRead result (GroupInFront ⟦<F as Spelled>⟧.forms before items.old.items items.new.items bytes.now) }
     ensures none { IfNotRead result (NoGroup ⟦<F as Spelled>⟧.forms before (length items.old.items) bytes.now) }
 {
     let Some((place, members, rest)) = header_in_front(bytes) else {
@@ -113,7 +114,7 @@ fn members_in_front<'a, F: EdgeFn>(
     items: &mut Vec<(Key, F, bool)>,
     bytes: &'a [u8],
 ) -> Result<Option<&'a [u8]>, AllocError>
-    ensures read { IfRead result (λ rest. ReadsMembers ⟦<F as Spelled>⟧.forms place count items.old.items items.new.items bytes.now rest.now) }
+    ensures read { IfRead result (Listed ⟦<F as Spelled>⟧.forms place count items.old.items items.new.items bytes.now) }
     ensures none { IfNotRead result (NoMembers ⟦<F as Spelled>⟧.forms count bytes.now) }
 {
     let mut before = None;

@@ -1,5 +1,5 @@
 //! Lists of things with forms, and whether items ascend.
-ghost use Rattle.std.specs.Prelude.{◌≡◌, ℕ, ◌++◌, List, length, map, IsTrue, OnOk, ◌↔◌};
+ghost use Rattle.std.specs.Prelude.{◌≡◌, ℕ, ◌++◌, List, length, map, IsTrue, ◌↔◌};
 ghost use Rattle.std.specs.List.{flat_map};
 ghost use Rattle.std.specs.List.Sorted.{IsStrictlySortedBy};
 ghost use Rattle.ide_batch.specs.Forms.{IfNotRead, IfRead, NoListInFront, all_proper};
@@ -31,16 +31,6 @@ pub(crate) fn list_in_front<T: Coded>(
         rest = behind;
     }
     Ok(Some((list, rest)))
-}
-
-/// Appends the forms.
-pub(crate) fn put_list<T: Coded>(list: &[T], out: &mut Vec<u8>) -> Result<(), AllocError>
-    ensures { OnOk result (out.new.items ≡ out.old.items ++ flat_map T.form list.now) }
-{
-    for item in list {
-        item.put(out)?;
-    }
-    Ok(())
 }
 
 /// Whether the first key stands before the second.

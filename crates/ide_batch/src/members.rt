@@ -1,5 +1,5 @@
 //! Members of a group: the two facts of an item, its function, and whether it is pending.
-ghost use Rattle.std.specs.Prelude.{◌≡◌, ◌++◌, OnOk};
+ghost use Rattle.std.specs.Prelude.{◌≡◌, ◌++◌, ◌≤◌, length, OnOk};
 ghost use Rattle.std.specs.Int.{w16, to_le_bytes};
 ghost use Rattle.ide_batch.specs.Items.{functions_by};
 
@@ -38,7 +38,8 @@ impl<F: EdgeFn> Coded for (Fact, Fact, F, bool) {
 /// Appends the forms of two facts, in one go.
 #[inline(always)]
 fn put_facts(first: Fact, second: Fact, out: &mut Vec<u8>) -> Result<(), AllocError>
-    ensures { OnOk result (out.new.items ≡ out.old.items ++ (to_le_bytes w16 first ++ to_le_bytes w16 second)) }
+    ensures ok { OnOk result (out.new.items ≡ out.old.items ++ (to_le_bytes w16 first ++ to_le_bytes w16 second)) }
+    ensures kept { length out.old.items ≤ length out.new.items }
 {
     let [a, b] = first.to_le_bytes();
     let [c, d] = second.to_le_bytes();

@@ -3,7 +3,7 @@ ghost use Rattle.std.specs.Prelude.{◌≡◌, ◌++◌, ◌⊎◌, ◌↔◌, L
 ghost use Rattle.std.specs.List.{All};
 ghost use Rattle.ide_batch.specs.Applied.{ApplyRefusal, IsApplied, LoadsText, MayBeRoot, MayHaveAll, RefusesRecord, SetsBody, SetsFront, SetsItems, SetsSome, SpellsFitting, refusal_of};
 ghost use Rattle.ide_batch.specs.AppliedAll.{AreApplied, LeadOver, StopsAt};
-ghost use Rattle.ide_batch.specs.Items.{functions_by, Item};
+ghost use Rattle.ide_batch.specs.Items.{Item};
 ghost use Rattle.ide_journal.specs.Lists.{entries_of, entry_of};
 ghost use Rattle.ide_steps.specs.Core.{IsUnchanged};
 ghost use Rattle.ide_steps.specs.Rooted.{IsBegun};
@@ -126,10 +126,10 @@ fn apply_batch<P: Problem>(
     version: Version,
 ) -> Result<(), Refused>
     requires { IsFree core.old.pile }
-    ensures set { OnOk result (SetsBody (functions_by P.F.proper P.F.form P.F.eq P.F.edge.all_top) version core.old core.new body.now) }
-    ensures refused { IfErr result (RefusesRecord n (SpellsFitting (functions_by P.F.proper P.F.form P.F.eq P.F.edge.all_top) version core.old body.now)) }
+    ensures set { OnOk result (SetsBody ⟦<P::F as Spelled>⟧.forms version core.old core.new body.now) }
+    ensures refused { IfErr result (RefusesRecord n (SpellsFitting ⟦<P::F as Spelled>⟧.forms version core.old body.now)) }
     ensures damaged { IfErr result (λ e. (e ≡ Refused.NoMemory) ⊎ (core.new ≡ core.old)) }
-    ensures kept { OnErr result (SetsSome (functions_by P.F.proper P.F.form P.F.eq P.F.edge.all_top) version core.old core.new body.now) }
+    ensures kept { OnErr result (SetsSome ⟦<P::F as Spelled>⟧.forms version core.old core.new body.now) }
     ensures free { IsFree core.new.pile }
 {
     let Some(items) = read_body::<P::F>(alloc, version, body)? else {

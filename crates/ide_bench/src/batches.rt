@@ -1,6 +1,6 @@
 //! Batches spelled and read, and what copying their bytes one by one takes.
-use anyhow::{Result, ensure};
-use ide_batch::{MOST, Record, apply, may_be_spelled, to_raw};
+use anyhow::{Context, Result, ensure};
+use ide_batch::{MOST, apply, batch_to_raw};
 use ide_instances::{ConstFn, CopyConst};
 use ide_journal::{RawRecord, Version};
 use ide_steps::Core;
@@ -17,7 +17,7 @@ pub(crate) struct Batches {
 
 impl Batches {
     /// A batch with as many items as may be, and a function of nine bytes or of one for each.
-    fn change(self, alloc: Global) -> Result<Record<ConstFn>> {
+    fn items(self, alloc: Global) -> Result<Vec<(Key, ConstFn, bool)>> {
         ensure!(self.members > 0, "a group has members");
         ensure!(self.members <= MOST, "a group has at most 65,536 members");
         let mut items = Vec::with_capacity(alloc, MOST)?;
@@ -29,7 +29,7 @@ impl Batches {
             );
             items.push((key, function_at(place), place % 3 == 0))?;
         }
-        Ok(Record::Batch(items))
+        Ok(items)
     }
 }
 
@@ -43,24 +43,23 @@ fn function_at(place: usize) -> ConstFn {
 }
 
 /// The record of the batch.
-fn spelled(alloc: Global, change: &Record<ConstFn>, version: Version) -> Result<RawRecord> {
-    ensure!(may_be_spelled(change), "the batch may not be spelled");
-    Ok(to_raw(alloc, change, version)?)
+fn spelled(alloc: Global, items: &[(Key, ConstFn, bool)], version: Version) -> Result<RawRecord> {
+    batch_to_raw(alloc, items, version)?.context("no batch has these items")
 }
 
 /// Spells the batch so often once more, and answers how many bytes it has.
 pub(crate) fn spell(alloc: Global, batches: Batches) -> Result<usize> {
-    let change = batches.change(alloc)?;
+    let items = batches.items(alloc)?;
     let mut bytes = 0;
     for _ in 0..=batches.count {
-        bytes = spelled(alloc, &change, batches.version)?.body.len();
+        bytes = spelled(alloc, &items, batches.version)?.body.len();
     }
     Ok(bytes)
 }
 
 /// Spells the batch, and reads it so often: a core with no program refuses it when it is read.
 pub(crate) fn read(alloc: Global, batches: Batches) -> Result<usize> {
-    let raw = spelled(alloc, &batches.change(alloc)?, batches.version)?;
+    let raw = spelled(alloc, &batches.items(alloc)?, batches.version)?;
     let mut core: Core<CopyConst> = Core::new(alloc);
     for _ in 0..batches.count {
         ensure!(
@@ -84,7 +83,7 @@ fn is_refused(
 
 /// Spells the batch, and copies its bytes so often, one by one.
 pub(crate) fn copy_each(alloc: Global, batches: Batches) -> Result<usize> {
-    let raw = spelled(alloc, &batches.change(alloc)?, batches.version)?;
+    let raw = spelled(alloc, &batches.items(alloc)?, batches.version)?;
     let mut bytes = 0;
     for _ in 0..batches.count {
         bytes = copied(alloc, raw.body.as_slice())?;

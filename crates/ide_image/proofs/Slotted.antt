@@ -1,18 +1,21 @@
--- The marks of the cells of a grid, and the items that its slots tell.
-use Rattle.std.proofs.Common.{◌≡◌, ℕ, zero, suc, ◌+◌, ◌-◌, ◌<◌, ◌++◌, refl, sym, ap, subst, ◌∙◌, arith, cond, Bool, true, false, List, [], ◌∷◌, Option, None, Some, drop, get_or, inl, inr, length, replicate}
-use Rattle.std.specs.Prelude.{◌⊎◌, slice_get}
-use Rattle.std.specs.List.{Contains, cons_option, filter_map}
-use Rattle.std.specs.List.Sorted.{IsPermutation}
-use Rattle.std.specs.Option.{is_some}
+-- The marks of the cells of a grid, and the items of its slots.
+use Rattle.std.proofs.Common.{◌≡◌, ℕ, zero, suc, ◌+◌, ◌-◌, ◌<◌, ◌++◌, refl, sym, ap, subst, ◌∙◌, arith, cond, Bool, true, false, List, [], ◌∷◌, Option, None, Some, drop, get_or, inl, inr, length, map, replicate}
+use Rattle.std.specs.Prelude.{◌⊎◌, IfSome, slice_get}
+use Rattle.std.specs.List.{All, Contains, cons_option, filter_map}
+use Rattle.std.specs.List.Sorted.{IsStrictlySortedBy}
+use Rattle.std.specs.Option.{is_some, option_map}
+use Rattle.std.specs.declared.cmp.Ordering.TheVariants.{Less}
 use Rattle.std.proofs.lemmas.Option.{same_Some}
-use Rattle.std.proofs.lemmas.List.Elements.{All-append, All-cons, All-nil, Contains-append_cases}
+use Rattle.std.proofs.lemmas.List.{get_or_push, length_push}
+use Rattle.std.proofs.lemmas.List.Elements.{All-cons, All-head, All-nil, All-push, All-tail, Contains-append_cases, filter_map-append}
+use Rattle.ide_wire.specs.KeyOrder.{key_cmp}
 use Rattle.ide_wire.specs.declared.key.Key.{Key}
-use Rattle.ide_image.specs.Grid.{AreOnGrid, AreTold, Grid, HasSlot, IsAboveLast, IsToldOn, IsWidened, MarksCell, PutsSlot, TellsOneOf}
-use Rattle.ide_image.specs.Indexed.{Indexed, function_of, place_of_key}
+use Rattle.ide_image.specs.Grid.{AreChained, AreOnGrid, AreTold, Grid, HasSlot, IsAboveLast, IsWidened, MarksCell, PutsSlot, TellsOneOf}
+use Rattle.ide_image.specs.Indexed.{Indexed, entry_in, function_of, place_of_key}
 use Rattle.ide_image.specs.KeyedImage.{pending_by_slot}
 use Rattle.ide_image.specs.Left.{is_left, left_by_slot, left_of}
 use Rattle.ide_image.specs.Queue.{SlotMarks, pending_at}
-use Rattle.ide_image.specs.Ranks.{AreSlots, SaysIfLeftAt, item_in, left_by_slots}
+use Rattle.ide_image.specs.Ranks.{AreSlots, HaveItems, HaveTheItems, SaysIfLeftAt, item_in, items_in, left_by_slots}
 use Rattle.ide_image.specs.declared.entry.Entry.{Entry}
 use Rattle.ide_image.proofs.Agree.{at-index}
 use Rattle.ide_image.proofs.Picked.{picked, picked-more, picked-none}
@@ -73,6 +76,13 @@ module _ {X Y : Type 0} (f : X → Option Y) where
   count-none : (o : Option Y) (ys : List Y) → is_some o ≡ false → length (cons_option o ys) ≡ length ys
   count-none None ys is = refl
   count-none (Some y) ys is = absurd (cc (is))
+
+  -- as many come of elements of each of which something comes
+  pub count-items : (xs : List X) → All (λ x. is_some (f x) ≡ true) xs → length (filter_map f xs) ≡ length xs
+  count-items [] each = refl
+  count-items (x ∷ xs) each =
+      count-first (f x) (filter_map f xs) (All-head (λ x. is_some (f x) ≡ true) x xs each)
+      ∙ ap suc (count-items xs (All-tail (λ x. is_some (f x) ≡ true) x xs each))
 
   -- how many come of the elements from here on, if something comes of this one
   pub count-some : (xs : List X) (i j : ℕ) (b : Bool) → i < length xs → ((x : X) → slice_get xs i ≡ Some x → b ≡ is_some (f x)) → b ≡ true → j ≡ suc i
@@ -151,32 +161,78 @@ module _ {F : Type 0} (indexed : Indexed F) (marks : SlotMarks) where
         | inr same ↦ subst (TellsOneOf indexed marks left) (sym same) tells
       ]
 
-  -- no item is told by no slot
-  pub none-told : (grid : Grid) → AreTold indexed marks grid []
-  none-told grid = record { each = All-nil (IsToldOn indexed marks grid); ascend = picked-none (λ (item : Key × F × Bool). item.0) }
+  -- no slots are on any grid, and there is no last key
+  pub none-told : (grid : Grid) → AreChained indexed marks grid [] None
+  none-told grid = record {
+    told = record { each = All-nil (HasSlot grid); ascend = picked-none (λ (item : Key × F × Bool). item.0) };
+    ends = λ k d at. absurd (omega (arith, at));
+  }
 
-  -- one more item, which a slot tells, above the others
-  pub tells-more : (grid : Grid) (items : List (Key × F × Bool)) (item : Key × F × Bool) (slot : ℕ) → AreTold indexed marks grid items
-      → HasSlot grid slot → item_in indexed marks slot ≡ Some item → IsAboveLast items item.0 → AreTold indexed marks grid (items ++ item ∷ [])
-  tells-more grid items item slot told has is above =
-      let one : IsToldOn indexed marks grid item = record { slot = slot; has = has; is = is } in
+  -- the slot of a key that is present has an item of that key
+  present-item : (slot : ℕ) (key : Key) → Some key ≡ option_map (λ entry. entry.0) (entry_in indexed.cells slot)
+      → (item : Key × F × Bool) × (item_in indexed marks slot ≡ Some item) × (item.0 ≡ key)
+  present-item slot key is = from (entry_in indexed.cells slot) is
+    where
+      from : (o : Option (Key × F)) → Some key ≡ option_map (λ entry. entry.0) o
+          → (item : Key × F × Bool) × (option_map (λ (entry : Key × F). (entry.0, entry.1, pending_at marks.list slot)) o ≡ Some item) × (item.0 ≡ key)
+      from None is = absurd (cc (is))
+      from (Some entry) is = ((entry.0, entry.1, pending_at marks.list slot), refl, sym (same_Some key entry.0 is))
+
+  -- the items of slots and of one more behind them
+  items-more : (slots : List ℕ) (slot : ℕ) (item : Key × F × Bool) → item_in indexed marks slot ≡ Some item
+      → items_in indexed marks (slots ++ slot ∷ []) ≡ items_in indexed marks slots ++ item ∷ []
+  items-more slots slot item is =
+      filter_map-append (item_in indexed marks) slots (slot ∷ []) ∙ ap (λ o. items_in indexed marks slots ++ cons_option o []) is
+
+  -- one more slot on the grid, whose key is above the last one, which it is then
+  pub tells-more : (grid : Grid) (slots : List ℕ) (last : Option Key) (slot : ℕ) (key : Key) → AreChained indexed marks grid slots last
+      → HasSlot grid slot → Some key ≡ option_map (λ entry. entry.0) (entry_in indexed.cells slot) → IsAboveLast last key
+      → AreChained indexed marks grid (slots ++ slot ∷ []) (Some key)
+  tells-more grid slots last slot key chained has present above =
+      let found = present-item slot key present in
+      let item = found.0 in
+      let items = items_in indexed marks slots in
+      let more : items_in indexed marks (slots ++ slot ∷ []) ≡ items ++ item ∷ [] = items-more slots slot item found.1 in
+      let under : (k : ℕ) (d : Key × F × Bool) → k + 1 ≡ length items → key_cmp (get_or items k d).0 item.0 ≡ Less =
+      λ k d at.
+      (λ i. key_cmp (get_or items k d).0 (found.2 i)) ∙ subst (λ o. IfSome o (λ q. key_cmp q key ≡ Less)) (chained.ends k d at) above in
       record {
-        each =
-            All-append (IsToldOn indexed marks grid) items (item ∷ []) told.each
-            (All-cons (IsToldOn indexed marks grid) item [] one (All-nil (IsToldOn indexed marks grid)));
-        ascend = picked-more (λ (item : Key × F × Bool). item.0) items item told.ascend above;
+        told =
+            record {
+              each = All-push (HasSlot grid) slots slot chained.told.each has;
+              ascend =
+                  subst (λ us. IsStrictlySortedBy key_cmp (map (λ (item : Key × F × Bool). item.0) us)) (sym more)
+                  (picked-more (λ (item : Key × F × Bool). item.0) items item chained.told.ascend under);
+            };
+        ends =
+            subst (λ us. (k : ℕ) (d : Key × F × Bool) → k + 1 ≡ length us → Some key ≡ Some (get_or us k d).0) (sym more)
+            (λ k d at.
+            let long = length_push items item in
+            let there : length items ≡ k = omega (arith, at, long) in
+            (λ i. Some (sym found.2 i)) ∙ ap (λ (x : Key × F × Bool). Some x.0) (sym (get_or_push items item d k there)));
       }
 
-  -- an item that a slot on the grid tells is among what is left
-  told-left : (left : List (Key × F × Bool)) (grid : Grid) (item : Key × F × Bool) → AreOnGrid indexed marks left grid → IsToldOn indexed marks grid item → Contains left item
-  told-left left grid item on told =
-      let tells = on.each told.slot told.has in
-      let same : tells.item ≡ item = same_Some tells.item item (sym tells.is ∙ told.is) in
-      subst (Contains left) same tells.among
+  -- slots on a grid that has the slots of what is left have items, and these are among that
+  module _ (left : List (Key × F × Bool)) (grid : Grid) (on : AreOnGrid indexed marks left grid) where
+    have-items : (slots : List ℕ) → All (HasSlot grid) slots → HaveItems indexed marks slots
+    have-items slots each k d within = let tells = on.each (get_or slots k d) (each k d within) in ap is_some tells.is
 
-  -- items that slots on a grid tell, which ascend and are as many as are left, are what is left
-  pub all-left : (left items : List (Key × F × Bool)) (grid : Grid) → AreOnGrid indexed marks left grid → AreTold indexed marks grid items → length items ≡ grid.count
-      → IsPermutation left items
-  all-left left items grid on told count =
-      picked (λ (item : Key × F × Bool). item.0) left items (λ k d within. told-left left grid (get_or items k d) on (told.each k d within)) told.ascend
-      (count ∙ on.count)
+    among-left : (slots : List ℕ) → All (HasSlot grid) slots → All (Contains left) (items_in indexed marks slots)
+    among-left [] each = All-nil (Contains left)
+    among-left (s ∷ ss) each =
+        let tells = on.each s (All-head (HasSlot grid) s ss each) in
+        let rest = among-left ss (All-tail (HasSlot grid) s ss each) in
+        subst (λ o. All (Contains left) (cons_option o (items_in indexed marks ss))) (sym tells.is)
+        (All-cons (Contains left) tells.item (items_in indexed marks ss) tells.among rest)
+
+    -- slots on the grid whose keys ascend, as many as are left, are those of what is left
+    pub all-left : (slots : List ℕ) → AreTold indexed marks grid slots → length slots ≡ grid.count → HaveTheItems indexed marks left slots
+    all-left slots told count =
+        let have = have-items slots told.each in
+        let long : length (items_in indexed marks slots) ≡ length slots = count-items (item_in indexed marks) slots have in
+        record {
+          have = have;
+          same =
+              picked (λ (item : Key × F × Bool). item.0) left (items_in indexed marks slots) (among-left slots told.each) told.ascend
+              (long ∙ count ∙ on.count);
+        }

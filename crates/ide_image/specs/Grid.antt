@@ -1,5 +1,5 @@
--- Slots in the cells of a grid, and the items that they tell.
-use Rattle.std.specs.Prelude.{◌≡◌, ◌⊎◌, ◌+◌, ◌++◌, ℕ, suc, replicate, Bool, List, Some, length, map, slice_index_or}
+-- Slots in the cells of a grid, and those of them whose keys ascend.
+use Rattle.std.specs.Prelude.{◌≡◌, ◌⊎◌, ◌+◌, ◌++◌, ℕ, suc, replicate, Bool, List, Option, Some, IfSome, length, map, slice_index_or}
 use Rattle.std.specs.List.{All, Contains}
 use Rattle.std.specs.List.Sorted.{IsStrictlySortedBy}
 use Rattle.std.specs.declared.cmp.Ordering.TheVariants.{Less}
@@ -7,7 +7,7 @@ use Rattle.ide_wire.specs.KeyOrder.{key_cmp}
 use Rattle.ide_wire.specs.declared.key.Key.{Key}
 use Rattle.ide_image.specs.Indexed.{Indexed}
 use Rattle.ide_image.specs.Queue.{SlotMarks}
-use Rattle.ide_image.specs.Ranks.{item_in}
+use Rattle.ide_image.specs.Ranks.{item_in, items_in}
 
 -- the cells, each with 0 or one more than a slot, and how many slots were put
 pub record Grid : Type 0 where
@@ -30,9 +30,9 @@ IsWidened old new = (new.cells ≡ old.cells) ⊎ (new.cells ≡ old.cells ++ re
 abbrev pub MarksCell : ℕ → (old new : List ℕ) → Type 0
 MarksCell slot old new = (s : ℕ) → Contains new (suc s) → Contains old (suc s) ⊎ (s ≡ slot)
 
--- the key is above that of the last item, if there is one
-abbrev pub IsAboveLast : {F : Type 0} → List (Key × F × Bool) → Key → Type 0
-IsAboveLast {F} items key = (k : ℕ) (d : Key × F × Bool) → k + 1 ≡ length items → key_cmp (slice_index_or items k d).0 key ≡ Less
+-- the key is above the last one, if there is one
+abbrev pub IsAboveLast : Option Key → Key → Type 0
+IsAboveLast last key = IfSome last (λ k. key_cmp k key ≡ Less)
 
 module _ {F : Type 0} (indexed : Indexed F) (marks : SlotMarks) where
   -- the slot tells the item, and this is one of the items
@@ -46,13 +46,12 @@ module _ {F : Type 0} (indexed : Indexed F) (marks : SlotMarks) where
     pub each : (s : ℕ) → HasSlot grid s → TellsOneOf items s
     pub count : grid.count ≡ length items
 
-  -- a slot on the grid tells the item
-  pub record IsToldOn (grid : Grid) (item : Key × F × Bool) : Type 0 where
-    pub slot : ℕ
-    pub has : HasSlot grid slot
-    pub is : item_in indexed marks slot ≡ Some item
+  -- the slots are on the grid, and the keys of their items ascend
+  pub record AreTold (grid : Grid) (slots : List ℕ) : Type 0 where
+    pub each : All (HasSlot grid) slots
+    pub ascend : IsStrictlySortedBy key_cmp (map (λ (item : Key × F × Bool). item.0) (items_in indexed marks slots))
 
-  -- slots on the grid tell the items, which ascend by key
-  pub record AreTold (grid : Grid) (items : List (Key × F × Bool)) : Type 0 where
-    pub each : All (IsToldOn grid) items
-    pub ascend : IsStrictlySortedBy key_cmp (map (λ (item : Key × F × Bool). item.0) items)
+  -- and this is the key of the last item, if there is one
+  pub record AreChained (grid : Grid) (slots : List ℕ) (last : Option Key) : Type 0 where
+    pub told : AreTold grid slots
+    pub ends : (k : ℕ) (d : Key × F × Bool) → k + 1 ≡ length (items_in indexed marks slots) → last ≡ Some (slice_index_or (items_in indexed marks slots) k d).0

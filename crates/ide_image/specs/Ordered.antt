@@ -1,7 +1,7 @@
--- What is left of notes, and what tells it.
-use Rattle.std.specs.Prelude.{◌≡◌, ℕ, Bool, List, Option, Some, slice_get}
+-- What is left of notes, and the slots that tell it.
+use Rattle.std.specs.Prelude.{◌≡◌, ℕ, Bool, List, Option, Some, None, slice_get}
 use Rattle.std.specs.Global.{Vec}
-use Rattle.std.specs.List.Sorted.{IsPermutation, IsSortedByKey}
+use Rattle.std.specs.List.Sorted.{IsSortedByKey}
 use Rattle.std.specs.declared.cmp.PartialEq.{Ghosts as PartialEq}
 use Rattle.std.specs.declared.default.Default.{Ghosts as Default}
 use Rattle.ide_lattice.specs.declared.edge_fn.EdgeFn.{Ghosts as EdgeFn}
@@ -9,13 +9,10 @@ use Rattle.ide_lattice.specs.declared.lattice.Lattice.{Ghosts as Lattice}
 use Rattle.ide_wire.specs.declared.wire.Wire.{Ghosts as Wire}
 use Rattle.ide_wire.specs.KeyOrder.{key_cmp}
 use Rattle.ide_wire.specs.declared.key.Key.{Key}
-use Rattle.ide_image.specs.Grid.{AreOnGrid, AreTold, Grid}
-use Rattle.ide_image.specs.Ranks.{AreNumbers, IsLeftAt, SaysIfLeftAt, item_of, item_told, left_by_slots}
+use Rattle.ide_image.specs.Grid.{AreChained, AreOnGrid, AreTold, Grid}
+use Rattle.ide_image.specs.Ranks.{AreKeyed, AreNumbers, HaveTheItems, IsKeyed, IsLeftAt, SaysIfLeftAt, item_beside, item_of, item_told, items_in, left_by_slots, note_slot}
 use Rattle.ide_image.specs.declared.noted_slots.NotedSlots.{NotedSlots}
-
--- the items ascend by their keys
-abbrev pub AscendByKey : {F : Type 0} → Vec (Key × F × Bool) → Type 0
-AscendByKey {F} items = IsSortedByKey (λ (item : Key × F × Bool). item.0) key_cmp items.items
+use Rattle.ide_image.specs.declared.ordered.Chain.{Chain}
 
 -- over notes with what has the entries of their keys, and over what the two types of its functions and values can do
 module _ {F L : Type 0} {E : EdgeFn F L} {W : Wire F} {Q : PartialEq F} {D : Default F} {A : Lattice L} {P : PartialEq L} where
@@ -23,17 +20,36 @@ module _ {F L : Type 0} {E : EdgeFn F L} {W : Wire F} {Q : PartialEq F} {D : Def
   abbrev pub told_by : NotedSlots F L E W Q D A P → ℕ → Option (Key × F × Bool)
   told_by left number = item_told left.indexed.now left.queue.now left.slots.now number
 
+  -- that note's slot
+  abbrev pub slot_told : NotedSlots F L E W Q D A P → ℕ → Option ℕ
+  slot_told left number = note_slot left.slots.now number
+
   -- it is the item of the note at the index
   abbrev pub IsItemAt : NotedSlots F L E W Q D A P → ℕ → Key × F × Bool → Type 0
   IsItemAt left index item = item_of left.indexed.now left.queue.now (slice_get left.slots.now index) ≡ Some item
 
-  -- slots on the grid tell the items, which ascend by key
-  abbrev pub AreToldOn : NotedSlots F L E W Q D A P → Grid → Vec (Key × F × Bool) → Type 0
-  AreToldOn left grid items = AreTold left.indexed.now left.queue.now grid items.items
+  -- the items of the slots ascend by their keys
+  abbrev pub AscendByKey : NotedSlots F L E W Q D A P → Vec ℕ → Type 0
+  AscendByKey left slots = IsSortedByKey (λ (item : Key × F × Bool). item.0) key_cmp (items_in left.indexed.now left.queue.now slots.items)
 
-  -- they do so still, if they did before
-  abbrev pub KeepsTold : NotedSlots F L E W Q D A P → Grid → (old new : Vec (Key × F × Bool)) → Type 0
-  KeepsTold left grid old new = AreToldOn left grid old → AreToldOn left grid new
+  -- the slots are on the grid, and the keys of their items ascend
+  abbrev pub AreToldOn : NotedSlots F L E W Q D A P → Grid → Vec ℕ → Type 0
+  AreToldOn left grid slots = AreTold left.indexed.now left.queue.now grid slots.items
+
+  -- the slots of a chain are so still, and it has the key of the last one, if they were and it had before
+  abbrev pub KeepsTold : NotedSlots F L E W Q D A P → Grid → (old new : Chain) → Type 0
+  KeepsTold left grid old new =
+      AreChained left.indexed.now left.queue.now grid old.slots.items old.last
+      → AreChained left.indexed.now left.queue.now grid new.slots.items new.last
+
+  -- the slot has an item of the key with which it is listed
+  abbrev pub IsKeyedIn : NotedSlots F L E W Q D A P → Key × ℕ → Type 0
+  IsKeyedIn left keyed = IsKeyed left.indexed.now left.queue.now keyed
+
+  -- the item of the slot that is listed with a key, if one is
+  abbrev pub keyed_item : NotedSlots F L E W Q D A P → Option (Key × ℕ) → Option (Key × F × Bool)
+  keyed_item left None = None
+  keyed_item left (Some keyed) = item_beside left.indexed.now left.queue.now keyed
 
   module _ (same : F → F → Bool) (left : NotedSlots F L E W Q D A P) where
     -- what is left, in the order of the notes
@@ -48,9 +64,13 @@ module _ {F L : Type 0} {E : EdgeFn F L} {W : Wire F} {Q : PartialEq F} {D : Def
     abbrev pub SaysIfLeft : ℕ → Bool → Type 0
     SaysIfLeft index is = SaysIfLeftAt same left.indexed.now left.queue.now left.notes.now index is
 
-    -- the items are what is left, in some order
-    abbrev pub AreLeft : Vec (Key × F × Bool) → Type 0
-    AreLeft items = IsPermutation items_left items.items
+    -- each slot has an item, and these are what is left, in some order
+    abbrev pub AreLeft : Vec ℕ → Type 0
+    AreLeft slots = HaveTheItems left.indexed.now left.queue.now items_left slots.items
+
+    -- the slots, each with its key, are those of what is left, in the order of the notes
+    abbrev pub AreKeyedLeft : Vec (Key × ℕ) → Type 0
+    AreKeyedLeft keyed = AreKeyed left.indexed.now left.queue.now items_left keyed.items
 
     -- the grid has the slots of what is left
     abbrev pub HasLeft : Grid → Type 0

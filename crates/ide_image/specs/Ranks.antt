@@ -1,6 +1,7 @@
 -- Numbers by which what is left of notes is put in the order of keys: each has the place of a key among keys, and the index of a note.
-use Rattle.std.specs.Prelude.{◌≡◌, ℕ, suc, ◌+◌, ◌*◌, ◌/◌, ◌%◌, ◌<◌, Bool, List, Option, Some, None, map, slice_get}
+use Rattle.std.specs.Prelude.{◌≡◌, ℕ, suc, ◌+◌, ◌*◌, ◌/◌, ◌%◌, ◌<◌, Bool, List, Option, Some, None, IsSome, map, slice_get}
 use Rattle.std.specs.List.{All, filter_map}
+use Rattle.std.specs.List.Sorted.{IsPermutation}
 use Rattle.std.specs.Option.{option_map}
 use Rattle.ide_wire.specs.declared.key.Key.{Key}
 use Rattle.ide_wire.specs.declared.key.Key.TheVariants.{Jump, Summary}
@@ -29,6 +30,10 @@ pub record IsNumberOf (key : Key) (index number : ℕ) : Type 0 where
   pub rank : number / 65536 ≡ key_rank key
   pub low : number % 65536 ≡ index
 
+-- the slot of the note whose index the number has
+abbrev pub note_slot : (slots : List ℕ) → (number : ℕ) → Option ℕ
+note_slot slots number = slice_get slots (number % 65536)
+
 module _ {F : Type 0} where
   -- the key and the function of the slot, and whether it is pending
   abbrev pub item_in : Indexed F → SlotMarks → (slot : ℕ) → Option (Key × F × Bool)
@@ -39,9 +44,30 @@ module _ {F : Type 0} where
   item_of indexed marks None = None
   item_of indexed marks (Some slot) = item_in indexed marks slot
 
-  -- that of the note whose index the number has
+  -- each slot has an item
+  abbrev pub HaveItems : Indexed F → SlotMarks → (slots : List ℕ) → Type 0
+  HaveItems indexed marks slots = All (λ slot. IsSome (item_in indexed marks slot)) slots
+
+  -- the items of slots
+  abbrev pub items_in : Indexed F → SlotMarks → (slots : List ℕ) → List (Key × F × Bool)
+  items_in indexed marks slots = filter_map (item_in indexed marks) slots
+
+  -- each slot has an item, and these are the items in some order
+  pub record HaveTheItems (indexed : Indexed F) (marks : SlotMarks) (items : List (Key × F × Bool)) (slots : List ℕ) : Type 0 where
+    pub have : HaveItems indexed marks slots
+    pub same : IsPermutation items (items_in indexed marks slots)
+
+  -- the item of the slot that is listed with a key
+  abbrev pub item_beside : Indexed F → SlotMarks → Key × ℕ → Option (Key × F × Bool)
+  item_beside indexed marks keyed = item_in indexed marks keyed.1
+
+  -- it is one of that key
+  abbrev pub IsKeyed : Indexed F → SlotMarks → Key × ℕ → Type 0
+  IsKeyed indexed marks keyed = option_map (λ item. item.0) (item_beside indexed marks keyed) ≡ Some keyed.0
+
+  -- the item of the note whose index the number has
   abbrev pub item_told : Indexed F → SlotMarks → (slots : List ℕ) → (number : ℕ) → Option (Key × F × Bool)
-  item_told indexed marks slots number = item_of indexed marks (slice_get slots (number % 65536))
+  item_told indexed marks slots number = item_of indexed marks (note_slot slots number)
 
   -- the slots are those of the notes' keys
   abbrev pub AreSlots : (Key → ℕ) → List (Key × Entry F) → (slots : List ℕ) → Type 0
@@ -65,6 +91,11 @@ module _ {F : Type 0} where
     pub is : told number ≡ Some item
     pub ranked : HasRank item.0
     pub rank : number / 65536 ≡ key_rank item.0
+
+  -- the slots, each with the key of its item, are those of the items, in the order of these
+  pub record AreKeyed (indexed : Indexed F) (marks : SlotMarks) (items : List (Key × F × Bool)) (keyed : List (Key × ℕ)) : Type 0 where
+    pub listed : filter_map (item_beside indexed marks) keyed ≡ items
+    pub each : All (IsKeyed indexed marks) keyed
 
   -- the numbers are those of the items, in the order of these
   pub record AreNumbers (told : ℕ → Option (Key × F × Bool)) (items : List (Key × F × Bool)) (numbers : List ℕ) : Type 0 where

@@ -1,5 +1,5 @@
 //! Functions at keys, in the cells of pages.
-ghost use Rattle.std.specs.Prelude.{◌≡◌, ◌+◌, ◌*◌, ◌%◌, ◌<◌, ◌≤◌, ◌^◌, [], None, Some, length, IfOk, IfSome, OnOk, IsOkUnless};
+ghost use Rattle.std.specs.Prelude.{◌≡◌, ◌+◌, ◌*◌, ◌%◌, ◌<◌, ◌≤◌, ◌^◌, [], None, Some, length, option_map, IfOk, IfSome, OnOk, IsOkUnless};
 ghost use Rattle.std.specs.List.{IsDistinct};
 ghost use Rattle.std.specs.Map.{keys_of};
 ghost use Rattle.std.specs.Option.{is_some};
@@ -141,6 +141,17 @@ impl<F: EdgeFn> Indexed<F> {
         let function = self.kept_in(cell)?;
         let key = self.places.key_in(cell)?;
         Some((key, function))
+    }
+
+    /// The key of a cell, if it has a function, which is not looked at. No look-up.
+    #[inline(always)]
+    pub(crate) fn present_key(&self, cell: usize) -> Option<Key>
+        ensures { result ≡ option_map (λ entry. entry.0) (entry_in self.now.cells cell) }
+    {
+        if self.places.number_in(cell) == 0 {
+            return None;
+        }
+        self.places.key_in(cell)
     }
 
     /// The key of a page's first cell, whether it has a function or not, if there is the page. No look-up.

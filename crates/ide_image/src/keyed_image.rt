@@ -20,6 +20,7 @@ ghost use Rattle.ide_image.specs.Walk.{AreAbsent, AreSettled, EntersWalked, Goes
 
 use crate::change::Change;
 use crate::change_log::ChangeLog;
+use crate::changed_items::ChangedItems;
 use crate::claim::Claim;
 use crate::entry::Entry;
 use crate::indexed::Indexed;
@@ -188,14 +189,14 @@ impl<F: EdgeFn, T: Drop> KeyedImage<F, T> {
 
     /// The noted keys that are present and have another entry now, ascending, each with its function and
     /// whether it is pending: none where nobody asked. It takes no look-up.
-    pub fn changed_items(&self, alloc: Global) -> Result<Vec<(Key, F, bool)>, Refused>
-        ensures same { IfOk result (λ items. IsPermutation (left_items F.eq self.now) items.items) }
-        ensures sorted { IfOk result (λ items. IsSortedByKey (λ (item : Key × F × Bool). item.0) key_cmp items.items) }
+    pub fn changed_items(&self, alloc: Global) -> Result<ChangedItems<'_, F>, Refused>
+        ensures same { IfOk result (IsPermutation (left_items F.eq self.now)) }
+        ensures sorted { IfOk result (IsSortedByKey (λ (item : Key × F × Bool). item.0) key_cmp) }
         ensures once { IsDistinct same_key (keys_of (unwrap_or self.now.changes [])) }
         ensures refused { IsOkUnless result NoMemory }
     {
         let Some(notes) = self.changes.notes() else {
-            return Ok(Vec::new(alloc));
+            return Ok(ChangedItems::new(&self.indexed, &self.queue, Vec::new(alloc)));
         };
         let noted = NotedSlots {
             indexed: &self.indexed,
@@ -203,8 +204,8 @@ impl<F: EdgeFn, T: Drop> KeyedImage<F, T> {
             notes,
             slots: self.changes.slots(),
         };
-        let items = noted.items(alloc)?;
-        Ok(items)
+        let slots = noted.left_slots(alloc)?;
+        Ok(ChangedItems::new(&self.indexed, &self.queue, slots))
     }
 
     /// How many keys are noted to have changed.

@@ -11,6 +11,7 @@
 
 mod change;
 mod change_log;
+mod changed_items;
 mod claim;
 mod claims;
 mod entry;
@@ -26,6 +27,7 @@ mod queue;
 mod tables;
 
 pub use change::Change;
+pub use changed_items::ChangedItems;
 pub use claim::Claim;
 pub use entry::Entry;
 pub use keyed_image::KeyedImage;

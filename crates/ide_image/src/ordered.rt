@@ -1,19 +1,20 @@
 //! What is left of notes, in the order of keys.
 //!
-//! Where its keys fill their pages well, a grid finds an order with no sort of keys, and the items are
-//! read in it, each of which is listed if it is seen to be above the one before it. Where that leaves one
-//! out, the order is not that of keys, and the list is of no use. There and elsewhere each item is told by
-//! one number of 64 bits, which has its key's place among keys and the index of its note. These are sorted
-//! in place of the items, which are five times as long; so there is one list of items alone, which is
-//! written once.
-ghost use Rattle.std.specs.Prelude.{◌≡◌, ◌<◌, Bool, true, IfOk, IfSome};
+//! It is told by slots, at which keys, functions and marks are read once somebody wants them.
+//!
+//! Where its keys fill their pages well, a grid finds an order with no sort of keys, and the slots are
+//! read in it, each of which is listed if its key is seen to be above the one before it. Where that leaves
+//! one out, the order is not that of keys, and the list is of no use. There and elsewhere each slot is told
+//! by one number of 64 bits, which has its key's place among keys and the index of its note. These are
+//! sorted, or where a key has no such number the keys themselves, each with its slot.
+ghost use Rattle.std.specs.Prelude.{◌≡◌, ℕ, ◌<◌, true, map, IfOk, IfSome};
 ghost use Rattle.std.specs.List.{filter_map};
 ghost use Rattle.std.specs.List.Sorted.{IsPermutation, IsSortedByKey};
 ghost use Rattle.ide_wire.specs.KeyOrder.{key_cmp};
 ghost use Rattle.ide_wire.specs.declared.key.Key.{Key};
 ghost use Rattle.ide_image.specs.Grid.{Grid, HasSlot, IsAboveLast};
-ghost use Rattle.ide_image.specs.Ordered.{AreLeft, AreNumbersOf, AreToldOn, AscendByKey, HasLeft, IsItemAt, IsLeftOf, KeepsTold, SaysIfLeft, items_left, told_by};
-ghost use Rattle.ide_image.specs.Ranks.{HasRank, IsNumberOf, item_in, key_rank};
+ghost use Rattle.ide_image.specs.Ordered.{AreKeyedLeft, AreLeft, AreNumbersOf, AreToldOn, AscendByKey, HasLeft, IsItemAt, IsKeyedIn, IsLeftOf, KeepsTold, SaysIfLeft, keyed_item, slot_told};
+ghost use Rattle.ide_image.specs.Ranks.{HasRank, IsNumberOf, key_rank};
 
 use crate::grid::{Grid, OFFSETS, begins_block, block_end};
 use crate::noted_slots::NotedSlots;
@@ -38,37 +39,37 @@ const PAGES: usize = 16;
 const FILLED: usize = 8;
 
 impl<'a, F: EdgeFn> NotedSlots<'a, F> {
-    /// What is left of the notes, ascending by key.
-    pub(crate) fn items(&self, alloc: Global) -> Result<Vec<(Key, F, bool)>, AllocError>
+    /// The slots of what is left of the notes, ascending by key.
+    pub(crate) fn left_slots(&self, alloc: Global) -> Result<Vec<u32>, AllocError>
         ensures same { IfOk result (AreLeft F.eq self.now) }
-        ensures sorted { IfOk result AscendByKey }
+        ensures sorted { IfOk result (AscendByKey self.now) }
     {
-        match self.paged_items(alloc)? {
-            Some(items) => Ok(items),
-            None => self.sorted_items(alloc),
+        match self.paged_slots(alloc)? {
+            Some(slots) => Ok(slots),
+            None => self.sorted_slots(alloc),
         }
     }
 
-    /// The same by a sort of numbers, or of items where keys have none.
-    fn sorted_items(&self, alloc: Global) -> Result<Vec<(Key, F, bool)>, AllocError>
+    /// The same by a sort of numbers, or of keys where these have none.
+    fn sorted_slots(&self, alloc: Global) -> Result<Vec<u32>, AllocError>
         ensures same { IfOk result (AreLeft F.eq self.now) }
-        ensures sorted { IfOk result AscendByKey }
+        ensures sorted { IfOk result (AscendByKey self.now) }
     {
         if let Some(mut numbers) = self.numbers(alloc)? {
             numbers.sort_unstable();
-            self.told_items(alloc, &numbers)
+            self.told_slots(alloc, &numbers)
         } else {
-            let mut items = self.listed_items(alloc)?;
-            sort_items(&mut items);
-            Ok(items)
+            let mut keyed = self.keyed_slots(alloc)?;
+            sort_by_key(&mut keyed);
+            slots_of(alloc, &keyed)
         }
     }
 
     /// The same by pages: `None` where there are few notes for the pages, or where the order that the grid
     /// finds is not that of keys, which is seen here.
-    fn paged_items(&self, alloc: Global) -> Result<Option<Vec<(Key, F, bool)>>, AllocError>
+    fn paged_slots(&self, alloc: Global) -> Result<Option<Vec<u32>>, AllocError>
         ensures same { IfOk result (λ told. IfSome told (AreLeft F.eq self.now)) }
-        ensures sorted { IfOk result (λ told. IfSome told AscendByKey) }
+        ensures sorted { IfOk result (λ told. IfSome told (AscendByKey self.now)) }
     {
         let Some(grid) = self.grid(alloc)? else {
             return Ok(None);
@@ -76,11 +77,11 @@ impl<'a, F: EdgeFn> NotedSlots<'a, F> {
         let Some(rows) = grid.numbers(alloc, self.indexed)? else {
             return Ok(None);
         };
-        let items = self.ascending_items(alloc, &grid, &rows)?;
-        if items.len() != grid.count() {
+        let slots = self.ascending_slots(alloc, &grid, &rows)?;
+        if slots.len() != grid.count() {
             return Ok(None);
         }
-        Ok(Some(items))
+        Ok(Some(slots))
     }
 
     /// The slots of what is left of the notes, on a grid: `None` where these are few for all pages that there
@@ -108,60 +109,58 @@ impl<'a, F: EdgeFn> NotedSlots<'a, F> {
         Ok(Some(grid))
     }
 
-    /// The items that slots on the grid tell, block by block of its rows, which the numbers tell. An item whose key is
-    /// not above that of the one before it is passed over, so that there are fewer items than slots then.
-    fn ascending_items(
+    /// The slots on the grid, block by block of its rows, which the numbers tell. One whose key is not above that of
+    /// the one before it is passed over, so that there are fewer than on the grid then.
+    fn ascending_slots(
         &self,
         alloc: Global,
         grid: &Grid,
         rows: &[u64],
-    ) -> Result<Vec<(Key, F, bool)>, AllocError>
+    ) -> Result<Vec<u32>, AllocError>
         ensures { IfOk result (AreToldOn self.now grid.now) }
     {
-        let mut items = Vec::with_capacity(alloc, grid.count())?;
+        let mut chain = Chain {
+            slots: Vec::with_capacity(alloc, grid.count())?,
+            last: None,
+        };
         for row in 0..rows.len() {
             if begins_block(rows, row) {
-                self.push_block(grid, &rows[row..block_end(rows, row)], &mut items);
+                self.push_block(grid, &rows[row..block_end(rows, row)], &mut chain);
             }
         }
-        Ok(items)
+        Ok(chain.slots)
     }
 
-    /// Appends the items of slots in some rows of the grid, offset by offset.
-    fn push_block(&self, grid: &Grid, block: &[u64], items: &mut Vec<(Key, F, bool)>)
-        ensures { KeepsTold self.now grid.now items.old items.new }
+    /// Appends the slots in some rows of the grid, offset by offset.
+    fn push_block(&self, grid: &Grid, block: &[u64], chain: &mut Chain)
+        ensures { KeepsTold self.now grid.now chain.old chain.new }
     {
         for offset in 0..OFFSETS {
-            self.push_column(grid, block, offset, items);
+            self.push_column(grid, block, offset, chain);
         }
     }
 
-    /// Appends the items of slots at an offset of some rows of the grid, row by row.
+    /// Appends the slots at an offset of some rows of the grid, row by row.
     #[inline(always)]
-    fn push_column(
-        &self,
-        grid: &Grid,
-        block: &[u64],
-        offset: usize,
-        items: &mut Vec<(Key, F, bool)>,
-    )
-        ensures { KeepsTold self.now grid.now items.old items.new }
+    fn push_column(&self, grid: &Grid, block: &[u64], offset: usize, chain: &mut Chain)
+        ensures { KeepsTold self.now grid.now chain.old chain.new }
     {
         for number in block {
             if let Some(slot) = grid.slot_at(*number, offset) {
-                self.push_item(slot, items);
+                self.push_slot(slot, chain);
             }
         }
     }
 
-    /// Appends the item of a slot, if its key is above that of the last item, and there is room.
+    /// Appends a slot, if its key has a function and is above that of the last slot, and there is room.
     #[inline(always)]
-    fn push_item(&self, slot: u32, items: &mut Vec<(Key, F, bool)>)
-        ensures { (grid : Grid) → HasSlot grid slot → KeepsTold self.now grid items.old items.new }
+    fn push_slot(&self, slot: u32, chain: &mut Chain)
+        ensures { (grid : Grid) → HasSlot grid slot → KeepsTold self.now grid chain.old chain.new }
     {
-        if let Some(item) = self.item_at(slot) {
-            if is_above(items, item.0) && items.len() < items.capacity() {
-                items.push_reserved(item);
+        if let Some(key) = self.indexed.present_key(slot as usize) {
+            if is_above(chain.last, key) && chain.slots.len() < chain.slots.capacity() {
+                chain.slots.push_reserved(slot);
+                chain.last = Some(key);
             }
         }
     }
@@ -187,32 +186,51 @@ impl<'a, F: EdgeFn> NotedSlots<'a, F> {
         Ok(Some(numbers))
     }
 
-    /// The items that the numbers tell, in the order of these. It reads no note.
-    fn told_items(&self, alloc: Global, numbers: &[u64]) -> Result<Vec<(Key, F, bool)>, AllocError>
-        ensures { IfOk result (λ items. items.items ≡ filter_map (told_by self.now) numbers.now) }
+    /// The slots that the numbers tell, in the order of these. It reads no note.
+    fn told_slots(&self, alloc: Global, numbers: &[u64]) -> Result<Vec<u32>, AllocError>
+        ensures { IfOk result (λ slots. slots.items ≡ filter_map (slot_told self.now) numbers.now) }
     {
         let count = numbers.len();
-        let mut items = Vec::with_capacity(alloc, count)?;
+        let mut slots = Vec::with_capacity(alloc, count)?;
         for index in 0..count {
-            if let Some(item) = self.item_told(numbers[index]) {
-                items.push_reserved(item);
+            if let Some(slot) = self.slot_told(numbers[index]) {
+                slots.push_reserved(slot);
             }
         }
-        Ok(items)
+        Ok(slots)
     }
 
-    /// What is left of the notes, in their order.
-    fn listed_items(&self, alloc: Global) -> Result<Vec<(Key, F, bool)>, AllocError>
-        ensures { IfOk result (λ items. items.items ≡ items_left F.eq self.now) }
+    /// The slot of the note whose index the number has.
+    #[inline(always)]
+    fn slot_told(&self, number: u64) -> Option<u32>
+        ensures { result ≡ slot_told self.now number }
+    {
+        self.slots.get((number % 0x1_0000) as usize).copied()
+    }
+
+    /// The slots of what is left of the notes, in their order, each with its key.
+    fn keyed_slots(&self, alloc: Global) -> Result<Vec<(Key, u32)>, AllocError>
+        ensures { IfOk result (AreKeyedLeft F.eq self.now) }
     {
         let count = self.notes.len();
-        let mut items = Vec::with_capacity(alloc, count)?;
+        let mut keyed = Vec::with_capacity(alloc, count)?;
         for index in 0..count {
-            if let Some(item) = self.left_at(index) {
-                items.push_reserved(item);
+            if let Some(slot) = self.keyed_at(index) {
+                keyed.push_reserved(slot);
             }
         }
-        Ok(items)
+        Ok(keyed)
+    }
+
+    /// The slot of the note at an index with its key, if something is left of it: nothing behind the last one.
+    #[inline(always)]
+    fn keyed_at(&self, index: usize) -> Option<(Key, u32)>
+        ensures left { IsLeftOf F.eq self.now index (keyed_item self.now result) }
+        ensures keyed { IfSome result (IsKeyedIn self.now) }
+    {
+        let item = self.left_at(index)?;
+        let slot = *self.slots.get(index)?;
+        Some((item.0, slot))
     }
 
     /// Whether something is left of the note at an index: nothing is behind the last one. The note is read where it
@@ -240,42 +258,39 @@ impl<'a, F: EdgeFn> NotedSlots<'a, F> {
         let slot = *self.slots.get(index)?;
         parts::left_at(self.indexed, self.queue, slot, key, before)
     }
-
-    /// The item of the note whose index the number has, as it stands.
-    fn item_told(&self, number: u64) -> Option<(Key, F, bool)>
-        ensures { result ≡ told_by self.now number }
-    {
-        let slot = *self.slots.get((number % 0x1_0000) as usize)?;
-        self.item_at(slot)
-    }
-
-    /// The item of a slot, as it stands.
-    #[inline(always)]
-    fn item_at(&self, slot: u32) -> Option<(Key, F, bool)>
-        ensures { result ≡ item_in self.now.indexed.now self.now.queue.now slot }
-    {
-        let (key, function) = self.indexed.entry_at(slot as usize)?;
-        Some((key, function, self.queue.is_pending(slot as usize)))
-    }
 }
 
-/// Whether the key is above that of the last item, if there is one.
+/// Slots whose keys ascend, and the key of the last one.
+#[derive(Drop)]
+pub(crate) struct Chain {
+    slots: Vec<u32>,
+    last: Option<Key>,
+}
+
+/// Whether the key is above the last one, if there is one.
 #[inline(always)]
-fn is_above<F: EdgeFn>(items: &[(Key, F, bool)], key: Key) -> bool
-    ensures { result ≡ true → IsAboveLast items.now key }
+fn is_above(last: Option<Key>, key: Key) -> bool
+    ensures { result ≡ true → IsAboveLast last key }
 {
-    match items.last() {
-        Some(last) => last.0 < key,
+    match last {
+        Some(last) => last < key,
         None => true,
     }
 }
 
-/// Sorts items by their keys.
-fn sort_items<F: EdgeFn>(items: &mut Vec<(Key, F, bool)>)
-    ensures same { IsPermutation items.old.items items.new.items }
-    ensures sorted { IsSortedByKey (λ (item : Key × F × Bool). item.0) key_cmp items.new.items }
+/// Sorts slots by their keys.
+fn sort_by_key(keyed: &mut Vec<(Key, u32)>)
+    ensures same { IsPermutation keyed.old.items keyed.new.items }
+    ensures sorted { IsSortedByKey (λ (k : Key × ℕ). k.0) key_cmp keyed.new.items }
 {
-    items.sort_unstable_by_key(|item| item.0);
+    keyed.sort_unstable_by_key(|slot| slot.0);
+}
+
+/// The slots without their keys.
+fn slots_of(alloc: Global, keyed: &[(Key, u32)]) -> Result<Vec<u32>, AllocError>
+    ensures { IfOk result (λ slots. slots.items ≡ map (λ k. k.1) keyed.now) }
+{
+    keyed.iter().map(|keyed| keyed.1).collect(alloc)
 }
 
 /// The number of the key and an index: `None` where the key has no rank.

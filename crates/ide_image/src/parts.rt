@@ -80,6 +80,19 @@ pub(crate) fn left_at<F: EdgeFn>(
     }
 }
 
+/// The key of a slot with its function and whether it is pending, as it stands.
+#[inline(always)]
+pub(crate) fn item_at<F: EdgeFn>(
+    indexed: &Indexed<F>,
+    queue: &Queue,
+    slot: u32,
+) -> Option<(Key, F, bool)>
+    ensures { result ≡ item_in indexed.now queue.now slot }
+{
+    let (key, function) = indexed.entry_at(slot as usize)?;
+    Some((key, function, queue.is_pending(slot as usize)))
+}
+
 /// Whether a function and a mark make another entry than before.
 #[inline(always)]
 fn is_left<F: EdgeFn>(now: F, pending: bool, before: &Entry<F>) -> bool

@@ -4,7 +4,7 @@ ghost use Rattle.std.specs.List.Sorted.{IsStrictlySortedBy};
 ghost use Rattle.ide_slot_store.specs.Parts.{AreInRawParts, AreRawParts, CommandsStayBelow, ImagePartsMakeCheckpoints, IsPartsStop, IsRawPart, IsSpellRefusal, PartsLeadUp};
 ghost use Rattle.ide_wire.specs.KeyOrder.{key_cmp};
 
-use ide_batch::{MOST, Record, may_be_spelled, to_raw};
+use ide_batch::{MOST, batch_to_raw};
 use ide_journal::{RawRecord, Version};
 use ide_lattice::EdgeFn;
 use ide_problem::Problem;
@@ -58,11 +58,9 @@ fn part_of<F: EdgeFn>(alloc: Global, items: &[(Key, F, bool)]) -> Result<RawReco
     ensures part { IfOk result (IsRawPart F.proper F.form F.eq F.edge.all_top items.now) }
     ensures refused { IfErr result (IsSpellRefusal F.proper F.form F.eq F.edge.all_top items.now) }
 {
-    let change = Record::Batch(Vec::from_slice(alloc, items)?);
-    if !may_be_spelled(&change) {
+    let Some(mut part) = batch_to_raw(alloc, items, Version::Two)? else {
         return Err(Refused::Limit);
-    }
-    let mut part = to_raw(alloc, &change, Version::Two)?;
+    };
     part.kind = PART;
     Ok(part)
 }

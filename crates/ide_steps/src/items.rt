@@ -12,6 +12,7 @@ ghost use Rattle.ide_steps.specs.Items.{AreChangedItems, AreItems, IsKeyOf, Sets
 use crate::loaded::is_call;
 use crate::machine::Core;
 use ide_graph::Graph;
+use ide_image::ChangedItems;
 use ide_problem::Problem;
 use ide_wire::{Fact, Key, Node, Refused};
 use std::alloc::AllocError;
@@ -34,9 +35,9 @@ impl<P: Problem> Core<P> {
     /// the noted keys alone.
     ///
     /// Refusal: `NoMemory`.
-    pub fn changed_items(&self) -> Result<Vec<(Key, P::F, bool)>, Refused>
-        ensures items { IfOk result (λ items. AreChangedItems self.now items.items) }
-        ensures few { IfOk result (λ items. length items.items ≤ noted_count self.now.changes) }
+    pub fn changed_items(&self) -> Result<ChangedItems<'_, P::F>, Refused>
+        ensures items { IfOk result (AreChangedItems self.now) }
+        ensures few { IfOk result (λ items. length items ≤ noted_count self.now.changes) }
         ensures refused { IfErr result (λ e. e ≡ Refused.NoMemory) }
     {
         let items = self.image.changed_items(self.alloc)?;

@@ -31,11 +31,6 @@ pub own_stop : {T F : Type 0} (r : Result T Refused) (table : TableData F) (Why 
 own_stop (Ok x) table Why Own working tells why = tt
 own_stop (Err e) table Why Own working tells why = by_itself working (tells e why)
 
--- the one reason that there is
-pub one_stop : {T : Type 0} (r : Result T Refused) (refused : Refused) (Why : Refused → Type 0) → Why refused → IfErr r (λ e. e ≡ refused) → IfErr r Why
-one_stop (Ok x) refused Why why is = tt
-one_stop (Err e) refused Why why is = subst Why (sym is) why
-
 -- whether to meet a key's function changes nothing, as it is computed
 pub received_is : {F L : Type 0} (B : EdgeAlgebra F L) (same : F → F → Bool) → ((f g : F) → same f g ≡ true → f ≡ g) → ((f : F) → same f f ≡ true)
     → (got held : Option F) (top before met f : F) (result : Bool) → got ≡ held → top ≡ B.all_top → before ≡ unwrap_or got top → met ≡ B.meet before f
@@ -63,10 +58,10 @@ stale_stop (Err e) table hand working is none =
     by_itself working (subst (IsStaleClaim table hand) (sym is) (no_claim (none (ap (λ (e : Refused). Err e) is))))
 
 -- a length that is not within a bound is over it
-pub over_bound : (n most : ℕ) (within : Bool) → (n ≤ most → IsTrue within) → within ≡ false → most < n
-over_bound n most within tells no_more = elim (cases_lt most n) [
+pub over_bound : (n most : ℕ) → ¬ (n ≤ most) → most < n
+over_bound n most beyond = elim (cases_lt most n) [
   | inl over ↦ over
-  | inr under ↦ (let yes = tells under in absurd (cc (yes, no_more)))
+  | inr under ↦ absurd (beyond under)
 ]
 
 -- it is not noted

@@ -13,7 +13,7 @@ use crate::kept::Kept;
 use crate::laws::calls_are_acts;
 use crate::outbox::{MOST_RECORDS, Ticket};
 use crate::table::TableHalf;
-use ide_batch::{Record, may_be_spelled, to_raw};
+use ide_batch::{Record, changed_to_raw, to_raw};
 use ide_journal::RawRecord;
 use ide_problem::Problem;
 use ide_steps::cores_are_whole;
@@ -127,15 +127,13 @@ impl<P: Problem> TableHalf<P> {
         if self.core.changed_count() > 0 && self.outbox.sealed >= MOST_RECORDS {
             return Err(Refused::Limit);
         }
-        let items = self.core.changed_items()?;
-        if items.is_empty() {
+        let changed = self.core.changed_items()?;
+        if changed.len() == 0 {
             return Ok(None);
         }
-        let change = Record::Batch(items);
-        if !may_be_spelled(&change) {
+        let Some(raw) = changed_to_raw(self.alloc, changed, self.version)? else {
             return Err(Refused::Limit);
-        }
-        let raw = to_raw(self.alloc, &change, self.version)?;
+        };
         Ok(Some(raw))
     }
 
@@ -148,7 +146,11 @@ impl<P: Problem> TableHalf<P> {
         parsing_and_printing_undo_each_other();
         let mut text = Vec::new(self.alloc);
         print(program, &mut text)?;
-        to_raw(self.alloc, &Record::<P::F>::Load(text), self.version)
+        match to_raw(self.alloc, &Record::<P::F>::Load(text), self.version)? {
+            Some(raw) => Ok(raw),
+            // A text that was parsed is not too long.
+            None => unreachable!(),
+        }
     }
 
     /// The record of a root of that name.
@@ -158,10 +160,9 @@ impl<P: Problem> TableHalf<P> {
     {
         let mut copy = Vec::new(self.alloc);
         copy.extend_from_slice(name)?;
-        let change = Record::<P::F>::Root(copy);
-        if !may_be_spelled(&change) {
-            return Err(Refused::Limit);
+        match to_raw(self.alloc, &Record::<P::F>::Root(copy), self.version)? {
+            Some(raw) => Ok(raw),
+            None => Err(Refused::Limit),
         }
-        to_raw(self.alloc, &change, self.version)
     }
 }

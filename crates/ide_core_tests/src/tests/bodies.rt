@@ -1,12 +1,7 @@
 //! Batches of worked programs: their bodies, and what these give back.
-ghost use Rattle.std.specs.Prelude.{IfOk};
-ghost use Rattle.ide_batch.specs.Bodies.{MayBeSpelled};
-ghost use Rattle.ide_batch.specs.Items.{functions_by};
-ghost use Rattle.ide_batch.specs.Records.{value_of_record};
-
 use super::records::{Run, begin_noted, do_first_parts, replay};
 use super::tables::drain;
-use ide_batch::{Record, Spelled, to_raw};
+use ide_batch::{Record, to_raw};
 use ide_instances::{ConstFn, CopyConst, Uninit, UninitFn};
 use ide_journal::Version;
 use ide_lattice::EdgeFn;
@@ -47,9 +42,7 @@ const NUMBER_RUN: Run = Run {
 };
 
 /// The batch of an empty main.
-pub(crate) fn empty_main(alloc: Global) -> Result<Record<UninitFn>, AllocError>
-    ensures { IfOk result (λ change. MayBeSpelled ⟦<UninitFn as Spelled>⟧.forms (value_of_record change)) }
-{
+pub(crate) fn empty_main(alloc: Global) -> Result<Record<UninitFn>, AllocError> {
     let items = Vec::from_array(
         alloc,
         [
@@ -62,9 +55,7 @@ pub(crate) fn empty_main(alloc: Global) -> Result<Record<UninitFn>, AllocError>
 }
 
 /// The batch of a main with one number.
-pub(crate) fn two_parts(alloc: Global) -> Result<Record<ConstFn>, AllocError>
-    ensures { IfOk result (λ change. MayBeSpelled ⟦<ConstFn as Spelled>⟧.forms (value_of_record change)) }
-{
+pub(crate) fn two_parts(alloc: Global) -> Result<Record<ConstFn>, AllocError> {
     let items = Vec::from_array(
         alloc,
         [
@@ -81,11 +72,10 @@ fn expect_spelled<F: EdgeFn>(
     change: &Record<F>,
     version: Version,
     body: &[u8],
-)
-    requires { MayBeSpelled (functions_by F.proper F.form F.eq F.edge.all_top) (value_of_record change.now) }
-{
+) {
     match to_raw(rt.alloc(), change, version) {
-        Ok(raw) => assert!(rt; raw.kind == 3 && raw.body.as_slice() == body),
+        Ok(Some(raw)) => assert!(rt; raw.kind == 3 && raw.body.as_slice() == body),
+        Ok(None) => panic!(rt; "no format spells the record"),
         Err(refused) => panic!(rt; "{refused}"),
     }
 }

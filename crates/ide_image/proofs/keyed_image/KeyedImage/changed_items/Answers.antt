@@ -1,7 +1,8 @@
 use Rattle.std.proofs.Common.{◌≡◌, Bool, List, Option, Some, [], sym, ap, subst, ◌∙◌}
 use Rattle.std.specs.Prelude.{unwrap_or}
 use Rattle.std.specs.List.{filter_map}
-use Rattle.std.specs.List.Sorted.{IsPermutation}
+use Rattle.std.specs.List.Sorted.{IsPermutation, IsSortedByKey}
+use Rattle.ide_wire.specs.KeyOrder.{key_cmp}
 use Rattle.ide_wire.specs.declared.key.Key.{Key}
 use Rattle.ide_image.specs.declared.claim.Claim.{Claim}
 use Rattle.ide_image.specs.declared.entry.Entry.{Entry}
@@ -10,7 +11,7 @@ use Rattle.ide_image.specs.Indexed.{Indexed, table_of}
 use Rattle.ide_image.specs.KeyedImage.{AreParts, image_by, pending_by_slot}
 use Rattle.ide_image.specs.Left.{left_by_slot, left_item, left_items, left_of}
 use Rattle.ide_image.specs.Queue.{SlotMarks}
-use Rattle.ide_image.specs.Ranks.{left_by_slots}
+use Rattle.ide_image.specs.Ranks.{items_in, left_by_slots}
 use Rattle.ide_image.specs.Tables.{found}
 use Rattle.ide_image.proofs.Agree.{is-pending}
 use Rattle.ide_image.proofs.Shown.{found-shown}
@@ -32,7 +33,10 @@ pub returns-clause-same : goal.returns-clause-same
 returns-clause-same g c =
     let inside = c.self.inside in
     let left = left-same g.F.PartialEq.eq inside.indexed inside.queue inside.claims.items inside.changes c.self.invariant c.in-Some.notes.now c.in-Some.ensures in
-    subst (λ xs. IsPermutation xs c.in_ok-items.items.items) (left ∙ ap (left_items g.F.PartialEq.eq) c.self.view_is) c.in_ok-items.ensures.same
+    let items = items_in inside.indexed inside.queue c.in_ok-slots.slots.items in
+    subst (IsPermutation (left_items g.F.PartialEq.eq c.args.self.now)) (sym c.new-2.ensures)
+    (subst (λ xs. IsPermutation xs items) (left ∙ ap (left_items g.F.PartialEq.eq) c.self.view_is) c.in_ok-slots.ensures.same.same)
 
 pub returns-clause-sorted : goal.returns-clause-sorted
-returns-clause-sorted g c = c.in_ok-items.ensures.sorted
+returns-clause-sorted g c =
+    subst (IsSortedByKey (λ (item : Key × _ × _). item.0) key_cmp) (sym c.new-2.ensures) c.in_ok-slots.ensures.sorted
