@@ -12,6 +12,7 @@ pub mod Places
 pub mod Ranges
 pub mod Ranks
 pub mod Rest
+pub mod Rows
 pub mod Sets
 pub mod Shown
 pub mod Slotted

@@ -1,5 +1,5 @@
 -- Items taken from a list that ascend by key: as many as it has are that list in the order of keys.
-use Rattle.std.proofs.Common.{◌≡◌, ℕ, zero, suc, ◌+◌, ◌<◌, ◌++◌, refl, sym, ap, subst, ◌∙◌, arith, false, List, [], ◌∷◌, get_or, length, map}
+use Rattle.std.proofs.Common.{◌≡◌, ℕ, zero, suc, ◌+◌, ◌<◌, refl, sym, ap, subst, ◌∙◌, arith, false, List, [], ◌∷◌, get_or, length, map}
 use Rattle.std.specs.List.{All, AllByRecursion, Contains, remove}
 use Rattle.std.specs.List.Sorted.{IsPermutation, IsSortedByKey, IsStrictlySortedBy}
 use Rattle.std.specs.Ordering.{is_lt, ordering_reverse}
@@ -62,30 +62,3 @@ module _ {X : Type 0} (key : X → Key) where
       let next = get_or-map key ys (k + 1) d (key d) within in
       let less = Less-from_sorted key_cmp (map key ys) k (k + 1) (key d) ascends (omega arith) (omega (arith, within, long)) in
       not-under (key (get_or ys k d)) (key (get_or ys (k + 1) d)) ((λ t. key_cmp (sym here t) (sym next t)) ∙ less)
-
-  -- of no elements it is so
-  pub picked-none : IsStrictlySortedBy key_cmp (map key [])
-  unfolding IsStrictlySortedBy
-  picked-none = tt
-
-  -- what is above the last of elements that ascend is above the first
-  above-first : (x : X) (ys : List X) (y : X) → IsStrictlySortedBy key_cmp (map key (x ∷ ys))
-      → ((k : ℕ) (d : X) → k + 1 ≡ length (x ∷ ys) → key_cmp (key (get_or (x ∷ ys) k d)) (key y) ≡ Less) → key_cmp (key x) (key y) ≡ Less
-  above-first x [] y ascends last = last 0 x (omega arith)
-  above-first x (z ∷ zs) y ascends last =
-      let up = sorted_head key_cmp (key x) (map key (z ∷ zs)) ascends in
-      key_cmp_total.trans (key x) (key z) (key y) up.0
-      (above-first z zs y (sorted_tail key_cmp (key x) (map key (z ∷ zs)) ascends) (λ k d at. last (suc k) d (omega (arith, at))))
-
-  above-more : (k : Key) (ys : List X) (y : X) → AllByRecursion (λ q. key_cmp k q ≡ Less) (map key ys) → key_cmp k (key y) ≡ Less
-      → AllByRecursion (λ q. key_cmp k q ≡ Less) (map key (ys ++ y ∷ []))
-  above-more k [] y each less = (less, tt)
-  above-more k (x ∷ ys) y each less = (each.0, above-more k ys y each.1 less)
-
-  -- one more element behind those that ascend, whose key is above the last one's
-  pub picked-more : (ys : List X) (y : X) → IsStrictlySortedBy key_cmp (map key ys)
-      → ((k : ℕ) (d : X) → k + 1 ≡ length ys → key_cmp (key (get_or ys k d)) (key y) ≡ Less) → IsStrictlySortedBy key_cmp (map key (ys ++ y ∷ []))
-  unfolding IsStrictlySortedBy
-  picked-more [] y ascends last = (tt, tt)
-  picked-more (x ∷ ys) y ascends last =
-      (above-more (key x) ys y ascends.0 (above-first x ys y ascends last), picked-more ys y ascends.1 (λ k d at. last (suc k) d (omega (arith, at))))

@@ -1,67 +1,29 @@
--- The marks of the cells of a grid, and the items of its slots.
-use Rattle.std.proofs.Common.{◌≡◌, ℕ, zero, suc, ◌+◌, ◌-◌, ◌<◌, ◌++◌, refl, sym, ap, subst, ◌∙◌, arith, cond, Bool, true, false, List, [], ◌∷◌, Option, None, Some, drop, get_or, inl, inr, length, map, replicate}
-use Rattle.std.specs.Prelude.{◌⊎◌, IfSome, slice_get}
-use Rattle.std.specs.List.{All, Contains, cons_option, filter_map}
-use Rattle.std.specs.List.Sorted.{IsStrictlySortedBy}
+-- The slots of what is left of notes on a grid: as they are read, their keys ascend.
+use Rattle.std.proofs.Common.{◌≡◌, ℕ, zero, suc, ◌+◌, ◌*◌, ◌/◌, ◌%◌, ◌<◌, refl, sym, ap, subst, ◌∙◌, arith, cond, Bool, true, false, List, [], ◌∷◌, Option, None, Some, drop, get_or, inl, inr, length, map}
+use Rattle.std.specs.Prelude.{slice_get, slice_index, unwrap_or}
+use Rattle.std.specs.List.{All, AllByRecursion, Contains, cons_option, filter_map}
+use Rattle.std.specs.List.Sorted.{IsSortedByKey, IsStrictlySortedBy}
 use Rattle.std.specs.Option.{is_some, option_map}
+use Rattle.std.specs.Ordering.{nat_cmp}
 use Rattle.std.specs.declared.cmp.Ordering.TheVariants.{Less}
+use Rattle.std.proofs.lemmas.Bool.Decides.{nat_tests}
 use Rattle.std.proofs.lemmas.Option.{same_Some}
-use Rattle.std.proofs.lemmas.List.{get_or_push, length_push}
-use Rattle.std.proofs.lemmas.List.Elements.{All-cons, All-head, All-nil, All-push, All-tail, Contains-append_cases, filter_map-append}
+use Rattle.std.proofs.lemmas.List.Elements.{All-cons, All-head, All-nil, All-tail}
 use Rattle.ide_wire.specs.KeyOrder.{key_cmp}
 use Rattle.ide_wire.specs.declared.key.Key.{Key}
-use Rattle.ide_image.specs.Grid.{AreChained, AreOnGrid, AreTold, Grid, HasSlot, IsAboveLast, IsWidened, MarksCell, PutsSlot, TellsOneOf}
+use Rattle.ide_image.specs.Cells.{key_behind, shown_in, tables_of}
+use Rattle.ide_image.specs.Grid.{AreNumbersTo, AreOnGrid, ArePlaced, AreRanksOn, AreRead, Grid, HasSlot, IsRow, IsRowNumber, PutsSlot, TellsOneOf, cell_at}
 use Rattle.ide_image.specs.Indexed.{Indexed, entry_in, function_of, place_of_key}
 use Rattle.ide_image.specs.KeyedImage.{pending_by_slot}
 use Rattle.ide_image.specs.Left.{is_left, left_by_slot, left_of}
 use Rattle.ide_image.specs.Queue.{SlotMarks, pending_at}
-use Rattle.ide_image.specs.Ranks.{AreSlots, HaveItems, HaveTheItems, SaysIfLeftAt, item_in, items_in, left_by_slots}
+use Rattle.ide_image.specs.Ranks.{AreSlots, HasRank, HaveItems, HaveTheItems, SaysIfLeftAt, item_in, items_in, key_rank, left_by_slots}
 use Rattle.ide_image.specs.declared.entry.Entry.{Entry}
 use Rattle.ide_image.proofs.Agree.{at-index}
-use Rattle.ide_image.proofs.Picked.{picked, picked-more, picked-none}
-use Rattle.ide_image.proofs.Ranks.{item-at}
-
-abbrev zeros : ℕ → List ℕ
-zeros n = replicate n 0
-
--- zeros mark no slot
-no-zeros : (n s k : ℕ) → k < length (zeros n) → get_or (zeros n) k (suc s) ≡ suc s → ⊥
-no-zeros zero s k within is = absurd (omega (arith, within))
-no-zeros (suc n) s zero within is = absurd (omega (arith, is))
-no-zeros (suc n) s (suc k) within is = no-zeros n s k (omega (arith, within)) is
-
--- nor do they behind others
-among-before : (n s : ℕ) (xs ys : List ℕ) → ys ≡ xs ++ zeros n → Contains ys (suc s) → Contains xs (suc s)
-among-before n s xs ys is has =
-    elim (Contains-append_cases xs (zeros n) (suc s) (subst (λ zs. Contains zs (suc s)) is has)) [
-      | inl before ↦ before
-      | inr there ↦ absurd (no-zeros n s there.0 there.1 there.2)
-    ]
-
--- a slot on the cells that a row of zeros was put behind was on them before
-pub not-widened : (old new : Grid) (s : ℕ) → IsWidened old new → HasSlot new s → HasSlot old s
-not-widened old new s widened has =
-    elim widened [
-      | inl same ↦ subst (λ zs. Contains zs (suc s)) same has
-      | inr more ↦ among-before 64 s old.cells new.cells more has
-    ]
-
--- what a slot was put on, once it had been given a row
-pub put-slot : (old wide : Grid) (slot s : ℕ) (before cells : List ℕ) → IsWidened old wide → wide.cells ≡ before → MarksCell slot before cells
-    → Contains cells (suc s) → HasSlot old s ⊎ (s ≡ slot)
-put-slot old wide slot s before cells widened same marked has =
-    elim (marked s has) [
-      | inl there ↦ inl (not-widened old wide s widened (subst (λ zs. Contains zs (suc s)) (sym same) there))
-      | inr is ↦ inr is
-    ]
-
--- a mark that is not 0 is that of a slot
-pub marks-slot : (cells shown : List ℕ) (place mark : ℕ) → shown ≡ cells → place < length shown → mark ≡ get_or shown place mark → (mark ≡ 0 → ⊥)
-    → Contains cells (suc (mark - 1))
-marks-slot cells shown place zero same within is some = absurd (some refl)
-marks-slot cells shown place (suc slot) same within is some =
-    let less : suc slot - 1 ≡ slot = omega arith in
-    subst (λ n. Contains cells (suc n)) (sym less) (subst (λ zs. Contains zs (suc slot)) same (place, within, sym is))
+use Rattle.ide_image.proofs.Columns.{shown-at}
+use Rattle.ide_image.proofs.Picked.{picked, picked-up}
+use Rattle.ide_image.proofs.Ranks.{by-rank, item-at}
+use Rattle.ide_image.proofs.Rows.{rank-behind}
 
 module _ {X Y : Type 0} (f : X → Option Y) where
   -- what is among others is among them behind what comes of one element more
@@ -151,6 +113,9 @@ module _ {F : Type 0} (same : F → F → Bool) (indexed : Indexed F) (marks : S
         among = behind-first left_of_note (left_of_note n) (left_by_slots same indexed marks ns) tells.item tells.among;
       }
 
+rank-less : (m n : ℕ) → m < n → nat_cmp m n ≡ Less
+rank-less m n less = grind (arith, nat_tests)
+
 module _ {F : Type 0} (indexed : Indexed F) (marks : SlotMarks) where
   -- a slot that tells something that is left is put
   pub puts-left : (left : List (Key × F × Bool)) (old new : Grid) (slot : ℕ) → TellsOneOf indexed marks left slot
@@ -161,56 +126,16 @@ module _ {F : Type 0} (indexed : Indexed F) (marks : SlotMarks) where
         | inr same ↦ subst (TellsOneOf indexed marks left) (sym same) tells
       ]
 
-  -- no slots are on any grid, and there is no last key
-  pub none-told : (grid : Grid) → AreChained indexed marks grid [] None
-  none-told grid = record {
-    told = record { each = All-nil (HasSlot grid); ascend = picked-none (λ (item : Key × F × Bool). item.0) };
-    ends = λ k d at. absurd (omega (arith, at));
-  }
-
-  -- the slot of a key that is present has an item of that key
-  present-item : (slot : ℕ) (key : Key) → Some key ≡ option_map (λ entry. entry.0) (entry_in indexed.cells slot)
-      → (item : Key × F × Bool) × (item_in indexed marks slot ≡ Some item) × (item.0 ≡ key)
-  present-item slot key is = from (entry_in indexed.cells slot) is
+  -- the entry of a slot that has an item
+  shown-item : (slot : ℕ) (item : Key × F × Bool) → item_in indexed marks slot ≡ Some item
+      → (e : Key × F) × (shown_in (tables_of indexed) slot ≡ Some e) × (e.0 ≡ item.0)
+  shown-item slot item is = from (entry_in indexed.cells slot) (sym (shown-at indexed.cells slot)) is
     where
-      from : (o : Option (Key × F)) → Some key ≡ option_map (λ entry. entry.0) o
-          → (item : Key × F × Bool) × (option_map (λ (entry : Key × F). (entry.0, entry.1, pending_at marks.list slot)) o ≡ Some item) × (item.0 ≡ key)
-      from None is = absurd (cc (is))
-      from (Some entry) is = ((entry.0, entry.1, pending_at marks.list slot), refl, sym (same_Some key entry.0 is))
-
-  -- the items of slots and of one more behind them
-  items-more : (slots : List ℕ) (slot : ℕ) (item : Key × F × Bool) → item_in indexed marks slot ≡ Some item
-      → items_in indexed marks (slots ++ slot ∷ []) ≡ items_in indexed marks slots ++ item ∷ []
-  items-more slots slot item is =
-      filter_map-append (item_in indexed marks) slots (slot ∷ []) ∙ ap (λ o. items_in indexed marks slots ++ cons_option o []) is
-
-  -- one more slot on the grid, whose key is above the last one, which it is then
-  pub tells-more : (grid : Grid) (slots : List ℕ) (last : Option Key) (slot : ℕ) (key : Key) → AreChained indexed marks grid slots last
-      → HasSlot grid slot → Some key ≡ option_map (λ entry. entry.0) (entry_in indexed.cells slot) → IsAboveLast last key
-      → AreChained indexed marks grid (slots ++ slot ∷ []) (Some key)
-  tells-more grid slots last slot key chained has present above =
-      let found = present-item slot key present in
-      let item = found.0 in
-      let items = items_in indexed marks slots in
-      let more : items_in indexed marks (slots ++ slot ∷ []) ≡ items ++ item ∷ [] = items-more slots slot item found.1 in
-      let under : (k : ℕ) (d : Key × F × Bool) → k + 1 ≡ length items → key_cmp (get_or items k d).0 item.0 ≡ Less =
-      λ k d at.
-      (λ i. key_cmp (get_or items k d).0 (found.2 i)) ∙ subst (λ o. IfSome o (λ q. key_cmp q key ≡ Less)) (chained.ends k d at) above in
-      record {
-        told =
-            record {
-              each = All-push (HasSlot grid) slots slot chained.told.each has;
-              ascend =
-                  subst (λ us. IsStrictlySortedBy key_cmp (map (λ (item : Key × F × Bool). item.0) us)) (sym more)
-                  (picked-more (λ (item : Key × F × Bool). item.0) items item chained.told.ascend under);
-            };
-        ends =
-            subst (λ us. (k : ℕ) (d : Key × F × Bool) → k + 1 ≡ length us → Some key ≡ Some (get_or us k d).0) (sym more)
-            (λ k d at.
-            let long = length_push items item in
-            let there : length items ≡ k = omega (arith, at, long) in
-            (λ i. Some (sym found.2 i)) ∙ ap (λ (x : Key × F × Bool). Some x.0) (sym (get_or_push items item d k there)));
-      }
+      from : (o : Option (Key × F)) → shown_in (tables_of indexed) slot ≡ o
+          → option_map (λ (entry : Key × F). (entry.0, entry.1, pending_at marks.list slot)) o ≡ Some item
+          → (e : Key × F) × (shown_in (tables_of indexed) slot ≡ Some e) × (e.0 ≡ item.0)
+      from None shows is = absurd (cc (is))
+      from (Some e) shows is = (e, shows, ap (λ (i : Key × F × Bool). i.0) (same_Some (e.0, e.1, pending_at marks.list slot) item is))
 
   -- slots on a grid that has the slots of what is left have items, and these are among that
   module _ (left : List (Key × F × Bool)) (grid : Grid) (on : AreOnGrid indexed marks left grid) where
@@ -225,14 +150,93 @@ module _ {F : Type 0} (indexed : Indexed F) (marks : SlotMarks) where
         subst (λ o. All (Contains left) (cons_option o (items_in indexed marks ss))) (sym tells.is)
         (All-cons (Contains left) tells.item (items_in indexed marks ss) tells.among rest)
 
-    -- slots on the grid whose keys ascend, as many as are left, are those of what is left
-    pub all-left : (slots : List ℕ) → AreTold indexed marks grid slots → length slots ≡ grid.count → HaveTheItems indexed marks left slots
-    all-left slots told count =
-        let have = have-items slots told.each in
-        let long : length (items_in indexed marks slots) ≡ length slots = count-items (item_in indexed marks) slots have in
-        record {
-          have = have;
-          same =
-              picked (λ (item : Key × F × Bool). item.0) left (items_in indexed marks slots) (among-left slots told.each) told.ascend
-              (long ∙ count ∙ on.count);
-        }
+    -- ---- the order of keys
+
+    module _ (placed : ArePlaced grid) (numbers : List ℕ) (are : AreNumbersTo indexed grid.pages (length grid.pages) numbers) (d : Key × F × Bool) where
+      abbrev slot-item : ℕ → Key × F × Bool
+      slot-item slot = unwrap_or (item_in indexed marks slot) d
+
+      -- the rank of a slot's key
+      abbrev rank_in : ℕ → ℕ
+      rank_in slot = key_rank (slot-item slot).0
+
+      item-is : (slot : ℕ) (has : HasSlot grid slot) → slot-item slot ≡ (on.each slot has).item
+      item-is slot has = ap (λ o. unwrap_or o d) (on.each slot has).is
+
+      -- the key of a slot stands so many nodes behind the first one of its page
+      ranked-on : (page offset slot : ℕ) (row : IsRow indexed page) → slot ≡ 64 * page + offset → offset < 64 → (has : HasSlot grid slot)
+          → HasRank (slot-item slot).0 × (rank_in slot ≡ key_rank row.first + offset * 16777216)
+      ranked-on page offset slot row is low has =
+          let tells = on.each slot has in
+          let shown = shown-item slot tells.item tells.is in
+          let on-page : slot / 64 ≡ page = omega (arith, is, low) in
+          let at : slot % 64 ≡ offset = omega (arith, is, low) in
+          let behind : (slot-item slot).0 ≡ key_behind row.first offset =
+          ap (λ (i : Key × F × Bool). i.0) (item-is slot has) ∙ sym shown.2 ∙ row.begins slot shown.0 on-page shown.1 ∙ ap (key_behind row.first) at in
+          let ranked = rank-behind row.first offset row.ranked row.whole low in
+          (subst HasRank (sym behind) ranked.0, ap key_rank behind ∙ ranked.1)
+
+      has-rank : (slot : ℕ) → HasSlot grid slot → HasRank (slot-item slot).0
+      has-rank slot has =
+          let at = placed has.0 slot has.1 in
+          (ranked-on (slice_index grid.pages (has.0 / 64)) (has.0 % 64) slot (are.rows (has.0 / 64) at.there) at.is (omega arith) has).0
+
+      -- rows tell the ranks of their slots' keys
+      ranks-on : AreRanksOn grid numbers rank_in
+      ranks-on i offset slot there low has =
+          let number = slice_index numbers i in
+          let one : IsRowNumber indexed grid.pages number = are.each i 0 there in
+          let at = placed (cell_at number offset) slot has in
+          let row : cell_at number offset / 64 ≡ number % 65536 = omega (arith, low) in
+          let off : cell_at number offset % 64 ≡ offset = omega (arith, low) in
+          let page = ap (λ n. slice_index grid.pages n) row in
+          let is : slot ≡ 64 * slice_index grid.pages (number % 65536) + offset = omega (arith, at.is, off, page) in
+          (ranked-on (slice_index grid.pages (number % 65536)) offset slot one.row is low (cell_at number offset, has)).1
+          ∙ ap (λ n. n + offset * 16777216) (sym one.rank)
+
+      key-below : (slot next : ℕ) → HasSlot grid slot → HasSlot grid next → rank_in slot < rank_in next → key_cmp (slot-item slot).0 (slot-item next).0 ≡ Less
+      key-below slot next has there less =
+          sym (by-rank (slot-item slot).0 (slot-item next).0 (has-rank slot has) (has-rank next there)) ∙ rank-less (rank_in slot) (rank_in next) less
+
+      -- what is read is in the order of keys
+      items-of : (slot : ℕ) (slots : List ℕ) → HasSlot grid slot → items_in indexed marks (slot ∷ slots) ≡ slot-item slot ∷ items_in indexed marks slots
+      items-of slot slots has =
+          ap (λ o. cons_option o (items_in indexed marks slots)) (on.each slot has).is ∙ ap (λ i. i ∷ items_in indexed marks slots) (sym (item-is slot has))
+
+      above-all : (slot : ℕ) (slots : List ℕ) → HasSlot grid slot → All (HasSlot grid) slots → ((j : ℕ) → j < length slots → rank_in slot < rank_in (slice_index slots j))
+          → AllByRecursion (λ k. key_cmp (slot-item slot).0 k ≡ Less) (map (λ (i : Key × F × Bool). i.0) (items_in indexed marks slots))
+      above-all slot [] has each above = tt
+      above-all slot (s ∷ ss) has each above =
+          let there = All-head (HasSlot grid) s ss each in
+          let rest = above-all slot ss has (All-tail (HasSlot grid) s ss each) (λ j within. above (suc j) (omega (arith, within))) in
+          subst (λ items. AllByRecursion (λ k. key_cmp (slot-item slot).0 k ≡ Less) (map (λ (i : Key × F × Bool). i.0) items)) (sym (items-of s ss there))
+          (key-below slot s has there (above 0 (omega arith)), rest)
+
+      keys-ascend : (slots : List ℕ) → AreRead grid rank_in slots → IsStrictlySortedBy key_cmp (map (λ (i : Key × F × Bool). i.0) (items_in indexed marks slots))
+      unfolding IsStrictlySortedBy
+      keys-ascend [] read = tt
+      keys-ascend (s ∷ ss) read =
+          let has = All-head (HasSlot grid) s ss read.each in
+          let each = All-tail (HasSlot grid) s ss read.each in
+          let above = above-all s ss has each (λ j within. read.ascend 0 (suc j) (omega arith) (omega (arith, within))) in
+          let rest = keys-ascend ss (record { each = each; ascend = λ i j less within. read.ascend (suc i) (suc j) (omega (arith, less)) (omega (arith, within)) }) in
+          subst (λ items. IsStrictlySortedBy key_cmp (map (λ (i : Key × F × Bool). i.0) items)) (sym (items-of s ss has)) (above, rest)
+
+      -- slots that are read of the rows are in the order of keys, and those of what is left if they are as many
+      module _ (rows slots : List ℕ) (same : rows ≡ numbers) (read : (rank : ℕ → ℕ) → AreRanksOn grid rows rank → AreRead grid rank slots) where
+        read-by-rank : AreRead grid rank_in slots
+        read-by-rank = read rank_in (subst (λ ns. AreRanksOn grid ns rank_in) (sym same) ranks-on)
+
+        pub all-left : length slots ≡ grid.count → HaveTheItems indexed marks left slots
+        all-left count =
+            let have = have-items slots read-by-rank.each in
+            let long : length (items_in indexed marks slots) ≡ length slots = count-items (item_in indexed marks) slots have in
+            record {
+              have = have;
+              same =
+                  picked (λ (i : Key × F × Bool). i.0) left (items_in indexed marks slots) (among-left slots read-by-rank.each) (keys-ascend slots read-by-rank)
+                  (long ∙ count ∙ on.count);
+            }
+
+        pub all-sorted : IsSortedByKey (λ (i : Key × F × Bool). i.0) key_cmp (items_in indexed marks slots)
+        all-sorted = picked-up (λ (i : Key × F × Bool). i.0) (items_in indexed marks slots) (keys-ascend slots read-by-rank)

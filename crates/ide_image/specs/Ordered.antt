@@ -9,10 +9,9 @@ use Rattle.ide_lattice.specs.declared.lattice.Lattice.{Ghosts as Lattice}
 use Rattle.ide_wire.specs.declared.wire.Wire.{Ghosts as Wire}
 use Rattle.ide_wire.specs.KeyOrder.{key_cmp}
 use Rattle.ide_wire.specs.declared.key.Key.{Key}
-use Rattle.ide_image.specs.Grid.{AreChained, AreOnGrid, AreTold, Grid}
+use Rattle.ide_image.specs.Grid.{AreOnGrid, Grid}
 use Rattle.ide_image.specs.Ranks.{AreKeyed, AreNumbers, HaveTheItems, IsKeyed, IsLeftAt, SaysIfLeftAt, item_beside, item_of, item_told, items_in, left_by_slots, note_slot}
 use Rattle.ide_image.specs.declared.noted_slots.NotedSlots.{NotedSlots}
-use Rattle.ide_image.specs.declared.ordered.Chain.{Chain}
 
 -- over notes with what has the entries of their keys, and over what the two types of its functions and values can do
 module _ {F L : Type 0} {E : EdgeFn F L} {W : Wire F} {Q : PartialEq F} {D : Default F} {A : Lattice L} {P : PartialEq L} where
@@ -31,16 +30,6 @@ module _ {F L : Type 0} {E : EdgeFn F L} {W : Wire F} {Q : PartialEq F} {D : Def
   -- the items of the slots ascend by their keys
   abbrev pub AscendByKey : NotedSlots F L E W Q D A P → Vec ℕ → Type 0
   AscendByKey left slots = IsSortedByKey (λ (item : Key × F × Bool). item.0) key_cmp (items_in left.indexed.now left.queue.now slots.items)
-
-  -- the slots are on the grid, and the keys of their items ascend
-  abbrev pub AreToldOn : NotedSlots F L E W Q D A P → Grid → Vec ℕ → Type 0
-  AreToldOn left grid slots = AreTold left.indexed.now left.queue.now grid slots.items
-
-  -- the slots of a chain are so still, and it has the key of the last one, if they were and it had before
-  abbrev pub KeepsTold : NotedSlots F L E W Q D A P → Grid → (old new : Chain) → Type 0
-  KeepsTold left grid old new =
-      AreChained left.indexed.now left.queue.now grid old.slots.items old.last
-      → AreChained left.indexed.now left.queue.now grid new.slots.items new.last
 
   -- the slot has an item of the key with which it is listed
   abbrev pub IsKeyedIn : NotedSlots F L E W Q D A P → Key × ℕ → Type 0

@@ -143,17 +143,6 @@ impl<F: EdgeFn> Indexed<F> {
         Some((key, function))
     }
 
-    /// The key of a cell, if it has a function, which is not looked at. No look-up.
-    #[inline(always)]
-    pub(crate) fn present_key(&self, cell: usize) -> Option<Key>
-        ensures { result ≡ option_map (λ entry. entry.0) (entry_in self.now.cells cell) }
-    {
-        if self.places.number_in(cell) == 0 {
-            return None;
-        }
-        self.places.key_in(cell)
-    }
-
     /// The key of a page's first cell, whether it has a function or not, if there is the page. No look-up.
     pub(crate) fn first_key(&self, page: usize) -> Option<Key>
         ensures first { IfSome result (BeginsWith (tables_of self.now) page) }
@@ -310,17 +299,18 @@ impl<F: EdgeFn> Indexed<F> {
         let _ = self.places.cell_count();
     }
 
-    /// How many jumps between the facts at the nodes behind this one are absent, one after the other, up to the end of
-    /// its page: none where there is no page. One look-up.
+    /// How many jumps between the facts at the nodes behind this one are absent, one after the other, up to a count and
+    /// to the end of its page: none where there is no page. One look-up.
     #[inline(always)]
-    pub(crate) fn absent_behind(&self, node: Node, from: Fact, to: Fact) -> usize
+    pub(crate) fn absent_behind(&self, node: Node, from: Fact, to: Fact, most: usize) -> usize
+        ensures most { result ≤ most }
         ensures absent { AreAbsent (table_of self.now.cells) (jump_behind node from to) result }
         ensures page { node % 64 + result < 64 }
     {
         let Some(cell) = self.places.cell(Key::Jump(node, from, to)) else {
             return 0;
         };
-        let most = 63 - (node % 64) as usize;
+        let most = most.min(63 - (node % 64) as usize);
         for count in 0..most {
             if self.places.number_in(cell + 1 + count) != 0 {
                 return count;

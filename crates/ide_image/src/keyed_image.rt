@@ -388,15 +388,16 @@ impl<F: EdgeFn, T: Drop> KeyedImage<F, T> {
         Ok(())
     }
 
-    /// How many jumps between the facts at the nodes behind this one are absent, one after the other, as far as a walk may
-    /// go: to the end of a page of 64 nodes at most. One look-up.
+    /// How many jumps between the facts at the nodes behind this one are absent, one after the other, up to a count and as
+    /// far as a walk may go: to the end of a page of 64 nodes at most. One look-up.
     #[inline(always)]
-    pub fn absent_behind(&self, node: Node, from: Fact, to: Fact) -> usize
+    pub fn absent_behind(&self, node: Node, from: Fact, to: Fact, most: usize) -> usize
+        ensures most { result ≤ most }
         ensures absent { AreAbsent self.now.table (jump_behind node from to) result }
         ensures settled { AreSettled self.now.pile (jump_behind node from to) result }
         ensures page { node % 64 + result < 64 }
     {
-        self.indexed.absent_behind(node, from, to)
+        self.indexed.absent_behind(node, from, to, most)
     }
 
     /// Walks from the jump between the facts at the node, which is pending and which no hand has claimed, over so many

@@ -2,21 +2,19 @@
 //!
 //! It is told by slots, at which keys, functions and marks are read once somebody wants them.
 //!
-//! Where its keys fill their pages well, a grid finds an order with no sort of keys, and the slots are
-//! read in it, each of which is listed if its key is seen to be above the one before it. Where that leaves
-//! one out, the order is not that of keys, and the list is of no use. There and elsewhere each slot is told
-//! by one number of 64 bits, which has its key's place among keys and the index of its note. These are
-//! sorted, or where a key has no such number the keys themselves, each with its slot.
+//! Where its keys fill their pages well, a grid has them in the order of keys with no sort of these.
+//! Elsewhere each slot is told by one number of 64 bits, which has its key's place among keys and the
+//! index of its note. These are sorted, or where a key has no such number the keys themselves, each with
+//! its slot.
 ghost use Rattle.std.specs.Prelude.{◌≡◌, ℕ, ◌<◌, true, map, IfOk, IfSome};
 ghost use Rattle.std.specs.List.{filter_map};
 ghost use Rattle.std.specs.List.Sorted.{IsPermutation, IsSortedByKey};
 ghost use Rattle.ide_wire.specs.KeyOrder.{key_cmp};
 ghost use Rattle.ide_wire.specs.declared.key.Key.{Key};
-ghost use Rattle.ide_image.specs.Grid.{Grid, HasSlot, IsAboveLast};
-ghost use Rattle.ide_image.specs.Ordered.{AreKeyedLeft, AreLeft, AreNumbersOf, AreToldOn, AscendByKey, HasLeft, IsItemAt, IsKeyedIn, IsLeftOf, KeepsTold, SaysIfLeft, keyed_item, slot_told};
+ghost use Rattle.ide_image.specs.Ordered.{AreKeyedLeft, AreLeft, AreNumbersOf, AscendByKey, HasLeft, IsItemAt, IsKeyedIn, IsLeftOf, SaysIfLeft, keyed_item, slot_told};
 ghost use Rattle.ide_image.specs.Ranks.{HasRank, IsNumberOf, key_rank};
 
-use crate::grid::{Grid, OFFSETS, begins_block, block_end};
+use crate::grid::Grid;
 use crate::noted_slots::NotedSlots;
 use crate::parts;
 use ide_lattice::EdgeFn;
@@ -65,8 +63,8 @@ impl<'a, F: EdgeFn> NotedSlots<'a, F> {
         }
     }
 
-    /// The same by pages: `None` where there are few notes for the pages, or where the order that the grid
-    /// finds is not that of keys, which is seen here.
+    /// The same by pages: `None` where there are few notes for the pages, or where the grid does not tell all of
+    /// them, as where a page's first key has no rank.
     fn paged_slots(&self, alloc: Global) -> Result<Option<Vec<u32>>, AllocError>
         ensures same { IfOk result (λ told. IfSome told (AreLeft F.eq self.now)) }
         ensures sorted { IfOk result (λ told. IfSome told (AscendByKey self.now)) }
@@ -77,7 +75,7 @@ impl<'a, F: EdgeFn> NotedSlots<'a, F> {
         let Some(rows) = grid.numbers(alloc, self.indexed)? else {
             return Ok(None);
         };
-        let slots = self.ascending_slots(alloc, &grid, &rows)?;
+        let slots = grid.slots(alloc, &rows)?;
         if slots.len() != grid.count() {
             return Ok(None);
         }
@@ -107,62 +105,6 @@ impl<'a, F: EdgeFn> NotedSlots<'a, F> {
             return Ok(None);
         }
         Ok(Some(grid))
-    }
-
-    /// The slots on the grid, block by block of its rows, which the numbers tell. One whose key is not above that of
-    /// the one before it is passed over, so that there are fewer than on the grid then.
-    fn ascending_slots(
-        &self,
-        alloc: Global,
-        grid: &Grid,
-        rows: &[u64],
-    ) -> Result<Vec<u32>, AllocError>
-        ensures { IfOk result (AreToldOn self.now grid.now) }
-    {
-        let mut chain = Chain {
-            slots: Vec::with_capacity(alloc, grid.count())?,
-            last: None,
-        };
-        for row in 0..rows.len() {
-            if begins_block(rows, row) {
-                self.push_block(grid, &rows[row..block_end(rows, row)], &mut chain);
-            }
-        }
-        Ok(chain.slots)
-    }
-
-    /// Appends the slots in some rows of the grid, offset by offset.
-    fn push_block(&self, grid: &Grid, block: &[u64], chain: &mut Chain)
-        ensures { KeepsTold self.now grid.now chain.old chain.new }
-    {
-        for offset in 0..OFFSETS {
-            self.push_column(grid, block, offset, chain);
-        }
-    }
-
-    /// Appends the slots at an offset of some rows of the grid, row by row.
-    #[inline(always)]
-    fn push_column(&self, grid: &Grid, block: &[u64], offset: usize, chain: &mut Chain)
-        ensures { KeepsTold self.now grid.now chain.old chain.new }
-    {
-        for number in block {
-            if let Some(slot) = grid.slot_at(*number, offset) {
-                self.push_slot(slot, chain);
-            }
-        }
-    }
-
-    /// Appends a slot, if its key has a function and is above that of the last slot, and there is room.
-    #[inline(always)]
-    fn push_slot(&self, slot: u32, chain: &mut Chain)
-        ensures { (grid : Grid) → HasSlot grid slot → KeepsTold self.now grid chain.old chain.new }
-    {
-        if let Some(key) = self.indexed.present_key(slot as usize) {
-            if is_above(chain.last, key) && chain.slots.len() < chain.slots.capacity() {
-                chain.slots.push_reserved(slot);
-                chain.last = Some(key);
-            }
-        }
     }
 
     /// The number of each item that is left of the notes, in the order of these: `None` where a key has no
@@ -257,24 +199,6 @@ impl<'a, F: EdgeFn> NotedSlots<'a, F> {
         let (key, before) = *self.notes.get(index)?;
         let slot = *self.slots.get(index)?;
         parts::left_at(self.indexed, self.queue, slot, key, before)
-    }
-}
-
-/// Slots whose keys ascend, and the key of the last one.
-#[derive(Drop)]
-pub(crate) struct Chain {
-    slots: Vec<u32>,
-    last: Option<Key>,
-}
-
-/// Whether the key is above the last one, if there is one.
-#[inline(always)]
-fn is_above(last: Option<Key>, key: Key) -> bool
-    ensures { result ≡ true → IsAboveLast last key }
-{
-    match last {
-        Some(last) => last < key,
-        None => true,
     }
 }
 
