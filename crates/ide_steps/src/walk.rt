@@ -101,11 +101,20 @@ fn length_of_walk<P: Problem>(
     ensures most { result ≤ most }
     ensures may { 0 < result → MayWalk P.F.edge P.targets graph.now image.now node from to result function }
 {
-    if !passes_behind::<P>(node, graph.site(node), to) || !goes_on_unchanged(function) {
+    if !goes_on_unchanged(function) {
         return 0;
     }
-    let absent = image.absent_behind(node, from, to);
-    passing::<P>(graph, node, to, absent.min(most))
+    let most = passing::<P>(graph, node, to, most.min(nodes_behind(node)));
+    if most == 0 {
+        return 0;
+    }
+    image.absent_behind(node, from, to, most)
+}
+
+/// How many nodes stand behind this one on a page of the image: no walk goes further.
+#[inline(always)]
+fn nodes_behind(node: Node) -> usize {
+    63 - (node % 64) as usize
 }
 
 /// How many of the first nodes from this one on, up to a count, pass the fact on unchanged to the node behind them.
