@@ -1,17 +1,16 @@
 -- Items with one more behind them: that they ascend, and which groups they are in.
-use Rattle.std.specs.Prelude.{◌≡◌, Bool, true, false, cond, List, [], ◌∷◌, ◌++◌, Some, IsTrue}
+use Rattle.std.specs.Prelude.{◌≡◌, Bool, true, false, cond, List, [], ◌∷◌, ◌++◌, IsTrue}
 use Rattle.std.specs.List.{AllByRecursion}
 use Rattle.std.specs.List.Sorted.{IsStrictlySortedBy}
 use Rattle.std.specs.declared.cmp.Ordering.TheVariants.{Less}
-use Rattle.std.proofs.Common.{ap, sym, subst, refl, ◌∙◌, arith, append_assoc}
+use Rattle.std.proofs.Common.{ap, sym, refl, ◌∙◌, arith, append_assoc}
 use Rattle.std.proofs.lemmas.Bool.{cond-false, cond-true, cond_both}
 use Rattle.std.proofs.lemmas.Bool.Decides.{nat_tests}
-use Rattle.ide_wire.specs.Key.{node_of}
 use Rattle.ide_wire.specs.KeyOrder.{key_cmp, key_cmp_total}
 use Rattle.ide_wire.specs.declared.key.Key.{Key}
 use Rattle.ide_batch.specs.Forms.{all_proper}
 use Rattle.ide_batch.specs.FormLaws.{left_law, right_law}
-use Rattle.ide_batch.specs.Grouping.{alone, groups_of, is_at, joined_to_groups, kind_at, member_of, share_place, with_member}
+use Rattle.ide_batch.specs.Grouping.{alone, groups_of, is_at, joined_to_groups, member_of, with_member}
 use Rattle.ide_batch.specs.Groups.{Group, Member}
 use Rattle.ide_batch.specs.Items.{Item}
 use Rattle.ide_batch.specs.Writing.{IsAboveLast, last_key}
@@ -45,11 +44,6 @@ module _ {F : Type 0} where
   rose [] item rest sorted = tt
   rose (x ∷ []) item rest sorted = sorted.0.0
   rose (x ∷ y ∷ items) item rest sorted = rose (y ∷ items) item rest sorted.1
-
-  pub last_is : (items : List (Item F)) (item : Item F) → last_key (items ++ item ∷ []) ≡ Some item.0
-  last_is [] item = refl
-  last_is (x ∷ []) item = refl
-  last_is (x ∷ y ∷ items) item = last_is (y ∷ items) item
 
 -- the groups of items, and one more item
 
@@ -104,36 +98,7 @@ module _ {F : Type 0} where
   behind_all item (h ∷ []) g = refl
   behind_all item (h ∷ k ∷ before) g = ap (λ gs. h ∷ gs) (behind_all item (k ∷ before) g)
 
-  -- the last group is of the kind and node of the last key
-  abbrev EndsAt : Key → List (Group F) → Type 0
-  EndsAt key [] = ⊥
-  EndsAt key (g ∷ []) = (g.kind ≡ kind_at key) × (g.node ≡ node_of key)
-  EndsAt key (g ∷ h ∷ groups) = EndsAt key (h ∷ groups)
-
-  ends_joined : (key : Key) (x : Item F) (groups : List (Group F)) → EndsAt key groups → EndsAt key (joined_to_groups x groups)
-  ends_joined key x [] ends = absurd ends
-  ends_joined key x (g ∷ []) ends =
-      cond_both (is_at g x.0) (with_member (member_of x) g ∷ []) (alone x ∷ g ∷ []) (EndsAt key) (λ here. ends) (λ elsewhere. ends)
-  ends_joined key x (g ∷ h ∷ groups) ends =
-      cond_both (is_at g x.0) (with_member (member_of x) g ∷ h ∷ groups) (alone x ∷ g ∷ h ∷ groups) (EndsAt key) (λ here. ends) (λ elsewhere. ends)
-
-  ends : (x : Item F) (items : List (Item F)) (key : Key) → last_key (x ∷ items) ≡ Some key → EndsAt key (groups_of (x ∷ items))
-  ends x [] key is =
-      let one : x.0 ≡ key = cc (is) in (ap kind_at one, ap node_of one)
-  ends x (y ∷ items) key is = ends_joined key x (groups_of (y ∷ items)) (ends y items key is)
-
-  ends_last : (key : Key) (before : List (Group F)) (g : Group F) → EndsAt key (before ++ g ∷ []) → (g.kind ≡ kind_at key) × (g.node ≡ node_of key)
-  ends_last key [] g ends = ends
-  ends_last key (h ∷ []) g ends = ends
-  ends_last key (h ∷ k ∷ before) g ends = ends_last key (k ∷ before) g ends
-
   -- so the groups of one more item
-  pub at_last : (x : Item F) (items : List (Item F)) (key : Key) (before : List (Group F)) (g : Group F)
-      → last_key (x ∷ items) ≡ Some key → groups_of (x ∷ items) ≡ before ++ g ∷ [] → (k : Key) → is_at g k ≡ share_place key k
-  at_last x items key before g last groups k =
-      let place = ends_last key before g (subst (EndsAt key) groups (ends x items key last)) in
-      rw (place.0, place.1) refl
-
   pub goes_in : (x : Item F) (items : List (Item F)) (item : Item F) (before : List (Group F)) (g : Group F)
       → groups_of (x ∷ items) ≡ before ++ g ∷ [] → is_at g item.0 ≡ true
       → groups_of ((x ∷ items) ++ item ∷ []) ≡ before ++ with_last (member_of item) g ∷ []

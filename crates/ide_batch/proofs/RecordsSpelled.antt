@@ -48,12 +48,12 @@ module _ {F : Type 0} (functions : Functions F) where
 
   -- of items that ascend one more is put behind those before it
   pub batch_more : (version : Version) (items : List (Item F)) (k : ℕ) (item : Item F) (old new : WriterData) → k < length items → item ≡ get_or items k item
-      → IsStrictlySortedBy key_cmp (map (λ item. item.0) items) → Holds functions version (take k items) old → PutsItem functions item old new
+      → IsStrictlySortedBy key_cmp (map (λ item. item.0) items) → Holds functions version (take k items) old → PutsItem functions version item old new
       → Holds functions version (take (k + 1) items) new
   batch_more version items k item old new within is ascend holds puts =
       let next : suc k ≡ k + 1 = omega arith in
       subst (λ xs. Holds functions version xs new) (one_longer items k item within is ∙ ap (λ n. take n items) next)
-      (puts version (take k items) holds
+      (puts (take k items) holds
       (rose (take k items) item (drop (suc k) items) (subst (λ xs. IsStrictlySortedBy key_cmp (map (λ item. item.0) xs)) (parts_at items k item within is) ascend)))
 
   pub batch_stops : (version : Version) (items : List (Item F)) (k : ℕ) (item : Item F) (writer : WriterData) → k < length items → item ≡ get_or items k item
@@ -67,12 +67,12 @@ module _ {F : Type 0} (functions : Functions F) where
 
     -- the same of items that come one by one
     pub coming_more : (item : Item F) (after : List (Item F)) (old new : WriterData) → rest ≡ item ∷ after
-        → IsStrictlySortedBy key_cmp (map (λ item. item.0) items) → Holds functions version taken old → PutsItem functions item old new
+        → IsStrictlySortedBy key_cmp (map (λ item. item.0) items) → Holds functions version taken old → PutsItem functions version item old new
         → (front : List (Item F)) × (front ++ after ≡ items) × Holds functions version front new
     coming_more item after old new is ascend holds puts = (
       taken ++ item ∷ [],
       append_assoc taken (item ∷ []) after ∙ sym (split item after is),
-      puts version taken holds (rose taken item after (subst (λ xs. IsStrictlySortedBy key_cmp (map (λ item. item.0) xs)) (split item after is) ascend)),
+      puts taken holds (rose taken item after (subst (λ xs. IsStrictlySortedBy key_cmp (map (λ item. item.0) xs)) (split item after is) ascend)),
     )
 
     pub coming_stops : (item : Item F) (after : List (Item F)) (writer : WriterData) → rest ≡ item ∷ after → Holds functions version taken writer

@@ -1,5 +1,5 @@
 -- What a writer of a batch has after each item, and that its bytes are those of the items.
-use Rattle.std.specs.Prelude.{◌≡◌, ◌≢◌, ℕ, ◌+◌, ◌≤◌, ◌<◌, true, false, List, [], ◌∷◌, ◌++◌, Some, None, drop, length, nat_lt, take}
+use Rattle.std.specs.Prelude.{◌≡◌, ◌≢◌, ℕ, ◌+◌, ◌≤◌, ◌<◌, Bool, true, false, ◌&&◌, List, [], ◌∷◌, ◌++◌, Some, drop, length, nat_eq, nat_lt, take}
 use Rattle.std.specs.Int.{w32, to_le_bytes}
 use Rattle.std.specs.List.{flat_map}
 use Rattle.std.specs.List.Sorted.{IsStrictlySortedBy}
@@ -15,17 +15,18 @@ use Rattle.ide_journal.specs.declared.version.Version.{Version}
 use Rattle.ide_journal.specs.declared.version.Version.TheVariants.{One, Two}
 use Rattle.ide_wire.specs.Key.{node_of}
 use Rattle.ide_wire.specs.declared.key.Key.{Key}
+use Rattle.ide_wire.specs.declared.key.Key.TheVariants.{Jump, Summary}
 use Rattle.ide_batch.specs.Bodies.{AreSpelled, IsEntryOf}
 use Rattle.ide_batch.specs.Forms.{counted}
 use Rattle.ide_batch.specs.Grouping.{alone, groups_of, is_at, kind_at, member_of}
 use Rattle.ide_batch.specs.Groups.{Group, group_form, member_form, members_form}
 use Rattle.ide_batch.specs.Items.{AreWritten, Functions, Item, is_proper_item, item_form}
 use Rattle.ide_batch.specs.Records.{Batch}
-use Rattle.ide_batch.specs.Writing.{AreGrouped, HasNoGroup, Holds, IsAboveLast, IsSpelledBatch, MayFollow, PutsItem, StopsAtItem, WriterData, appended, ended, finished, front_of, headed, in_group, is_with_last, last_key, with_form, with_group, written_over}
+use Rattle.ide_batch.specs.Writing.{AreGrouped, HasNoGroup, Holds, IsAboveLast, IsSpelledBatch, MayFollow, PutsItem, StopsAtItem, WriterData, appended, ended, finished, front_of, headed, in_group, is_in_last, last_key, with_form, with_group, written_over}
 use Rattle.ide_batch.specs.Writing as writing
 use Rattle.ide_batch.proofs.Grouping.{grouped_body}
 use Rattle.ide_batch.proofs.Lists.{proper-push}
-use Rattle.ide_batch.proofs.OneMore.{at_last, goes_behind, goes_in, last_is, rises, was_proper, with_last}
+use Rattle.ide_batch.proofs.OneMore.{goes_behind, goes_in, rises, was_proper, with_last}
 use Rattle.ide_batch.proofs.Short.{journal_takes}
 
 -- four bytes between others are written over
@@ -42,34 +43,30 @@ written_there front hole behind number four =
 
 -- what the writer has
 
-no_last : (writer : WriterData) (key : Key) → (is_with_last writer.last key ≡ false) → in_group key writer ≡ with_group key writer
-no_last writer key other = cond-false (is_with_last writer.last key) writer (with_group key writer) other
+no_last : (writer : WriterData) (key : Key) → (is_in_last writer key ≡ false) → in_group key writer ≡ with_group (kind_at key) (node_of key) writer
+no_last writer key other = cond-false (is_in_last writer key) writer (with_group (kind_at key) (node_of key) writer) other
+
+no_kind : (key : Key) (same : Bool) → (nat_eq 2 (kind_at key) && same) ≡ false
+no_kind (Jump n a b) same = refl
+no_kind (Summary n a b) same = refl
 
 -- nothing changes but the bytes and the groups
 module _ (key : Key) (writer : WriterData) where
   same_version : (in_group key writer).version ≡ writer.version
   same_version =
-      cond_both (is_with_last writer.last key) writer (with_group key writer) (λ w. w.version ≡ writer.version) (λ here. refl) (λ elsewhere. refl)
+      cond_both (is_in_last writer key) writer (with_group (kind_at key) (node_of key) writer) (λ w. w.version ≡ writer.version) (λ here. refl) (λ elsewhere. refl)
 
   same_items : (in_group key writer).items ≡ writer.items
   same_items =
-      cond_both (is_with_last writer.last key) writer (with_group key writer) (λ w. w.items ≡ writer.items) (λ here. refl) (λ elsewhere. refl)
+      cond_both (is_in_last writer key) writer (with_group (kind_at key) (node_of key) writer) (λ w. w.items ≡ writer.items) (λ here. refl) (λ elsewhere. refl)
 
 -- the count of the items is the first that changes
 abbrev pub counting : WriterData → WriterData
 counting writer = record writer { items = writer.items + 1 }
 
--- and the last key is the last
-abbrev pub keyed : Key → WriterData → WriterData
-keyed key writer = record writer { last = Some key }
-
 more_items : {F : Type 0} (items : List (Item F)) (item : Item F) (old new : WriterData) → old.items ≡ length items → new.items ≡ old.items + 1
     → new.items ≡ length (items ++ item ∷ [])
 more_items items item old new before more = omega (arith, before, more, length-append items (item ∷ []))
-
-some_last : {F : Type 0} (x : Item F) (items : List (Item F)) → (key : Key) × (last_key (x ∷ items) ≡ Some key)
-some_last x [] = (x.0, refl)
-some_last x (y ∷ items) = some_last y items
 
 module _ {F : Type 0} (functions : Functions F) where
   -- the bytes of groups, with the count of the last one's members
@@ -102,7 +99,7 @@ module _ {F : Type 0} (functions : Functions F) where
   -- a group of one item, behind those before
   begins : (items : List (Item F)) (before : List (Group F)) (item : Item F) (writer : WriterData) (count : List ℕ) → length count ≡ 4
       → ended writer ≡ count ++ flat_map (group_form functions) before → writer.groups ≡ length before
-      → groups_of items ≡ before ++ alone item ∷ [] → AreGrouped functions items (with_form functions item (with_group item.0 writer))
+      → groups_of items ≡ before ++ alone item ∷ [] → AreGrouped functions items (with_form functions item (with_group (kind_at item.0) (node_of item.0) writer))
   begins items before item writer count four bytes begun groups = record {
     before = before;
     group = alone item;
@@ -113,12 +110,14 @@ module _ {F : Type 0} (functions : Functions F) where
     four_too = refl;
     is = ap (λ head. head ++ to_le_bytes w32 0 ++ member_form functions (member_of item)) head_is
         ∙ ap (λ one. front_of functions count before (alone item) ++ to_le_bytes w32 0 ++ one) (sym (append-nil (member_form functions (member_of item))));
+    kind = refl;
+    node = refl;
     place = ap length head_is;
     begun = ap (λ n. n + 1) begun;
     members = refl;
   }
     where
-      head_is : headed item.0 writer ≡ front_of functions count before (alone item)
+      head_is : headed (kind_at item.0) (node_of item.0) writer ≡ front_of functions count before (alone item)
       head_is = ap (λ xs. xs ++ kind_at item.0 ∷ to_le_bytes w32 (node_of item.0)) bytes
 
   -- one more member of the last group
@@ -135,6 +134,8 @@ module _ {F : Type 0} (functions : Functions F) where
     is = ap (λ body. body ++ one) is.is
         ∙ append_assoc (front ++ is.hole) behind one
         ∙ ap (λ xs. front ++ is.hole ++ xs) (ap (λ xs. behind ++ xs) (sym (append-nil one)) ∙ sym (flat_map-append (member_form functions) is.group.members (member_of item ∷ [])));
+    kind = is.kind;
+    node = is.node;
     place = is.place;
     begun = is.begun;
     members = omega (arith, is.members, length-append is.group.members (member_of item ∷ []));
@@ -149,21 +150,22 @@ module _ {F : Type 0} (functions : Functions F) where
       behind : List ℕ
       behind = members_form functions is.group.members
 
-  first_group : (item : Item F) (writer : WriterData) → writer.last ≡ None → HasNoGroup writer
+  first_group : (item : Item F) (writer : WriterData) → HasNoGroup writer
       → AreGrouped functions (item ∷ []) (writing.with_member functions item writer)
-  first_group item writer last none =
-      let other : is_with_last writer.last item.0 ≡ false = ap (λ l. is_with_last l item.0) last in
+  first_group item writer none =
+      let other : is_in_last writer item.0 ≡ false =
+      ap (λ k. nat_eq k (kind_at item.0) && nat_eq writer.node (node_of item.0)) none.none ∙ no_kind item.0 (nat_eq writer.node (node_of item.0)) in
       let no_count : nat_lt 0 writer.groups ≡ false = ap (λ n. nat_lt 0 n) none.begun in
       subst (λ w. AreGrouped functions (item ∷ []) (with_form functions item w)) (sym (no_last writer item.0 other))
       (begins (item ∷ []) [] item writer writer.body none.four (cond-false (nat_lt 0 writer.groups) _ _ no_count ∙ sym (append-nil writer.body)) none.begun refl)
 
-  next_member : (x : Item F) (items : List (Item F)) (item : Item F) (writer : WriterData) → writer.last ≡ last_key (x ∷ items)
-      → AreGrouped functions (x ∷ items) writer → AreGrouped functions ((x ∷ items) ++ item ∷ []) (writing.with_member functions item writer)
-  next_member x items item writer last is =
-      let some = some_last x items in
-      let same : is_with_last writer.last item.0 ≡ is_at is.group item.0 =
-      ap (λ l. is_with_last l item.0) (last ∙ some.1) ∙ sym (at_last x items some.0 is.before is.group some.1 is.groups item.0) in
-      cond_both (is_with_last writer.last item.0) writer (with_group item.0 writer) (λ w. AreGrouped functions ((x ∷ items) ++ item ∷ []) (with_form functions item w))
+  next_member : (x : Item F) (items : List (Item F)) (item : Item F) (writer : WriterData) → AreGrouped functions (x ∷ items) writer
+      → AreGrouped functions ((x ∷ items) ++ item ∷ []) (writing.with_member functions item writer)
+  next_member x items item writer is =
+      let same : is_in_last writer item.0 ≡ is_at is.group item.0 =
+      ap (λ k. nat_eq k (kind_at item.0) && nat_eq writer.node (node_of item.0)) is.kind
+      ∙ ap (λ n. nat_eq is.group.kind (kind_at item.0) && nat_eq n (node_of item.0)) is.node in
+      cond_both (is_in_last writer item.0) writer (with_group (kind_at item.0) (node_of item.0) writer) (λ w. AreGrouped functions ((x ∷ items) ++ item ∷ []) (with_form functions item w))
       (λ here. grows (x ∷ items) ((x ∷ items) ++ item ∷ []) item writer is (goes_in x items item is.before is.group is.groups (sym same ∙ here)))
       (λ elsewhere. begins ((x ∷ items) ++ item ∷ []) (is.before ++ is.group ∷ []) item writer is.count is.four (ended_is (x ∷ items) writer is) (one_more is)
       (goes_behind x items item is.before is.group is.groups (sym same ∙ elsewhere)))
@@ -172,9 +174,9 @@ module _ {F : Type 0} (functions : Functions F) where
       one_more is = omega (arith, is.begun, length-append is.before (is.group ∷ []))
 
   -- only what the forms are about counts
-  regrouped : (items : List (Item F)) (old new : WriterData) → new.body ≡ old.body → new.place ≡ old.place → new.groups ≡ old.groups
-      → new.members ≡ old.members → AreGrouped functions items old → AreGrouped functions items new
-  regrouped items old new body place groups members is = record {
+  regrouped : (items : List (Item F)) (old new : WriterData) → new.body ≡ old.body → new.kind ≡ old.kind → new.node ≡ old.node
+      → new.place ≡ old.place → new.groups ≡ old.groups → new.members ≡ old.members → AreGrouped functions items old → AreGrouped functions items new
+  regrouped items old new body kind node place groups members is = record {
     before = is.before;
     group = is.group;
     groups = is.groups;
@@ -183,6 +185,8 @@ module _ {F : Type 0} (functions : Functions F) where
     hole = is.hole;
     four_too = is.four_too;
     is = body ∙ is.is;
+    kind = kind ∙ is.kind;
+    node = node ∙ is.node;
     place = place ∙ is.place;
     begun = groups ∙ is.begun;
     members = members ∙ is.members;
@@ -217,12 +221,11 @@ module _ {F : Type 0} (functions : Functions F) where
 
   -- after one more item
   puts_in : (version : Version) (items : List (Item F)) (item : Item F) (old new : WriterData) → Holds functions version items old
-      → MayFollow functions item old → IsAboveLast (last_key items) item.0 → new ≡ keyed item.0 (appended functions version item (counting old))
+      → MayFollow functions item old → IsAboveLast (last_key items) item.0 → new ≡ appended functions version item (counting old)
       → Holds functions version (items ++ item ∷ []) new
   puts_in One items item old new holds may above is = record {
     version_is = ap (λ w. w.version) is ∙ holds.version_is;
     count = more_items items item old new holds.count (ap (λ w. w.items) is);
-    last = ap (λ w. w.last) is ∙ sym (last_is items item);
     written = λ some. written_more items item old One holds may above;
     begun = record {
       count = holds.begun.count;
@@ -237,27 +240,24 @@ module _ {F : Type 0} (functions : Functions F) where
   puts_in Two [] item old new holds may above is = record {
     version_is = ap (λ w. w.version) is ∙ same_version item.0 (counting old) ∙ holds.version_is;
     count = more_items [] item old new holds.count (ap (λ w. w.items) is ∙ same_items item.0 (counting old));
-    last = ap (λ w. w.last) is;
     written = λ some. written_more [] item old Two holds may above;
     begun = regrouped (item ∷ []) (writing.with_member functions item (counting old)) new
-        (ap (λ w. w.body) is) (ap (λ w. w.place) is) (ap (λ w. w.groups) is) (ap (λ w. w.members) is)
-        (first_group item (counting old) holds.last (record { four = holds.begun.four; begun = holds.begun.begun }));
+        (ap (λ w. w.body) is) (ap (λ w. w.kind) is) (ap (λ w. w.node) is) (ap (λ w. w.place) is) (ap (λ w. w.groups) is) (ap (λ w. w.members) is)
+        (first_group item (counting old) (record { four = holds.begun.four; begun = holds.begun.begun; none = holds.begun.none }));
   }
   puts_in Two (x ∷ items) item old new holds may above is = record {
     version_is = ap (λ w. w.version) is ∙ same_version item.0 (counting old) ∙ holds.version_is;
     count = more_items (x ∷ items) item old new holds.count (ap (λ w. w.items) is ∙ same_items item.0 (counting old));
-    last = ap (λ w. w.last) is ∙ sym (last_is (x ∷ items) item);
     written = λ some. written_more (x ∷ items) item old Two holds may above;
     begun = regrouped ((x ∷ items) ++ item ∷ []) (writing.with_member functions item (counting old)) new
-        (ap (λ w. w.body) is) (ap (λ w. w.place) is) (ap (λ w. w.groups) is) (ap (λ w. w.members) is)
-        (next_member x items item (counting old) holds.last (regrouped (x ∷ items) old (counting old) refl refl refl refl holds.begun));
+        (ap (λ w. w.body) is) (ap (λ w. w.kind) is) (ap (λ w. w.node) is) (ap (λ w. w.place) is) (ap (λ w. w.groups) is) (ap (λ w. w.members) is)
+        (next_member x items item (counting old) (regrouped (x ∷ items) old (counting old) refl refl refl refl refl refl holds.begun));
   }
 
-  pub puts : (item : Item F) (seen old between new : WriterData) → MayFollow functions item old → seen ≡ old
-      → between ≡ appended functions seen.version item (counting seen) → new ≡ keyed item.0 between → PutsItem functions item old new
-  puts item seen old between new may view is last version items holds above =
-      puts_in version items item old new holds may above
-      (last ∙ ap (keyed item.0) (is ∙ ap (λ w. appended functions w.version item (counting w)) view ∙ ap (λ v. appended functions v item (counting old)) holds.version_is))
+  pub puts : (version : Version) (item : Item F) (seen old new : WriterData) → MayFollow functions item old → seen ≡ old
+      → new ≡ appended functions version item (counting seen) → PutsItem functions version item old new
+  puts version item seen old new may view is items holds above =
+      puts_in version items item old new holds may above (is ∙ ap (λ w. appended functions version item (counting w)) view)
 
   -- the counts are written, and the bytes are those of the items
   spelled : (version : Version) (x : Item F) (items : List (Item F)) (writer : WriterData) → Holds functions version (x ∷ items) writer

@@ -40,10 +40,6 @@ abbrev pub groups_of : {F : Type 0} → List (Item F) → List (Group F)
 groups_of [] = []
 groups_of (item ∷ items) = joined_to_groups item (groups_of items)
 
--- the keys have one kind and node
-abbrev pub share_place : Key → Key → Bool
-share_place x y = nat_eq (kind_at x) (kind_at y) && nat_eq (node_of x) (node_of y)
-
 -- items that the first version spells have a body in the second too
 abbrev pub GroupsSpellLists : {F : Type 0} → Functions F → Type 0
 GroupsSpellLists {F = F} functions =

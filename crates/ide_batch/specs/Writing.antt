@@ -1,5 +1,5 @@
 -- A batch that is spelled item by item: what its writer has of the items that were put.
-use Rattle.std.specs.Prelude.{◌≡◌, ℕ, ◌+◌, ◌≤◌, ◌<◌, Bool, false, cond, List, [], ◌∷◌, ◌++◌, Option, Some, None, drop, length, nat_lt, take, IsTrue, MatchOption}
+use Rattle.std.specs.Prelude.{◌≡◌, ℕ, ◌+◌, ◌≤◌, ◌<◌, Bool, ◌&&◌, cond, List, [], ◌∷◌, ◌++◌, Option, Some, None, drop, length, nat_eq, nat_lt, take, IsTrue, MatchOption}
 use Rattle.std.specs.Int.{w32, to_le_bytes}
 use Rattle.std.specs.List.{flat_map}
 use Rattle.std.specs.declared.cmp.Ordering.TheVariants.{Less}
@@ -10,18 +10,19 @@ use Rattle.ide_wire.specs.Key.{node_of}
 use Rattle.ide_wire.specs.KeyOrder.{key_cmp}
 use Rattle.ide_wire.specs.declared.key.Key.{Key}
 use Rattle.ide_batch.specs.Bodies.{IsRawOf}
-use Rattle.ide_batch.specs.Grouping.{groups_of, kind_at, member_of, share_place}
+use Rattle.ide_batch.specs.Grouping.{groups_of, kind_at, member_of}
 use Rattle.ide_batch.specs.Groups.{Group, group_form, member_form, members_form}
 use Rattle.ide_batch.specs.Items.{AreWritten, Functions, Item, is_proper_item, item_form}
 use Rattle.ide_batch.specs.Records.{Batch}
 
--- the version and the bytes so far; how many items were put, and the key of the last one; how many groups were begun, how many
--- members the last one has, and where their count stands
+-- the version and the bytes so far; how many items were put; the kind and the node of the last group, how many groups were begun,
+-- how many members the last one has, and where their count stands
 pub record WriterData : Type 0 where
   pub version : Version
   pub body : List ℕ
   pub items : ℕ
-  pub last : Option Key
+  pub kind : ℕ
+  pub node : ℕ
   pub groups : ℕ
   pub members : ℕ
   pub place : ℕ
@@ -43,10 +44,9 @@ abbrev pub IsAboveLast : Option Key → Key → Type 0
 IsAboveLast None key = Unit {0}
 IsAboveLast (Some last) key = key_cmp last key ≡ Less
 
--- whether it has the kind and the node of that
-abbrev pub is_with_last : Option Key → Key → Bool
-is_with_last None key = false
-is_with_last (Some last) key = share_place last key
+-- whether it has the kind and the node of the last group
+abbrev pub is_in_last : WriterData → Key → Bool
+is_in_last writer key = nat_eq writer.kind (kind_at key) && nat_eq writer.node (node_of key)
 
 -- the bytes with the count of the last group's members, if a group was begun
 abbrev pub ended : WriterData → List ℕ
@@ -57,22 +57,24 @@ abbrev pub finished : Version → WriterData → List ℕ
 finished One writer = written_over 0 writer.items writer.body
 finished Two writer = written_over 0 writer.groups (ended writer)
 
--- the bytes of the groups so far, and the key's kind and node
-abbrev pub headed : Key → WriterData → List ℕ
-headed key writer = ended writer ++ kind_at key ∷ to_le_bytes w32 (node_of key)
+-- the bytes of the groups so far, and the kind and the node of the next
+abbrev pub headed : (kind node : ℕ) → WriterData → List ℕ
+headed kind node writer = ended writer ++ kind ∷ to_le_bytes w32 node
 
--- the writer has begun a group of the key's kind and node, and left four bytes for the count of its members
-abbrev pub with_group : Key → WriterData → WriterData
-with_group key writer = record writer {
-  body = headed key writer ++ to_le_bytes w32 0;
+-- the writer has begun a group of the kind and the node, and left four bytes for the count of its members
+abbrev pub with_group : (kind node : ℕ) → WriterData → WriterData
+with_group kind node writer = record writer {
+  body = headed kind node writer ++ to_le_bytes w32 0;
+  kind = kind;
+  node = node;
   groups = writer.groups + 1;
   members = 0;
-  place = length (headed key writer);
+  place = length (headed kind node writer);
 }
 
 -- the writer whose last group is of the key's kind and node
 abbrev pub in_group : Key → WriterData → WriterData
-in_group key writer = cond (is_with_last writer.last key) writer (with_group key writer)
+in_group key writer = cond (is_in_last writer key) writer (with_group (kind_at key) (node_of key) writer)
 
 -- the key of the last item, if there is one
 abbrev pub last_key : {F : Type 0} → List (Item F) → Option Key
@@ -80,10 +82,11 @@ last_key [] = None
 last_key (item ∷ []) = Some item.0
 last_key (item ∷ items) = last_key items
 
--- no group was begun: there are four bytes, for the count of the groups
+-- no group was begun: there are four bytes, for the count of the groups, and no key has the kind
 pub record HasNoGroup (writer : WriterData) : Type 0 where
   pub four : length writer.body ≡ 4
   pub begun : writer.groups ≡ 0
+  pub none : writer.kind ≡ 2
 
 module _ {F : Type 0} (functions : Functions F) where
   -- a batch may have the item, where its key is above those of the items that were put: there is room for one more, and a
@@ -119,7 +122,8 @@ module _ {F : Type 0} (functions : Functions F) where
   abbrev pub front_of : List ℕ → List (Group F) → Group F → List ℕ
   front_of count before group = count ++ flat_map (group_form functions) before ++ group.kind ∷ to_le_bytes w32 group.node
 
-  -- the bytes are those, four for the count of the last group's members, and these; the writer knows where the four stand
+  -- the bytes are those, four for the count of the last group's members, and these; the writer knows where the four stand, and
+  -- the group's kind and node
   pub record AreGrouped (items : List (Item F)) (writer : WriterData) : Type 0 where
     pub before : List (Group F)
     pub group : Group F
@@ -129,6 +133,8 @@ module _ {F : Type 0} (functions : Functions F) where
     pub hole : List ℕ
     pub four_too : length hole ≡ 4
     pub is : writer.body ≡ front_of count before group ++ hole ++ members_form functions group.members
+    pub kind : writer.kind ≡ group.kind
+    pub node : writer.node ≡ group.node
     pub place : writer.place ≡ length (front_of count before group)
     pub begun : writer.groups ≡ length before + 1
     pub members : writer.members ≡ length group.members
@@ -143,15 +149,13 @@ module _ {F : Type 0} (functions : Functions F) where
   pub record Holds (version : Version) (items : List (Item F)) (writer : WriterData) : Type 0 where
     pub version_is : writer.version ≡ version
     pub count : writer.items ≡ length items
-    pub last : writer.last ≡ last_key items
     pub written : 1 ≤ length items → AreWritten functions items
     pub begun : AreBegun version items writer
 
-  -- the item is behind those that the writer has, if its key is above theirs
-  abbrev pub PutsItem : Item F → (old new : WriterData) → Type 0
-  PutsItem item old new =
-      (version : Version) (items : List (Item F)) → Holds version items old → IsAboveLast (last_key items) item.0
-      → Holds version (items ++ item ∷ []) new
+  -- the item is behind those that the writer has in that version, if its key is above theirs
+  abbrev pub PutsItem : Version → Item F → (old new : WriterData) → Type 0
+  PutsItem version item old new =
+      (items : List (Item F)) → Holds version items old → IsAboveLast (last_key items) item.0 → Holds version (items ++ item ∷ []) new
 
   -- no batch has the item behind those that the writer has
   abbrev pub StopsAtItem : Item F → WriterData → Type 0

@@ -1,6 +1,6 @@
 //! The place of an item's key, which its group names, and what the group lists of it.
 ghost use Rattle.std.specs.Prelude.{◌≡◌};
-ghost use Rattle.ide_batch.specs.Grouping.{kind_at, member_of, share_place};
+ghost use Rattle.ide_batch.specs.Grouping.{kind_at, member_of};
 
 use ide_wire::{Fact, Key};
 
@@ -24,11 +24,4 @@ pub(crate) fn kind_of(key: Key) -> u8
         Key::Jump(_, _, _) => 0,
         Key::Summary(_, _, _) => 1,
     }
-}
-
-/// Whether the keys have one kind and node.
-pub(crate) fn share_place(first: Key, second: Key) -> bool
-    ensures { result ≡ share_place first second }
-{
-    kind_of(first) == kind_of(second) && first.node() == second.node()
 }

@@ -83,7 +83,7 @@ pub fn batch_to_raw<F: EdgeFn>(
     }
     let mut writer = BatchWriter::new::<F>(alloc, version, items.len())?;
     for item in items {
-        if !writer.put(*item)? {
+        if !writer.put(version, *item)? {
             return Ok(None);
         }
     }
@@ -104,9 +104,28 @@ pub fn changed_to_raw<F: EdgeFn>(
     ensures none { IfNotRead result (¬ (MayBeSpelled ⟦<F as Spelled>⟧.forms (Batch changed.entry))) }
     ensures refused { IfErr result (λ e. e ≡ Refused.NoMemory) }
 {
+    match version {
+        Version::One => spell_changed(alloc, changed, Version::One),
+        Version::Two => spell_changed(alloc, changed, Version::Two),
+    }
+}
+
+/// The same. Each version has a loop of its own, with nothing of the other's in it.
+#[inline(always)]
+fn spell_changed<F: EdgeFn>(
+    alloc: Global,
+    changed: ChangedItems<'_, F>,
+    version: Version,
+) -> Result<Option<RawRecord>, Refused>
+    requires ascending { IsStrictlySortedBy key_cmp (map (λ item. item.0) changed) }
+    ensures raw { IfRead result (IsRawOf ⟦<F as Spelled>⟧.forms version (Batch changed.entry)) }
+    ensures may { IfRead result (λ _. MayBeSpelled ⟦<F as Spelled>⟧.forms (Batch changed.entry)) }
+    ensures none { IfNotRead result (¬ (MayBeSpelled ⟦<F as Spelled>⟧.forms (Batch changed.entry))) }
+    ensures refused { IfErr result (λ e. e ≡ Refused.NoMemory) }
+{
     let mut writer = BatchWriter::new::<F>(alloc, version, changed.len())?;
     for item in changed {
-        if !writer.put(item)? {
+        if !writer.put(version, item)? {
             return Ok(None);
         }
     }

@@ -1,19 +1,22 @@
 //! Batches, spelled item by item.
 ghost use Rattle.std.specs.Prelude.{◌≡◌, ◌+◌, ◌<◌, ◌≤◌, ◌↔◌, [], Ok, false, length, true, IfErr, IfOk, IsTrue, OnOk};
-ghost use Rattle.ide_batch.specs.Writing.{Holds, IsSpelledBatch, MayFollow, PutsItem, StopsAtItem, appended, ended, finished, is_with_last, with_group, with_member, written_over};
+ghost use Rattle.ide_batch.specs.Writing.{Holds, IsSpelledBatch, MayFollow, PutsItem, StopsAtItem, appended, ended, finished, is_in_last, with_group, with_member, written_over};
 
 use crate::coded::Coded;
 use crate::items::MOST;
-use crate::place::{kind_of, member_of, share_place};
+use crate::place::{kind_of, member_of};
 use crate::spelled::Spelled;
 use ide_journal::{RawRecord, Version};
 use ide_lattice::EdgeFn;
-use ide_wire::{Key, Refused, Wire};
+use ide_wire::{Key, Node, Refused, Wire};
 use std::alloc::{AllocError, Global};
 use std::marker::Model;
 
 /// The kind that the journal notes of a batch.
 const BATCH: u8 = 3;
+
+/// What stands for the kind of the last group where none was begun: no key has it.
+const NO_KIND: u8 = 2;
 
 /// How many bytes an item takes, mostly. A body is made with room for that.
 const USUAL: usize = 12;
@@ -25,9 +28,11 @@ const USUAL: usize = 12;
 pub(crate) struct BatchWriter {
     version: Version,
     body: Vec<u8>,
-    /// How many items were put, and the key of the last one.
+    /// How many items were put.
     items: usize,
-    last: Option<Key>,
+    /// The kind and the node of the last group. An item that goes into it changes neither.
+    kind: u8,
+    node: Node,
     /// How many groups were begun, how many members the last one has, and where their count stands.
     groups: usize,
     members: usize,
@@ -40,7 +45,7 @@ impl Model for BatchWriter {
 
     ghost Value = { WriterData };
 
-    ghost view = { λ w. record { version = w.version; body = w.body.items; items = w.items; last = w.last; groups = w.groups; members = w.members; place = w.place } };
+    ghost view = { λ w. record { version = w.version; body = w.body.items; items = w.items; kind = w.kind; node = w.node; groups = w.groups; members = w.members; place = w.place } };
 
     ghost invariant = { λ w. HasRoom (length w.body.items) w.items w.groups w.members w.place };
 }
@@ -60,7 +65,8 @@ impl BatchWriter {
             version,
             body,
             items: 0,
-            last: None,
+            kind: NO_KIND,
+            node: 0,
             groups: 0,
             members: 0,
             place: 0,
@@ -69,12 +75,16 @@ impl BatchWriter {
 
     /// Puts an item behind those that were put, and says whether a batch may have it: a record spells
     /// its function, and there are 65,536 items at most. Its key has to be above theirs: that is not
-    /// looked at.
+    /// looked at. The version has to be the batch's: a loop that knows which has no other's code.
     ///
     /// Refusal: `NoMemory`, after which nothing is known of the batch.
     #[inline(always)]
-    pub(crate) fn put<F: EdgeFn>(&mut self, item: (Key, F, bool)) -> Result<bool, Refused>
-        ensures puts { result ≡ Ok true → PutsItem ⟦<F as Spelled>⟧.forms item self.old self.new }
+    pub(crate) fn put<F: EdgeFn>(
+        &mut self,
+        version: Version,
+        item: (Key, F, bool),
+    ) -> Result<bool, Refused>
+        ensures puts { result ≡ Ok true → PutsItem ⟦<F as Spelled>⟧.forms version item self.old self.new }
         ensures stops { result ≡ Ok false → StopsAtItem ⟦<F as Spelled>⟧.forms item self.old }
         ensures refused { IfErr result (λ e. e ≡ Refused.NoMemory) }
     {
@@ -82,8 +92,7 @@ impl BatchWriter {
             return Ok(false);
         }
         self.items += 1;
-        self.append(item)?;
-        self.last = Some(item.0);
+        self.append(version, item)?;
         Ok(true)
     }
 
@@ -112,12 +121,16 @@ impl BatchWriter {
 
     /// Appends the item's form: in the second version to its group.
     #[inline(always)]
-    fn append<F: EdgeFn>(&mut self, item: (Key, F, bool)) -> Result<(), AllocError>
+    fn append<F: EdgeFn>(
+        &mut self,
+        version: Version,
+        item: (Key, F, bool),
+    ) -> Result<(), AllocError>
         requires groups { self.old.groups < self.old.items }
         requires members { self.old.members < self.old.items }
-        ensures { OnOk result (self.new ≡ appended ⟦<F as Spelled>⟧.forms self.old.version item self.old) }
+        ensures { OnOk result (self.new ≡ appended ⟦<F as Spelled>⟧.forms version item self.old) }
     {
-        match self.version {
+        match version {
             Version::One => item.put(&mut self.body),
             Version::Two => self.put_member(item),
         }
@@ -132,33 +145,34 @@ impl BatchWriter {
         ensures { OnOk result (self.new ≡ with_member ⟦<F as Spelled>⟧.forms item self.old) }
     {
         if !self.is_in_group(item.0) {
-            self.begin_group(item.0)?;
+            self.begin_group(kind_of(item.0), item.0.node())?;
         }
         self.members += 1;
         member_of(item).put(&mut self.body)
     }
 
-    /// Whether the last item's key has the key's kind and node.
+    /// Whether the last group is of the key's kind and node.
     #[inline(always)]
     fn is_in_group(&self, key: Key) -> bool
-        ensures { result ≡ is_with_last self.now.last key }
+        ensures { result ≡ is_in_last self.now key }
     {
-        match self.last {
-            Some(last) => share_place(last, key),
-            None => false,
-        }
+        self.kind == kind_of(key) && self.node == key.node()
     }
 
-    /// Begins a group of the key's kind and node.
-    fn begin_group(&mut self, key: Key) -> Result<(), AllocError>
+    /// Begins a group of the kind and the node. Few items need one, so it stands apart from their loop,
+    /// and asks for no more of the key: what it does not take need not be kept for it.
+    #[inline(never)]
+    fn begin_group(&mut self, kind: u8, node: Node) -> Result<(), AllocError>
         requires { self.old.groups < self.old.items }
-        ensures { OnOk result (self.new ≡ with_group key self.old) }
+        ensures { OnOk result (self.new ≡ with_group kind node self.old) }
     {
         self.end_group();
-        self.body.push(kind_of(key))?;
-        key.node().put(&mut self.body)?;
+        self.body.push(kind)?;
+        node.put(&mut self.body)?;
         let place = self.body.len();
         0u32.put(&mut self.body)?;
+        self.kind = kind;
+        self.node = node;
         self.place = place;
         self.groups += 1;
         self.members = 0;

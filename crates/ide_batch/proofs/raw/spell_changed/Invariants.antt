@@ -1,7 +1,7 @@
 use Rattle.std.proofs.Common.{◌≡◌, ◌++◌, List}
 use Rattle.ide_batch.specs.Items.{Item, functions_by}
 use Rattle.ide_batch.specs.Writing.{Holds}
-use Rattle.ide_batch.proofs.raw.changed_to_raw.Given as goal
+use Rattle.ide_batch.proofs.raw.spell_changed.Given as goal
 
 -- the writer has the items that have come, before those to come
 abbrev pub invariant-loop-item : goal.invariant-loop-item

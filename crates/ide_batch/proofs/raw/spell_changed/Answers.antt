@@ -1,7 +1,7 @@
 use Rattle.std.proofs.Common.{ap, Ok}
 use Rattle.ide_batch.specs.Items.{functions_by}
 use Rattle.ide_batch.proofs.RecordsSpelled.{all_came, batch_made, coming_more, coming_stops}
-use Rattle.ide_batch.proofs.raw.changed_to_raw.Goals as goal
+use Rattle.ide_batch.proofs.raw.spell_changed.Goals as goal
 
 pub loop-item-preserved : goal.loop-item-preserved
 loop-item-preserved g c =
