@@ -36,6 +36,7 @@ mod figures;
 mod fills;
 mod pace;
 mod phases;
+mod plain_disk;
 mod records;
 mod runs;
 mod stores;

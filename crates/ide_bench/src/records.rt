@@ -1,4 +1,7 @@
 //! Records in a journal on a disk in memory, and what copying their bodies alone takes.
+//!
+//! The disk is an honest one, `MemDisk`, though its record of what is written is in the figures: only of an honest disk
+//! can it be proved that as many records are read back as were stored.
 ghost use Rattle.std.specs.Prelude.{◌≡◌, ◌*◌, IfOk, OnOk, length};
 ghost use Rattle.ide_bench.specs.Records.{AppendsRecord, KeepsAlike};
 ghost use Rattle.ide_journal.specs.Format.{head_of, zeros};

@@ -1,16 +1,17 @@
 //! A text's run in a store on two disks in memory, by copy constants or by a dear analysis, and what copying the bytes of
 //! one takes.
 ghost use Rattle.std.specs.Prelude.{◌≡◌, IfOk};
-ghost use Rattle.ide_disk.specs.Memory.{memory_size};
+ghost use Rattle.ide_bench.specs.PlainDisk.{plain_size};
 ghost use Rattle.ide_bench.specs.Stores.{AreAmountsOf};
 ghost use Rattle.ide_bench.specs.Working.{run_board, run_switches};
 
 use crate::dear::Spread;
 use crate::figures::Figure;
+use crate::plain_disk::PlainDisk;
 use crate::records::Stored;
 use anyhow::Result;
 use ide_desks::{Accord, Opened};
-use ide_disk::{Disk, MemDisk};
+use ide_disk::Disk;
 use ide_instances::CopyConst;
 use ide_problem::Problem;
 use ide_service::{Crew, Open, Service, work_together};
@@ -24,8 +25,6 @@ use std::time::Clock;
 
 /// The most bytes of a disk.
 const ROOM: usize = 16_777_216;
-/// The most calls of it.
-const CALLS: usize = 1_024;
 /// No client orders commands while hands work.
 const NO_CLIENTS: u64 = 0;
 
@@ -58,9 +57,9 @@ pub(crate) enum Analysis {
 }
 
 /// A store with no record.
-fn create<P: Problem>(alloc: Global) -> Result<SlotEngine<P, MemDisk>> {
-    let a = MemDisk::new(alloc, ROOM, ROOM + CALLS)?;
-    let b = MemDisk::new(alloc, ROOM, ROOM + CALLS)?;
+fn create<P: Problem>(alloc: Global) -> Result<SlotEngine<P, PlainDisk>> {
+    let a = PlainDisk::new(alloc, ROOM)?;
+    let b = PlainDisk::new(alloc, ROOM)?;
     match SlotEngine::create(alloc, a, b) {
         Ok(engine) => Ok(engine),
         Err((refused, _, _)) => Err(refused.into()),
@@ -68,7 +67,7 @@ fn create<P: Problem>(alloc: Global) -> Result<SlotEngine<P, MemDisk>> {
 }
 
 /// The store that the disks hold.
-fn open(alloc: Global, a: MemDisk, b: MemDisk) -> Result<SlotEngine<CopyConst, MemDisk>> {
+fn open(alloc: Global, a: PlainDisk, b: PlainDisk) -> Result<SlotEngine<CopyConst, PlainDisk>> {
     match SlotEngine::open(alloc, a, b) {
         Ok(engine) => Ok(engine),
         Err((refused, _, _)) => Err(refused.into()),
@@ -78,7 +77,7 @@ fn open(alloc: Global, a: MemDisk, b: MemDisk) -> Result<SlotEngine<CopyConst, M
 /// Loads a text's program, with `main` as the root.
 fn begin<P: Problem>(
     alloc: Global,
-    engine: &mut SlotEngine<P, MemDisk>,
+    engine: &mut SlotEngine<P, PlainDisk>,
     text: &[u8],
 ) -> Result<()> {
     engine.table.load(parse(alloc, text)?)?;
@@ -89,7 +88,7 @@ fn begin<P: Problem>(
 /// Tabulates a text's program, stores what that did, and answers how many tasks it took.
 fn store_run(
     alloc: Global,
-    engine: &mut SlotEngine<CopyConst, MemDisk>,
+    engine: &mut SlotEngine<CopyConst, PlainDisk>,
     text: &[u8],
 ) -> Result<u64> {
     begin(alloc, engine, text)?;
@@ -100,7 +99,7 @@ fn store_run(
 }
 
 /// What the store came to, by so many tasks.
-fn measure_store<P: Problem>(engine: SlotEngine<P, MemDisk>, tasks: u64) -> Result<Amounts>
+fn measure_store<P: Problem>(engine: SlotEngine<P, PlainDisk>, tasks: u64) -> Result<Amounts>
     ensures { IfOk result (AreAmountsOf engine tasks) }
 {
     let records = engine.acked();
@@ -152,8 +151,8 @@ macro_rules! end_run {
 /// A store that was opened with a board, by its analysis.
 #[derive(Drop)]
 enum OpenedStore {
-    Copies(Opened<CopyConst, MemDisk>),
-    Dear(Opened<Spread, MemDisk>),
+    Copies(Opened<CopyConst, PlainDisk>),
+    Dear(Opened<Spread, PlainDisk>),
 }
 
 impl OpenedStore {
@@ -167,7 +166,7 @@ impl OpenedStore {
 }
 
 /// A new store with a board, which has a text's program, and `main` as the root.
-fn opened<P: Problem>(alloc: Global, text: &[u8]) -> Result<Opened<P, MemDisk>> {
+fn opened<P: Problem>(alloc: Global, text: &[u8]) -> Result<Opened<P, PlainDisk>> {
     let mut engine = create(alloc)?;
     begin(alloc, &mut engine, text)?;
     match Opened::new(alloc, engine, NO_CLIENTS) {
@@ -229,8 +228,8 @@ pub(crate) fn copy_disk(alloc: Global, text: &[u8]) -> Result<usize> {
 }
 
 /// Copies the bytes of a disk by one read, and answers how many there are.
-fn copied(alloc: Global, disk: &mut MemDisk) -> Result<usize>
-    ensures { IfOk result (λ bytes. bytes ≡ memory_size disk.old) }
+fn copied(alloc: Global, disk: &mut PlainDisk) -> Result<usize>
+    ensures { IfOk result (λ bytes. bytes ≡ plain_size disk.old) }
 {
     let length = disk.len()? as usize;
     let mut bytes = Vec::with_capacity(alloc, length)?;
