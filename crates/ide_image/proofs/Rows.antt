@@ -152,22 +152,6 @@ module _ {F : Type 0} (indexed : Indexed F) (pages : List ℕ) where
 
 -- ---- blocks
 
--- numbers of which each is above the one before it
-pub ascend-more : (numbers : List ℕ) (row : ℕ) → 0 < row → row < length numbers
-    → ((i j : ℕ) → i < j → j < row → slice_index numbers i / 65536 < slice_index numbers j / 65536)
-    → slice_index numbers (row - 1) / 65536 < slice_index numbers row / 65536
-    → (i j : ℕ) → i < j → j < row + 1 → slice_index numbers i / 65536 < slice_index numbers j / 65536
-ascend-more numbers row some there ascend less i j up within =
-    ⊎_elim
-    (λ l. ascend i j up l)
-    (λ r. let last : row ≡ j = omega (arith, within, r) in
-    subst (λ n. slice_index numbers i / 65536 < slice_index numbers n / 65536) last
-    (⊎_elim
-    (λ l. let below = ascend i (row - 1) l (omega (arith, some)) in omega (arith, below, less))
-    (λ m. let here : row - 1 ≡ i = omega (arith, m, up, last) in subst (λ n. slice_index numbers n / 65536 < slice_index numbers row / 65536) here less)
-    (cases_lt i (row - 1))))
-    (cases_lt j row)
-
 module _ (numbers : List ℕ) (from to : ℕ) (up : from < to) (within : to ≤ length numbers) where
   abbrev rows-between : List ℕ
   rows-between = slice_range numbers from to
@@ -180,20 +164,6 @@ module _ (numbers : List ℕ) (from to : ℕ) (up : from < to) (within : to ≤ 
 
   pub first-between : slice_index rows-between 0 ≡ slice_index numbers from
   first-between = let long = long-between in let same : from + 0 ≡ from = omega arith in at-between 0 (omega (arith, up, long)) ∙ ap (λ n. slice_index numbers n) same
-
-  -- the rows from one on, up to another one, are a block, if they are of one
-  pub is-block : RanksAscend numbers → AreOfBlock numbers from to → IsBlock rows-between
-  is-block ascend same =
-      let long = long-between in
-      record {
-        ascend = λ i j less there.
-            let one = at-between i (omega (arith, less, there)) in
-            let two = at-between j there in
-            let above = ascend (from + i) (from + j) (omega (arith, less)) (omega (arith, there, long, within)) in
-            omega (arith, one, two, above);
-        same = λ i zero there.
-            ap block_of (at-between i there) ∙ same (from + i) (omega arith) (omega (arith, there, long)) ∙ ap block_of (sym first-between);
-      }
 
   pub ranks-between : (grid : Grid) (rank : ℕ → ℕ) → AreRanksOn grid numbers rank → AreRanksOn grid rows-between rank
   ranks-between grid rank ranks i offset slot there low has =

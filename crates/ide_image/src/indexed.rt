@@ -1,5 +1,5 @@
 //! Functions at keys, in the cells of pages.
-ghost use Rattle.std.specs.Prelude.{◌≡◌, ◌+◌, ◌*◌, ◌%◌, ◌<◌, ◌≤◌, ◌^◌, [], None, Some, length, option_map, IfOk, IfSome, OnOk, IsOkUnless};
+ghost use Rattle.std.specs.Prelude.{◌≡◌, ◌+◌, ◌*◌, ◌%◌, ◌<◌, ◌≤◌, ◌^◌, [], None, Some, length, IfOk, IfSome, OnOk, IsOkUnless};
 ghost use Rattle.std.specs.List.{IsDistinct};
 ghost use Rattle.std.specs.Map.{keys_of};
 ghost use Rattle.std.specs.Option.{is_some};
@@ -247,14 +247,15 @@ impl<F: EdgeFn> Indexed<F> {
         }
     }
 
-    /// The cell of a key that has one. One look-up.
+    /// The cell of a key that has one. The page of the cell `near` is looked at first: where it is the key's, there is no
+    /// look-up, and else one.
     #[inline(always)]
-    pub(crate) fn cell_of(&self, key: Key) -> usize
+    pub(crate) fn cell_of(&self, key: Key, near: usize) -> usize
         requires cell { HasCell self.now key }
         ensures place { result + 1 ≡ place_of_key self.now key }
         ensures few { result + 64 < 2 ^ 32 }
     {
-        match self.places.cell(key) {
+        match self.places.cell_near(key, near) {
             Some(cell) => cell,
             None => unreachable!(),
         }
@@ -300,14 +301,22 @@ impl<F: EdgeFn> Indexed<F> {
     }
 
     /// How many jumps between the facts at the nodes behind this one are absent, one after the other, up to a count and
-    /// to the end of its page: none where there is no page. One look-up.
+    /// to the end of its page: none where there is no page. The page of the cell `near` is looked at first: where it is
+    /// that of the jump at the node, there is no look-up, and else one.
     #[inline(always)]
-    pub(crate) fn absent_behind(&self, node: Node, from: Fact, to: Fact, most: usize) -> usize
+    pub(crate) fn absent_behind(
+        &self,
+        near: usize,
+        node: Node,
+        from: Fact,
+        to: Fact,
+        most: usize,
+    ) -> usize
         ensures most { result ≤ most }
         ensures absent { AreAbsent (table_of self.now.cells) (jump_behind node from to) result }
         ensures page { node % 64 + result < 64 }
     {
-        let Some(cell) = self.places.cell(Key::Jump(node, from, to)) else {
+        let Some(cell) = self.places.cell_near(Key::Jump(node, from, to), near) else {
             return 0;
         };
         let most = most.min(63 - (node % 64) as usize);

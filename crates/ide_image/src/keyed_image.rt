@@ -370,7 +370,7 @@ impl<F: EdgeFn, T: Drop> KeyedImage<F, T> {
 
     /// Makes the key, which is pending and which no hand has claimed, pending no longer, and notes the
     /// entry of before if changes are noted. It takes memory only for the note. `NoMemory` leaves all as
-    /// it was. One look-up.
+    /// it was. No look-up where it was pushed near to the last ones, or else one.
     #[inline(always)]
     pub fn settle(&mut self, key: Key) -> Result<(), Refused>
         requires pending { is_pending self.old.pile key ≡ true }
@@ -389,7 +389,8 @@ impl<F: EdgeFn, T: Drop> KeyedImage<F, T> {
     }
 
     /// How many jumps between the facts at the nodes behind this one are absent, one after the other, up to a count and as
-    /// far as a walk may go: to the end of a page of 64 nodes at most. One look-up.
+    /// far as a walk may go: to the end of a page of 64 nodes at most. No look-up where the jump at the node is
+    /// [`KeyedImage::unclaimed`], or else one.
     #[inline(always)]
     pub fn absent_behind(&self, node: Node, from: Fact, to: Fact, most: usize) -> usize
         ensures most { result ≤ most }
@@ -397,13 +398,14 @@ impl<F: EdgeFn, T: Drop> KeyedImage<F, T> {
         ensures settled { AreSettled self.now.pile (jump_behind node from to) result }
         ensures page { node % 64 + result < 64 }
     {
-        self.indexed.absent_behind(node, from, to, most)
+        let near = self.queue.top_slot();
+        self.indexed.absent_behind(near, node, from, to, most)
     }
 
     /// Walks from the jump between the facts at the node, which is pending and which no hand has claimed, over so many
     /// nodes behind it, at which the jumps between the facts are absent: these have the function then, and of all of them
     /// only the last is pending. Their entries of before are noted where changes are noted, that of the jump at the node
-    /// first. `NoMemory` leaves all as it was. One look-up.
+    /// first. `NoMemory` leaves all as it was. No look-up where that one is [`KeyedImage::unclaimed`], or else one.
     #[inline(always)]
     pub fn walk(
         &mut self,
@@ -429,7 +431,7 @@ impl<F: EdgeFn, T: Drop> KeyedImage<F, T> {
         ensures refused { IsOkUnless result NoMemory }
     {
         let key = Key::Jump(node, from, to);
-        let cell = self.indexed.cell_of(key);
+        let cell = self.indexed.cell_of(key, self.queue.top_slot());
         parts::make_room(
             &mut self.indexed,
             &mut self.queue,

@@ -6,7 +6,7 @@
 //! Elsewhere each slot is told by one number of 64 bits, which has its key's place among keys and the
 //! index of its note. These are sorted, or where a key has no such number the keys themselves, each with
 //! its slot.
-ghost use Rattle.std.specs.Prelude.{◌≡◌, ℕ, ◌<◌, true, map, IfOk, IfSome};
+ghost use Rattle.std.specs.Prelude.{◌≡◌, ℕ, ◌<◌, map, IfOk, IfSome};
 ghost use Rattle.std.specs.List.{filter_map};
 ghost use Rattle.std.specs.List.Sorted.{IsPermutation, IsSortedByKey};
 ghost use Rattle.ide_wire.specs.KeyOrder.{key_cmp};

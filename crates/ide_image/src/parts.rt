@@ -149,7 +149,8 @@ pub(crate) fn end_slot<F: EdgeFn>(
     ensures nobody { changes.old.list ≡ None → IsOk result }
     ensures refused { IsOkUnless result NoMemory }
 {
-    let slot = indexed.place(key) - 1;
+    let near = queue.near_slot(key.node() as usize % 64);
+    let slot = indexed.cell_of(key, near);
     changes.make_room(1, slot + 1)?;
     note_now(indexed, queue, changes, slot, key);
     queue.settle(slot);
@@ -268,8 +269,10 @@ pub(crate) fn enter_all<F: EdgeFn, T: Drop>(
     ensures noting { is_some changes.new.list ≡ is_some changes.old.list }
     ensures notes { NotesAllBySlot indexed.old queue.old list.now changes.old changes.new }
 {
+    // Pages that were made for these keys stand behind the others.
+    let last = indexed.cell_count().saturating_sub(1);
     for entry in list {
-        let cell = indexed.cell_of(entry.0);
+        let cell = indexed.cell_of(entry.0, last);
         enter(indexed, queue, claims, changes, cell, entry.0, entry.1);
     }
 }

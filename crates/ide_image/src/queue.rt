@@ -90,6 +90,29 @@ impl Queue {
         self.stack.last().copied()
     }
 
+    /// The slot on top of the stack, where that of the next key is looked for first: the first one, if none waits.
+    #[inline(always)]
+    pub(crate) fn top_slot(&self) -> usize {
+        match self.stack.last() {
+            Some(slot) => *slot as usize,
+            None => 0,
+        }
+    }
+
+    /// The highest of the slots near the top of the stack that is at the offset of a page of 64, where that of a key
+    /// whose parts were done is looked for first: the first slot, if none of these is.
+    #[inline(always)]
+    pub(crate) fn near_slot(&self, offset: usize) -> usize {
+        let len = self.stack.len();
+        for position in (len.saturating_sub(NEAR)..len).rev() {
+            let slot = self.stack[position] as usize;
+            if slot % 64 == offset {
+                return slot;
+            }
+        }
+        0
+    }
+
     /// Makes room for so many more pending slots.
     pub(crate) fn reserve(&mut self, additional: usize) -> Result<(), AllocError>
         requires few { additional < 2 ^ 32 }

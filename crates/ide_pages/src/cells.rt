@@ -75,7 +75,8 @@ pub(crate) fn number_of(cells: &[u32], cell: Option<usize>) -> u32
     }
 }
 
-// The facts of a row, each with the number at the offset of its page, where that is not 0.
+// The facts of a row, each with the number at the offset of its page, where that is not 0. There is room for all of
+// them from the start, as mostly each has one.
 pub(crate) fn partners(
     alloc: Global,
     cells: &[u32],
@@ -85,9 +86,13 @@ pub(crate) fn partners(
     requires within { offset < 64 }
     ensures { IfOk result (λ list. list.items ≡ filter_map (partner_of (number_by cells.now offset)) row.now) }
 {
-    row.iter()
-        .filter_map(|listed| partner(cells, offset, *listed))
-        .collect(alloc)
+    let mut partners = Vec::with_capacity(alloc, row.len())?;
+    for listed in row {
+        if let Some(partner) = partner(cells, offset, *listed) {
+            partners.push_reserved(partner);
+        }
+    }
+    Ok(partners)
 }
 
 // The fact with the number at the offset of its page, where that is not 0.

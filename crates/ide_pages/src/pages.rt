@@ -99,6 +99,21 @@ impl Pages {
         )
     }
 
+    /// The same, where the page that has a cell is looked at first, and not the one that was asked for last: where it
+    /// is the key's, there is no look-up.
+    #[inline(always)]
+    pub fn cell_near(&self, key: Key, near: usize) -> Option<usize>
+        ensures { result ≡ cell_of self.now key }
+    {
+        cells::cell_near(
+            &self.pages,
+            &self.rows,
+            near / 64,
+            keys::offset_of(key),
+            keys::page_of(key),
+        )
+    }
+
     /// How many cells there are: 64 for each page.
     #[inline(always)]
     pub fn cell_count(&self) -> usize

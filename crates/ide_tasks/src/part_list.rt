@@ -3,7 +3,7 @@ ghost use Rattle.std.specs.Prelude.{◌≡◌, ◌+◌, ◌∷◌, [], false, tr
 ghost use Rattle.ide_tasks.specs.Parts.{FillsUnchanged, PassesBehind, parts_at};
 
 use crate::partners::Partners;
-use crate::parts::Parts;
+use crate::parts::{Parts, passed_part};
 use ide_graph::Site;
 use ide_lattice::EdgeFn;
 use ide_problem::Problem;
@@ -100,10 +100,7 @@ fn unchanged_part<P: Problem>(key: Key, function: P::F, site: &Site) -> Option<(
 {
     match (key, site) {
         (Key::Jump(_, from, to), Site::Normal(edges)) => match edges.as_slice() {
-            [edge] if P::passes_unchanged(edge, to) => Some((
-                Key::Jump(edge.end, from, to),
-                function.compose(P::F::id()),
-            )),
+            [edge] => passed_part::<P>(edge, function, from, to),
             _ => None,
         },
         _ => None,

@@ -1,5 +1,5 @@
 //! The parts that a task owes: by edge in the site's order, then by partner, then by target.
-ghost use Rattle.std.specs.Prelude.{◌≡◌, ◌++◌, [], IfOk, OnOk, map};
+ghost use Rattle.std.specs.Prelude.{◌≡◌, ◌++◌, [], ◌∷◌, IfOk, IfSome, OnOk, map};
 ghost use Rattle.std.specs.List.{flat_map};
 ghost use Rattle.ide_tasks.specs.Parts.{owed, parts_at, flat_parts, seed_parts, after_parts, resumed_parts, summary_parts, returned_parts};
 
@@ -85,7 +85,7 @@ impl<P: Problem> Parts<P> {
         Ok(())
     }
 
-    /// The jumps to the targets of `to` over one edge.
+    /// The jumps to the targets of `to` over one edge. Where that passes `to` on unchanged, its flow is not asked for.
     #[inline(always)]
     fn add_edge(
         &mut self,
@@ -96,6 +96,10 @@ impl<P: Problem> Parts<P> {
     ) -> Result<(), AllocError>
         ensures { OnOk result (self.new.list.items ≡ self.old.list.items ++ flat_parts P.F.edge P.targets from to function edge.now) }
     {
+        if let Some(part) = passed_part::<P>(edge, function, from, to) {
+            self.list.push(part)?;
+            return Ok(());
+        }
         self.flow(edge, to)?;
         let Parts { list, targets } = self;
         for (target, over) in targets.list.as_slice() {
@@ -203,6 +207,23 @@ impl<P: Problem> Parts<P> {
         self.targets.clear();
         P::flow(edge, fact, &mut self.targets)?;
         Ok(())
+    }
+}
+
+/// The one part over an edge that passes the fact on unchanged.
+#[inline(always)]
+pub(crate) fn passed_part<P: Problem>(
+    edge: &EdgeData,
+    function: P::F,
+    from: Fact,
+    to: Fact,
+) -> Option<(Key, P::F)>
+    ensures { IfSome result (λ part. flat_parts P.F.edge P.targets from to function edge.now ≡ part ∷ []) }
+{
+    if P::passes_unchanged(edge, to) {
+        Some((Key::Jump(edge.end, from, to), function.compose(P::F::id())))
+    } else {
+        None
     }
 }
 

@@ -12,15 +12,13 @@ use Rattle.ide_image.proofs.Marked.{at-same}
 use Rattle.ide_image.proofs.Stack.{pending-there}
 use Rattle.ide_image.proofs.parts.end_slot.Goals as goal
 
-pub overflow_sub-slot : goal.overflow_sub-slot
-overflow_sub-slot g c =
-    let some = at-some (pending_at c.args.queue.now.list) (place_of_key c.args.indexed.now c.args.key) c.requires.pending in
-    omega (arith, some, c.place-slot.ensures.place)
+pub cell_of-slot-requires : goal.cell_of-slot-requires
+cell_of-slot-requires g c = record { cell = at-some (pending_at c.args.queue.now.list) (place_of_key c.args.indexed.now c.args.key) c.requires.pending }
 
 pub note_now-requires-clause-slot : goal.note_now-requires-clause-slot
 note_now-requires-clause-slot g c =
     let some = at-some (pending_at c.args.queue.now.list) (place_of_key c.args.indexed.now c.args.key) c.requires.pending in
-    omega (arith, some, c.place-slot.ensures.place)
+    omega (arith, some, c.cell_of-slot.ensures.place)
 
 pub note_now-requires-clause-listed : goal.note_now-requires-clause-listed
 note_now-requires-clause-listed g c =
@@ -33,28 +31,28 @@ pub settle-requires : goal.settle-requires
 settle-requires g c =
     let place = place_of_key c.args.indexed.now c.args.key in
     let some = at-some (pending_at c.args.queue.now.list) place c.requires.pending in
-    let stands : (c.place-slot.result - 1) + 1 ≡ place = omega (arith, some, c.place-slot.ensures.place) in
-    record { there = pending-there c.args.queue.now.list (c.place-slot.result - 1) (sym (at-index (pending_at c.args.queue.now.list) place (c.place-slot.result - 1) stands) ∙ c.requires.pending) }
+    let stands : c.cell_of-slot.result + 1 ≡ place = omega (arith, some, c.cell_of-slot.ensures.place) in
+    record { there = pending-there c.args.queue.now.list c.cell_of-slot.result (sym (at-index (pending_at c.args.queue.now.list) place c.cell_of-slot.result stands) ∙ c.requires.pending) }
 
 pub returns-clause-pending : goal.returns-clause-pending
 returns-clause-pending g c = λ slot is.
     let some = at-some (pending_at c.args.queue.now.list) (place_of_key c.args.indexed.now c.args.key) c.requires.pending in
-    let same : c.place-slot.result - 1 ≡ slot = omega (arith, is, some, c.place-slot.ensures.place) in
+    let same : c.cell_of-slot.result ≡ slot = omega (arith, is, some, c.cell_of-slot.ensures.place) in
     subst (λ s. SetsMark s false (pending_at c.args.queue.now.list) (pending_at c.settle.new.self.list)) same c.settle.ensures.pending
 
 pub returns-clause-held : goal.returns-clause-held
 returns-clause-held g c = λ slot is.
     let some = at-some (pending_at c.args.queue.now.list) (place_of_key c.args.indexed.now c.args.key) c.requires.pending in
-    let same : c.place-slot.result - 1 ≡ slot = omega (arith, is, some, c.place-slot.ensures.place) in
+    let same : c.cell_of-slot.result ≡ slot = omega (arith, is, some, c.cell_of-slot.ensures.place) in
     subst (λ s. SetsMark s false (held_at c.args.queue.now.list) (held_at c.settle.new.self.list)) same c.settle.ensures.held
 
 pub returns-clause-count : goal.returns-clause-count
 returns-clause-count g c =
     let place = place_of_key c.args.indexed.now c.args.key in
     let some = at-some (pending_at c.args.queue.now.list) place c.requires.pending in
-    let stands : (c.place-slot.result - 1) + 1 ≡ place = omega (arith, some, c.place-slot.ensures.place) in
-    let one : one_if (pending_at c.args.queue.now.list (c.place-slot.result - 1)) ≡ 1 =
-    ap one_if (sym (at-index (pending_at c.args.queue.now.list) place (c.place-slot.result - 1) stands) ∙ c.requires.pending) in
+    let stands : c.cell_of-slot.result + 1 ≡ place = omega (arith, some, c.cell_of-slot.ensures.place) in
+    let one : one_if (pending_at c.args.queue.now.list c.cell_of-slot.result) ≡ 1 =
+    ap one_if (sym (at-index (pending_at c.args.queue.now.list) place c.cell_of-slot.result stands) ∙ c.requires.pending) in
     omega (arith, one, c.settle.ensures.count)
 
 pub returns-clause-list : goal.returns-clause-list
@@ -64,8 +62,8 @@ returns-clause-list g c =
 pub returns-clause-marks : goal.returns-clause-marks
 returns-clause-marks g c = λ slot is n.
     let some = at-some (pending_at c.args.queue.now.list) (place_of_key c.args.indexed.now c.args.key) c.requires.pending in
-    let same : c.place-slot.result - 1 ≡ slot = omega (arith, is, some, c.place-slot.ensures.place) in
+    let same : c.cell_of-slot.result ≡ slot = omega (arith, is, some, c.cell_of-slot.ensures.place) in
     c.note_now.ensures.marks n
-    ∙ ap (λ b. cond (nat_eq (c.place-slot.result - 1) n) b (noted_at c.make_room.new.self n)) (ap is_some c.make_room.ensures.list)
-    ∙ ap (cond (nat_eq (c.place-slot.result - 1) n) (is_some c.args.changes.now.list)) (c.make_room.ensures.marks n)
+    ∙ ap (λ b. cond (nat_eq c.cell_of-slot.result n) b (noted_at c.make_room.new.self n)) (ap is_some c.make_room.ensures.list)
+    ∙ ap (cond (nat_eq c.cell_of-slot.result n) (is_some c.args.changes.now.list)) (c.make_room.ensures.marks n)
     ∙ ap (λ s. cond (nat_eq s n) (is_some c.args.changes.now.list) (noted_at c.args.changes.now n)) same
