@@ -1,21 +1,21 @@
 -- What one hand does, one act after the other.
-use Rattle.std.proofs.Common.{◌≡◌, ◌∙◌, ◌+◌, ◌-◌, ◌++◌, ◌⊎◌, ℕ, false, List, [], ◌∷◌, Result, Ok, Err, refl, ap, sym, subst, arith, inl, inr}
-use Rattle.std.specs.Prelude.{IfErr, IsOkUnless, OnErr}
+use Rattle.std.proofs.Common.{◌≡◌, ◌∙◌, ◌+◌, ◌++◌, ◌⊎◌, ℕ, Bool, false, List, [], ◌∷◌, Result, Ok, Err, refl, ap, sym, subst, arith, inl, inr}
+use Rattle.std.specs.Prelude.{IfErr, OnErr}
 use Rattle.std.proofs.lemmas.List.Elements.{All-append, All-cons, All-nil}
 use Rattle.ide_store.specs.Versioned.{VersionedEntry}
 use Rattle.ide_steps.proofs.Going.{state-unchanged}
 use Rattle.ide_image.specs.Notes.{noted_count}
 use Rattle.ide_steps.specs.Core.{CoreData, IsSameProblem, IsUnchanged}
-use Rattle.ide_steps.specs.DrainRefusal.{MayDrain}
+use Rattle.ide_steps.specs.DrainRefusal.{IsNoDrain, MayDrain}
 use Rattle.ide_image.specs.Tables.{found}
 use Rattle.ide_wire.specs.declared.refused.Refused.{Refused}
 use Rattle.ide_wire.specs.declared.refused.Refused.TheVariants.{Limit, NoMemory}
 use Rattle.ide_image.specs.Worklist.{claim_at}
 use Rattle.ide_store.specs.Acting.{BeginsAnew}
-use Rattle.ide_store.specs.Draining.{AreByDrainer, IsByHand, IsDrainStop, IsSameCore, IsWorkStop, WorksBy, count_of, full_batch_stays, is_claim, is_release, memory_is_wanting, stops}
+use Rattle.ide_store.specs.Draining.{AreByDrainer, IsByHand, IsDrainStop, IsSameCore, IsWorkStop, WorksBy, count_of, full_batch_is_left, full_batch_stays, is_claim, is_release, memory_is_wanting, no_drain, stops}
 use Rattle.ide_store.specs.Places.{Place}
 use Rattle.ide_store.specs.Table.{Analysis, IsAct, IsReached, IsSameTable, KeepsRest, StoreAct, StoreWorld, TableData, WorksOn, after_acts}
-use Rattle.ide_store.specs.TableCalls.{IsRefusal, IsSealStop, by_itself, no_number_left, not_spelled, wants_memory}
+use Rattle.ide_store.specs.TableCalls.{IsRefusal, IsSealStop, after_failure, by_itself, no_number_left, not_spelled, wants_memory}
 use Rattle.ide_store.proofs.Acts.{count_more, may_more, after_more, reached_more}
 use Rattle.ide_store.proofs.HandActs.{state_is, then_stays, works_on}
 
@@ -65,11 +65,13 @@ module _ {F L : Type 0} (a : Analysis F L) where
   works_unchanged old new rest same = works_still old new (works_same old new rest same)
 
   -- what stops it where a batch is full, stops it where all stays
-  pub stop_stays : (old new : TableData F) (refused : Refused) → new.core.table ≡ old.core.table → new.core.changes ≡ old.core.changes → new.sealed ≡ old.sealed
-      → IsWorkStop a old refused → IsWorkStop a new refused
-  stop_stays old new _ table changes sealed memory_is_wanting = memory_is_wanting
-  stop_stays old new _ table changes sealed (full_batch_stays full stop) =
-      full_batch_stays (let same = ap noted_count changes in omega (arith, full, same)) (seal_stop old new _ table sealed stop)
+  pub stop_stays : (seals : Bool) (old new : TableData F) (refused : Refused) → new.core.table ≡ old.core.table → new.core.changes ≡ old.core.changes
+      → new.sealed ≡ old.sealed → IsWorkStop a seals old refused → IsWorkStop a seals new refused
+  stop_stays seals old new _ table changes sealed memory_is_wanting = memory_is_wanting
+  stop_stays seals old new _ table changes sealed (full_batch_is_left leaves full) =
+      full_batch_is_left leaves (let same = ap noted_count changes in omega (arith, full, same))
+  stop_stays seals old new _ table changes sealed (full_batch_stays does full stop) =
+      full_batch_stays does (let same = ap noted_count changes in omega (arith, full, same)) (seal_stop old new _ table sealed stop)
     where
       seal_stop : (old new : TableData F) (refused : Refused) → new.core.table ≡ old.core.table → new.sealed ≡ old.sealed → IsSealStop a old refused → IsSealStop a new refused
       seal_stop old new _ table sealed (no_number_left last) = no_number_left (sealed ∙ last)
@@ -129,24 +131,36 @@ module _ {F L : Type 0} (a : Analysis F L) where
       })
 
 -- why a hand does not go on is want of memory or the limit of a batch
-pub stop_names : {F L : Type 0} (a : Analysis F L) (now : TableData F) (refused : Refused) → IsWorkStop a now refused → (refused ≡ NoMemory) ⊎ (refused ≡ Limit)
-stop_names a now _ memory_is_wanting = inl refl
-stop_names a now _ (full_batch_stays full (no_number_left last)) = inr refl
-stop_names a now _ (full_batch_stays full (not_spelled item there improper)) = inr refl
-stop_names a now _ (full_batch_stays full wants_memory) = inl refl
+pub stop_names : {F L : Type 0} (a : Analysis F L) (seals : Bool) (now : TableData F) (refused : Refused) → IsWorkStop a seals now refused
+    → (refused ≡ NoMemory) ⊎ (refused ≡ Limit)
+stop_names a seals now _ memory_is_wanting = inl refl
+stop_names a seals now _ (full_batch_is_left leaves full) = inr refl
+stop_names a seals now _ (full_batch_stays does full (no_number_left last)) = inr refl
+stop_names a seals now _ (full_batch_stays does full (not_spelled item there improper)) = inr refl
+stop_names a seals now _ (full_batch_stays does full wants_memory) = inl refl
 
--- a refusal for want of memory stops it
-pub only_memory : {T F L : Type 0} (a : Analysis F L) (r : Result T Refused) (now : TableData F) → IsOkUnless r NoMemory → IfErr r (IsWorkStop a now)
-only_memory a (Ok x) now is = tt
-only_memory a (Err e) now is = subst (IsWorkStop a now) (sym is) memory_is_wanting
+-- what may not be drained, is not
+pub not_begun : {F L : Type 0} (a : Analysis F L) (seals : Bool) (old : TableData F) (refused : Refused) → IsRefusal old (IsNoDrain old.core) refused
+    → IsRefusal old (IsDrainStop a seals old old) refused
+not_begun a seals old _ (after_failure failed) = after_failure failed
+not_begun a seals old refused (by_itself working why) = by_itself working (no_drain why)
 
 -- what a drain that began answers
-pub drain_stop : {T F L : Type 0} (a : Analysis F L) (r : Result T Refused) (old mid new : TableData F) → old.failed ≡ false → MayDrain old.core
-    → ((e : Refused) → IsWorkStop a mid e → IsWorkStop a new e) → IfErr r (IsWorkStop a mid) → IfErr r (IsRefusal old (IsDrainStop a old new))
-drain_stop a (Ok x) old mid new working may stays why = tt
-drain_stop a (Err e) old mid new working may stays why = by_itself working (stops may (stays e why))
+pub drain_stop : {T F L : Type 0} (a : Analysis F L) (seals : Bool) (r : Result T Refused) (old mid new : TableData F) → old.failed ≡ false → MayDrain old.core
+    → ((e : Refused) → IsWorkStop a seals mid e → IsWorkStop a seals new e) → IfErr r (IsWorkStop a seals mid) → IfErr r (IsRefusal old (IsDrainStop a seals old new))
+drain_stop a seals (Ok x) old mid new working may stays why = tt
+drain_stop a seals (Err e) old mid new working may stays why = by_itself working (stops may (stays e why))
 
-pub drain_names : {T F L : Type 0} (a : Analysis F L) (P : Type 0) (r : Result T Refused) (mid : TableData F) → IfErr r (IsWorkStop a mid)
+pub drain_names : {T F L : Type 0} (a : Analysis F L) (seals : Bool) (P : Type 0) (r : Result T Refused) (mid : TableData F) → IfErr r (IsWorkStop a seals mid)
     → IfErr r (λ e. (e ≡ NoMemory) ⊎ ((e ≡ Limit) ⊎ P))
-drain_names a P (Ok x) mid why = tt
-drain_names a P (Err e) mid why = elim (stop_names a mid e why) [ inl memory ↦ inl memory | inr limit ↦ inr (inl limit) ]
+drain_names a seals P (Ok x) mid why = tt
+drain_names a seals P (Err e) mid why = elim (stop_names a seals mid e why) [ inl memory ↦ inl memory | inr limit ↦ inr (inl limit) ]
+
+-- all but the core stays from one step to the next
+pub rest_then : {F : Type 0} (old mid new : TableData F) → KeepsRest old mid → KeepsRest mid new → KeepsRest old new
+rest_then old mid new first then = record {
+  version = then.version ∙ first.version;
+  sealed = then.sealed ∙ first.sealed;
+  waiting = then.waiting ∙ first.waiting;
+  failed = then.failed ∙ first.failed;
+}

@@ -14,11 +14,11 @@ use Rattle.ide_tasks.specs.Task.{TaskData}
 use Rattle.ide_wire.specs.declared.key.Key.{Key}
 use Rattle.ide_steps.specs.DrainRefusal.{IsNoDrain, MayDrain}
 use Rattle.ide_wire.specs.declared.refused.Refused.{Refused}
-use Rattle.ide_wire.specs.declared.refused.Refused.TheVariants.{NoMemory}
+use Rattle.ide_wire.specs.declared.refused.Refused.TheVariants.{Limit, NoMemory}
 use Rattle.ide_store.specs.Hands.{Batches, Claims, Ends, Happens, Loads, Parts, Releases, Roots}
 use Rattle.ide_store.specs.Places.{Place}
 use Rattle.ide_store.specs.Table.{Analysis, AreActs, StoreAct, TableData}
-use Rattle.ide_store.specs.TableCalls.{IsFull, IsSealStop}
+use Rattle.ide_store.specs.TableCalls.{IsFull, IsRefusal, IsSealStop}
 
 module _ {F L : Type 0} (a : Analysis F L) (place : Place) where
   -- the hand claims a key, does a part, ends its claim or gives it back; or what changed is sealed
@@ -56,6 +56,10 @@ module _ {F L : Type 0} (a : Analysis F L) (old new : TableData F) where
   abbrev pub WorksBy : (claims releases : ℕ) → Type 0
   WorksBy claims releases = AreActs a old new (λ place. AreByDrainer a place claims releases)
 
+  -- it claimed so many keys, and ended each claim
+  abbrev pub RunsKeys : ℕ → Type 0
+  RunsKeys count = WorksBy count 0
+
   -- it claimed so many keys, told up to the largest number of 64 bits, and ended each claim
   abbrev pub DrainsBy : ℕ → Type 0
   DrainsBy tasks = (claims : ℕ) × (tasks ≡ min claims (2 ^ 64 - 1)) × WorksBy claims 0
@@ -68,16 +72,26 @@ module _ {F L : Type 0} (a : Analysis F L) (old new : TableData F) where
 abbrev pub IsSameCore : {F : Type 0} → (old new : CoreData F) → Type 0
 IsSameCore old new = new ≡ record old { changes = new.changes }
 
-module _ {F L : Type 0} (a : Analysis F L) where
-  -- why hand 0 does not go on: memory is wanting; or a batch is full, and is not sealed
+module _ {F L : Type 0} (a : Analysis F L) (seals : Bool) where
+  -- why hand 0 does not go on, which seals a batch that is full, or leaves that to others: memory is wanting; or a batch is full,
+  -- and is not sealed; or it is left to others to seal it
   pub data IsWorkStop (now : TableData F) : Refused → Type 0 where
     memory_is_wanting : IsWorkStop now NoMemory
-    full_batch_stays : {refused : Refused} → IsFull now.core → IsSealStop a now refused → IsWorkStop now refused
+    full_batch_stays : {refused : Refused} → seals ≡ true → IsFull now.core → IsSealStop a now refused → IsWorkStop now refused
+    full_batch_is_left : seals ≡ false → IsFull now.core → IsWorkStop now Limit
 
   -- why not all is done: it may not be drained; or it may, and hand 0 does not go on
   pub data IsDrainStop (old new : TableData F) : Refused → Type 0 where
     no_drain : {refused : Refused} → IsNoDrain old.core refused → IsDrainStop old new refused
     stops : {refused : Refused} → MayDrain old.core → IsWorkStop new refused → IsDrainStop old new refused
+
+  -- and so why it is refused: one of the writer failed before, or for such a reason
+  abbrev pub BarsDrain : (old new : TableData F) → Refused → Type 0
+  BarsDrain old new = IsRefusal old (IsDrainStop old new)
+
+-- want of memory and a full batch keep what was done before them; each other refusal leaves the half as it was
+abbrev pub StopsAmid : {F : Type 0} → (old new : TableData F) → Refused → Type 0
+StopsAmid old new refused = (refused ≡ NoMemory) ⊎ (refused ≡ Limit) ⊎ (new ≡ old)
 
 -- the half as it would be, if hand 0 had that claim
 abbrev pub table_held : {F : Type 0} → TableData F → Claim (TaskData F) → TableData F

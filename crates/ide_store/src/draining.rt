@@ -1,15 +1,15 @@
 //! All that is left, by one hand: what changes is sealed, one full batch after the other.
-ghost use Rattle.std.specs.Prelude.{◌≡◌, ◌<◌, ◌⊎◌, [], true, false, Ok, IfErr, IfOk, OnErr, OnOk, IsOkUnless};
+ghost use Rattle.std.specs.Prelude.{◌≡◌, ◌<◌, ◌≤◌, [], true, false, Ok, IfErr, IfOk, OnErr, OnOk, IsOkUnless};
 ghost use Rattle.std.specs.Option.{is_some};
 ghost use Rattle.ide_image.specs.Notes.{noted_count};
 ghost use Rattle.ide_image.specs.Worklist.{IsFree, is_claimed, is_pending};
 ghost use Rattle.ide_steps.specs.Changed.{Remembers};
 ghost use Rattle.ide_steps.specs.Core.{AreInside, IsInside, IsSameProblem, IsUnchanged};
 ghost use Rattle.ide_steps.specs.Drain.{HasLess};
-ghost use Rattle.ide_steps.specs.DrainRefusal.{MayDrain};
+ghost use Rattle.ide_steps.specs.DrainRefusal.{IsNoDrain, MayDrain};
 ghost use Rattle.ide_steps.specs.Running.{IsNextOwed, IsTakenOut};
 ghost use Rattle.ide_steps.specs.Steps.{SameTasks};
-ghost use Rattle.ide_store.specs.Draining.{DrainsAll, DrainsBy, DrainsSome, IsDrainStop, IsSameCore, IsWorkStop, LowersOwed, SkipsOwed, StaysOwed, StopsBy, WorksBy, WorksHeld};
+ghost use Rattle.ide_store.specs.Draining.{BarsDrain, DrainsAll, DrainsBy, RunsKeys, DrainsSome, IsSameCore, IsWorkStop, LowersOwed, SkipsOwed, StaysOwed, StopsAmid, StopsBy, WorksBy, WorksHeld};
 ghost use Rattle.ide_store.specs.Table.{KeepsRest};
 ghost use Rattle.ide_store.specs.TableCalls.{IsRefusal};
 
@@ -37,29 +37,59 @@ impl<P: Problem> TableHalf<P> {
         ensures free { IsFree self.old.core.pile → IsFree self.new.core.pile }
         ensures may { OnOk result (MayDrain self.old.core) }
         ensures working { OnOk result (self.old.failed ≡ false) }
-        ensures refused { IfErr result (IsRefusal self.old (IsDrainStop ⟦<P as Kept>⟧.analysis self.old self.new)) }
-        ensures unchanged { IfErr result (λ e. (e ≡ Refused.NoMemory) ⊎ (e ≡ Refused.Limit) ⊎ (self.new ≡ self.old)) }
+        ensures refused { IfErr result (BarsDrain ⟦<P as Kept>⟧.analysis true self.old self.new) }
+        ensures unchanged { IfErr result (StopsAmid self.old self.new) }
+    {
+        self.may_drain()?;
+        self.run_all()
+    }
+
+    /// Runs up to so many keys, and answers how many: fewer only where none is pending then. To the store each is a claim
+    /// by hand 0, its parts and its end, as of [`TableHalf::drain`]; but a batch that is full is not sealed.
+    ///
+    /// Refusals, in this order: `Failed`; those of [`ide_steps::Core::may_drain`]; `NoMemory`; and `Limit` where a batch is
+    /// full: seal, then go on. These two keep what was done before, and to the store hand 0's claim was given back.
+    pub fn drain_some(&mut self, most: usize) -> Result<usize, Refused>
+        ensures runs { IfOk result (RunsKeys ⟦<P as Kept>⟧.analysis self.old self.new) }
+        ensures most { IfOk result (λ count. count ≤ most) }
+        ensures quiet { IfOk result (λ count. count < most → self.new.core.pile.pending ≡ []) }
+        ensures stops { StopsBy ⟦<P as Kept>⟧.analysis self.old self.new }
+        ensures rest { KeepsRest self.old self.new }
+        ensures free { IsFree self.old.core.pile → IsFree self.new.core.pile }
+        ensures may { OnOk result (MayDrain self.old.core) }
+        ensures working { OnOk result (self.old.failed ≡ false) }
+        ensures refused { IfErr result (BarsDrain ⟦<P as Kept>⟧.analysis false self.old self.new) }
+        ensures unchanged { IfErr result (StopsAmid self.old self.new) }
+    {
+        self.may_drain()?;
+        self.run_some(most)
+    }
+
+    /// Whether it may be drained.
+    fn may_drain(&self) -> Result<(), Refused>
+        ensures may { OnOk result (MayDrain self.now.core) }
+        ensures working { OnOk result (self.now.failed ≡ false) }
+        ensures refused { IfErr result (IsRefusal self.now (IsNoDrain self.now.core)) }
     {
         if self.failed {
             return Err(Refused::Failed);
         }
-        self.core.may_drain()?;
-        self.run_all()
+        self.core.may_drain()
     }
 
-    /// Runs keys until none is pending, and counts them, up to the largest number of 64 bits.
+    /// Runs keys until none is pending, and counts them, up to the largest number of 64 bits. A batch that is full is sealed.
     fn run_all(&mut self) -> Result<u64, Refused>
         requires { MayDrain self.old.core }
         ensures drains { IfOk result (DrainsBy ⟦<P as Kept>⟧.analysis self.old self.new) }
         ensures stops { StopsBy ⟦<P as Kept>⟧.analysis self.old self.new }
         ensures quiet { OnOk result (self.new.core.pile.pending ≡ []) }
         ensures free { IsFree self.new.core.pile }
-        ensures refused { IfErr result (IsWorkStop ⟦<P as Kept>⟧.analysis self.new) }
+        ensures refused { IfErr result (IsWorkStop ⟦<P as Kept>⟧.analysis true self.new) }
     {
         let mut parts = PartList::new(self.alloc);
         let mut tasks = 0_u64;
         loop {
-            let count = self.run_next(&mut parts)?;
+            let count = self.run_next(&mut parts, usize::MAX, true)?;
             if count == 0 {
                 return Ok(tasks);
             }
@@ -67,76 +97,109 @@ impl<P: Problem> TableHalf<P> {
         }
     }
 
-    /// Runs the key that is next, and with it those behind it to which it only passes its function on; answers how many
-    /// these are, 0 where no key is pending. The list's room is used again.
-    fn run_next(&mut self, parts: &mut PartList<P>) -> Result<usize, Refused>
+    /// Runs up to so many keys, and counts them. A batch that is full is left to others to seal.
+    fn run_some(&mut self, most: usize) -> Result<usize, Refused>
         requires { MayDrain self.old.core }
-        ensures works { IfOk result (λ count. WorksBy ⟦<P as Kept>⟧.analysis self.old self.new count 0) }
+        ensures runs { IfOk result (RunsKeys ⟦<P as Kept>⟧.analysis self.old self.new) }
+        ensures most { IfOk result (λ count. count ≤ most) }
+        ensures quiet { IfOk result (λ count. count < most → self.new.core.pile.pending ≡ []) }
+        ensures stops { StopsBy ⟦<P as Kept>⟧.analysis self.old self.new }
+        ensures rest { KeepsRest self.old self.new }
+        ensures free { IsFree self.new.core.pile }
+        ensures refused { IfErr result (IsWorkStop ⟦<P as Kept>⟧.analysis false self.new) }
+    {
+        let mut parts = PartList::new(self.alloc);
+        let mut tasks = 0;
+        while tasks < most {
+            let count = self.run_next(&mut parts, most - tasks, false)?;
+            if count == 0 {
+                return Ok(tasks);
+            }
+            tasks += count;
+        }
+        Ok(tasks)
+    }
+
+    /// Runs the key that is next, and with it those behind it to which it only passes its function on; answers how many
+    /// these are, up to so many, and 0 where no key is pending. The list's room is used again.
+    fn run_next(
+        &mut self,
+        parts: &mut PartList<P>,
+        most: usize,
+        seals: bool,
+    ) -> Result<usize, Refused>
+        requires may { MayDrain self.old.core }
+        requires some { 0 < most }
+        ensures works { IfOk result (RunsKeys ⟦<P as Kept>⟧.analysis self.old self.new) }
         ensures stops { StopsBy ⟦<P as Kept>⟧.analysis self.old self.new }
         ensures quiet { result ≡ Ok 0 → self.new.core.pile.pending ≡ [] }
         ensures falls { IfOk result (λ count. 0 < count → HasLess P.F.edge self.old.core self.new.core) }
+        ensures most { IfOk result (λ count. count ≤ most) }
         ensures may { MayDrain self.new.core }
-        ensures refused { IfErr result (IsWorkStop ⟦<P as Kept>⟧.analysis self.new) }
+        ensures rest { seals ≡ false → KeepsRest self.old self.new }
+        ensures refused { IfErr result (IsWorkStop ⟦<P as Kept>⟧.analysis seals self.new) }
     {
-        let count = self.walk()?;
+        let count = self.walk(most)?;
         if count > 0 {
             return Ok(count);
         }
         let Some(key) = self.core.next_owed(parts)? else {
             return Ok(0);
         };
-        self.run(key, parts.as_slice())?;
+        self.run(key, parts.as_slice(), seals)?;
         Ok(1)
     }
 
-    /// Walks on from the next key ([`ide_steps::Core::walk_next`]), as far as a batch has room for notes, and answers over
-    /// how many nodes. To the store each key that it leaves is a claim by hand 0, its one part and its end.
+    /// Walks on from the next key ([`ide_steps::Core::walk_next`]), over so many nodes at most, and as far as a batch has room
+    /// for notes, and answers over how many nodes. To the store each key that it leaves is a claim by hand 0, its one part and its end.
     ///
     /// Refusal: `NoMemory`.
-    fn walk(&mut self) -> Result<usize, Refused>
+    fn walk(&mut self, most: usize) -> Result<usize, Refused>
         requires { MayDrain self.old.core }
-        ensures works { IfOk result (λ count. WorksBy ⟦<P as Kept>⟧.analysis self.old self.new count 0) }
+        ensures works { IfOk result (RunsKeys ⟦<P as Kept>⟧.analysis self.old self.new) }
         ensures falls { IfOk result (λ count. 0 < count → HasLess P.F.edge self.old.core self.new.core) }
         ensures nowhere { result ≡ Ok 0 → self.new ≡ self.old }
+        ensures most { IfOk result (λ count. count ≤ most) }
         ensures may { MayDrain self.new.core }
+        ensures rest { KeepsRest self.old self.new }
         ensures refused { IsOkUnless result Refused.NoMemory }
         ensures unchanged { OnErr result (self.new ≡ self.old) }
     {
         calls_are_steps::<P>();
         calls_are_acts::<P>();
         cores_are_whole(&self.core);
-        let most = (MOST_CHANGED - 1).saturating_sub(self.core.changed_count());
-        let count = self.core.walk_next(most)?;
+        let room = (MOST_CHANGED - 1).saturating_sub(self.core.changed_count());
+        let count = self.core.walk_next(most.min(room))?;
         Ok(count)
     }
 
     /// Does the parts that the next key owes, and takes it out of the pending ones, unless one of them
     /// lowered the key itself. To the store this is a claim of hand 0, its parts and its end, with a batch
-    /// wherever one is full: nobody can see the core in between, so that the claim is not made.
+    /// wherever one is full, if it seals: nobody can see the core in between, so that the claim is not made.
     ///
     /// Refusals: why hand 0 does not go on. It gave the claim back then.
-    fn run(&mut self, key: Key, parts: &[(Key, P::F)]) -> Result<(), Refused>
+    fn run(&mut self, key: Key, parts: &[(Key, P::F)], seals: bool) -> Result<(), Refused>
         requires may { MayDrain self.old.core }
         requires owed { IsNextOwed P.F.edge P.targets self.old.core parts.now key }
         ensures works { OnOk result (WorksBy ⟦<P as Kept>⟧.analysis self.old self.new 1 0) }
         ensures stops { StopsBy ⟦<P as Kept>⟧.analysis self.old self.new }
         ensures falls { OnOk result (HasLess P.F.edge self.old.core self.new.core) }
         ensures may { MayDrain self.new.core }
-        ensures refused { IfErr result (IsWorkStop ⟦<P as Kept>⟧.analysis self.new) }
+        ensures rest { seals ≡ false → KeepsRest self.old self.new }
+        ensures refused { IfErr result (IsWorkStop ⟦<P as Kept>⟧.analysis seals self.new) }
     {
         calls_are_acts::<P>();
         cores_are_whole(&self.core);
-        let is_lowered = self.do_parts(key, parts)?;
+        let is_lowered = self.do_parts(key, parts, seals)?;
         if !is_lowered {
-            self.make_room()?;
+            self.make_room(seals)?;
             self.settle(key)?;
         }
         Ok(())
     }
 
-    /// Does the parts, and answers whether one of them lowered the key itself. A batch that is full is
-    /// sealed before each.
-    fn do_parts(&mut self, key: Key, parts: &[(Key, P::F)]) -> Result<bool, Refused>
+    /// Does the parts, and answers whether one of them lowered the key itself. Before each there is made room for a note.
+    fn do_parts(&mut self, key: Key, parts: &[(Key, P::F)], seals: bool) -> Result<bool, Refused>
         requires free { IsFree self.old.core.pile }
         requires pending { is_pending self.old.core.pile key ≡ true }
         requires inside { AreInside self.old.core parts.now }
@@ -145,12 +208,13 @@ impl<P: Problem> TableHalf<P> {
         ensures some { DrainsSome ⟦<P as Kept>⟧.analysis key parts.now self.old self.new }
         ensures kept { StaysOwed key self.old.core self.new.core }
         ensures noting { is_some self.new.core.changes ≡ true }
-        ensures refused { IfErr result (IsWorkStop ⟦<P as Kept>⟧.analysis self.new) }
+        ensures rest { seals ≡ false → KeepsRest self.old self.new }
+        ensures refused { IfErr result (IsWorkStop ⟦<P as Kept>⟧.analysis seals self.new) }
     {
         calls_are_acts::<P>();
         let mut is_lowered = false;
         for part in parts {
-            self.make_room()?;
+            self.make_room(seals)?;
             let change = self.lower(part.0, part.1)?;
             is_lowered = is_lowered_too(is_lowered, change, part.0, key);
         }
@@ -194,16 +258,21 @@ impl<P: Problem> TableHalf<P> {
         Ok(())
     }
 
-    /// Seals what changed, where as many keys are noted as a batch may have.
-    fn make_room(&mut self) -> Result<(), Refused>
+    /// Seals what changed, where as many keys are noted as a batch may have. That is refused with `Limit` where it is left to
+    /// others.
+    fn make_room(&mut self, seals: bool) -> Result<(), Refused>
         ensures held { WorksHeld ⟦<P as Kept>⟧.analysis self.old self.new }
         ensures room { OnOk result (noted_count self.new.core.changes < 65536) }
         ensures core { IsSameCore self.old.core self.new.core }
         ensures noting { is_some self.new.core.changes ≡ true }
-        ensures refused { IfErr result (IsWorkStop ⟦<P as Kept>⟧.analysis self.new) }
+        ensures rest { seals ≡ false → KeepsRest self.old self.new }
+        ensures refused { IfErr result (IsWorkStop ⟦<P as Kept>⟧.analysis seals self.new) }
     {
         if self.core.changed_count() < MOST_CHANGED {
             return Ok(());
+        }
+        if !seals {
+            return Err(Refused::Limit);
         }
         let _ = self.seal_changes()?;
         Ok(())

@@ -20,6 +20,12 @@ fn drain<P: Problem>(table: &mut TableHalf<P>) -> Result<u64, Refused> {
     Ok(tasks)
 }
 
+/// Drains up to so many keys, and answers how many.
+fn drain_some<P: Problem>(table: &mut TableHalf<P>, most: usize) -> Result<usize, Refused> {
+    let count = table.drain_some(most)?;
+    Ok(count)
+}
+
 /// Adds so many statements that do nothing.
 fn add_skips(text: &mut String, count: usize) -> Result<(), AllocError> {
     for _ in 0..count {
@@ -53,6 +59,24 @@ fn expect_three_tasks<P: Problem>(rt: &(impl Abort + AllocGlobal), table: &mut T
 fn drains_what_is_left(rt: HostRuntime) {
     let mut table: TableHalf<Uninit> = TableHalf::new(rt.alloc(), Version::Two);
     expect_three_tasks(&rt, &mut table);
+}
+
+/// Asserts that the three tasks of an empty main are done by drains of up to two, and that a drain of no task does none.
+fn expect_two_and_one<P: Problem>(rt: &(impl Abort + AllocGlobal), table: &mut TableHalf<P>) {
+    given(rt, begin(rt.alloc(), table, EMPTY));
+    assert!(rt; drain_some(table, 0) == Ok(0));
+    assert!(rt; drain_some(table, 2) == Ok(2));
+    assert!(rt; !table.core().is_quiet());
+    assert!(rt; drain_some(table, 2) == Ok(1));
+    assert!(rt; table.core().is_quiet());
+    assert!(rt; seal(table) == Ok(Some(2)));
+}
+
+// Drains of some tasks do those of one drain.
+#[test]
+fn drains_some_at_a_time(rt: HostRuntime) {
+    let mut table: TableHalf<Uninit> = TableHalf::new(rt.alloc(), Version::Two);
+    expect_two_and_one(&rt, &mut table);
 }
 
 /// Asserts that a root behind a drain is record 3, and that there is a drain behind it.
@@ -92,6 +116,7 @@ fn expect_refused_beside<P: Problem>(
 ) {
     assert!(rt; claims(table, hand) == Ok(true));
     expect_refused(rt, table, want);
+    assert!(rt; drain_some(table, 1) == Err(want));
     assert!(rt; table.release(hand) == Ok(()));
 }
 
@@ -127,4 +152,26 @@ fn expect_two_batches<P: Problem>(rt: &(impl Abort + AllocGlobal), table: &mut T
 fn a_full_batch_is_sealed_on_the_way(rt: HostRuntime) {
     let mut table: TableHalf<CopyConst> = TableHalf::new(rt.alloc(), Version::Two);
     expect_two_batches(&rt, &mut table);
+}
+
+/// Asserts that a drain of any number of keys of the wide procedure stops at a full batch, seals none, and goes on behind a
+/// seal.
+fn expect_stop_at_full<P: Problem>(rt: &(impl Abort + AllocGlobal), table: &mut TableHalf<P>) {
+    let mut text = String::new(rt.alloc());
+    assert!(rt; add_square(&mut text, SIDE).is_ok());
+    assert!(rt; load(rt.alloc(), table, text.as_str()) == Ok(0));
+    assert!(rt; root(table, "main") == Ok(1));
+    assert!(rt; drain_some(table, usize::MAX) == Err(Refused::Limit));
+    assert!(rt; table.sealed() == 2 && table.core().changed_count() == 65_536);
+    assert!(rt; seal(table) == Ok(Some(2)));
+    assert!(rt; drain_some(table, usize::MAX).is_ok());
+    assert!(rt; table.core().is_quiet() && table.core().key_count() == 90_903);
+    assert!(rt; seal(table) == Ok(Some(3)));
+}
+
+// A full batch is left to be sealed.
+#[test]
+fn a_full_batch_stops_a_drain_of_some(rt: HostRuntime) {
+    let mut table: TableHalf<CopyConst> = TableHalf::new(rt.alloc(), Version::Two);
+    expect_stop_at_full(&rt, &mut table);
 }

@@ -8,7 +8,7 @@ use Rattle.ide_steps.proofs.Running.{change-is, none-works, still-pending}
 use Rattle.ide_steps.proofs.States.{handed-on}
 use Rattle.ide_wire.specs.declared.key.Key.{Key}
 use Rattle.ide_wire.specs.declared.refused.Refused.TheVariants.{NoMemory}
-use Rattle.ide_store.proofs.Drained.{same_pile, same_problem}
+use Rattle.ide_store.proofs.Drained.{rest_then, same_pile, same_problem}
 use Rattle.ide_store.proofs.Owed.{off_lowered, off_none, off_same, off_sealed, off_unchanged}
 use Rattle.ide_store.specs.Draining.{IsWorkStop, memory_is_wanting}
 use Rattle.ide_store.specs.Table.{Analysis}
@@ -31,6 +31,7 @@ loop-part-init g c = (
   off_none (kept g) c.calls_are_acts.ensures c.args.key c.args.parts.now c.args.self.now,
   record { free = c.requires.free; waits = c.requires.pending; same = record { program = refl; graph = refl; roots = refl } },
   c.requires.noting,
+  λ leaves. record { version = refl; sealed = refl; waiting = refl; failed = refl },
 )
 
 pub returns-in_err-make_room-clause-some : goal.returns-in_err-make_room-clause-some
@@ -64,10 +65,19 @@ returns-in_err-change-clause-some g c = (
 pub returns-in_err-change-clause-refused : goal.returns-in_err-change-clause-refused
 returns-in_err-change-clause-refused g c =
     let p = err_from_is_err_and c.from_residual-in_err-change.result c.from_residual-in_err-change.ensures.1 in
-    handed-on (IsWorkStop _ c.lower.new.self) c.from_residual-in_err-change.result NoMemory p.0 p.1 (p.2 ∙ c.in_err-change.ensures.refused) memory_is_wanting
+    handed-on (IsWorkStop _ _ c.lower.new.self) c.from_residual-in_err-change.result NoMemory p.0 p.1 (p.2 ∙ c.in_err-change.ensures.refused) memory_is_wanting
 
 pub returns-clause-noting : goal.returns-clause-noting
 returns-clause-noting g c = c.loop-part.invariant.2
+
+pub returns-in_err-make_room-clause-rest : goal.returns-in_err-make_room-clause-rest
+returns-in_err-make_room-clause-rest g c = λ leaves.
+    rest_then c.args.self.now c.loop-part.self c.make_room.new.self (c.loop-part.invariant.3 leaves) (c.make_room.ensures.rest leaves)
+
+pub returns-in_err-change-clause-rest : goal.returns-in_err-change-clause-rest
+returns-in_err-change-clause-rest g c = λ leaves.
+    rest_then c.args.self.now c.make_room.new.self c.lower.new.self
+    (rest_then c.args.self.now c.loop-part.self c.make_room.new.self (c.loop-part.invariant.3 leaves) (c.make_room.ensures.rest leaves)) c.lower.ensures.rest
 
 pub loop-part-preserved : goal.loop-part-preserved
 loop-part-preserved g c =
@@ -110,4 +120,5 @@ loop-part-preserved g c =
         };
       },
       c.lower.ensures.remembers.noting ∙ c.make_room.ensures.noting,
+      λ leaves. rest_then start full new (rest_then start old full (before.3 leaves) (c.make_room.ensures.rest leaves)) c.lower.ensures.rest,
     )

@@ -133,4 +133,4 @@ settle-requires-clause-unclaimed g c =
 pub returns-in_err-settle-clause-refused : goal.returns-in_err-settle-clause-refused
 returns-in_err-settle-clause-refused g c =
     let p = err_from_is_err_and c.from_residual-in_err-settle.result c.from_residual-in_err-settle.ensures.1 in
-    handed-on (IsWorkStop _ c.settle.new.self) c.from_residual-in_err-settle.result NoMemory p.0 p.1 (p.2 ∙ c.in_err-settle.ensures.refused) memory_is_wanting
+    handed-on (IsWorkStop _ _ c.settle.new.self) c.from_residual-in_err-settle.result NoMemory p.0 p.1 (p.2 ∙ c.in_err-settle.ensures.refused) memory_is_wanting

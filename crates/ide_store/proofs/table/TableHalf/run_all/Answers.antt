@@ -61,4 +61,4 @@ returns-in_err-count-clause-stops g c =
 pub returns-in_err-count-clause-refused : goal.returns-in_err-count-clause-refused
 returns-in_err-count-clause-refused g c =
     let p = err_from_is_err_and c.from_residual.result c.from_residual.ensures.1 in
-    handed-on (IsWorkStop _ c.run_next.new.self) c.from_residual.result c.in_err-count.field-0.0 p.0 p.1 p.2 c.in_err-count.ensures.refused
+    handed-on (IsWorkStop _ _ c.run_next.new.self) c.from_residual.result c.in_err-count.field-0.0 p.0 p.1 p.2 c.in_err-count.ensures.refused

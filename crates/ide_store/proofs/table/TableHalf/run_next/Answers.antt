@@ -5,7 +5,7 @@ use Rattle.ide_steps.proofs.Free.{quiet-free}
 use Rattle.ide_steps.proofs.States.{handed-on}
 use Rattle.ide_wire.specs.declared.refused.Refused.TheVariants.{NoMemory}
 use Rattle.ide_store.specs.Draining.{IsWorkStop, WorksBy, memory_is_wanting}
-use Rattle.ide_store.proofs.Drained.{works_still, works_then}
+use Rattle.ide_store.proofs.Drained.{works_still}
 use Rattle.ide_store.specs.Table.{Analysis, TableData}
 use Rattle.ide_store.proofs.table.TableHalf.run_next.Given.{Over}
 use Rattle.ide_store.proofs.table.TableHalf.run_next.Goals as goal
@@ -29,7 +29,7 @@ returns-in_err-count-clause-stops g c =
 pub returns-in_err-count-clause-refused : goal.returns-in_err-count-clause-refused
 returns-in_err-count-clause-refused g c =
     let p = err_from_is_err_and c.from_residual.result c.from_residual.ensures.1 in
-    handed-on (IsWorkStop _ c.walk.new.self) c.from_residual.result NoMemory p.0 p.1 (p.2 ∙ c.in_err-count.ensures.refused) memory_is_wanting
+    handed-on (IsWorkStop _ _ c.walk.new.self) c.from_residual.result NoMemory p.0 p.1 (p.2 ∙ c.in_err-count.ensures.refused) memory_is_wanting
 
 -- no key is pending
 pub returns-in_default-clause-quiet : goal.returns-in_default-clause-quiet
@@ -42,7 +42,7 @@ returns-in_default-clause-quiet g c = λ _.
 pub returns-in_err-key-clause-refused : goal.returns-in_err-key-clause-refused
 returns-in_err-key-clause-refused g c =
     let p = err_from_is_err_and c.from_residual-in_err-key.result c.from_residual-in_err-key.ensures.1 in
-    handed-on (IsWorkStop _ c.walk.new.self) c.from_residual-in_err-key.result NoMemory p.0 p.1 (p.2 ∙ c.in_err-key.ensures.refused) memory_is_wanting
+    handed-on (IsWorkStop _ _ c.walk.new.self) c.from_residual-in_err-key.result NoMemory p.0 p.1 (p.2 ∙ c.in_err-key.ensures.refused) memory_is_wanting
 
 pub run-requires-clause-owed : goal.run-requires-clause-owed
 run-requires-clause-owed g c =

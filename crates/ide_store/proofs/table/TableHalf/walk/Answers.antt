@@ -1,4 +1,4 @@
-use Rattle.std.proofs.Common.{◌≡◌, Ok, ap, arith, refl, subst}
+use Rattle.std.proofs.Common.{Ok, ap, arith, refl}
 use Rattle.ide_steps.specs.Core.{CoreData}
 use Rattle.ide_steps.proofs.Walked.{walked-falls}
 use Rattle.ide_store.specs.Table.{Analysis, TableData}
@@ -26,13 +26,14 @@ invariant_of-self-2 g c =
     let before = c.self.invariant in
     let walks = c.in_ok-count.ensures in
     let most = walks.most in
-    let room = c.saturating_sub-most.ensures in
+    let least = c.min.ensures in
+    let room = c.saturating_sub-room.ensures in
     let noted = c.changed_count.ensures in
     let half : CoreData g.row.P-F.Denot → TableData g.row.P-F.Denot = λ core. record c.args.self.now { core = core } in
     record {
       noting = walk-noting (kept g) acts steps top (half c.self.inside.core) (half c.walk_next.new.self) c.in_ok-count.count free (λ none. walks.nowhere (ap Ok none)) walks.walks before.noting;
       few = walk-few (kept g) acts steps top (half c.self.inside.core) (half c.walk_next.new.self) c.in_ok-count.count free (λ none. walks.nowhere (ap Ok none)) walks.walks
-          before.few (omega (arith, most, room, noted));
+          before.few (omega (arith, most, least, room, noted));
       proper = before.proper;
       within = before.within;
       numbered = before.numbered;
