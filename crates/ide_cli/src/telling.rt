@@ -17,7 +17,7 @@ pub(crate) struct Telling<'a, R: Wait + Clock, P: Kept, D: Disk, J: Accord> {
     pub(crate) terminal: Option<Stderr>,
     /// When the work began: none where the clock could not be read.
     pub(crate) since: Option<Instant>,
-    /// How many whole tasks a hand does before each of those of which it asks.
+    /// How many whole tasks a hand does unasked.
     pub(crate) ahead: usize,
 }
 

@@ -24,8 +24,8 @@ use std::sync::Wait;
 use std::thread::Threads;
 use std::time::{Clock, Instant};
 
-/// How many tasks a hand does in one hold of the store's lock: so many take some 40 microseconds, and the one that writes
-/// waits for a few holds.
+/// How many tasks a hand does in one hold of the store's lock: so many take some ten microseconds, less than a lock that is
+/// handed on, and the one that writes waits for a few holds.
 const AHEAD: usize = 64;
 /// No client orders commands while hands work.
 const NO_CLIENTS: u64 = 0;

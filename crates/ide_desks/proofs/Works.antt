@@ -23,7 +23,7 @@ use Rattle.ide_text.specs.Value.{ProgramValue}
 use Rattle.ide_wire.specs.declared.refused.Refused.{Refused}
 use Rattle.ide_store.proofs.Drained.{unchanged_equal, works_unchanged}
 use Rattle.ide_store.proofs.Runs.{WorksFrom, act_goes, works_go}
-use Rattle.ide_store.specs.Draining.{WorksBy}
+use Rattle.ide_store.specs.Draining.{StopsBy, WorksBy}
 use Rattle.ide_store.specs.Freezing.{IsImageOver}
 use Rattle.ide_store.specs.Hands.{Claims, Ends, Parts, Releases}
 use Rattle.ide_store.specs.Places.{OnTwoDisks, Place}
@@ -88,6 +88,9 @@ module _ {F L : Type 0} (a : Analysis F L) (tag : ℕ) (version : Version) (hand
       → WorksOnRun a tag version old handed → WorksOnRun a tag version new handed
   finished (Ok x) hand ends unchanged = acted (λ place. Ends hand (claim_of a.functions a.targets ends.held)) (λ place. tt) ends.act
   finished (Err refused) hand ends unchanged = stayed unchanged
+
+  pub drained : StopsBy a old new → WorksOnRun a tag version old handed → WorksOnRun a tag version new handed
+  drained (claims, releases, few, by) = worked_by claims releases by
 
   pub released : {T : Type 0} (result : Result T Refused) (hand : ℕ) → OnOk result (GivesClaimBack a hand old new) → OnErr result (IsSameTable old new)
       → WorksOnRun a tag version old handed → WorksOnRun a tag version new handed

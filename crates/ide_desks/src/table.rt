@@ -10,6 +10,7 @@ ghost use Rattle.ide_steps.specs.Claiming.{FindsIdle, FindsQuiet, IfTask};
 ghost use Rattle.ide_steps.specs.Drain.{HasDonePart};
 ghost use Rattle.ide_image.specs.Worklist.{claim_at};
 ghost use Rattle.ide_store.specs.Acting.{BeginsAnew};
+ghost use Rattle.ide_store.specs.Draining.{BarsDrain, RunsKeys, StopsAmid, StopsBy};
 ghost use Rattle.ide_store.specs.Freezing.{IsImageOver};
 ghost use Rattle.ide_store.specs.Runs.{IsImageOfRun};
 ghost use Rattle.ide_store.specs.Table.{IsSameTable, KeepsRest};
@@ -143,6 +144,21 @@ impl<P: Problem, J: Accord> TableDesk<P, J> {
         ensures unchanged { OnErr result (IsSameTable self.old.half self.new.half) }
     {
         self.half.release(hand)
+    }
+
+    /// Runs up to so many keys, where no hand has a claim: see [`TableHalf::drain_some`]. It seals nothing, so that each record
+    /// that is sealed has its mark ([`TableDesk::seal`]).
+    pub fn drain_some(&mut self, most: usize) -> Result<usize, Refused>
+        ensures runs { IfOk result (RunsKeys ⟦<P as Kept>⟧.analysis self.old.half self.new.half) }
+        ensures most { IfOk result (λ count. count ≤ most) }
+        ensures quiet { IfOk result (λ count. count < most → self.new.half.core.pile.pending ≡ []) }
+        ensures stops { StopsBy ⟦<P as Kept>⟧.analysis self.old.half self.new.half }
+        ensures rest { KeepsRest self.old.half self.new.half }
+        ensures seat { self.new.seat ≡ self.old.seat }
+        ensures refused { IfErr result (BarsDrain ⟦<P as Kept>⟧.analysis false self.old.half self.new.half) }
+        ensures unchanged { IfErr result (StopsAmid self.old.half self.new.half) }
+    {
+        self.half.drain_some(most)
     }
 
     /// The image as it stands, copied: see [`TableHalf::freeze`]. It is that of a run: so it answers with best

@@ -3,3 +3,4 @@ pub mod Counted
 pub mod Served
 pub mod Published
 pub mod Clients
+pub mod Holds

@@ -1,4 +1,5 @@
 pub mod Clients
+pub mod Holds
 pub mod Parts
 pub mod Refusing
 pub mod Served

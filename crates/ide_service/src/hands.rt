@@ -18,6 +18,8 @@ use std::sync::Wait;
 /// Where a loop asks its gate whether to go on.
 #[derive(Clone, Copy, PartialEq, Eq, Debug)]
 pub enum Point {
+    /// As many tasks were done as a hand may do unasked, in one hold of the table's lock, and it has no claim.
+    Drained,
     /// A task was claimed.
     Claimed,
     /// As many of its parts were done as the gate's stride says, or the last of them.
@@ -43,14 +45,15 @@ pub trait Gate {
     fn stride(&self) -> usize
         ensures { 0 < result };
 
-    /// How many whole tasks a hand may do before each of those of which it asks.
+    /// How many whole tasks a hand may do unasked, in one hold of the table's lock: behind so many that it drained it asks
+    /// at [`Point::Drained`]; where it has to claim, it asks of each task behind so many.
     fn ahead(&self) -> usize;
 }
 
 /// A gate that lets everybody go on.
 #[derive(Clone, Copy, Debug)]
 pub struct Open {
-    /// How many whole tasks a hand may do before each of those of which it asks.
+    /// How many whole tasks a hand may do unasked ([`Gate::ahead`]).
     pub ahead: usize,
 }
 
@@ -270,7 +273,7 @@ fn give_work<R: Wait, P: Problem, H: Hands<P>>(
 }
 
 /// Whether a batch is full: it is to be sealed first.
-fn is_full(refused: Refused) -> bool
+pub(crate) fn is_full(refused: Refused) -> bool
     ensures { IsTrue result ↔ (refused ≡ Refused.Limit) }
 {
     matches!(refused, Refused::Limit)

@@ -7,6 +7,7 @@ mod answers;
 mod apart;
 mod committing;
 mod desk;
+mod draining;
 mod half;
 mod hands;
 mod patience;

@@ -5,7 +5,8 @@ ghost use Rattle.std.specs.Arc.{arc_value};
 ghost use Rattle.ide_desks.specs.Opened.{IsRejoined, IsToldOf};
 ghost use Rattle.ide_desks.specs.Orders.{SpellsRoot};
 ghost use Rattle.ide_service.specs.Clients.{IsOrdered, IsTextRefusal, SpellsText};
-ghost use Rattle.ide_service.specs.Refusing.{HalfRefuses, IsLoopRefusal, IsRefusedIn, IsRefusedOver, to_seal};
+ghost use Rattle.ide_service.specs.Holds.{IsWorkRefusal};
+ghost use Rattle.ide_service.specs.Refusing.{HalfRefuses, IsRefusedIn, IsRefusedOver, to_seal};
 ghost use Rattle.ide_service.specs.declared.hands.Point.{Point};
 ghost use Rattle.ide_steps.specs.CloseRefusal.{IsFreezeRefusal};
 ghost use Rattle.ide_steps.specs.Frozen.{graph_in, program_in};
@@ -23,7 +24,7 @@ use ide_desks::{Accord, Opened, SealedRecord, TableDesk, WriterDesk};
 use ide_disk::Disk;
 use ide_problem::Problem;
 use ide_slot_store::SlotEngine;
-use ide_steps::Closed;
+use ide_steps::{Closed, HANDS};
 use ide_store::{Kept, Ticket};
 use ide_text::parse;
 use ide_wire::Refused;
@@ -79,9 +80,10 @@ impl<P: Problem, D: Disk, J: Accord> Service<P, D, J> {
         }
     }
 
-    /// Lets the hand claim and end tasks until no key is pending, or until the gate stops it. Where every
-    /// pending key is claimed it waits; where a batch is full it is sealed. The hand has no claim at the
-    /// end.
+    /// Lets the hand work until no key is pending, or until the gate stops it. Where the gate lets it do tasks unasked and no
+    /// hand has a claim, it drains: in each hold of the table's lock it does so many, with no claim, as
+    /// [`ide_store::TableHalf::drain_some`] does. Else it claims and ends tasks; where every pending key is claimed it waits.
+    /// Where a batch is full it is sealed. The hand has no claim at the end.
     ///
     /// Refusals, in this order: `Failed`; `Limit`, where the hand's number is over 63, or as of a seal;
     /// `NoProgram`; `Busy`, where the hand had a claim; `NoMemory`.
@@ -92,8 +94,15 @@ impl<P: Problem, D: Disk, J: Accord> Service<P, D, J> {
         gate: &G,
     ) -> Result<Ended, Refused>
         ensures stopped { result ≡ Ok Ended.Stopped → (point : Point) × G.may_stop gate.now point }
-        ensures refused { IfErr result (IsLoopRefusal (HalfRefuses ⟦<P as Kept>⟧.analysis) hand) }
+        ensures refused { IfErr result (IsWorkRefusal ⟦<P as Kept>⟧.analysis hand) }
     {
+        if hand < HANDS && gate.ahead() > 0 {
+            match self.drain_in_holds(rt, gate) {
+                Ok(Some(ended)) => return Ok(ended),
+                Ok(None) => {}
+                Err(refused) => return Err(refused),
+            }
+        }
         let mut hands = SharingHand::new(rt, self, gate.ahead());
         hand_loop(rt, self.alloc, &mut hands, hand, gate)
     }

@@ -8,14 +8,21 @@ use std::thread;
 pub(crate) struct Counting {
     at: Point,
     left: AtomicU64,
+    ahead: usize,
 }
 
 impl Counting {
     /// A gate that lets so many such points pass.
     pub(crate) fn new(at: Point, points: u64) -> Counting {
+        Counting::with_ahead(at, points, 0)
+    }
+
+    /// The same, which lets a hand do so many whole tasks unasked.
+    pub(crate) fn with_ahead(at: Point, points: u64, ahead: usize) -> Counting {
         Counting {
             at,
             left: AtomicU64::new(points),
+            ahead,
         }
     }
 }
@@ -37,7 +44,7 @@ impl Gate for Counting {
     }
 
     fn ahead(&self) -> usize {
-        0
+        self.ahead
     }
 }
 
@@ -103,7 +110,7 @@ impl Gate for Holding {
         match point {
             Point::Claimed => hold_first(&self.claimed, &self.parted, &self.seen),
             Point::Parted => self.parted.store(true, Ordering::SeqCst),
-            Point::BeforeSync | Point::Stored => {}
+            Point::Drained | Point::BeforeSync | Point::Stored => {}
         }
         true
     }
@@ -154,7 +161,7 @@ impl Gate for Crossing {
             Point::Claimed => hold_first(&self.claimed, &self.syncing, &self.hand_saw),
             Point::BeforeSync => hold_first(&self.syncing, &self.parted, &self.writer_saw),
             Point::Parted => self.parted.store(true, Ordering::SeqCst),
-            Point::Stored => {}
+            Point::Drained | Point::Stored => {}
         }
         true
     }

@@ -6,7 +6,7 @@ use super::gates::Counting;
 use super::services::{Served, given};
 use ide_desks::Accord;
 use ide_instances::CopyConst;
-use ide_memory_stores::{OpenedStore, Store, begun, opened};
+use ide_memory_stores::{OpenedStore, Store, begun, opened, with_board};
 use ide_service::{Ended, Gate, Hands, Open, Point, Service, Span, hand_loop};
 use ide_slot_store::SlotEngine;
 use ide_steps::Claimed;
@@ -85,11 +85,64 @@ fn a_gate_stops_a_loop_between_two_parts(rt: HostRuntime) {
     expect_stopped(&rt, Point::Parted, 1, 3);
 }
 
-// There is no hand of that number.
+/// Asserts that a hand that may do so many tasks unasked is stopped once it has drained so many times as many, and has no
+/// claim.
+fn expect_stopped_between_holds<R: Abort + Wait + Clock + AllocGlobal>(
+    rt: &R,
+    holds: u64,
+    ahead: usize,
+    keys: usize,
+) {
+    let gate = Counting::with_ahead(Point::Drained, holds.saturating_sub(1), ahead);
+    let (ended, engine) = work_on_calls(rt, Working::Alone(5), &gate);
+    assert!(rt; ended == Ok(Ended::Stopped));
+    assert!(rt; engine.table.core().claim_of(5).is_none() && !engine.table.core().is_quiet());
+    assert!(rt; engine.table.core().key_count() == keys);
+}
+
+// A hand that drains is asked behind each hold of the lock.
+#[test]
+fn a_gate_stops_a_hand_between_two_holds(rt: HostRuntime) {
+    expect_stopped_between_holds(&rt, 1, 1, 7);
+    expect_stopped_between_holds(&rt, 2, 1, 8);
+    expect_stopped_between_holds(&rt, 1, 2, 8);
+}
+
+// There is no hand of that number, also where it might drain.
 #[test]
 fn a_hand_number_has_a_limit(rt: HostRuntime) {
-    let (ended, _engine) = work_on_calls(&rt, Working::Alone(64), &Open { ahead: 0 });
-    assert!(rt; ended == Err(Refused::Limit));
+    for ahead in 0..2 {
+        let (ended, _engine) = work_on_calls(&rt, Working::Alone(64), &Open { ahead });
+        assert!(rt; ended == Err(Refused::Limit));
+    }
+}
+
+/// Claims a key for a hand of the store.
+fn claim(store: &mut Store, hand: usize) -> Result<bool, Refused> {
+    match store.table.claim(hand)? {
+        Claimed::Task(_) => Ok(true),
+        _ => Ok(false),
+    }
+}
+
+// Where another hand has a claim, a hand does not drain: it claims, and its gate is asked of the task behind those ahead.
+#[test]
+fn a_hand_claims_beside_a_claim(rt: HostRuntime) {
+    let mut store = given(&rt, begun(rt.alloc(), TWO_CALLS));
+    assert!(rt; store.table.drain_some(1) == Ok(1));
+    assert!(rt; claim(&mut store, 3) == Ok(true));
+    let opened = given(&rt, with_board(rt.alloc(), store));
+    let gate = Counting::with_ahead(Point::Claimed, 0, 1);
+    let (ended, engine) = work::<Brand, HostRuntime, Counting>(
+        &rt,
+        opened,
+        Working::Alone(5),
+        &gate,
+    );
+    assert!(rt; ended == Ok(Ended::Stopped));
+    assert!(rt;
+        engine.table.core().claim_of(3).is_some() && engine.table.core().claim_of(5).is_none()
+    );
 }
 
 /// Asserts that three hands that work as one are stopped at such a point, where the gate lets so many of them pass, with
