@@ -1,8 +1,9 @@
 //! A hand that drains: in one hold of the table's lock it does as many keys as its gate lets it do unasked. Nobody can see
 //! the table meanwhile, so that no key is claimed.
-ghost use Rattle.std.specs.Prelude.{◌≡◌, ◌↔◌, [], Ok, Some, IfErr, IfOk, IsTrue};
+ghost use Rattle.std.specs.Prelude.{◌≡◌, ◌↔◌, [], Ok, Some, IfErr, IfOk, IsTrue, OnOk};
 ghost use Rattle.ide_image.specs.Worklist.{IsFree};
-ghost use Rattle.ide_service.specs.Holds.{FindsClaim, IsHoldRefusal};
+ghost use Rattle.ide_store.specs.Acting.{BeginsAnew};
+ghost use Rattle.ide_service.specs.Holds.{FindsClaim, IfDrained, IsHoldRefusal};
 ghost use Rattle.ide_service.specs.declared.draining.Hold.{Hold};
 ghost use Rattle.ide_service.specs.declared.hands.Point.{Point};
 
@@ -63,6 +64,7 @@ fn drain_held<P: Problem, J: Accord>(
     most: usize,
 ) -> Result<Hold, Refused>
     ensures quiet { result ≡ Ok Hold.Quiet → table.new.half.core.pile.pending ≡ [] }
+    ensures drained { IfDrained ⟦<P as Kept>⟧.analysis most result table.old.half table.new.half }
     ensures claimed { result ≡ Ok Hold.Claimed → ¬ (IsFree table.old.half.core.pile) }
     ensures unchanged { result ≡ Ok Hold.Claimed → table.new.half ≡ table.old.half }
     ensures refused { IfErr result (IsHoldRefusal ⟦<P as Kept>⟧.analysis) }
@@ -84,7 +86,8 @@ fn drain_held<P: Problem, J: Accord>(
 
 /// Seals a batch that is full.
 fn seal_full<P: Problem, J: Accord>(table: &mut TableDesk<P, J>) -> Result<Hold, Refused>
-    ensures sealed { IfOk result (λ hold. hold ≡ Hold.Drained) }
+    ensures says { IfOk result (λ hold. hold ≡ Hold.Drained) }
+    ensures seals { OnOk result (BeginsAnew table.old.half.core table.new.half.core) }
     ensures refused { IfErr result (IsHoldRefusal ⟦<P as Kept>⟧.analysis) }
 {
     match table.seal() {

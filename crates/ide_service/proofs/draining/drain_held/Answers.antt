@@ -1,3 +1,5 @@
+use Rattle.std.proofs.Common.{arith, inl, subst}
+use Rattle.ide_store.specs.Draining.{RunsKeys}
 use Rattle.ide_store.specs.Table.{Analysis}
 use Rattle.ide_service.proofs.Holds.{hold_claimed, hold_refused}
 use Rattle.ide_service.proofs.draining.drain_held.Given.{Over}
@@ -13,6 +15,12 @@ kept g = record {
   proper = g.P.F.Wire.proper;
   form = g.P.F.Wire.form;
 }
+
+pub returns-in-Ok-2-clause-drained : goal.returns-in-Ok-2-clause-drained
+returns-in-Ok-2-clause-drained g c = λ is.
+    let most = c.in-Ok.ensures.most in
+    let least = c.if-count-most.false in
+    inl (subst (λ count. RunsKeys (kept g) c.args.table.now.half c.drain_some.new.self.half count) (omega (arith, most, least)) c.in-Ok.ensures.runs)
 
 pub returns-then-finds_claim-clause-claimed : goal.returns-then-finds_claim-clause-claimed
 returns-then-finds_claim-clause-claimed g c = λ is.
