@@ -6,6 +6,7 @@ pub mod Firsts
 pub mod Held
 pub mod Keys
 pub mod Left
+pub mod Listed
 pub mod Marked
 pub mod Picked
 pub mod Places

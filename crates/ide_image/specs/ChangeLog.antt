@@ -5,6 +5,7 @@ use Rattle.std.specs.Option.{is_some}
 use Rattle.ide_wire.specs.declared.key.Key.{Key}
 use Rattle.ide_image.specs.Queue.{SetsMark}
 use Rattle.ide_image.specs.declared.entry.Entry.{Entry}
+use Rattle.ide_image.specs.declared.noted_marks.NotedMarks.{NotedMarks}
 
 -- what is noted, if changes are, with the slot of each note; the number of the list that a slot was last noted in, that of the
 -- list as it is, and for how many notes more there is room
@@ -24,6 +25,10 @@ note_room (Some list) slots = min (vec_capacity list - vec_len list) (vec_capaci
 abbrev pub list_of : {X : Type 0} → Option (Vec X) → Option (List X)
 list_of None = None
 list_of (Some list) = Some list.items
+
+-- whether the slot's key is noted, by the marks alone
+abbrev pub is_noted_in : NotedMarks → ℕ → Bool
+is_noted_in marks n = nat_eq (slice_index marks.stamps.now n) marks.epoch
 
 module _ {F : Type 0} where
   -- whether the slot's key is noted

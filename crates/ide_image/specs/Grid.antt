@@ -1,5 +1,5 @@
--- Slots in the cells of a grid, each row of which is a page, and the order in which they are read.
-use Rattle.std.specs.Prelude.{◌≡◌, ◌≢◌, ◌⊎◌, ℕ, ◌+◌, ◌*◌, ◌/◌, ◌%◌, ◌<◌, ◌≤◌, Bool, List, Some, length, slice_index}
+-- Pages in the rows of a grid, and the order in which the noted slots on them are read.
+use Rattle.std.specs.Prelude.{◌≡◌, ◌≢◌, ℕ, ◌+◌, ◌*◌, ◌/◌, ◌%◌, ◌<◌, ◌≤◌, Bool, true, List, Some, length, slice_get, slice_index}
 use Rattle.std.specs.Global.{Vec}
 use Rattle.std.specs.List.{All, Contains}
 use Rattle.ide_wire.specs.Key.{node_of}
@@ -9,59 +9,33 @@ use Rattle.ide_image.specs.Indexed.{Indexed}
 use Rattle.ide_image.specs.Queue.{SlotMarks}
 use Rattle.ide_image.specs.Ranks.{HasRank, item_in, key_rank}
 
--- the page of each row; the cells, 64 for each row, each with 0 or one more than a slot; and how many slots were put
-pub record Grid : Type 0 where
-  pub pages : List ℕ
-  pub cells : List ℕ
-  pub count : ℕ
-
--- the cell has the slot
-abbrev pub HasSlotAt : Grid → (cell slot : ℕ) → Type 0
-HasSlotAt grid cell slot = slice_index grid.cells cell ≡ slot + 1
-
--- a cell has it
-abbrev pub HasSlot : Grid → ℕ → Type 0
-HasSlot grid slot = (cell : ℕ) × HasSlotAt grid cell slot
-
--- no cell has another slot than before
-abbrev pub AddsNoSlot : (old new : Grid) → Type 0
-AddsNoSlot old new = (cell slot : ℕ) → HasSlotAt new cell slot → HasSlotAt old cell slot
-
--- there is no other slot than before and this one
-abbrev pub PutsSlot : ℕ → (old new : Grid) → Type 0
-PutsSlot slot old new = (s : ℕ) → HasSlot new s → HasSlot old s ⊎ (s ≡ slot)
-
--- a mark is 0, or one more than a number: no index has that of another number than before, and this index that of the number
-abbrev pub Marks : (index number : ℕ) → (old new : List ℕ) → Type 0
-Marks index number old new =
-    (n m : ℕ) → slice_index new n ≡ m + 1 → (slice_index old n ≡ m + 1) ⊎ ((n ≡ index) × (m ≡ number))
-
 -- the row is that of the page
 pub record IsRowOf (page : ℕ) (pages : List ℕ) (row : ℕ) : Type 0 where
   pub there : row < length pages
   pub is : slice_index pages row ≡ page
 
--- the slot's page is that of the cell's row, and its cell there is at the same offset
-pub record IsPlaced (pages : List ℕ) (cell slot : ℕ) : Type 0 where
-  pub there : cell / 64 < length pages
-  pub is : slot ≡ 64 * slice_index pages (cell / 64) + cell % 64
+-- the page has a row
+abbrev pub HasPage : (pages : List ℕ) → ℕ → Type 0
+HasPage pages page = (row : ℕ) × IsRowOf page pages row
 
--- so is each slot on the grid
-abbrev pub ArePlaced : Grid → Type 0
-ArePlaced grid = (cell slot : ℕ) → HasSlotAt grid cell slot → IsPlaced grid.pages cell slot
+-- each page that had a row has one
+abbrev pub KeepsPages : (old new : List ℕ) → Type 0
+KeepsPages old new = (page : ℕ) → HasPage old page → HasPage new page
 
--- the rows that are told are those of the pages, each row has its cells, and slots are in the cells of their pages' rows
-pub record IsGrid (rows : List ℕ) (grid : Grid) : Type 0 where
-  pub told : (page row : ℕ) → slice_index rows page ≡ row + 1 → IsRowOf page grid.pages row
-  pub long : 64 * length grid.pages ≤ length grid.cells
-  pub placed : ArePlaced grid
-  pub few : length grid.pages ≤ grid.count
+-- so has the page of each of the first slots
+abbrev pub HavePages : (slots : List ℕ) → (count : ℕ) → (pages : List ℕ) → Type 0
+HavePages slots count pages = (i : ℕ) → i < count → HasPage pages (slice_index slots i / 64)
+
+-- the slots of the page have 32 bits
+abbrev pub IsPage : ℕ → Type 0
+IsPage page = page < 67108864
+
+-- each page has a row that is told to have one
+pub record IsGrid (has_row : List Bool) (pages : List ℕ) : Type 0 where
+  pub told : (page : ℕ) → slice_get has_row page ≡ Some true → HasPage pages page
+  pub few : All IsPage pages
 
 -- ---- the order of rows, each told by a number that has the rank of its first key and its index
-
--- the cell at an offset of the row
-abbrev pub cell_at : (number offset : ℕ) → ℕ
-cell_at number offset = 64 * (number % 65536) + offset
 
 -- the rank of the key at the offset
 abbrev pub rank_at : (number offset : ℕ) → ℕ
@@ -79,9 +53,10 @@ bound_at block offset = (block + offset) * 16777216
 abbrev pub RanksAscend : List ℕ → Type 0
 RanksAscend numbers = (i j : ℕ) → i < j → j < length numbers → slice_index numbers i / 65536 < slice_index numbers j / 65536
 
--- and blocks are 64 nodes apart
-pub record AreRows (numbers : List ℕ) : Type 0 where
+-- and the rows are those of pages, with blocks 64 nodes apart
+pub record AreRows (pages numbers : List ℕ) : Type 0 where
   pub ascend : RanksAscend numbers
+  pub there : All (λ number. number % 65536 < length pages) numbers
   pub apart : (i : ℕ) → i < length numbers → block_of (slice_index numbers i) % 64 ≡ 0
 
 -- the number at the index is the first one, or of another block than that before
@@ -94,37 +69,60 @@ abbrev pub AreOfBlock : List ℕ → (from to : ℕ) → Type 0
 AreOfBlock numbers from to =
     (i : ℕ) → from ≤ i → i < to → block_of (slice_index numbers i) ≡ block_of (slice_index numbers from)
 
--- rows of one block
-pub record IsBlock (numbers : List ℕ) : Type 0 where
+-- ---- noted slots, as they are read of rows
+
+-- the slot is the first one of its page
+abbrev pub IsStart : ℕ → Type 0
+IsStart slot = slot % 64 ≡ 0
+
+-- the first slot of the page of the number's row
+abbrev pub start_at : (pages : List ℕ) → (number : ℕ) → ℕ
+start_at pages number = 64 * slice_index pages (number % 65536)
+
+-- these are the first slots of the pages of so many rows
+pub record AreStarts (pages numbers : List ℕ) (count : ℕ) (starts : List ℕ) : Type 0 where
+  pub long : length starts ≡ count
+  pub each : (i : ℕ) → i < count → slice_index starts i ≡ start_at pages (slice_index numbers i)
+
+-- rows of one block, whose pages begin with these slots
+pub record IsBlock (pages numbers starts : List ℕ) : Type 0 where
+  pub long : length starts ≡ length numbers
+  pub on : All (λ start. HasPage pages (start / 64)) starts
   pub ascend : RanksAscend numbers
   pub same : AreOfBlock numbers 0 (length numbers)
 
--- each slot on the rows has the rank that its row and its offset tell
-abbrev pub AreRanksOn : Grid → (numbers : List ℕ) → (rank : ℕ → ℕ) → Type 0
-AreRanksOn grid numbers rank =
-    (i offset slot : ℕ) → i < length numbers → offset < 64 → HasSlotAt grid (cell_at (slice_index numbers i) offset) slot
-    → rank slot ≡ rank_at (slice_index numbers i) offset
-
--- the slots are on the grid, and their ranks ascend
-pub record AreRead (grid : Grid) (rank : ℕ → ℕ) (slots : List ℕ) : Type 0 where
-  pub each : All (HasSlot grid) slots
+-- the slots are such ones, and their ranks ascend
+pub record AreRead (P : ℕ → Type 0) (rank : ℕ → ℕ) (slots : List ℕ) : Type 0 where
+  pub each : All P slots
   pub ascend : (i j : ℕ) → i < j → j < length slots → rank (slice_index slots i) < rank (slice_index slots j)
 
--- so they are for any ranks that the rows tell
-abbrev pub AreReadOn : Grid → (numbers : List ℕ) → Vec ℕ → Type 0
-AreReadOn grid numbers slots = (rank : ℕ → ℕ) → AreRanksOn grid numbers rank → AreRead grid rank slots.items
-
 -- and the ranks are below a bound
-pub record AreReadTo (grid : Grid) (rank : ℕ → ℕ) (bound : ℕ) (slots : List ℕ) : Type 0 where
-  pub read : AreRead grid rank slots
+pub record AreReadTo (P : ℕ → Type 0) (rank : ℕ → ℕ) (bound : ℕ) (slots : List ℕ) : Type 0 where
+  pub read : AreRead P rank slots
   pub below : All (λ slot. rank slot < bound) slots
 
--- the slots are read up to a block's offset, if those of before were read up to another one
-abbrev pub ReadsOffsets : Grid → (block : List ℕ) → (from to : ℕ) → (old new : Vec ℕ) → Type 0
-ReadsOffsets grid block from to old new =
-    (rank : ℕ → ℕ) → AreRanksOn grid block rank
-    → AreReadTo grid rank (bound_at (block_of (slice_index block 0)) from) old.items
-    → AreReadTo grid rank (bound_at (block_of (slice_index block 0)) to) new.items
+module _ (noted : ℕ → Bool) where
+  -- the slot is noted, and its page has a row
+  pub record IsOn (pages : List ℕ) (slot : ℕ) : Type 0 where
+    pub marked : noted slot ≡ true
+    pub page : HasPage pages (slot / 64)
+
+  -- each noted slot on rows that begin with slots has the rank that its row and its offset tell
+  abbrev pub AreRanksOn : (start : ℕ → ℕ) → (numbers : List ℕ) → (rank : ℕ → ℕ) → Type 0
+  AreRanksOn start numbers rank =
+      (i offset : ℕ) → i < length numbers → offset < 64 → noted (start i + offset) ≡ true → rank (start i + offset) ≡ rank_at (slice_index numbers i) offset
+
+  -- the slots are noted ones on the pages, and ascend by any ranks that the rows tell
+  abbrev pub AreReadOn : (pages numbers : List ℕ) → Vec ℕ → Type 0
+  AreReadOn pages numbers slots =
+      (rank : ℕ → ℕ) → AreRanksOn (λ i. start_at pages (slice_index numbers i)) numbers rank → AreRead (IsOn pages) rank slots.items
+
+  -- the noted slots of a block's rows are read up to an offset, if those of before were read up to another one
+  abbrev pub ReadsOffsets : (starts : List ℕ) → (from to : ℕ) → (old new : Vec ℕ) → Type 0
+  ReadsOffsets starts from to old new =
+      (pages numbers : List ℕ) (rank : ℕ → ℕ) → IsBlock pages numbers starts → AreRanksOn (λ i. slice_index starts i) numbers rank
+      → AreReadTo (IsOn pages) rank (bound_at (block_of (slice_index numbers 0)) from) old.items
+      → AreReadTo (IsOn pages) rank (bound_at (block_of (slice_index numbers 0)) to) new.items
 
 module _ {F : Type 0} (indexed : Indexed F) where
   -- the page has a first key, which has a rank, at a node that is a multiple of 64
@@ -136,6 +134,7 @@ module _ {F : Type 0} (indexed : Indexed F) where
 
   -- the number has the rank of the first key of its row's page
   pub record IsRowNumber (pages : List ℕ) (number : ℕ) : Type 0 where
+    pub there : number % 65536 < length pages
     pub row : IsRow (slice_index pages (number % 65536))
     pub rank : number / 65536 ≡ key_rank row.first
 
@@ -145,17 +144,11 @@ module _ {F : Type 0} (indexed : Indexed F) where
     pub rows : (row : ℕ) → row < count → IsRow (slice_index pages row)
 
   -- so it is of all pages of the grid
-  abbrev pub AreNumbersOfRows : Grid → Vec ℕ → Type 0
-  AreNumbersOfRows grid numbers = AreNumbersTo grid.pages (length grid.pages) numbers.items
+  abbrev pub AreNumbersOfRows : (pages : List ℕ) → Vec ℕ → Type 0
+  AreNumbersOfRows pages numbers = AreNumbersTo pages (length pages) numbers.items
 
-  module _ (marks : SlotMarks) where
-    -- the slot tells the item, and this is one of the items
-    pub record TellsOneOf (items : List (Key × F × Bool)) (slot : ℕ) : Type 0 where
-      pub item : Key × F × Bool
-      pub is : item_in indexed marks slot ≡ Some item
-      pub among : Contains items item
-
-    -- each slot on the grid tells one of the items, and as many were put
-    pub record AreOnGrid (items : List (Key × F × Bool)) (grid : Grid) : Type 0 where
-      pub each : (s : ℕ) → HasSlot grid s → TellsOneOf items s
-      pub count : grid.count ≡ length items
+  -- the slot tells the item, and this is one of the items
+  pub record TellsOneOf (marks : SlotMarks) (items : List (Key × F × Bool)) (slot : ℕ) : Type 0 where
+    pub item : Key × F × Bool
+    pub is : item_in indexed marks slot ≡ Some item
+    pub among : Contains items item

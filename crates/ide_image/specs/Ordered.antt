@@ -1,5 +1,5 @@
 -- What is left of notes, and the slots that tell it.
-use Rattle.std.specs.Prelude.{◌≡◌, ℕ, Bool, List, Option, Some, None, slice_get}
+use Rattle.std.specs.Prelude.{◌≡◌, ℕ, ◌<◌, Bool, true, List, Option, Some, None, length, slice_get}
 use Rattle.std.specs.Global.{Vec}
 use Rattle.std.specs.List.Sorted.{IsSortedByKey}
 use Rattle.std.specs.declared.cmp.PartialEq.{Ghosts as PartialEq}
@@ -9,7 +9,7 @@ use Rattle.ide_lattice.specs.declared.lattice.Lattice.{Ghosts as Lattice}
 use Rattle.ide_wire.specs.declared.wire.Wire.{Ghosts as Wire}
 use Rattle.ide_wire.specs.KeyOrder.{key_cmp}
 use Rattle.ide_wire.specs.declared.key.Key.{Key}
-use Rattle.ide_image.specs.Grid.{AreOnGrid, Grid}
+use Rattle.ide_image.specs.Grid.{HavePages}
 use Rattle.ide_image.specs.Ranks.{AreKeyed, AreNumbers, HaveTheItems, IsKeyed, IsLeftAt, SaysIfLeftAt, item_beside, item_of, item_told, items_in, left_by_slots, note_slot}
 use Rattle.ide_image.specs.declared.noted_slots.NotedSlots.{NotedSlots}
 
@@ -30,6 +30,10 @@ module _ {F L : Type 0} {E : EdgeFn F L} {W : Wire F} {Q : PartialEq F} {D : Def
   -- the items of the slots ascend by their keys
   abbrev pub AscendByKey : NotedSlots F L E W Q D A P → Vec ℕ → Type 0
   AscendByKey left slots = IsSortedByKey (λ (item : Key × F × Bool). item.0) key_cmp (items_in left.indexed.now left.queue.now slots.items)
+
+  -- the page of each note's slot has a row
+  abbrev pub HasPagesOf : NotedSlots F L E W Q D A P → List ℕ → Type 0
+  HasPagesOf left pages = HavePages left.slots.now (length left.notes.now) pages
 
   -- the slot has an item of the key with which it is listed
   abbrev pub IsKeyedIn : NotedSlots F L E W Q D A P → Key × ℕ → Type 0
@@ -61,9 +65,9 @@ module _ {F L : Type 0} {E : EdgeFn F L} {W : Wire F} {Q : PartialEq F} {D : Def
     abbrev pub AreKeyedLeft : Vec (Key × ℕ) → Type 0
     AreKeyedLeft keyed = AreKeyed left.indexed.now left.queue.now items_left keyed.items
 
-    -- the grid has the slots of what is left
-    abbrev pub HasLeft : Grid → Type 0
-    HasLeft grid = AreOnGrid left.indexed.now left.queue.now items_left grid
+    -- something is left of each note
+    abbrev pub AreAllLeft : Type 0
+    AreAllLeft = (index : ℕ) → index < length left.notes.now → SaysIfLeft index true
 
     -- the numbers tell what is left
     abbrev pub AreNumbersOf : Vec ℕ → Type 0

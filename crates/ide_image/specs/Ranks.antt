@@ -1,6 +1,6 @@
 -- Numbers by which what is left of notes is put in the order of keys: each has the place of a key among keys, and the index of a note.
-use Rattle.std.specs.Prelude.{◌≡◌, ℕ, suc, ◌+◌, ◌*◌, ◌/◌, ◌%◌, ◌<◌, Bool, List, Option, Some, None, IsSome, map, slice_get}
-use Rattle.std.specs.List.{All, filter_map}
+use Rattle.std.specs.Prelude.{◌≡◌, ℕ, suc, ◌+◌, ◌*◌, ◌/◌, ◌%◌, ◌<◌, Bool, true, List, Option, Some, None, IsSome, map, nat_eq, slice_get}
+use Rattle.std.specs.List.{All, filter_map, list_any}
 use Rattle.std.specs.List.Sorted.{IsPermutation}
 use Rattle.std.specs.Option.{option_map}
 use Rattle.ide_wire.specs.declared.key.Key.{Key}
@@ -33,6 +33,10 @@ pub record IsNumberOf (key : Key) (index number : ℕ) : Type 0 where
 -- the slot of the note whose index the number has
 abbrev pub note_slot : (slots : List ℕ) → (number : ℕ) → Option ℕ
 note_slot slots number = slice_get slots (number % 65536)
+
+-- each marked slot is one of these
+abbrev pub AreAmong : (marked : ℕ → Bool) → (slots : List ℕ) → Type 0
+AreAmong marked slots = (slot : ℕ) → marked slot ≡ true → list_any (nat_eq slot) slots ≡ true
 
 module _ {F : Type 0} where
   -- the key and the function of the slot, and whether it is pending

@@ -1,11 +1,12 @@
 //! Notes of what changed, with a mark at each slot whose key is noted.
 ghost use Rattle.std.specs.Prelude.{◌≡◌, ℕ, ◌+◌, ◌<◌, ◌≤◌, ◌^◌, ◌&&◌, [], None, Some, false, not, length, slice_index, OnOk, IsOk, option_map};
 ghost use Rattle.std.specs.Option.{is_some, option_copied};
-ghost use Rattle.ide_image.specs.ChangeLog.{AreStamps, KeepsSlotsAt, MarksNoted, MayNote, list_of, noted_at};
+ghost use Rattle.ide_image.specs.ChangeLog.{AreStamps, KeepsSlotsAt, MarksNoted, MayNote, is_noted_in, list_of, noted_at};
 ghost use Rattle.ide_image.specs.Notes.{noted, with_note};
 ghost use Rattle.ide_image.specs.Queue.{SameMarks};
 
 use crate::entry::Entry;
+use crate::noted_marks::NotedMarks;
 use ide_wire::Key;
 use std::alloc::{AllocError, Global};
 use std::marker::Model;
@@ -73,6 +74,16 @@ impl<F: Copy + Drop> ChangeLog<F> {
         ensures { result.now ≡ self.now.slots }
     {
         &self.slots
+    }
+
+    /// The marks of the slots whose keys are noted.
+    pub(crate) fn stamp_marks(&self) -> NotedMarks<'_>
+        ensures { SameMarks (noted_at self.now) (is_noted_in result) }
+    {
+        NotedMarks {
+            stamps: &self.stamps,
+            epoch: self.epoch,
+        }
     }
 
     /// Whether the slot's key is noted.
@@ -168,7 +179,8 @@ impl<F: Copy + Drop> ChangeLog<F> {
 }
 
 /// The slot's stamp.
-fn stamp_in(stamps: &[u8], slot: usize) -> u8
+#[inline(always)]
+pub(crate) fn stamp_in(stamps: &[u8], slot: usize) -> u8
     ensures { result ≡ slice_index stamps.now slot }
 {
     match stamps.get(slot) {

@@ -8,6 +8,7 @@ ghost use Rattle.ide_wire.specs.declared.key.Key.TheVariants.{Jump};
 ghost use Rattle.ide_wire.specs.declared.refused.Refused.TheVariants.{NoMemory};
 ghost use Rattle.ide_wire.specs.Key.{same_key};
 ghost use Rattle.ide_wire.specs.KeyOrder.{key_cmp};
+ghost use Rattle.ide_pages.specs.Pages.{number_on_page, partner_of, read_at};
 ghost use Rattle.ide_image.specs.Tables.{AreJumpsTo, AreKeys, AreSummariesFrom, or_top, partner_at, partners_at};
 ghost use Rattle.ide_image.specs.Indexed.{ForKeyAt, HasCell, HasDistinctKeys, HaveCells, PutsEntry, Widens, entries_in, entry_in, function_of, kept_in, place_of_key, table_of};
 ghost use Rattle.ide_image.specs.Cells.{BeginsWith, HasRoomBehind, tables_of};
@@ -193,9 +194,24 @@ impl<F: EdgeFn> Indexed<F> {
         ensures partners { IfOk result (λ list. AreJumpsTo node fact (table_of self.now.cells) list.items) }
         ensures refused { IsOkUnless result NoMemory }
     {
-        let row = self.places.jumps_to(alloc, node, fact)?;
-        let partners = partners_of(alloc, &self.functions, &row)?;
+        let mut partners = Vec::new(alloc);
+        self.fill_jumps_at(node, fact, &mut partners)?;
         Ok(partners)
+    }
+
+    /// Makes the list the jumps at the node to the fact. What was in it is gone. It takes one look-up.
+    pub(crate) fn fill_jumps_at(
+        &self,
+        node: Node,
+        fact: Fact,
+        partners: &mut Vec<(Fact, F)>,
+    ) -> Result<(), Refused>
+        ensures partners { OnOk result (AreJumpsTo node fact (table_of self.now.cells) partners.new.items) }
+        ensures refused { IsOkUnless result NoMemory }
+    {
+        let pages = self.places.pages_of_jumps(node, fact);
+        fill_partners(&self.places, &self.functions, node, pages, partners)?;
+        Ok(())
     }
 
     /// The summaries at the call node from the fact. It takes one look-up.
@@ -208,9 +224,24 @@ impl<F: EdgeFn> Indexed<F> {
         ensures partners { IfOk result (λ list. AreSummariesFrom call fact (table_of self.now.cells) list.items) }
         ensures refused { IsOkUnless result NoMemory }
     {
-        let row = self.places.summaries_from(alloc, call, fact)?;
-        let partners = partners_of(alloc, &self.functions, &row)?;
+        let mut partners = Vec::new(alloc);
+        self.fill_summaries_at(call, fact, &mut partners)?;
         Ok(partners)
+    }
+
+    /// Makes the list the summaries at the call node from the fact. What was in it is gone. It takes one look-up.
+    pub(crate) fn fill_summaries_at(
+        &self,
+        call: Node,
+        fact: Fact,
+        partners: &mut Vec<(Fact, F)>,
+    ) -> Result<(), Refused>
+        ensures partners { OnOk result (AreSummariesFrom call fact (table_of self.now.cells) partners.new.items) }
+        ensures refused { IsOkUnless result NoMemory }
+    {
+        let pages = self.places.pages_of_summaries(call, fact);
+        fill_partners(&self.places, &self.functions, call, pages, partners)?;
+        Ok(())
     }
 
     /// A map with the same functions in the same cells.
@@ -360,17 +391,38 @@ impl<F: EdgeFn> Indexed<F> {
     }
 }
 
-/// The facts of a row, each with the function of its number.
-fn partners_of<F: EdgeFn>(
-    alloc: Global,
+/// Makes the list the facts of pages that have a number at the node's offset, each with the function of its number.
+/// There is room for all of them from the start, as mostly each has one.
+fn fill_partners<F: EdgeFn>(
+    places: &Pages,
     functions: &Functions<F>,
-    row: &[(Fact, u32)],
-) -> Result<Vec<(Fact, F)>, AllocError>
-    ensures { IfOk result (λ partners. partners.items ≡ partners_at F.edge functions.now.items row.now) }
+    node: Node,
+    pages: &[(Fact, u32)],
+    partners: &mut Vec<(Fact, F)>,
+) -> Result<(), AllocError>
+    ensures { OnOk result (partners.new.items ≡ partners_at F.edge functions.now.items (read_at places.now (node % 64) pages.now)) }
 {
-    row.iter()
-        .map(|listed| partner_at(functions, *listed))
-        .collect(alloc)
+    partners.clear();
+    partners.reserve(pages.len())?;
+    for listed in pages {
+        if let Some(numbered) = numbered_fact(places, node, *listed) {
+            partners.push_reserved(partner_at(functions, numbered));
+        }
+    }
+    Ok(())
+}
+
+/// The fact of a page with the number at the node's offset, where that is not 0.
+#[inline(always)]
+fn numbered_fact(places: &Pages, node: Node, listed: (Fact, u32)) -> Option<(Fact, u32)>
+    ensures { result ≡ partner_of (number_on_page places.now (node % 64)) listed }
+{
+    let number = places.number_in(64 * listed.1 as usize + (node % 64) as usize);
+    if number == 0 {
+        None
+    } else {
+        Some((listed.0, number))
+    }
 }
 
 /// A fact of a row with the function of its number.

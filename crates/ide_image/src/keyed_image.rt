@@ -131,6 +131,23 @@ impl<F: EdgeFn, T: Drop> KeyedImage<F, T> {
         self.indexed.jumps_at(alloc, node, fact)
     }
 
+    /// Makes the list the jumps at the node to the fact, as [`KeyedImage::jumps_at`] has them. What was
+    /// in it is gone, and its room is used again. It takes one look-up, and memory only where the list
+    /// has to grow.
+    ///
+    /// Refusal: `NoMemory`.
+    pub fn fill_jumps_at(
+        &self,
+        node: Node,
+        fact: Fact,
+        partners: &mut Vec<(Fact, F)>,
+    ) -> Result<(), Refused>
+        ensures partners { OnOk result (AreJumpsTo node fact self.now.table partners.new.items) }
+        ensures refused { IsOkUnless result NoMemory }
+    {
+        self.indexed.fill_jumps_at(node, fact, partners)
+    }
+
     /// The summaries at the call node from the fact: for each the fact at the return site, and its
     /// function, ascending by fact. It takes one look-up.
     pub fn summaries_at(
@@ -143,6 +160,23 @@ impl<F: EdgeFn, T: Drop> KeyedImage<F, T> {
         ensures refused { IsOkUnless result NoMemory }
     {
         self.indexed.summaries_at(alloc, call, fact)
+    }
+
+    /// Makes the list the summaries at the call node from the fact, as [`KeyedImage::summaries_at`] has
+    /// them. What was in it is gone, and its room is used again. It takes one look-up, and memory only
+    /// where the list has to grow.
+    ///
+    /// Refusal: `NoMemory`.
+    pub fn fill_summaries_at(
+        &self,
+        call: Node,
+        fact: Fact,
+        partners: &mut Vec<(Fact, F)>,
+    ) -> Result<(), Refused>
+        ensures partners { OnOk result (AreSummariesFrom call fact self.now.table partners.new.items) }
+        ensures refused { IsOkUnless result NoMemory }
+    {
+        self.indexed.fill_summaries_at(call, fact, partners)
     }
 
     /// The hand's claim.
@@ -203,6 +237,7 @@ impl<F: EdgeFn, T: Drop> KeyedImage<F, T> {
             queue: &self.queue,
             notes,
             slots: self.changes.slots(),
+            marks: self.changes.stamp_marks(),
         };
         let slots = noted.left_slots(alloc)?;
         Ok(ChangedItems::new(&self.indexed, &self.queue, slots))

@@ -20,6 +20,7 @@ mod grid;
 mod indexed;
 mod keyed_image;
 mod mark;
+mod noted_marks;
 mod noted_slots;
 mod ordered;
 mod parts;

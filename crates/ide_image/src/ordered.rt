@@ -11,7 +11,7 @@ ghost use Rattle.std.specs.List.{filter_map};
 ghost use Rattle.std.specs.List.Sorted.{IsPermutation, IsSortedByKey};
 ghost use Rattle.ide_wire.specs.KeyOrder.{key_cmp};
 ghost use Rattle.ide_wire.specs.declared.key.Key.{Key};
-ghost use Rattle.ide_image.specs.Ordered.{AreKeyedLeft, AreLeft, AreNumbersOf, AscendByKey, HasLeft, IsItemAt, IsKeyedIn, IsLeftOf, SaysIfLeft, keyed_item, slot_told};
+ghost use Rattle.ide_image.specs.Ordered.{AreAllLeft, AreKeyedLeft, AreLeft, AreNumbersOf, AscendByKey, HasPagesOf, IsItemAt, IsKeyedIn, IsLeftOf, SaysIfLeft, keyed_item, slot_told};
 ghost use Rattle.ide_image.specs.Ranks.{HasRank, IsNumberOf, key_rank};
 
 use crate::grid::Grid;
@@ -63,8 +63,8 @@ impl<'a, F: EdgeFn> NotedSlots<'a, F> {
         }
     }
 
-    /// The same by pages: `None` where there are few notes for the pages, or where the grid does not tell all of
-    /// them, as where a page's first key has no rank.
+    /// The same by pages: `None` where there are few notes for the pages, where nothing is left of one, or where not
+    /// all of them are read, as where a page's first key has no rank.
     fn paged_slots(&self, alloc: Global) -> Result<Option<Vec<u32>>, AllocError>
         ensures same { IfOk result (λ told. IfSome told (AreLeft F.eq self.now)) }
         ensures sorted { IfOk result (λ told. IfSome told (AscendByKey self.now)) }
@@ -75,17 +75,20 @@ impl<'a, F: EdgeFn> NotedSlots<'a, F> {
         let Some(rows) = grid.numbers(alloc, self.indexed)? else {
             return Ok(None);
         };
-        let slots = grid.slots(alloc, &rows)?;
-        if slots.len() != grid.count() {
+        let count = self.notes.len();
+        let slots = grid.slots(alloc, &rows, self.marks, count)?;
+        if slots.len() != count {
             return Ok(None);
         }
         Ok(Some(slots))
     }
 
-    /// The slots of what is left of the notes, on a grid: `None` where these are few for all pages that there
-    /// are, or for those of their keys, so that a sort takes less.
+    /// A grid with the pages of the notes' keys, something being left of each note: `None` where nothing is left of
+    /// one, or where the notes are few for all pages that there are, or for those of their keys, so that a sort takes
+    /// less.
     fn grid(&self, alloc: Global) -> Result<Option<Grid>, AllocError>
-        ensures { IfOk result (λ found. IfSome found (HasLeft F.eq self.now)) }
+        ensures left { IfOk result (λ found. IfSome found (λ _. AreAllLeft F.eq self.now)) }
+        ensures pages { IfOk result (λ found. IfSome found (HasPagesOf self.now)) }
     {
         let count = self.notes.len();
         let pages = self.indexed.cell_count() / 64;
@@ -94,12 +97,13 @@ impl<'a, F: EdgeFn> NotedSlots<'a, F> {
         }
         let mut grid = Grid::new(alloc, pages)?;
         for index in 0..count {
-            if self.is_left_at(index) {
-                let Some(slot) = self.slots.get(index) else {
-                    return Ok(None);
-                };
-                grid.put(*slot)?;
+            if !self.is_left_at(index) {
+                return Ok(None);
             }
+            let Some(slot) = self.slots.get(index) else {
+                return Ok(None);
+            };
+            grid.put(*slot)?;
         }
         if grid.page_count() > count / FILLED {
             return Ok(None);

@@ -13,9 +13,9 @@ use Rattle.std.proofs.lemmas.Bool.Decides.{nat_tests}
 use Rattle.ide_wire.specs.declared.key.Key.{Key}
 use Rattle.ide_wire.specs.declared.key.Key.TheVariants.{Jump, Summary}
 use Rattle.ide_wire.specs.Key.{same_key, node_of}
-use Rattle.ide_pages.specs.Pages.{ArePages, AreRow, IsPage, key_beside, listed_fact, nonzero, cell_number, number_at, number_by, numbers_of, page_of, partner_of, row_of}
+use Rattle.ide_pages.specs.Pages.{ArePages, AreRow, IsPage, key_beside, listed_fact, nonzero, cell_number, number_at, number_by, numbers_of, page_of, partner_of, read_at, row_of}
 use Rattle.ide_pages.specs.Rows.{IsRow, RowsData, page_in, row_at}
-use Rattle.ide_pages.proofs.KeyCells.{number-found}
+use Rattle.ide_pages.proofs.KeyCells.{number-found, number-in-cell}
 
 -- a fact that is at another is that one
 at_exact : (a b : ℕ) → is_at (nat_cmp a) b ≡ true → a ≡ b
@@ -117,3 +117,16 @@ module _ {pages : List Key} {cells : List ℕ} {rows : RowsData} {count : ℕ} (
         within = all-partners get (λ d. d < 2 ^ 16) row sorted.within;
         exact = λ d few. exact get row d sorted.ascending ∙ ap (λ r. got get (page_in r d)) at ∙ listed-beside key d is few;
       }
+
+  -- the numbers in the cells of the pages that are listed are those of the keys
+  pub read-listed : (offset : ℕ) (row : List (ℕ × ℕ)) → read_at (numbers_of pages cells) offset row ≡ filter_map (partner_of (number_by cells offset)) row
+  read-listed offset [] = refl
+  read-listed offset (e ∷ es) =
+      ap (λ n. cons_option (option_map (λ (m : ℕ). (e.0, m)) (nonzero n)) (read_at (numbers_of pages cells) offset es)) (number-in-cell are (64 * e.1 + offset))
+      ∙ ap (cons_option (partner_of (number_by cells offset) e)) (read-listed offset es)
+
+  -- the row of a key, where the pages that it lists are read at its offset
+  pub are-listed : (key : Key) (row : List (ℕ × ℕ)) → IsPage (page_of key) → row ≡ row_at rows (row_of (page_of key)) → IsRow row
+      → AreRow (key_beside key) (numbers_of pages cells) (read_at (numbers_of pages cells) (node_of key % 64) row)
+  are-listed key row is at sorted =
+      subst (AreRow (key_beside key) (numbers_of pages cells)) (sym (read-listed (node_of key % 64) row)) (are-row key row is at sorted)

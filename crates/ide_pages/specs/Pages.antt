@@ -174,6 +174,14 @@ number_by cells offset index = slice_index_or cells (64 * index + offset) 0
 abbrev pub partner_of : (ℕ → ℕ) → ℕ × ℕ → Option (ℕ × ℕ)
 partner_of number listed = option_map (λ n. (listed.0, n)) (nonzero (number listed.1))
 
+-- the number in the cell at an offset of the page at an index
+abbrev pub number_on_page : Numbers → (offset index : ℕ) → ℕ
+number_on_page numbers offset index = number_in numbers (64 * index + offset)
+
+-- the facts of pages, each with the number at the offset of its page, where that is not 0
+abbrev pub read_at : Numbers → ℕ → List (ℕ × ℕ) → List (ℕ × ℕ)
+read_at numbers offset pages = filter_map (partner_of (number_on_page numbers offset)) pages
+
 -- what holds of the fields: each page has 64 cells and stands once, they and the nodes of their keys are counted by 32 bits, the row of a
 -- page tells its index, and the count is that of the entries
 pub record ArePages (pages : List Key) (cells : List ℕ) (rows : RowsData) (count : ℕ) : Type 0 where

@@ -1,12 +1,12 @@
 //! The map from keys to numbers.
-ghost use Rattle.std.specs.Prelude.{◌≡◌, ◌≢◌, Some, Ok, ◌+◌, ◌*◌, ◌<◌, ◌≤◌, ◌^◌, ◌↔◌, ◌++◌, [], ◌∷◌, length, replicate, None, IfSome, IfOk, OnOk, OnErr, IsOkUnless};
+ghost use Rattle.std.specs.Prelude.{◌≡◌, ◌≢◌, Some, Ok, ◌+◌, ◌*◌, ◌%◌, ◌<◌, ◌≤◌, ◌^◌, ◌↔◌, ◌++◌, [], ◌∷◌, length, replicate, None, IfSome, IfOk, OnOk, OnErr, IsOkUnless};
 ghost use Rattle.std.specs.List.{AllByRecursion, IsDistinct};
 ghost use Rattle.std.specs.Map.{keys_of};
 ghost use Rattle.ide_wire.specs.declared.key.Key.{Key};
 ghost use Rattle.ide_wire.specs.declared.key.Key.TheVariants.{Jump, Summary};
 ghost use Rattle.ide_wire.specs.declared.refused.Refused.TheVariants.{NoMemory};
-ghost use Rattle.ide_wire.specs.Key.{same_key};
-ghost use Rattle.ide_pages.specs.Pages.{AddsPage, ArePaged, AreRow, IsPage, IsRowOfJumps, IsRowOfSummaries, IsNumberIn, KeepsCells, Puts, cell_of, entries, key_beside, listed_fact, number_at, number_in, row_of, slot_at, weight};
+ghost use Rattle.ide_wire.specs.Key.{node_of, same_key};
+ghost use Rattle.ide_pages.specs.Pages.{AddsPage, ArePaged, AreRow, IsPage, IsRowOfJumps, IsRowOfSummaries, IsNumberIn, KeepsCells, Puts, cell_of, entries, key_beside, listed_fact, number_at, number_in, read_at, row_of, slot_at, weight};
 ghost use Rattle.ide_pages.specs.Rows.{KeepsPages, ListsIn, page_in, row_at};
 
 use crate::rows::Rows;
@@ -219,6 +219,33 @@ impl Pages {
         ensures refused { IsOkUnless result NoMemory }
     {
         self.row(alloc, Key::Summary(call, fact, 0))
+    }
+
+    /// The pages that have the jumps at the node to the fact: for each the fact at the start of its
+    /// procedure, and the page's index, ascending by fact. The number of such a jump is that in the
+    /// cell at 64 times the index and the node's offset, its remainder by 64. They are lent: it takes
+    /// one look-up and no memory.
+    pub fn pages_of_jumps(&self, node: Node, fact: Fact) -> &[(Fact, u32)]
+        ensures row { IsRowOfJumps node fact self.now (read_at self.now (node % 64) result.now) }
+    {
+        self.row_pages(Key::Jump(node, 0, fact))
+    }
+
+    /// The pages that have the summaries at the call from the fact: for each the fact at the return
+    /// site, and the page's index, ascending by fact. The number of such a summary is that in the cell
+    /// at 64 times the index and the call's offset, its remainder by 64. They are lent: it takes one
+    /// look-up and no memory.
+    pub fn pages_of_summaries(&self, call: Node, fact: Fact) -> &[(Fact, u32)]
+        ensures row { IsRowOfSummaries call fact self.now (read_at self.now (call % 64) result.now) }
+    {
+        self.row_pages(Key::Summary(call, fact, 0))
+    }
+
+    /// The facts of the key's row, each with the index of its page.
+    fn row_pages(&self, key: Key) -> &[(Fact, u32)]
+        ensures { AreRow (key_beside key) self.now (read_at self.now (node_of key % 64) result.now) }
+    {
+        self.rows.row(keys::row_of(keys::page_of(key)))
     }
 
     /// The facts of the key's row whose keys at its node have a number that is not 0, each with that number.

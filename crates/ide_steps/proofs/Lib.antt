@@ -1,5 +1,4 @@
 pub mod Potential
-pub mod Partners
 pub mod Permuted
 pub mod Room
 pub mod Rooted

@@ -1,5 +1,5 @@
 -- What is known of tasks by what is kept of a loaded program.
-use Rattle.std.specs.Prelude.{◌≡◌, ℕ, ◌<◌, Option, Result, Some, IfOk, IsSome, slice_get, slice_index}
+use Rattle.std.specs.Prelude.{◌≡◌, ℕ, ◌<◌, Option, Result, Some, IfOk, OnOk, IsSome, slice_get, slice_index}
 use Rattle.ide_graph.specs.Exits.{AreExitsOwned}
 use Rattle.ide_graph.specs.declared.site.Site.{Site}
 use Rattle.ide_graph.specs.Supergraph.{Supergraph}
@@ -7,6 +7,8 @@ use Rattle.ide_lattice.specs.Algebra.{EdgeAlgebra}
 use Rattle.ide_problem.specs.Flow.{Targets}
 use Rattle.ide_image.specs.Tables.{Table, found}
 use Rattle.ide_tasks.specs.Task.{TaskData}
+use Rattle.ide_tasks.specs.Partners.{partners_in}
+use Rattle.ide_tasks.specs.declared.partners.PartnerLists.{PartnerLists}
 use Rattle.ide_tasks.specs.declared.partners.Partners.{Partners}
 use Rattle.ide_wire.specs.Key.{node_of}
 use Rattle.ide_wire.specs.declared.key.Key.{Key}
@@ -44,6 +46,11 @@ module _ {P L F : Type 0} (B : EdgeAlgebra F L) (targets : Targets F) (loaded : 
   abbrev pub GivesPartners : {E : Type 0} → Site → ℕ → Result (Partners F) E → Type 0
   GivesPartners site procedure result =
       WhereKeptAt targets loaded key site procedure (IfOk result (ArePartnersIn B targets loaded table key site))
+
+  -- where it is so, the lists have them at Ok
+  abbrev pub FillsPartners : {E : Type 0} → Site → ℕ → PartnerLists F → Result (Unit {0}) E → Type 0
+  FillsPartners site procedure lists result =
+      WhereKeptAt targets loaded key site procedure (OnOk result (ArePartnersIn B targets loaded table key site (partners_in lists)))
 
 -- the program that is loaded, if one is, is kept, and no key of the pile stands outside of its graph
 abbrev pub KeepsLoaded : {P L F : Type 0} → EdgeAlgebra F L → Targets F → Option (Loaded P L F) → Pile (TaskData F) → Type 0

@@ -1,6 +1,6 @@
 -- What it is to a run that the parts of a pending key are done by a hand that has no claim: it claims the key, does
 -- them, and ends its claim. No other hand can see the core in between, so that the claim is not made.
-use Rattle.std.specs.Prelude.{◌≡◌, ℕ, zero, suc, ◌+◌, ◌≤◌, ◌⊎◌, ◌&&◌, not, Bool, true, false, List, [], ◌∷◌, Option, None, Some, Result, Ok, if◌then◌else◌, length}
+use Rattle.std.specs.Prelude.{◌≡◌, ℕ, zero, suc, ◌+◌, ◌<◌, ◌≤◌, ◌⊎◌, ◌&&◌, not, Bool, true, false, List, [], ◌∷◌, Option, None, Some, if◌then◌else◌, length}
 use Rattle.ide_graph.specs.Supergraph.{Supergraph}
 use Rattle.ide_lattice.specs.Algebra.{LatticeAlgebra, EdgeAlgebra}
 use Rattle.ide_problem.specs.Flow.{Targets}
@@ -17,6 +17,9 @@ use Rattle.ide_steps.specs.Drain.{HasLess, potential}
 use Rattle.ide_steps.specs.Going.{GoesOnByHand}
 use Rattle.ide_steps.specs.Kept.{IsTaskWhere, WhereKept}
 use Rattle.ide_steps.specs.State.{IsTaskOf}
+use Rattle.ide_steps.specs.Walk.{WalksOwed}
+use Rattle.ide_steps.specs.declared.drain.NextKey.{NextKey}
+use Rattle.ide_steps.specs.declared.drain.NextKey.TheVariants.{Walked, Owes, Nothing}
 use Rattle.ide_steps.specs.declared.loaded.Loaded.{Loaded}
 
 -- the claims from hand 0 on, with that of one hand replaced
@@ -25,10 +28,6 @@ put_claim zero claim [] = claim ∷ []
 put_claim zero claim (c ∷ cs) = claim ∷ cs
 put_claim (suc hand) claim [] = None ∷ put_claim hand claim []
 put_claim (suc hand) claim (c ∷ cs) = c ∷ put_claim hand claim cs
-
--- P holds of the key that is answered, if one is
-abbrev pub ForKey : {E : Type 0} → Result (Option Key) E → (Key → Type 0) → Type 0
-ForKey result P = (key : Key) → result ≡ Ok (Some key) → P key
 
 -- each pending key is claimed
 abbrev pub AreAllClaimed : {T : Type 0} → Pile T → Type 0
@@ -62,6 +61,13 @@ module _ {F L : Type 0} (B : EdgeAlgebra F L) (targets : Targets F) where
     pub unclaimed : is_claimed core.pile key ≡ false
     pub owed : OwesParts core key parts
     pub inside : AreInside core parts
+
+  -- what the next key came to: it was walked on from it over so many nodes, up to a count; or it owes the parts, and nothing
+  -- changed; or each pending key is claimed, and nothing changed
+  abbrev pub TakesUp : (most : ℕ) → (old new : CoreData F) → (parts : List (Key × F)) → NextKey → Type 0
+  TakesUp most old new parts (Walked count) = (0 < count) × (count ≤ most) × WalksOwed B targets old new count
+  TakesUp most old new parts (Owes key) = (new ≡ old) × IsNextOwed new parts key
+  TakesUp most old new parts Nothing = (new ≡ old) × AreAllClaimed new.pile
 
   -- the same of a table over the graph of a program that is kept
   pub record ListsParts {P Q : Type 0} (loaded : Loaded P Q F) (table : Table F) (key : Key) (parts : List (Key × F)) : Type 0 where

@@ -6,15 +6,15 @@ ghost use Rattle.ide_image.specs.Worklist.{claim_at, is_pending, is_claimed};
 ghost use Rattle.ide_steps.specs.ClaimRefusal.{IsClaimRefusal, MayClaim};
 ghost use Rattle.ide_steps.specs.Claiming.{BeginsClaim, FindsIdle, FindsQuiet, FindsTask, IfTask, KeepsAllBut};
 ghost use Rattle.ide_steps.specs.Core.{IsUnchanged, StandsIn};
-ghost use Rattle.ide_steps.specs.Kept.{GivesPartners, GivesTask};
+ghost use Rattle.ide_steps.specs.Kept.{FillsPartners, GivesPartners, GivesTask};
 
 use crate::loaded::Loaded;
 use crate::machine::{Core, HANDS};
 use ide_graph::Site;
 use ide_image::KeyedImage;
 use ide_problem::Problem;
-use ide_tasks::{Partners, Task};
-use ide_wire::{Key, Listing, Refused};
+use ide_tasks::{PartnerLists, Partners, Task};
+use ide_wire::{Key, Refused};
 use std::alloc::Global;
 
 /// What a claim gives.
@@ -116,10 +116,8 @@ fn task_of<P: Problem>(
     })
 }
 
-/// What the key's function is joined with: at a call node the summaries over the call, at an exit
-/// what the callers' call flow reaches, for a summary the jumps at its call node.
-#[inline(always)]
-pub(crate) fn partners_of<P: Problem>(
+/// What the key's function is joined with, in lists of its own.
+fn partners_of<P: Problem>(
     alloc: Global,
     loaded: &Loaded<P>,
     image: &KeyedImage<P::F, Task<P>>,
@@ -130,21 +128,42 @@ pub(crate) fn partners_of<P: Problem>(
     ensures partners { GivesPartners P.F.edge P.targets loaded.now image.now.table key site.now procedure result }
     ensures refused { IsOkUnless result Refused.NoMemory }
 {
+    let mut lists = PartnerLists::new(alloc);
+    fill_partners(loaded, image, key, procedure, site, &mut lists)?;
+    Ok(lists.into_partners())
+}
+
+/// Makes the lists what the key's function is joined with: at a call node the summaries over the call,
+/// at an exit what the callers' call flow reaches, for a summary the jumps at its call node. What was in
+/// them is gone.
+#[inline(always)]
+pub(crate) fn fill_partners<P: Problem>(
+    loaded: &Loaded<P>,
+    image: &KeyedImage<P::F, Task<P>>,
+    key: Key,
+    procedure: usize,
+    site: &Site,
+    lists: &mut PartnerLists<P::F>,
+) -> Result<(), Refused>
+    ensures partners { FillsPartners P.F.edge P.targets loaded.now image.now.table key site.now procedure lists.new result }
+    ensures refused { IsOkUnless result Refused.NoMemory }
+{
+    lists.are_callers = false;
     match (key, site) {
         (Key::Jump(call, _, to), Site::Call { .. }) => {
-            let summaries = image.summaries_at(alloc, call, to)?;
-            Ok(Partners::Entries(Listing::of(summaries)))
+            image.fill_summaries_at(call, to, &mut lists.entries)
         }
         (Key::Jump(_, from, _), Site::Exit { .. }) => {
-            let reaching = loaded.sources.reaching(alloc, procedure, from)?;
-            Ok(Partners::Callers(Listing::of(reaching)))
+            lists.are_callers = true;
+            loaded
+                .sources
+                .fill_reaching(procedure, from, &mut lists.callers)?;
+            Ok(())
         }
         (Key::Jump(_, _, _), Site::Normal(_)) => {
-            Ok(Partners::Entries(Listing::of(Vec::new(alloc))))
+            lists.entries.clear();
+            Ok(())
         }
-        (Key::Summary(call, from, _), _) => {
-            let jumps = image.jumps_at(alloc, call, from)?;
-            Ok(Partners::Entries(Listing::of(jumps)))
-        }
+        (Key::Summary(call, from, _), _) => { image.fill_jumps_at(call, from, &mut lists.entries) }
     }
 }

@@ -1,5 +1,5 @@
 //! All steps that are left, by one hand.
-ghost use Rattle.std.specs.Prelude.{◌≡◌, ◌<◌, ◌⊎◌, ◌||◌, [], true, false, Ok, Some, None, IfErr, IfOk, IsOk, OnErr, OnOk, IsOkUnless};
+ghost use Rattle.std.specs.Prelude.{◌≡◌, ◌<◌, ◌≤◌, ◌⊎◌, ◌||◌, [], true, false, Ok, Some, None, IfErr, IfOk, IsOk, OnErr, OnOk, IsOkUnless};
 ghost use Rattle.ide_wire.specs.Key.{same_key};
 ghost use Rattle.ide_steps.specs.Changed.{Notes, Remembers};
 ghost use Rattle.ide_steps.specs.Core.{is_loaded, AllStandIn, AreInside, IsSameProblem, StandsIn};
@@ -7,11 +7,11 @@ ghost use Rattle.ide_steps.specs.DrainRefusal.{IsDrainRefusal, IsNoDrain, MayDra
 ghost use Rattle.ide_steps.specs.Drain.{Drains, GoesOnPaid, HasLess};
 ghost use Rattle.ide_steps.specs.Going.{GoesOn};
 ghost use Rattle.ide_steps.specs.Room.{AreTasksFew};
-ghost use Rattle.ide_steps.specs.Running.{AreAllClaimed, DoesAll, DoesSome, ForKey, IsNextOwed, IsTakenOut, ListsParts, OwesParts};
+ghost use Rattle.ide_steps.specs.Running.{AreAllClaimed, DoesAll, DoesSome, IsTakenOut, ListsParts, OwesParts, TakesUp};
 ghost use Rattle.ide_image.specs.Tables.{found};
 ghost use Rattle.ide_image.specs.Worklist.{is_claimed, is_pending, IsFree};
 
-use crate::claim::partners_of;
+use crate::claim::fill_partners;
 use crate::laws::{calls_are_steps, cores_are_whole, images_have_room};
 use crate::loaded::Loaded;
 use crate::machine::Core;
@@ -23,6 +23,17 @@ use std::alloc::Global;
 
 /// The hand that drains: that of the steps which a drain is to a run.
 const DRAINING: usize = 0;
+
+/// What the next key came to.
+#[derive(Clone, Copy, PartialEq, Eq, Debug)]
+pub enum NextKey {
+    /// It was walked on from it, over so many nodes.
+    Walked(usize),
+    /// This key owes the parts that were listed.
+    Owes(Key),
+    /// Each pending key is claimed.
+    Nothing,
+}
 
 impl<P: Problem> Core<P> {
     /// Runs keys until none is pending, and answers how many, up to the largest number of 64 bits. To a
@@ -107,36 +118,43 @@ impl<P: Problem> Core<P> {
         ensures remembers { Remembers self.old self.new }
     {
         calls_are_steps::<P>();
-        let Some((key, function)) = self.image.unclaimed_entry() else {
-            return Ok(0);
-        };
-        let count = self.walk_owed(key, function, usize::MAX)?;
-        if count > 0 {
-            return Ok(count);
+        match self.next_key(usize::MAX, parts)? {
+            NextKey::Walked(count) => Ok(count),
+            NextKey::Owes(key) => {
+                self.run(key, parts.as_slice())?;
+                Ok(1)
+            }
+            NextKey::Nothing => Ok(0),
         }
-        self.fill(key, function, parts)?;
-        self.run(key, parts.as_slice())?;
-        Ok(1)
     }
 
-    /// Makes the list the parts that the next key owes as it stands, and answers the key: none where each
-    /// pending key is claimed. What was in the list is gone, and its room is used again. With
+    /// Takes up the next key: walks on from it ([`NextKey::Walked`]) or, where that goes nowhere, makes the list the parts
+    /// that it owes as it stands ([`NextKey::Owes`]). What was in the list is gone then, and its room is used again. With
     /// [`Core::lower_owed`] for each part and [`Core::settle_owed`] behind the last one, unless a part lowered
     /// the key itself, that is to a run what a claim of the key, its parts and its end are (`WorksOff`).
     ///
-    /// Refusal: `NoMemory`.
+    /// A walk goes on from a jump over the nodes behind its own, as long as one edge leads from each to the
+    /// next and passes the fact on unchanged, and there is no jump between the facts at the next; to the end of a page of the
+    /// image at most, and over at most so many nodes. To a run the key and those behind it, but for the last, are each
+    /// claimed in turn, the one part is done, and the claim ended (`WalksOwed`).
+    ///
+    /// Refusal: `NoMemory`, which leaves the core as it was.
     #[inline(always)]
-    pub fn next_owed(&self, parts: &mut PartList<P>) -> Result<Option<Key>, Refused>
-        requires loaded { is_loaded self.now ≡ true }
-        ensures owed { ForKey result (IsNextOwed P.F.edge P.targets self.now parts.new) }
-        ensures none { result ≡ Ok None → AreAllClaimed self.now.pile }
+    pub fn next_key(&mut self, most: usize, parts: &mut PartList<P>) -> Result<NextKey, Refused>
+        requires loaded { is_loaded self.old ≡ true }
+        ensures takes { IfOk result (TakesUp P.F.edge P.targets most self.old self.new parts.new) }
         ensures refused { IsOkUnless result Refused.NoMemory }
+        ensures unchanged { OnErr result (self.new ≡ self.old) }
     {
         let Some((key, function)) = self.image.unclaimed_entry() else {
-            return Ok(None);
+            return Ok(NextKey::Nothing);
         };
+        let count = self.walk_owed(key, function, most)?;
+        if count > 0 {
+            return Ok(NextKey::Walked(count));
+        }
         self.fill(key, function, parts)?;
-        Ok(Some(key))
+        Ok(NextKey::Owes(key))
     }
 
     /// Makes the list the parts that a pending key owes now.
@@ -224,7 +242,9 @@ impl<P: Problem> Core<P> {
 }
 
 /// Makes the list the parts that a key owes, at the site of its node and with the partners that are
-/// present now. Most keys owe one part, over an edge that passes their fact on unchanged: these have no partners.
+/// present now. Most keys owe one part, over an edge that passes their fact on unchanged: these have no partners. The
+/// partners of the others stand in lists that the list of parts keeps for the next key; where one is refused, their
+/// room is given up.
 fn fill_parts<P: Problem>(
     alloc: Global,
     loaded: &Loaded<P>,
@@ -245,8 +265,9 @@ fn fill_parts<P: Problem>(
         return Ok(());
     }
     let procedure = loaded.graph.procedure_of(node);
-    let partners = partners_of(alloc, loaded, image, key, procedure, site)?;
-    parts.fill(key, function, site, &partners)?;
+    let mut partners = parts.take_partners(alloc);
+    fill_partners(loaded, image, key, procedure, site, &mut partners)?;
+    parts.fill_from(key, function, site, partners)?;
     Ok(())
 }
 

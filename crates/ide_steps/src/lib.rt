@@ -22,7 +22,7 @@ mod walk;
 
 pub use claim::Claimed;
 pub use closed::Closed;
-pub use drain::is_lowered_too;
+pub use drain::{NextKey, is_lowered_too};
 pub use laws::{calls_are_steps, cores_are_whole, images_have_room, tasks_owe_their_parts};
 pub use loaded::Loaded;
 pub use machine::{Core, HANDS};

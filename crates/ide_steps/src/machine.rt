@@ -202,7 +202,7 @@ impl<P: Problem> Core<P> {
     /// Meets one entry with a function, as a part does. An entry that changed is pending then, a claim of
     /// its key is marked as lowered, and the entry of before is noted where somebody asked for changes.
     /// By itself it is no step of a run: with it a store drains a key that it claims for nobody
-    /// ([`Core::next_owed`]).
+    /// ([`Core::next_key`]).
     ///
     /// Refusal: `NoMemory`.
     #[inline(always)]

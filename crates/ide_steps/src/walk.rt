@@ -14,27 +14,8 @@ use ide_tasks::{Task, passes_behind};
 use ide_wire::{Fact, Key, Node, Refused};
 
 impl<P: Problem> Core<P> {
-    /// Walks on from the next key, if it is a jump: over the nodes behind its own, as long as one edge leads from each to the
-    /// next and passes the fact on unchanged, and there is no jump between the facts at the next; to the end of a page of the
-    /// image at most, and over so many nodes. Answers over how many. To a run the key and those behind it, but for the
-    /// last, are each claimed in turn, the one part is done, and the claim ended (`WalksOwed`). Over no node nothing changes:
-    /// the key has other parts then, or parts that meet what is there, or each pending key is claimed.
-    ///
-    /// Refusal: `NoMemory`.
-    pub fn walk_next(&mut self, most: usize) -> Result<usize, Refused>
-        ensures refused { IsOkUnless result Refused.NoMemory }
-        ensures most { IfOk result (λ count. count ≤ most) }
-        ensures nowhere { result ≡ Ok 0 → self.new ≡ self.old }
-        ensures walks { IfOk result (λ count. 0 < count → WalksOwed P.F.edge P.targets self.old self.new count) }
-        ensures unchanged { OnErr result (self.new ≡ self.old) }
-    {
-        let Some((key, function)) = self.image.unclaimed_entry() else {
-            return Ok(0);
-        };
-        self.walk_owed(key, function, most)
-    }
-
-    /// Walks on from a pending key that has that function, as [`Core::walk_next`] does from the next one.
+    /// Walks on from a pending key that has that function, as [`Core::next_key`] does from the next one, and answers over how
+    /// many nodes. Over none nothing changes: the key has other parts then, or parts that meet what is there.
     ///
     /// Refusal: `NoMemory`.
     #[inline(always)]

@@ -1,5 +1,5 @@
 -- That a walk of the core is, to the store, a claim of each key by hand 0, its one part and its end.
-use Rattle.std.proofs.Common.{◌≡◌, ◌∙◌, ◌+◌, ◌-◌, ◌<◌, ◌≤◌, ℕ, zero, suc, true, false, [], ◌∷◌, Some, add-one, ap, arith, refl, subst, sym, ◌||◌}
+use Rattle.std.proofs.Common.{◌≡◌, ◌∙◌, ◌+◌, ◌-◌, ◌<◌, ◌≤◌, ℕ, zero, suc, true, false, List, [], ◌∷◌, Some, add-one, ap, arith, refl, subst, sym, ◌||◌}
 use Rattle.std.specs.Option.{is_some}
 use Rattle.ide_image.specs.Notes.{noted_count}
 use Rattle.ide_image.specs.Worklist.{IsFree}
@@ -8,10 +8,14 @@ use Rattle.ide_steps.specs.Changed.{Remembers}
 use Rattle.ide_steps.specs.Core.{CoreData, IsSameProblem}
 use Rattle.ide_steps.specs.Room.{IsGraphSaid, IsWholeCore}
 use Rattle.ide_steps.specs.State.{state_of}
+use Rattle.ide_steps.specs.Running.{TakesUp}
 use Rattle.ide_steps.specs.Walk.{WalksOwed}
-use Rattle.ide_steps.proofs.Walked.{PassesOn, core-first, core-last, core-links, core-same, core_amid, core_then, state-first, state-last, walked-count, walked-remembers}
+use Rattle.ide_steps.specs.declared.drain.NextKey.{NextKey}
+use Rattle.ide_steps.specs.declared.drain.NextKey.TheVariants.{Walked, Owes, Nothing}
+use Rattle.ide_wire.specs.declared.key.Key.{Key}
+use Rattle.ide_steps.proofs.Walked.{PassesOn, core-first, core-last, core-links, core-same, core_amid, core_then, state-first, state-last, walked-count, walked-falls, walked-remembers}
 use Rattle.ide_store.specs.Acting.{CallsAreActs}
-use Rattle.ide_store.specs.Draining.{WorksBy}
+use Rattle.ide_store.specs.Draining.{ComesTo, WorksBy}
 use Rattle.ide_store.specs.Table.{Analysis, KeepsRest, TableData}
 use Rattle.ide_store.proofs.Drained.{unchanged_equal, works_still, works_then, works_unchanged}
 use Rattle.ide_store.proofs.HandActs.{state_is, works_on}
@@ -87,30 +91,33 @@ module _ {F L : Type 0} (a : Analysis F L) (acts : CallsAreActs a) where
         (state-last a.lattice a.functions a.targets steps top old.core new.core count free walk)
         (core-last a.lattice a.functions a.targets steps top old.core new.core count free walk)))
 
-  -- whether it led over some nodes or over none
-  module _ (steps : CallsAreSteps a.lattice a.functions a.targets) (top : a.functions.rank a.functions.all_top ≡ a.functions.height) (old new : TableData F) (count : ℕ)
-      (free : IsFree old.core.pile) (nowhere : count ≡ 0 → new.core ≡ old.core) (walks : 0 < count → WalksOwed a.functions a.targets old.core new.core count) where
-    pub walk-or-works : IsWholeCore old.core → is_some old.core.changes ≡ true → KeepsRest old new → WorksBy a old new count 0
-    walk-or-works whole noting rest = by count refl
-      where
-        by : (n : ℕ) → count ≡ n → WorksBy a old new count 0
-        by zero is = subst (λ m. WorksBy a old new m 0) (sym is) (works_unchanged a old new rest (unchanged_equal old.core new.core (nowhere is)))
-        by (suc n) is = walk-works steps top old new count whole free noting rest (walks (omega (arith, is)))
-
-    pub walk-noting : is_some old.core.changes ≡ true → is_some new.core.changes ≡ true
-    walk-noting noting = by count refl
-      where
-        by : (n : ℕ) → count ≡ n → is_some new.core.changes ≡ true
-        by zero is = ap (λ (core : CoreData F). is_some core.changes) (nowhere is) ∙ noting
-        by (suc n) is =
-            (walked-remembers a.lattice a.functions a.targets steps top old.core new.core count free (walks (omega (arith, is)))).noting ∙ noting
+  -- what the core's next key came to is what the half's came to, whose core alone changes
+  module _ (steps : CallsAreSteps a.lattice a.functions a.targets) (top : a.functions.rank a.functions.all_top ≡ a.functions.height) (old : TableData F) (core : CoreData F)
+      (most : ℕ) (parts : List (Key × F)) (free : IsFree old.core.pile) where
+    pub taken-noting : (next : NextKey) → TakesUp a.functions a.targets most old.core core parts next → is_some old.core.changes ≡ true → is_some core.changes ≡ true
+    taken-noting (Walked count) came noting = (walked-remembers a.lattice a.functions a.targets steps top old.core core count free came.2).noting ∙ noting
+    taken-noting (Owes key) came noting = ap (λ (core : CoreData F). is_some core.changes) came.0 ∙ noting
+    taken-noting Nothing came noting = ap (λ (core : CoreData F). is_some core.changes) came.0 ∙ noting
 
     -- no more is noted than there is room for
-    pub walk-few : noted_count old.core.changes ≤ 65536 → count ≤ 65535 - noted_count old.core.changes → noted_count new.core.changes ≤ 65536
-    walk-few few room = by count refl
-      where
-        by : (n : ℕ) → count ≡ n → noted_count new.core.changes ≤ 65536
-        by zero is = let same = ap (λ (core : CoreData F). noted_count core.changes) (nowhere is) in omega (arith, same, few)
-        by (suc n) is =
-            let more = walked-count a.lattice a.functions a.targets steps top old.core new.core count free (walks (omega (arith, is))) in
-            omega (arith, more, room, is)
+    pub taken-few : (next : NextKey) → TakesUp a.functions a.targets most old.core core parts next → noted_count old.core.changes ≤ 65536
+        → most ≤ 65535 - noted_count old.core.changes → noted_count core.changes ≤ 65536
+    taken-few (Walked count) came few room =
+        let more = walked-count a.lattice a.functions a.targets steps top old.core core count free came.2 in
+        let least = came.1 in
+        let some = came.0 in
+        omega (arith, more, room, least, some)
+    taken-few (Owes key) came few room = let same = ap (λ (core : CoreData F). noted_count core.changes) came.0 in omega (arith, same, few)
+    taken-few Nothing came few room = let same = ap (λ (core : CoreData F). noted_count core.changes) came.0 in omega (arith, same, few)
+
+    pub taken-comes : (next : NextKey) → TakesUp a.functions a.targets most old.core core parts next → IsWholeCore old.core → is_some old.core.changes ≡ true
+        → (limit : ℕ) → most ≤ limit → ComesTo a old (record old { core = core }) limit parts next
+    taken-comes (Walked count) came whole noting limit within =
+        let least = came.1 in (
+          came.0,
+          omega (arith, least, within),
+          walked-falls a.lattice a.functions a.targets steps top old.core core count free came.2 came.0,
+          walk-works steps top old (record old { core = core }) count whole free noting (record { version = refl; sealed = refl; waiting = refl; failed = refl }) came.2,
+        )
+    taken-comes (Owes key) came whole noting limit within = (ap (λ (core : CoreData F). record old { core = core }) came.0, came.1)
+    taken-comes Nothing came whole noting limit within = (ap (λ (core : CoreData F). record old { core = core }) came.0, came.1)

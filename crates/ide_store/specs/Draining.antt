@@ -1,5 +1,5 @@
 -- What draining does: acts of hand 0, and batches where one is full.
-use Rattle.std.specs.Prelude.{◌≡◌, ◌≤◌, ◌⊎◌, ℕ, ◌+◌, ◌-◌, ◌^◌, Bool, true, false, List, [], ◌∷◌, if◌then◌else◌, length, min}
+use Rattle.std.specs.Prelude.{◌≡◌, ◌≤◌, ◌⊎◌, ℕ, ◌+◌, ◌-◌, ◌<◌, ◌^◌, Bool, true, false, List, [], ◌∷◌, if◌then◌else◌, length, min}
 use Rattle.std.specs.List.{All}
 use Rattle.ide_image.specs.Worklist.{IsFree, is_pending}
 use Rattle.ide_image.specs.declared.claim.Claim.{Claim}
@@ -7,7 +7,9 @@ use Rattle.ide_lattice.specs.Algebra.{EdgeAlgebra}
 use Rattle.ide_problem.specs.Flow.{Targets}
 use Rattle.ide_steps.specs.Core.{CoreData, IsSameProblem, IsUnchanged}
 use Rattle.ide_steps.specs.Drain.{HasLess, potential}
-use Rattle.ide_steps.specs.Running.{claimed_as, with_held}
+use Rattle.ide_steps.specs.Running.{AreAllClaimed, IsNextOwed, claimed_as, with_held}
+use Rattle.ide_steps.specs.declared.drain.NextKey.{NextKey}
+use Rattle.ide_steps.specs.declared.drain.NextKey.TheVariants.{Walked, Owes, Nothing}
 use Rattle.ide_steps.specs.Steps.{HasReceived, IsChangedBy, IsLoweredBy, SameState}
 use Rattle.ide_tasks.specs.Parts.{owed}
 use Rattle.ide_tasks.specs.Task.{TaskData}
@@ -59,6 +61,13 @@ module _ {F L : Type 0} (a : Analysis F L) (old new : TableData F) where
   -- it claimed so many keys, and ended each claim
   abbrev pub RunsKeys : ℕ → Type 0
   RunsKeys count = WorksBy count 0
+
+  -- what its next key came to: it claimed so many keys in turn, up to a count, and ended each claim; or the key owes the parts,
+  -- or each pending key is claimed, and nothing changed
+  abbrev pub ComesTo : (most : ℕ) → (parts : List (Key × F)) → NextKey → Type 0
+  ComesTo most parts (Walked count) = (0 < count) × (count ≤ most) × HasLess a.functions old.core new.core × RunsKeys count
+  ComesTo most parts (Owes key) = (new ≡ old) × IsNextOwed a.functions a.targets new.core parts key
+  ComesTo most parts Nothing = (new ≡ old) × AreAllClaimed new.core.pile
 
   -- it claimed so many keys, told up to the largest number of 64 bits, and ended each claim
   abbrev pub DrainsBy : ℕ → Type 0

@@ -9,7 +9,7 @@ ghost use Rattle.ide_steps.specs.Drain.{HasLess};
 ghost use Rattle.ide_steps.specs.DrainRefusal.{IsNoDrain, MayDrain};
 ghost use Rattle.ide_steps.specs.Running.{IsNextOwed, IsTakenOut};
 ghost use Rattle.ide_steps.specs.Steps.{SameTasks};
-ghost use Rattle.ide_store.specs.Draining.{BarsDrain, DrainsAll, DrainsBy, RunsKeys, DrainsSome, IsSameCore, IsWorkStop, LowersOwed, SkipsOwed, StaysOwed, StopsAmid, StopsBy, WorksBy, WorksHeld};
+ghost use Rattle.ide_store.specs.Draining.{BarsDrain, ComesTo, DrainsAll, DrainsBy, RunsKeys, DrainsSome, IsSameCore, IsWorkStop, LowersOwed, SkipsOwed, StaysOwed, StopsAmid, StopsBy, WorksBy, WorksHeld};
 ghost use Rattle.ide_store.specs.Table.{KeepsRest};
 ghost use Rattle.ide_store.specs.TableCalls.{IsRefusal};
 
@@ -18,7 +18,7 @@ use crate::laws::calls_are_acts;
 use crate::table::{MOST_CHANGED, TableHalf};
 use ide_image::Change;
 use ide_problem::Problem;
-use ide_steps::{calls_are_steps, cores_are_whole, is_lowered_too};
+use ide_steps::{NextKey, calls_are_steps, cores_are_whole, is_lowered_too};
 use ide_tasks::PartList;
 use ide_wire::{Key, Refused};
 
@@ -139,27 +139,24 @@ impl<P: Problem> TableHalf<P> {
         ensures rest { seals ≡ false → KeepsRest self.old self.new }
         ensures refused { IfErr result (IsWorkStop ⟦<P as Kept>⟧.analysis seals self.new) }
     {
-        let count = self.walk(most)?;
-        if count > 0 {
-            return Ok(count);
+        match self.next_key(parts, most)? {
+            NextKey::Walked(count) => Ok(count),
+            NextKey::Owes(key) => {
+                self.run(key, parts.as_slice(), seals)?;
+                Ok(1)
+            }
+            NextKey::Nothing => Ok(0),
         }
-        let Some(key) = self.core.next_owed(parts)? else {
-            return Ok(0);
-        };
-        self.run(key, parts.as_slice(), seals)?;
-        Ok(1)
     }
 
-    /// Walks on from the next key ([`ide_steps::Core::walk_next`]), over so many nodes at most, and as far as a batch has room
-    /// for notes, and answers over how many nodes. To the store each key that it leaves is a claim by hand 0, its one part and its end.
+    /// Takes up the next key ([`ide_steps::Core::next_key`]): a walk goes over so many nodes at most, and as far as a batch
+    /// has room for notes. To the store each key that a walk leaves is a claim by hand 0, its one part and its end.
     ///
     /// Refusal: `NoMemory`.
-    fn walk(&mut self, most: usize) -> Result<usize, Refused>
+    #[inline(always)]
+    fn next_key(&mut self, parts: &mut PartList<P>, most: usize) -> Result<NextKey, Refused>
         requires { MayDrain self.old.core }
-        ensures works { IfOk result (RunsKeys ⟦<P as Kept>⟧.analysis self.old self.new) }
-        ensures falls { IfOk result (λ count. 0 < count → HasLess P.F.edge self.old.core self.new.core) }
-        ensures nowhere { result ≡ Ok 0 → self.new ≡ self.old }
-        ensures most { IfOk result (λ count. count ≤ most) }
+        ensures comes { IfOk result (ComesTo ⟦<P as Kept>⟧.analysis self.old self.new most parts.new) }
         ensures may { MayDrain self.new.core }
         ensures rest { KeepsRest self.old self.new }
         ensures refused { IsOkUnless result Refused.NoMemory }
@@ -169,8 +166,8 @@ impl<P: Problem> TableHalf<P> {
         calls_are_acts::<P>();
         cores_are_whole(&self.core);
         let room = (MOST_CHANGED - 1).saturating_sub(self.core.changed_count());
-        let count = self.core.walk_next(most.min(room))?;
-        Ok(count)
+        let next = self.core.next_key(most.min(room), parts)?;
+        Ok(next)
     }
 
     /// Does the parts that the next key owes, and takes it out of the pending ones, unless one of them

@@ -1,3 +1,4 @@
+pub mod Partners
 pub mod Parts
 pub mod Sources
 pub mod Task

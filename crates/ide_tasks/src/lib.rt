@@ -18,7 +18,7 @@ mod task;
 mod work;
 
 pub use part_list::{PartList, passes_behind};
-pub use partners::{Partners, Reaching};
+pub use partners::{PartnerLists, Partners, Reaching};
 pub use sources::{Source, Sources};
 pub use task::Task;
 pub use work::Work;

@@ -1,8 +1,9 @@
 //! The parts of one key after another, in one list.
 ghost use Rattle.std.specs.Prelude.{◌≡◌, ◌+◌, ◌∷◌, [], false, true, Ok, IfSome, OnOk};
+ghost use Rattle.ide_tasks.specs.Partners.{partners_in};
 ghost use Rattle.ide_tasks.specs.Parts.{FillsUnchanged, PassesBehind, parts_at};
 
-use crate::partners::Partners;
+use crate::partners::{PartnerLists, Partners};
 use crate::parts::{Parts, passed_part};
 use ide_graph::Site;
 use ide_lattice::EdgeFn;
@@ -10,12 +11,15 @@ use ide_problem::Problem;
 use ide_wire::{Fact, Key, Node};
 use std::alloc::{AllocError, Global};
 use std::marker::Model;
+use std::mem;
 
 /// The parts of a key: each a key and the function that its entry is met with. A list that is filled
 /// again keeps its room, and allocates only where it has to grow.
 #[derive(Drop)]
 pub struct PartList<P: Problem> {
     parts: Parts<P>,
+    /// The lists of partners, while nobody has taken them.
+    partners: PartnerLists<P::F>,
 }
 
 impl<P: Problem> Model for PartList<P> {
@@ -34,6 +38,7 @@ impl<P: Problem> PartList<P> {
     {
         PartList {
             parts: Parts::new(alloc),
+            partners: PartnerLists::new(alloc),
         }
     }
 
@@ -51,7 +56,33 @@ impl<P: Problem> PartList<P> {
         ensures { OnOk result (self.new ≡ parts_at P.F.edge P.targets key function site.now partners.now) }
     {
         self.parts.list.clear();
-        self.parts.add_all(key, function, site, partners)
+        self.parts.add_all(key, function, site, partners.lend())
+    }
+
+    /// Takes out the lists that partners are gathered in, for [`PartList::fill_from`], which puts them
+    /// back: so each key's partners have the room of those before. The parts stay. It allocates nothing.
+    #[inline(always)]
+    pub fn take_partners(&mut self, alloc: Global) -> PartnerLists<P::F>
+        ensures { self.new ≡ self.old }
+    {
+        mem::replace(&mut self.partners, PartnerLists::new(alloc))
+    }
+
+    /// The same as [`PartList::fill`], where the partners stand in lists, which it keeps for their room.
+    #[inline(always)]
+    pub fn fill_from(
+        &mut self,
+        key: Key,
+        function: P::F,
+        site: &Site,
+        partners: PartnerLists<P::F>,
+    ) -> Result<(), AllocError>
+        ensures { OnOk result (self.new ≡ parts_at P.F.edge P.targets key function site.now (partners_in partners)) }
+    {
+        self.partners = partners;
+        self.parts.list.clear();
+        self.parts
+            .add_all(key, function, site, self.partners.lend())
     }
 
     /// Makes it the one part that a key with that function owes at its site, where one edge leaves it, which passes the
@@ -87,7 +118,7 @@ impl<P: Problem> PartList<P> {
     pub(crate) fn into_vec(self) -> Vec<(Key, P::F)>
         ensures { result.items ≡ self }
     {
-        let PartList { parts } = self;
+        let PartList { parts, partners: _ } = self;
         let Parts { list, targets: _ } = parts;
         list
     }

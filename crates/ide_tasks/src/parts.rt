@@ -1,10 +1,11 @@
 //! The parts that a task owes: by edge in the site's order, then by partner, then by target.
 ghost use Rattle.std.specs.Prelude.{◌≡◌, ◌++◌, [], ◌∷◌, IfOk, IfSome, OnOk, map};
 ghost use Rattle.std.specs.List.{flat_map};
+ghost use Rattle.ide_tasks.specs.Partners.{partners_lent};
 ghost use Rattle.ide_tasks.specs.Parts.{owed, parts_at, flat_parts, seed_parts, after_parts, resumed_parts, summary_parts, returned_parts};
 
 use crate::part_list::PartList;
-use crate::partners::{Partners, Reaching};
+use crate::partners::{LentPartners, Reaching};
 use crate::task::Task;
 use ide_graph::{Caller, EdgeData, Site};
 use ide_lattice::EdgeFn;
@@ -46,24 +47,28 @@ impl<P: Problem> Parts<P> {
         key: Key,
         function: P::F,
         site: &Site,
-        partners: &Partners<P::F>,
+        partners: LentPartners<'_, P::F>,
     ) -> Result<(), AllocError>
-        ensures { OnOk result (self.new.list.items ≡ self.old.list.items ++ parts_at P.F.edge P.targets key function site.now partners.now) }
+        ensures { OnOk result (self.new.list.items ≡ self.old.list.items ++ parts_at P.F.edge P.targets key function site.now (partners_lent partners.entry)) }
     {
         match (key, site, partners) {
             (Key::Jump(_, from, to), Site::Normal(edges), _) => {
                 self.add_edges(edges.as_slice(), function, from, to)
             }
-            (Key::Jump(_, from, to), Site::Call { calls, along }, Partners::Entries(summaries)) => {
+            (
+                Key::Jump(_, from, to),
+                Site::Call { calls, along },
+                LentPartners::Entries(summaries),
+            ) => {
                 self.add_starts(calls.as_slice(), to)?;
                 self.add_edge(along, function, from, to)?;
-                self.add_over_call(along.end, summaries.as_slice(), function, from)
+                self.add_over_call(along.end, summaries, function, from)
             }
-            (Key::Jump(_, _, to), Site::Exit { callers, .. }, Partners::Callers(reaching)) => {
-                self.add_exit(callers.as_slice(), reaching.as_slice(), function, to)
+            (Key::Jump(_, _, to), Site::Exit { callers, .. }, LentPartners::Callers(reaching)) => {
+                self.add_exit(callers.as_slice(), reaching, function, to)
             }
-            (Key::Summary(_, _, to), Site::Call { along, .. }, Partners::Entries(jumps)) => {
-                self.add_summary(along.end, jumps.as_slice(), function, to)
+            (Key::Summary(_, _, to), Site::Call { along, .. }, LentPartners::Entries(jumps)) => {
+                self.add_summary(along.end, jumps, function, to)
             }
             _ => Ok(()),
         }

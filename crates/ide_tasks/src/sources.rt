@@ -66,9 +66,28 @@ impl<P: Problem> Sources<P> {
     ) -> Result<Vec<Reaching<P::F>>, AllocError>
         ensures { IfOk result (λ reaching. reaching.items ≡ reaching_of fact (slice_index_or self.now procedure [])) }
     {
+        let mut reaching = Vec::new(alloc);
+        self.fill_reaching(procedure, fact, &mut reaching)?;
+        Ok(reaching)
+    }
+
+    /// Makes the list the facts at the procedure's callers that reach `fact` at its start, as
+    /// [`Sources::reaching`] has them. What was in it is gone, and its room is used again: it takes
+    /// memory only where the list has to grow.
+    pub fn fill_reaching(
+        &self,
+        procedure: usize,
+        fact: Fact,
+        reaching: &mut Vec<Reaching<P::F>>,
+    ) -> Result<(), AllocError>
+        ensures { OnOk result (reaching.new.items ≡ reaching_of fact (slice_index_or self.now procedure [])) }
+    {
         match self.procedures.get(procedure) {
-            Some(sources) => reaching_in(alloc, sources.as_slice(), fact),
-            None => Ok(Vec::new(alloc)),
+            Some(sources) => fill_origins(of_fact(sources.as_slice(), fact), reaching),
+            None => {
+                reaching.clear();
+                Ok(())
+            }
         }
     }
 
@@ -142,22 +161,19 @@ fn of_caller<F: EdgeFn>(sources: &[Source<F>], caller: usize) -> &[Source<F>]
     &rest[..count]
 }
 
-/// Where those of the sources that reach the fact are from, where sources ascend by the fact reached.
-fn reaching_in<F: EdgeFn>(
-    alloc: Global,
+/// Makes the list where the sources are from.
+fn fill_origins<F: EdgeFn>(
     sources: &[Source<F>],
-    fact: Fact,
-) -> Result<Vec<Reaching<F>>, AllocError>
-    ensures { Ascends sources.now → IfOk result (λ reaching. reaching.items ≡ reaching_of fact sources.now) }
+    origins: &mut Vec<Reaching<F>>,
+) -> Result<(), AllocError>
+    ensures { OnOk result (origins.new.items ≡ map (λ source. source.from) sources.now) }
 {
-    origins(alloc, of_fact(sources, fact))
-}
-
-/// Where the sources are from.
-fn origins<F: EdgeFn>(alloc: Global, sources: &[Source<F>]) -> Result<Vec<Reaching<F>>, AllocError>
-    ensures { IfOk result (λ origins. origins.items ≡ map (λ source. source.from) sources.now) }
-{
-    sources.iter().map(|source| source.from).collect(alloc)
+    origins.clear();
+    origins.reserve(sources.len())?;
+    for source in sources {
+        origins.push_reserved(source.from);
+    }
+    Ok(())
 }
 
 /// The sources of each procedure.

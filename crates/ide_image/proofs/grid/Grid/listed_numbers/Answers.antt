@@ -7,7 +7,7 @@ use Rattle.ide_image.proofs.grid.Grid.listed_numbers.Goals as goal
 pub loop-row-preserved : goal.loop-row-preserved
 loop-row-preserved g c =
     let indexed = c.args.indexed.now in
-    let pages = c.args.self.now.pages in
+    let pages = c.args.self.now in
     let row = c.loop-row.row in
     let number = subst (λ o. IfSome o (IsRowNumber indexed pages)) c.in-Some.is c.row_number.ensures.number in
     let low = subst (λ o. IfSome o (λ number. number % 65536 ≡ row)) c.in-Some.is c.row_number.ensures.row in

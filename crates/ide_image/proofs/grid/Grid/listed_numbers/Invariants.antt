@@ -6,7 +6,7 @@ use Rattle.ide_image.proofs.grid.Grid.listed_numbers.Given as goal
 -- the numbers are of the rows before this one, and there is room for one of each row
 abbrev pub invariant-loop-row : goal.invariant-loop-row
 invariant-loop-row g l = record {
-  numbers : AreNumbersTo l.indexed l.self.pages l.row l.numbers.items;
+  numbers : AreNumbersTo l.indexed l.self l.row l.numbers.items;
   few : vec_len l.numbers ≤ l.row;
   room : l.count ≤ vec_capacity l.numbers;
 }

@@ -4,20 +4,19 @@ use Rattle.std.specs.Prelude.{slice_index}
 use Rattle.std.proofs.lemmas.Bool.Decides.{nat_tests}
 use Rattle.ide_wire.specs.Key.{node_of}
 use Rattle.ide_image.specs.Cells.{BeginsWith, tables_of}
-use Rattle.ide_image.specs.Grid.{Grid}
 use Rattle.ide_image.proofs.Rows.{row-numbered}
 use Rattle.ide_image.proofs.grid.Grid.row_number.Goals as goal
 
 pub returns-clause-number : goal.returns-clause-number
 returns-clause-number g c =
     let indexed = c.args.indexed.now in
-    let pages = c.args.self.now.pages in
+    let pages = c.args.self.now in
     let key = c.in_ok-key.key in
-    let same = ap (λ (grid : Grid). length grid.pages) c.self.view_is in
+    let same = ap length c.self.view_is in
     let begins : BeginsWith (tables_of indexed) (slice_index pages c.args.row) key =
     subst (λ page. BeginsWith (tables_of indexed) page key)
     (c.index.ensures ∙ get_or_default_zero c.self.inside.pages.items c.args.row c.index.result.now (omega (arith, same, c.requires.there))
-    ∙ ap (λ (grid : Grid). slice_index grid.pages c.args.row) c.self.view_is)
+    ∙ ap (λ pages. slice_index pages c.args.row) c.self.view_is)
     c.in_ok-key.ensures.first in
     let whole : node_of key % 64 ≡ 0 = grind (arith, nat_tests, c.node.ensures, c.if-node-ne0.false) in
-    row-numbered indexed pages c.args.row key c.number_of.result begins whole c.number_of.ensures
+    row-numbered indexed pages c.args.row key c.number_of.result c.requires.there begins whole c.number_of.ensures

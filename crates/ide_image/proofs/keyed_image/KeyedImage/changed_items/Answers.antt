@@ -1,6 +1,6 @@
-use Rattle.std.proofs.Common.{◌≡◌, Bool, List, Option, Some, [], sym, ap, subst, ◌∙◌}
-use Rattle.std.specs.Prelude.{unwrap_or}
-use Rattle.std.specs.List.{filter_map}
+use Rattle.std.proofs.Common.{◌≡◌, Bool, List, Option, Some, [], true, sym, ap, subst, ◌∙◌}
+use Rattle.std.specs.Prelude.{nat_eq, unwrap_or}
+use Rattle.std.specs.List.{filter_map, list_any}
 use Rattle.std.specs.List.Sorted.{IsPermutation, IsSortedByKey}
 use Rattle.ide_wire.specs.KeyOrder.{key_cmp}
 use Rattle.ide_wire.specs.declared.key.Key.{Key}
@@ -15,6 +15,7 @@ use Rattle.ide_image.specs.Ranks.{items_in, left_by_slots}
 use Rattle.ide_image.specs.Tables.{found}
 use Rattle.ide_image.proofs.Agree.{is-pending}
 use Rattle.ide_image.proofs.Shown.{found-shown}
+use Rattle.ide_image.proofs.Slotted.{noted-among}
 use Rattle.ide_image.proofs.keyed_image.KeyedImage.changed_items.Goals as goal
 
 -- what is left by the slots of notes is what is left of the image's
@@ -28,6 +29,12 @@ left-same {F} same indexed marks claims changes whole notes listed =
     ∙ ap (λ b. left_of same note.0 (found (table_of indexed.cells) note.0) b note.1) (sym (is-pending indexed marks claims changes whole note.0)) in
     (λ i. filter_map (λ note. each note i) notes)
     ∙ ap (λ list. filter_map (left_item same (image_by indexed marks claims changes)) (unwrap_or list [])) listed
+
+pub invariant_of-noted-clause-marked : goal.invariant_of-noted-clause-marked
+invariant_of-noted-clause-marked g c = λ slot is.
+    let inside = c.self.inside in
+    subst (λ slots. list_any (nat_eq slot) slots ≡ true) (sym c.slots.ensures)
+    (noted-among inside.indexed inside.queue inside.claims.items inside.changes c.self.invariant slot (sym (c.stamp_marks.ensures slot) ∙ is))
 
 pub returns-clause-same : goal.returns-clause-same
 returns-clause-same g c =

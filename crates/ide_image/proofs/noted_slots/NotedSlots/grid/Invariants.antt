@@ -1,14 +1,11 @@
-use Rattle.std.proofs.Common.{◌≡◌, ℕ, ◌+◌, ◌≤◌, drop, length}
-use Rattle.ide_image.specs.Grid.{HasSlot, TellsOneOf}
-use Rattle.ide_image.specs.Ranks.{left_by_slots}
+use Rattle.std.proofs.Common.{ℕ, ◌<◌, true}
+use Rattle.ide_image.specs.Grid.{HavePages}
+use Rattle.ide_image.specs.Ranks.{SaysIfLeftAt}
 use Rattle.ide_image.proofs.noted_slots.NotedSlots.grid.Given as goal
 
--- each slot on the grid tells something that is left, and as many were put as are left of the notes before this one
+-- something is left of each note before this one, and the page of its slot has a row
 abbrev pub invariant-loop-index : goal.invariant-loop-index
-invariant-loop-index g l =
-    let left = left_by_slots g.F.PartialEq.eq l.self.indexed.now l.self.queue.now in
-    record {
-      each : (s : ℕ) → HasSlot l.grid s → TellsOneOf l.self.indexed.now l.self.queue.now (left l.self.notes.now) s;
-      count : l.grid.count + length (left (drop l.index l.self.notes.now)) ≡ length (left l.self.notes.now);
-      few : l.grid.count ≤ l.index;
-    }
+invariant-loop-index g l = record {
+  pages : HavePages l.self.slots.now l.index l.grid;
+  left : (i : ℕ) → i < l.index → SaysIfLeftAt g.F.PartialEq.eq l.self.indexed.now l.self.queue.now l.self.notes.now i true;
+}

@@ -1,12 +1,11 @@
-use Rattle.std.proofs.Common.{◌≡◌, ◌∙◌, Ok, ap, arith, rules, subst, sym}
+use Rattle.std.proofs.Common.{◌≡◌, ◌∙◌, arith, subst, sym}
 use Rattle.std.proofs.lemmas.Result.{err_from_is_err_and}
-use Rattle.ide_steps.specs.Running.{AreAllClaimed, IsNextOwed}
 use Rattle.ide_steps.proofs.Free.{quiet-free}
 use Rattle.ide_steps.proofs.States.{handed-on}
 use Rattle.ide_wire.specs.declared.refused.Refused.TheVariants.{NoMemory}
-use Rattle.ide_store.specs.Draining.{IsWorkStop, WorksBy, memory_is_wanting}
+use Rattle.ide_store.specs.Draining.{ComesTo, IsWorkStop, WorksBy, memory_is_wanting}
 use Rattle.ide_store.proofs.Drained.{works_still}
-use Rattle.ide_store.specs.Table.{Analysis, TableData}
+use Rattle.ide_store.specs.Table.{Analysis}
 use Rattle.ide_store.proofs.table.TableHalf.run_next.Given.{Over}
 use Rattle.ide_store.proofs.table.TableHalf.run_next.Goals as goal
 
@@ -21,7 +20,7 @@ kept g = record {
   form = g.P.F.Wire.form;
 }
 
--- a walk that is refused
+-- memory is wanting
 pub returns-in_err-count-clause-stops : goal.returns-in_err-count-clause-stops
 returns-in_err-count-clause-stops g c =
     (0, 0, omega arith, subst (λ new. WorksBy (kept g) c.args.self.now new 0 0) (sym c.in_err-count.ensures.unchanged) (works_still (kept g) _ _ (λ place w handed reached on. on)))
@@ -29,35 +28,39 @@ returns-in_err-count-clause-stops g c =
 pub returns-in_err-count-clause-refused : goal.returns-in_err-count-clause-refused
 returns-in_err-count-clause-refused g c =
     let p = err_from_is_err_and c.from_residual.result c.from_residual.ensures.1 in
-    handed-on (IsWorkStop _ _ c.walk.new.self) c.from_residual.result NoMemory p.0 p.1 (p.2 ∙ c.in_err-count.ensures.refused) memory_is_wanting
+    handed-on (IsWorkStop _ _ c.next_key.new.self) c.from_residual.result NoMemory p.0 p.1 (p.2 ∙ c.in_err-count.ensures.refused) memory_is_wanting
 
--- no key is pending
-pub returns-in_default-clause-quiet : goal.returns-in_default-clause-quiet
-returns-in_default-clause-quiet g c = λ _.
-    let all = c.in_ok-key.ensures.none (ap Ok c.in_default.is) in
-    quiet-free c.walk.new.self.core.pile c.in_ok-count.ensures.may.free
-    (subst (λ (table : TableData g.row.P-F.Denot). AreAllClaimed table.core.pile) c.self.view_is all)
+-- a walk over some nodes
+pub returns-in-Walked-clause-quiet : goal.returns-in-Walked-clause-quiet
+returns-in-Walked-clause-quiet g c = λ is.
+    let came = subst (ComesTo (kept g) c.args.self.now c.next_key.new.self c.args.most c.next_key.new.parts) c.in-Walked.is c.in_ok-count.ensures.comes in
+    let some = came.0 in
+    let none : c.in-Walked.count ≡ 0 = cc (is) in
+    absurd (omega (arith, some, none))
 
 -- the parts of a key
-pub returns-in_err-key-clause-refused : goal.returns-in_err-key-clause-refused
-returns-in_err-key-clause-refused g c =
-    let p = err_from_is_err_and c.from_residual-in_err-key.result c.from_residual-in_err-key.ensures.1 in
-    handed-on (IsWorkStop _ _ c.walk.new.self) c.from_residual-in_err-key.result NoMemory p.0 p.1 (p.2 ∙ c.in_err-key.ensures.refused) memory_is_wanting
-
-pub run-requires-clause-owed : goal.run-requires-clause-owed
-run-requires-clause-owed g c =
-    let next = c.in_ok-key.ensures.owed c.in-Some.key (ap Ok c.in-Some.is) in
-    subst (λ parts. IsNextOwed g.P.F.EdgeFn.edge g.P.Problem.targets c.walk.new.self.core parts c.in-Some.key) (sym c.as_slice.ensures)
-    (subst (λ (table : TableData g.row.P-F.Denot). IsNextOwed g.P.F.EdgeFn.edge g.P.Problem.targets table.core c.next_owed.new.parts c.in-Some.key) c.self.view_is next)
-
-pub returns-in_err-run-clause-stops : goal.returns-in_err-run-clause-stops
-returns-in_err-run-clause-stops g c =
+pub returns-in_err-run-in-Owes-clause-stops : goal.returns-in_err-run-in-Owes-clause-stops
+returns-in_err-run-in-Owes-clause-stops g c =
+    let came = subst (ComesTo (kept g) c.args.self.now c.next_key.new.self c.args.most c.next_key.new.parts) c.in-Owes.is c.in_ok-count.ensures.comes in
     let stops = c.run.ensures.stops in
-    let still : c.walk.new.self ≡ c.args.self.now = search rules in
-    (stops.0, stops.1, stops.2, subst (λ old. WorksBy (kept g) old c.run.new.self stops.0 stops.1) still stops.3)
+    (stops.0, stops.1, stops.2, subst (λ old. WorksBy (kept g) old c.run.new.self stops.0 stops.1) came.0 stops.3)
 
-pub returns-clause-stops : goal.returns-clause-stops
-returns-clause-stops g c =
+pub returns-in_ok-run-in-Owes-clause-stops : goal.returns-in_ok-run-in-Owes-clause-stops
+returns-in_ok-run-in-Owes-clause-stops g c =
+    let came = subst (ComesTo (kept g) c.args.self.now c.next_key.new.self c.args.most c.next_key.new.parts) c.in-Owes.is c.in_ok-count.ensures.comes in
     let stops = c.run.ensures.stops in
-    let still : c.walk.new.self ≡ c.args.self.now = search rules in
-    (stops.0, stops.1, stops.2, subst (λ old. WorksBy (kept g) old c.run.new.self stops.0 stops.1) still stops.3)
+    (stops.0, stops.1, stops.2, subst (λ old. WorksBy (kept g) old c.run.new.self stops.0 stops.1) came.0 stops.3)
+
+-- no key is pending
+pub returns-in-Nothing-clause-works : goal.returns-in-Nothing-clause-works
+returns-in-Nothing-clause-works g c =
+    let came = subst (ComesTo (kept g) c.args.self.now c.next_key.new.self c.args.most c.next_key.new.parts) c.in-Nothing.is c.in_ok-count.ensures.comes in
+    subst (λ new. WorksBy (kept g) c.args.self.now new 0 0) (sym came.0) (works_still (kept g) _ _ (λ place w handed reached on. on))
+
+pub returns-in-Nothing-clause-stops : goal.returns-in-Nothing-clause-stops
+returns-in-Nothing-clause-stops g c = (0, 0, omega arith, returns-in-Nothing-clause-works g c)
+
+pub returns-in-Nothing-clause-quiet : goal.returns-in-Nothing-clause-quiet
+returns-in-Nothing-clause-quiet g c = λ _.
+    let came = subst (ComesTo (kept g) c.args.self.now c.next_key.new.self c.args.most c.next_key.new.parts) c.in-Nothing.is c.in_ok-count.ensures.comes in
+    quiet-free c.next_key.new.self.core.pile c.in_ok-count.ensures.may.free came.1
