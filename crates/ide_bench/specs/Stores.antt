@@ -6,9 +6,8 @@ use Rattle.ide_slot_store.specs.Sizes.{bytes_of}
 use Rattle.ide_slot_store.specs.declared.engine.SlotEngine.{SlotEngine}
 use Rattle.ide_bench.specs.declared.stores.Amounts.{Amounts}
 
--- the amounts are those of the engine's halves and its disks, and of so many tasks
-pub record AreAmountsOf {P D L F : Type 0} {G : Ghosts D} (engine : SlotEngine P D L F G) (tasks : ℕ) (amounts : Amounts) : Type 0 where
+-- the amounts are those of the engine's halves and its disks
+pub record AreAmountsOf {P D L F : Type 0} {G : Ghosts D} (engine : SlotEngine P D L F G) (amounts : Amounts) : Type 0 where
   pub records : amounts.stored.records ≡ records_stored engine.writer.journal
   pub bytes : amounts.stored.bytes ≡ bytes_of engine.writer
   pub keys : amounts.keys ≡ length engine.table.core.table.entries
-  pub done : amounts.tasks ≡ tasks

@@ -8,7 +8,7 @@
 //! - `fill FILE WORKERS` does so with so many workers, and prints the microseconds of the clock that start values, the
 //!   fill and the dump took;
 //! - `keep FILE` solves as far as `tabulate`, in a store on two disks in memory, and prints how many records
-//!   were stored, how long the disks are, and how many keys and tasks there were;
+//!   were stored, how long the disks are, and how many keys there were;
 //! - `resume FILE` does so, opens the store from its disks and prints the same of it;
 //! - `checkpoint FILE` does what `keep` does, makes a checkpoint and prints the same;
 //! - `bytes FILE` does what `keep` does and copies the bytes of the first disk once;

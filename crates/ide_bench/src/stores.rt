@@ -28,24 +28,18 @@ const ROOM: usize = 16_777_216;
 /// No client orders commands while hands work.
 const NO_CLIENTS: u64 = 0;
 
-/// What a store has on its disks, how many keys it has, and how many tasks that took.
+/// What a store has on its disks, and how many keys it has.
 #[derive(Clone, Copy)]
 pub(crate) struct Amounts {
     stored: Stored,
     keys: usize,
-    tasks: u64,
 }
 
 impl Amounts {
     /// Each number by its name.
-    pub(crate) fn figures(self) -> [Figure; 4] {
+    pub(crate) fn figures(self) -> [Figure; 3] {
         let [records, bytes] = self.stored.figures();
-        [
-            records,
-            bytes,
-            ("keys", self.keys as u64),
-            ("tasks", self.tasks),
-        ]
+        [records, bytes, ("keys", self.keys as u64)]
     }
 }
 
@@ -85,22 +79,20 @@ fn begin<P: Problem>(
     Ok(())
 }
 
-/// Tabulates a text's program, stores what that did, and answers how many tasks it took.
+/// Tabulates a text's program, and stores what that does as it goes.
 fn store_run(
     alloc: Global,
     engine: &mut SlotEngine<CopyConst, PlainDisk>,
     text: &[u8],
-) -> Result<u64> {
+) -> Result<()> {
     begin(alloc, engine, text)?;
-    let tasks = engine.table.drain()?;
-    engine.table.seal()?;
-    engine.store_all()?;
-    Ok(tasks)
+    engine.work_off()?;
+    Ok(())
 }
 
-/// What the store came to, by so many tasks.
-fn measure_store<P: Problem>(engine: SlotEngine<P, PlainDisk>, tasks: u64) -> Result<Amounts>
-    ensures { IfOk result (AreAmountsOf engine tasks) }
+/// What the store came to.
+fn measure_store<P: Problem>(engine: SlotEngine<P, PlainDisk>) -> Result<Amounts>
+    ensures { IfOk result (AreAmountsOf engine) }
 {
     let records = engine.acked();
     let keys = engine.table.core().key_count();
@@ -111,15 +103,14 @@ fn measure_store<P: Problem>(engine: SlotEngine<P, PlainDisk>, tasks: u64) -> Re
     Ok(Amounts {
         stored: Stored { records, bytes },
         keys,
-        tasks,
     })
 }
 
 /// Keeps a text's run in a store.
 pub(crate) fn keep(alloc: Global, text: &[u8]) -> Result<Amounts> {
     let mut engine = create(alloc)?;
-    let tasks = store_run(alloc, &mut engine, text)?;
-    measure_store(engine, tasks)
+    store_run(alloc, &mut engine, text)?;
+    measure_store(engine)
 }
 
 /// How many workers there are, how many keys each of them has at once, and how many tasks it does in one hold of the lock.
@@ -130,8 +121,7 @@ pub(crate) struct Pace {
     pub(crate) ahead: usize,
 }
 
-/// Lets workers and one that writes end the run of a store that was opened with a board; how many tasks that took nobody
-/// counts.
+/// Lets workers and one that writes end the run of a store that was opened with a board.
 macro_rules! end_run {
     ($rt:expr, $opened:expr, $pace:expr) => {{
         let service = Service::<_, _, J>::new($rt.alloc(), $opened);
@@ -144,7 +134,7 @@ macro_rules! end_run {
             keys: $pace.keys,
         };
         work_together($rt, $rt.alloc(), &crew, $pace.workers)?;
-        measure_store(service.into_engine(), 0)
+        measure_store(service.into_engine())
     }};
 }
 
@@ -205,18 +195,18 @@ fn work_opened<J: Accord + Send + Sync, R: Threads + Wait + Clock + Sync + Alloc
 /// Keeps a text's run in a store, and opens that store from its disks.
 pub(crate) fn resume(alloc: Global, text: &[u8]) -> Result<Amounts> {
     let mut engine = create(alloc)?;
-    let tasks = store_run(alloc, &mut engine, text)?;
+    store_run(alloc, &mut engine, text)?;
     let (a, b) = engine.into_disks();
-    measure_store(open(alloc, a, b)?, tasks)
+    measure_store(open(alloc, a, b)?)
 }
 
 /// Keeps a text's run in a store, and makes a checkpoint of it.
 pub(crate) fn checkpoint(alloc: Global, text: &[u8]) -> Result<Amounts> {
     let mut engine = create(alloc)?;
-    let tasks = store_run(alloc, &mut engine, text)?;
+    store_run(alloc, &mut engine, text)?;
     engine.checkpoint(alloc)?;
     engine.store_all()?;
-    measure_store(engine, tasks)
+    measure_store(engine)
 }
 
 /// Keeps a text's run in a store, reads its first disk as an opening does, and answers how many bytes there are.

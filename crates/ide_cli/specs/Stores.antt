@@ -5,7 +5,7 @@ use Rattle.std.specs.contracts.fs.File.{the_row as file_row}
 use Rattle.std.specs.declared.fs.File.{File}
 use Rattle.ide_commands.specs.Asked.{Dumps, WritesText}
 use Rattle.ide_commands.specs.Obeyed.{Obeys}
-use Rattle.ide_commands.specs.Stored.{PrintsQuiet, WorksAll}
+use Rattle.ide_commands.specs.Stored.{PrintsQuiet}
 use Rattle.ide_commands.specs.declared.stores.Store.{Store}
 use Rattle.ide_commands.specs.declared.stores.Store.TheVariants.{Uninit, Copy, Shift}
 use Rattle.ide_disk.specs.declared.disk.Disk.{Ghosts}
@@ -14,6 +14,7 @@ use Rattle.ide_file.specs.contracts.system.FileBackingFile.TheImpl.{dict as file
 use Rattle.ide_file.specs.declared.disk.FileDisk.{FileDisk}
 use Rattle.ide_instances.specs.ConstValue.{shown_constant}
 use Rattle.ide_instances.specs.UninitValue.{shown_uninit}
+use Rattle.ide_slot_store.specs.Working.{WorksAll}
 use Rattle.ide_slot_store.specs.declared.engine.SlotEngine.{SlotEngine}
 use Rattle.ide_store.specs.Table.{Analysis}
 use Rattle.ide_words.specs.declared.words.StoreCommand.{StoreCommand}

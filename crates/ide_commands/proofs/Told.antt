@@ -5,8 +5,6 @@ use Rattle.std.specs.Option.{option_copied}
 use Rattle.std.specs.Borrow.{Bor}
 use Rattle.ide_graph.specs.Supergraph.{Supergraph}
 use Rattle.ide_store.specs.Table.{Analysis, TableData}
-use Rattle.ide_store.specs.TableCalls.{FindsNothing, SealsBatch}
-use Rattle.ide_store.specs.declared.outbox.Ticket.{Ticket}
 use Rattle.ide_image.specs.Tables.{Table}
 use Rattle.ide_steps.specs.Frozen.{graph_in}
 use Rattle.ide_steps.specs.declared.closed.Closed.{Closed}
@@ -17,14 +15,8 @@ use Rattle.ide_values.specs.Refusal.{IsValuesRefusal, memory, no_worker, too_man
 use Rattle.ide_values.specs.Values.{ValuesData, dump_of_values}
 use Rattle.ide_wire.specs.declared.refused.Refused.{Refused}
 use Rattle.ide_commands.specs.Asked.{AreNow, Dumps, IsDumpRefusal, WritesText, no_memory}
-use Rattle.ide_commands.specs.Stored.{SealsRest, seals_batch, seals_nothing}
 
 module _ {F L : Type 0} (a : Analysis F L) where
-  pub seals_rest : (drained kept : TableData F) (sealed : Option Ticket) → (sealed ≡ None → FindsNothing a drained kept)
-      → IfSome sealed (λ ticket. SealsBatch a drained kept ticket.number) → SealsRest a drained kept
-  seals_rest drained kept None nothing batch = seals_nothing (nothing refl)
-  seals_rest drained kept (Some ticket) nothing batch = seals_batch ticket.number batch
-
   pub are_now : (table : TableData F) (values : ValuesData L) (graph : Supergraph) (tables : Table F) (roots : List ℕ)
       → table.core.pile.pending ≡ [] → table.core.graph ≡ Some graph → tables ≡ table.core.table → roots ≡ table.core.roots
       → values.graph ≡ graph → values.roots ≡ roots → FollowFrom a.lattice a.functions a.targets graph tables roots values.values

@@ -3,12 +3,12 @@ use Rattle.std.specs.Global.{Vec}
 use Rattle.std.specs.Prelude.{◌≡◌, ◌++◌, ℕ, Bool, List, [], Ok, codes}
 use Rattle.ide_disk.specs.declared.disk.Disk.{Ghosts}
 use Rattle.ide_journal.specs.declared.version.Version.TheVariants.{One, Two}
-use Rattle.ide_store.specs.Draining.{DrainsBy}
 use Rattle.ide_store.specs.Table.{Analysis, TableData}
-use Rattle.ide_store.specs.TableCalls.{BeginsRoot, FindsNothing, LoadsProgram, SealsBatch}
+use Rattle.ide_store.specs.TableCalls.{BeginsRoot, LoadsProgram}
 use Rattle.ide_slot_journal.specs.Stands.{IsFilling}
 use Rattle.ide_slot_store.specs.Asking.{AsksOver}
 use Rattle.ide_slot_store.specs.Storing.{StoreAll}
+use Rattle.ide_slot_store.specs.Working.{WorksAll}
 use Rattle.ide_slot_store.specs.declared.engine.SlotEngine.{SlotEngine}
 use Rattle.ide_text.specs.Parsed.{IsParsed}
 use Rattle.ide_text.specs.Program.{value_of}
@@ -35,11 +35,6 @@ module _ {P D L F : Type 0} {G : Ghosts D} (engine : SlotEngine P D L F G) (old 
   abbrev pub PrintsVersion : Type 0
   PrintsVersion = new.items ≡ old.items ++ version_line engine.writer.journal.version
 
--- what changed is sealed, if anything did
-pub data SealsRest {F L : Type 0} (a : Analysis F L) (drained kept : TableData F) : Type 0 where
-  seals_nothing : FindsNothing a drained kept → SealsRest a drained kept
-  seals_batch : (number : ℕ) → SealsBatch a drained kept number → SealsRest a drained kept
-
 module _ {F L : Type 0} (a : Analysis F L) {P D : Type 0} {G : Ghosts D} (old new : SlotEngine P D L F G) where
   -- the program that the text spells is loaded, with that number, and then all that was sealed is stored
   pub record StoresText (text : List ℕ) (number : ℕ) : Type 0 where
@@ -55,19 +50,9 @@ module _ {F L : Type 0} (a : Analysis F L) {P D : Type 0} {G : Ghosts D} (old ne
     pub begins : BeginsRoot a name old.table rooted number
     pub stores : StoreAll a rooted new.table old.writer new.writer
 
-  -- all that was pending is done, so that nothing is, and then all that was sealed is stored
-  pub record WorksAll : Type 0 where
-    pub tasks : ℕ
-    pub drained : TableData F
-    pub drains : DrainsBy a old.table drained tasks
-    pub quiet : drained.core.pile.pending ≡ []
-    pub kept : TableData F
-    pub seals : SealsRest a drained kept
-    pub stores : StoreAll a kept new.table old.writer new.writer
-
-  -- and the line of a quiet store is printed
+  -- all that was pending is done and stored, and the line of a quiet store is printed
   abbrev pub EndsQuiet : (before after : Vec ℕ) → Type 0
-  EndsQuiet before after = PrintsQuiet WorksAll before after
+  EndsQuiet before after = PrintsQuiet (WorksAll a old new) before after
 
   -- a checkpoint is asked for, and then all that was sealed is stored, until no call of a checkpoint is left to make
   pub record MakesCheckpoint : Type 0 where

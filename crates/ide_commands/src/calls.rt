@@ -2,7 +2,7 @@
 ghost use Rattle.std.specs.Prelude.{◌≡◌, ◌++◌, ℕ, List, OnErr, OnOk, IfErr, IfOk};
 ghost use Rattle.ide_commands.specs.Asked.{Answers, AreNow, Dumps, IsDumpRefusal, Prints, PrintsDump, WritesText};
 ghost use Rattle.ide_commands.specs.Lines.{stored_line};
-ghost use Rattle.ide_commands.specs.Stored.{EndsQuiet, MakesCheckpoint, MakesRoot, Migrates, PrintsGeneration, PrintsStored, PrintsVersion, StoresText, WorksAll};
+ghost use Rattle.ide_commands.specs.Stored.{EndsQuiet, MakesCheckpoint, MakesRoot, Migrates, PrintsGeneration, PrintsStored, PrintsVersion, StoresText};
 
 use crate::lines::{append_line, version_number};
 use ide_disk::Disk;
@@ -49,26 +49,16 @@ pub(crate) fn root<P: Problem, D: Disk>(
     Ok(())
 }
 
-/// Does what the hands left pending, and appends `quiet` once all is stored. Where nothing is pending and all is
-/// stored, as the hands leave it, it makes no disk call.
+/// Does what the hands left pending, each batch stored as it is full, and appends `quiet` once all is stored. Where nothing is
+/// pending and all is stored, as the hands leave it, it makes no disk call.
 pub fn end_work<P: Problem, D: Disk>(
     engine: &mut SlotEngine<P, D>,
     out: &mut Vec<u8>,
 ) -> Result<(), Refused>
     ensures { OnOk result (EndsQuiet ⟦<P as Kept>⟧.analysis engine.old engine.new out.old out.new) }
 {
-    work_alone(engine)?;
+    engine.work_off()?;
     out.extend_from_slice(b"quiet\n")?;
-    Ok(())
-}
-
-/// Does all that is pending by one hand, and stores it.
-fn work_alone<P: Problem, D: Disk>(engine: &mut SlotEngine<P, D>) -> Result<(), Refused>
-    ensures { OnOk result (WorksAll ⟦<P as Kept>⟧.analysis engine.old engine.new) }
-{
-    let _ = engine.table.drain()?;
-    let _ = engine.table.seal()?;
-    engine.store_all()?;
     Ok(())
 }
 

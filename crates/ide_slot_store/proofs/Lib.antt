@@ -14,3 +14,4 @@ pub mod Stopping
 pub mod Stored
 pub mod Writing
 pub mod Sizes
+pub mod Worked

@@ -11,3 +11,4 @@ pub mod Runs
 pub mod Sizes
 pub mod Storing
 pub mod Writing
+pub mod Working

@@ -17,6 +17,7 @@ mod laws;
 mod parts;
 mod planning;
 mod storing;
+mod working;
 mod writer;
 
 pub use engine::SlotEngine;
