@@ -1,5 +1,5 @@
 -- Lowering one place of the rows from a node on by what a jump function gives it.
-use Rattle.std.proofs.Common.{refl, ◌≡◌, ◌≢◌, ℕ, ◌+◌, ◌*◌, ◌<◌, ◌≤◌, List, length, get_or, ap, sym, subst, ◌∙◌, inl, inr, arith}
+use Rattle.std.proofs.Common.{refl, ◌≡◌, ◌≢◌, ℕ, ◌+◌, ◌*◌, ◌^◌, ◌<◌, ◌≤◌, List, length, get_or, ap, sym, subst, ◌∙◌, inl, inr, arith}
 use Rattle.std.proofs.Math.Nat.{add-mul, mul-le-mul_right}
 use Rattle.std.proofs.lemmas.Bool.{cases_eq, cases_lt}
 use Rattle.ide_graph.specs.Supergraph.{Supergraph}
@@ -45,26 +45,31 @@ module _ {F L : Type 0} (A : LatticeAlgebra L) (B : EdgeAlgebra F L) (graph : Su
         let same : node * graph.facts + to ≡ n * graph.facts + d = ap (λ m. m * graph.facts + to) both.0 ∙ ap (λ b. n * graph.facts + b) both.1 in
         other (omega (arith, ends_at, at, same))
 
-    -- and where it ends behind them
-    pub meets_behind : (rows : List L) → length rows ≤ place → Meets A B graph starts first (Jump node from to) f rows rows
-    meets_behind rows past =
-        meets_none rows (λ k n d within r at both. ends_elsewhere k n d at (λ same. omega (arith, same, within, past)) both)
-
-    -- else the value at the place is met
-    pub meets_there : (old new : List L) (value : L) → place < length old
+    -- so the value there is met, if it is one of them
+    pub meets_there : (old new : List L) (value : L)
         → ((q : ℕ) → q ≢ place → get_or new q A.top ≡ get_or old q A.top)
         → (place < length old → get_or new place A.top ≡ A.meet (get_or old place A.top) value)
         → (node < graph.nodes → value ≡ B.apply f (value_before A graph starts node from))
         → Meets A B graph starts first (Jump node from to) f old new
-    meets_there old new value there other met gives has k n d within h r at = elim (cases_eq k place) [
+    meets_there old new value other met gives has k n d within h r at = elim (cases_eq k place) [
       | inl same ↦
           let both : (node ≡ n) × (to ≡ d) =
           same_place node n to d graph.facts has.1 r (ends_at ∙ ap (λ p. first * graph.facts + p) (sym same) ∙ sym at) in
-          subst (λ p. get_or new p A.top ≡ A.meet (get_or old p A.top) value) (sym same) (met there)
+          subst (λ p. get_or new p A.top ≡ A.meet (get_or old p A.top) value) (sym same) (met (omega (arith, within, same)))
           ∙ ap (A.meet (get_or old k A.top)) (gives (omega (arith, h, both.0)))
           ∙ sym (chosen_same node n to d _ _ both.0 both.1)
       | inr apart ↦ other k apart ∙ sym (chosen_apart node n to d _ _ (ends_elsewhere k n d at apart))
     ]
+
+-- the place of a fact in the row behind a row
+pub place_behind : (row next facts to place : ℕ) → next ≡ row + 1 → place ≡ row * facts + to → place + facts ≡ next * facts + to
+place_behind row next facts to place step is = omega (arith, ap (λ r. r * facts) step, is)
+
+-- places of few rows are small
+pub place_few : (row facts to place : ℕ) → row < 2 ^ 33 → facts ≤ 2 ^ 16 → to < 2 ^ 32 → place ≡ row * facts + to → place + facts < 2 ^ 64
+place_few row facts to place few least less is =
+    let most : row * facts ≤ 2 ^ 33 * facts = mul-le-mul_right facts (omega (arith, few)) in
+    omega (arith, most, least, less, is)
 
 -- a key at a node that has none of the rows changes nothing
 pub meets_elsewhere : {F L : Type 0} (A : LatticeAlgebra L) (B : EdgeAlgebra F L) (graph : Supergraph) (starts : List L) (first more : ℕ) (key : Key) (f : F)

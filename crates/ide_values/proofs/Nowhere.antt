@@ -1,5 +1,5 @@
 -- An entry at whose node no call has edges hands nothing on, and so does each cell that is not listed.
-use Rattle.std.proofs.Common.{◌≡◌, ℕ, ◌+◌, ◌*◌, ◌<◌, ◌⊎◌, ◌++◌, List, [], ◌∷◌, Option, Some, None, inl, inr, arith, length, ap, subst, sym, ◌∙◌}
+use Rattle.std.proofs.Common.{◌≡◌, ℕ, ◌+◌, ◌*◌, ◌/◌, ◌%◌, ◌<◌, ◌≤◌, ◌⊎◌, ◌++◌, List, [], ◌∷◌, Option, Some, None, inl, inr, arith, length, ap, subst, sym, ◌∙◌}
 use Rattle.std.proofs.lemmas.Bool.{cases_lt}
 use Rattle.std.proofs.lemmas.List.Elements.{All-push, Contains-append_left, Contains-push}
 use Rattle.std.proofs.lemmas.List.Sorted.{All-permutation, Contains-permutation}
@@ -10,7 +10,7 @@ use Rattle.ide_graph.specs.Supergraph.{Supergraph}
 use Rattle.ide_lattice.specs.Algebra.{LatticeAlgebra, EdgeAlgebra}
 use Rattle.ide_problem.specs.Flow.{Targets}
 use Rattle.ide_theory.specs.Member.{Each}
-use Rattle.ide_image.specs.Cells.{TablesData, shown_in}
+use Rattle.ide_image.specs.Cells.{BeginsWith, TablesData, shown_in}
 use Rattle.ide_wire.specs.Key.{node_of}
 use Rattle.ide_wire.specs.declared.key.Key.{Key}
 use Rattle.ide_wire.specs.declared.key.Key.TheVariants.{Jump, Summary}
@@ -18,6 +18,7 @@ use Rattle.ide_values.specs.declared.starts.CallJump.{CallJump}
 use Rattle.ide_values.specs.Pass.{IsSteadyBy, IsSteadyOver, calls_of}
 use Rattle.ide_values.specs.Jumps.{AreJumps, AreListed, HandsNothing, HasJump, IsNoCall, Shows}
 use Rattle.ide_values.specs.Near.{HasNoJump, IsSummary}
+use Rattle.ide_values.specs.NextCalls.{HaveNoCalls}
 use Rattle.ide_values.specs.Settled.{IsSteady}
 use Rattle.ide_values.proofs.Shown.{found_is_shown}
 
@@ -92,6 +93,23 @@ module _ {F L : Type 0} (A : LatticeAlgebra L) (B : EdgeAlgebra F L) (targets : 
     all = λ i within. elim (cases_lt i (64 * page)) [
       | inl before ↦ are.all i before
       | inr behind ↦ inr (λ e is values. steady-none A B targets graph values e.0 e.1 (no-call-summary graph e.0 (none i e (omega (arith, within, behind)) is)))
+    ];
+  }
+
+  -- cells of a page at nodes that no call edges leave hand nothing on
+  pub listed_over : (jumps : List CallJump) (page node from to : ℕ) (begin end : ℕ) → BeginsWith tables page (Jump node from to)
+      → begin ≤ end → end ≤ 64 → HaveNoCalls graph (node + begin) (node + end)
+      → AreListed A B targets graph tables (64 * page + begin) jumps → AreListed A B targets graph tables (64 * page + end) jumps
+  listed_over jumps page node from to begin end at order within none are = record {
+    shown = are.shown;
+    all = λ i less. elim (cases_lt i (64 * page + begin)) [
+      | inl before ↦ are.all i before
+      | inr behind ↦ inr (λ e is values.
+          let here : i / 64 ≡ page = omega (arith, less, behind, order, within) in
+          let low : node + begin ≤ node + i % 64 = omega (arith, less, behind, order, within) in
+          let high : node + i % 64 < node + end = omega (arith, less, behind, order, within) in
+          steady-none A B targets graph values e.0 e.1
+          (no-call-at graph e.0 (node + i % 64) (ap node_of (at i e here is)) (none (node + i % 64) low high)))
     ];
   }
 

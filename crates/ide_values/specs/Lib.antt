@@ -12,6 +12,7 @@ pub mod Pass
 pub mod Jumps
 pub mod Lines
 pub mod Near
+pub mod NextCalls
 pub mod Passing
 pub mod Rows
 pub mod Refusal
@@ -19,4 +20,5 @@ pub mod Settled
 pub mod Share
 pub mod SharedFill
 pub mod Start
+pub mod Stretches
 pub mod Values

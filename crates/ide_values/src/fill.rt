@@ -1,12 +1,14 @@
 //! The fill: each jump function lowers the value where it ends.
 ghost use Rattle.std.specs.Prelude.{◌≡◌, ◌+◌, ◌*◌, ◌^◌, ◌<◌, ◌≤◌, None, IfOk, IfSome, length};
 ghost use Rattle.ide_image.specs.Cells.{BeginsWith, ShowTable};
-ghost use Rattle.ide_values.specs.Fill.{FillsFrom, FillsRows, IsFilledBy, Meets};
+ghost use Rattle.ide_values.specs.Fill.{FillsFrom, FillsRows, IsFilledBy};
 ghost use Rattle.ide_values.specs.Near.{AreNear, HasNoJump};
-ghost use Rattle.ide_values.specs.Start.{AreTops, value_before};
+ghost use Rattle.ide_values.specs.Start.{AreTops, row_value};
+ghost use Rattle.ide_values.specs.Stretches.{AreOwnedBy, AreStretches};
 ghost use Rattle.ide_wire.specs.declared.key.Key.TheVariants.{Jump};
 
-use crate::rows::{lower, procedure_at, tops, value_at_place};
+use crate::rows::{lower, start_place, tops, value_at_place};
+use crate::stretches::Stretches;
 use ide_graph::Graph;
 use ide_image::Tables;
 use ide_lattice::{EdgeFn, Lattice};
@@ -54,13 +56,24 @@ pub(crate) fn fill_rows<F: EdgeFn>(
     ensures filled { FillsFrom F.L.algebra F.edge graph.now tables.now.table starts.now first rows.new }
 {
     let more = whole_rows(graph, rows.len());
+    let mut stretches = Stretches::unscanned(graph);
     for page in 0..tables.cell_count() / PAGE {
-        fill_page(graph, tables, starts, first, more, page, rows);
+        fill_page(
+            graph,
+            tables,
+            starts,
+            first,
+            more,
+            page,
+            &mut stretches,
+            rows,
+        );
     }
 }
 
 /// Fills rows, which are the first node's and those of so many more nodes at most, by the cells of a page,
-/// where they are filled by those of the pages before.
+/// where they are filled by those of the pages before. The cells of a stretch of nodes of one procedure
+/// are gone through at once.
 fn fill_page<F: EdgeFn>(
     graph: &Graph,
     tables: &Tables<F>,
@@ -68,27 +81,76 @@ fn fill_page<F: EdgeFn>(
     first: Node,
     more: usize,
     page: usize,
+    stretches: &mut Stretches,
     rows: &mut [F::L],
 )
     requires few { 0 < graph.now.facts → length rows.old < (more + 1) * graph.now.facts }
     requires shown { ShowTable tables.now }
     requires page { 64 * page + 64 < 2 ^ 64 }
+    requires stretches { AreStretches graph.now stretches.old }
     requires filled { IsFilledBy F.L.algebra F.edge graph.now tables.now starts.now first (64 * page) rows.old }
     ensures count { length rows.new ≡ length rows.old }
+    ensures stretches { AreStretches graph.now stretches.new }
     ensures filled { IsFilledBy F.L.algebra F.edge graph.now tables.now starts.now first (64 * page + 64) rows.new }
 {
     let Some(jump) = first_jump(tables, page) else {
         return;
     };
-    let facts = graph.fact_count();
     let (begin, end) = near_offsets(first, more, jump.node);
+    let node = jump.node as usize;
+    let mut offset = begin;
+    while offset < end {
+        let stretch = stretches.stretch_at(graph, node + offset, node + end);
+        let next = end.min(stretch.end - node);
+        fill_stretch(
+            graph,
+            tables,
+            starts,
+            first,
+            page,
+            jump,
+            stretch.procedure,
+            offset,
+            next,
+            rows,
+        );
+        offset = next;
+    }
+}
+
+/// Fills rows by the cells of a page from one offset to before another, whose nodes are of one procedure.
+/// So what each of their functions is applied to is its one value of the fact where the jumps begin.
+fn fill_stretch<F: EdgeFn>(
+    graph: &Graph,
+    tables: &Tables<F>,
+    starts: &[F::L],
+    first: Node,
+    page: usize,
+    jump: PageJump,
+    procedure: usize,
+    begin: usize,
+    end: usize,
+    rows: &mut [F::L],
+)
+    requires shown { ShowTable tables.now }
+    requires page { 64 * page + 64 < 2 ^ 64 }
+    requires jump { BeginsWith tables.now page (Jump jump.node jump.from jump.to) }
+    requires order { begin ≤ end }
+    requires end { end ≤ 64 }
+    requires near { first ≤ jump.node + begin }
+    requires procedure { AreOwnedBy graph.now (jump.node + begin) (jump.node + end) procedure }
+    requires filled { IsFilledBy F.L.algebra F.edge graph.now tables.now starts.now first (64 * page + begin) rows.old }
+    ensures count { length rows.new ≡ length rows.old }
+    ensures filled { IsFilledBy F.L.algebra F.edge graph.now tables.now starts.now first (64 * page + end) rows.new }
+{
+    let facts = graph.fact_count();
+    let start = start_of(graph, starts, procedure, jump.from);
+    let mut place = (jump.node as usize + begin - first as usize) * facts + jump.to as usize;
     for offset in begin..end {
         if let Some(function) = tables.function_in(PAGE * page + offset) {
-            let node = jump.node + offset as Node;
-            lower_by(
-                graph, starts, first, facts, node, jump.from, jump.to, function, rows,
-            );
+            lower(rows, place, function.apply(start));
         }
+        place += facts;
     }
 }
 
@@ -124,44 +186,9 @@ fn whole_rows(graph: &Graph, count: usize) -> usize
     count / graph.fact_count().max(1)
 }
 
-/// Lowers the value where a jump ends, which is at a node and a fact, if the rows have it, by what its
-/// function makes of the value of the fact where it begins. How many facts there are is given too.
-#[inline(always)]
-fn lower_by<F: EdgeFn>(
-    graph: &Graph,
-    starts: &[F::L],
-    first: Node,
-    facts: usize,
-    node: Node,
-    from: Fact,
-    to: Fact,
-    function: F,
-    rows: &mut [F::L],
-)
-    requires facts { facts ≡ graph.now.facts }
-    requires few { facts ≤ 2 ^ 16 }
-    requires near { first ≤ node }
-    ensures count { length rows.new ≡ length rows.old }
-    ensures lowered { Meets F.L.algebra F.edge graph.now starts.now first (Jump node from to) function rows.old rows.new }
+/// The value of a fact at the start of a procedure.
+fn start_of<L: Lattice>(graph: &Graph, starts: &[L], procedure: usize, fact: Fact) -> L
+    ensures { result ≡ row_value L.algebra graph.now starts.now procedure fact }
 {
-    let place = (node - first) as usize * facts + to as usize;
-    if place < rows.len() {
-        let start = start_of(graph, starts, facts, node, from);
-        lower(rows, place, function.apply(start));
-    }
-}
-
-/// The value of a fact at the start of a node's procedure, where there are so many facts.
-#[inline(always)]
-fn start_of<L: Lattice>(graph: &Graph, starts: &[L], facts: usize, node: Node, fact: Fact) -> L
-    requires { facts ≡ graph.now.facts }
-    ensures { node < graph.now.nodes → result ≡ value_before L.algebra graph.now starts.now node fact }
-{
-    let procedure = procedure_at(graph, node);
-    value_at_place(
-        starts,
-        procedure
-            .saturating_mul(facts)
-            .saturating_add(fact as usize),
-    )
+    value_at_place(starts, start_place(graph, procedure, fact))
 }

@@ -18,6 +18,7 @@ mod rows;
 mod share;
 mod shared_fill;
 mod starts;
+mod stretches;
 mod values;
 
 pub use laws::{dumps_of_best_are_best, following_values_are_best};

@@ -1,7 +1,8 @@
 //! Start values: the value of each fact at each procedure's start.
-ghost use Rattle.std.specs.Prelude.{◌≡◌, ◌+◌, ◌*◌, ◌<◌, ◌^◌, None, OnOk, IfOk, IfSome};
+ghost use Rattle.std.specs.Prelude.{◌≡◌, ◌+◌, ◌*◌, ◌<◌, ◌≤◌, ◌^◌, None, OnOk, IfOk, IfSome};
 ghost use Rattle.ide_values.specs.Falling.{StartsFall};
 ghost use Rattle.ide_values.specs.Jumps.{AreJumps, AreJumpsIn, AreListed, HandsNothing, IsShownAt, Shows};
+ghost use Rattle.ide_values.specs.NextCalls.{AreNextCalls, AreNextCallsIn, HaveNoCalls, IsNextCall};
 ghost use Rattle.ide_values.specs.Passing.{Comes, LeavesEach, PassesAt, PassesBy, RisesNowhere, Rests};
 ghost use Rattle.ide_values.specs.Settled.{AreStartRows};
 
@@ -191,21 +192,47 @@ fn listed_jumps<P: Problem>(
 ) -> Result<Vec<CallJump>, AllocError>
     ensures { IfOk result (AreJumpsIn P.L.algebra P.F.edge P.targets graph.now tables.now) }
 {
+    let nexts = next_calls(alloc, graph)?;
     let mut jumps = Vec::new(alloc);
     for page in 0..tables.cell_count() / PAGE {
-        list_page::<P>(graph, tables, page, &mut jumps)?;
+        list_page::<P>(graph, tables, nexts.as_slice(), page, &mut jumps)?;
     }
     Ok(jumps)
 }
 
-/// Lists those of a page behind those of the pages before it. A page of summaries is passed over, and of a
-/// cell that is not at a call nothing is read.
+/// For each node the first call node that is not before it: where there is none, how many nodes there are.
+fn next_calls(alloc: Global, graph: &Graph) -> Result<Vec<Node>, AllocError>
+    ensures { IfOk result (AreNextCallsIn graph.now) }
+{
+    let mut node = graph.node_count();
+    let mut next = node as Node;
+    let mut nexts = vec![in alloc; next; node]?;
+    while node > 0 {
+        node -= 1;
+        next = next_call(graph, node as Node, next);
+        nexts[node] = next;
+    }
+    Ok(nexts)
+}
+
+/// The first call node that is not before a node, where that for the node behind it is given.
+fn next_call(graph: &Graph, node: Node, behind: Node) -> Node
+    requires { IsNextCall graph.now (node + 1) behind }
+    ensures { IsNextCall graph.now node result }
+{
+    if is_call(graph, node) { node } else { behind }
+}
+
+/// Lists those of a page behind those of the pages before it. A page of summaries is passed over, and so is each
+/// cell that is not at a call.
 fn list_page<P: Problem>(
     graph: &Graph,
     tables: &Tables<P::F>,
+    nexts: &[Node],
     page: usize,
     jumps: &mut Vec<CallJump>,
 ) -> Result<(), AllocError>
+    requires nexts { AreNextCalls graph.now nexts.now }
     requires page { 64 * page + 64 < 2 ^ 64 }
     requires listed { AreListed P.L.algebra P.F.edge P.targets graph.now tables.now (64 * page) jumps.old.items }
     ensures { OnOk result (AreListed P.L.algebra P.F.edge P.targets graph.now tables.now (64 * page + 64) jumps.new.items) }
@@ -213,13 +240,32 @@ fn list_page<P: Problem>(
     let Some(first) = first_jump(tables, page) else {
         return Ok(());
     };
-    for offset in 0..PAGE {
+    let mut offset = next_offset(graph, nexts, first.node, 0);
+    while offset < PAGE {
         let node = first.node + offset as Node;
         if let Some(jump) = jump_at::<P>(graph, tables, node, first.from, PAGE * page + offset) {
             jumps.push(jump)?;
         }
+        offset = next_offset(graph, nexts, first.node, offset + 1);
     }
     Ok(())
+}
+
+/// The first offset of a page, whose first cell is at a node, that is at a call node and not before another
+/// offset: 64 where there is none.
+#[inline(always)]
+fn next_offset(graph: &Graph, nexts: &[Node], first: Node, offset: usize) -> usize
+    requires nexts { AreNextCalls graph.now nexts.now }
+    requires within { offset ≤ 64 }
+    ensures order { offset ≤ result }
+    ensures within { result ≤ 64 }
+    ensures none { HaveNoCalls graph.now (first + offset) (first + result) }
+{
+    let node = first as usize + offset;
+    if node >= graph.node_count() {
+        return PAGE;
+    }
+    (nexts[node] as usize - first as usize).min(PAGE)
 }
 
 /// The entry that a cell shows, which is a jump from the fact to the node, if that is a call node.

@@ -6,6 +6,7 @@ use Rattle.ide_values.proofs.fill.fill_rows.Goals as goal
 pub loop-page-init : goal.loop-page-init
 loop-page-init g c = record {
   count = refl;
+  stretches = c.unscanned-stretches.ensures;
   filled = none_filled g.F.L.Lattice.algebra g.F.EdgeFn.edge c.args.graph.now c.args.tables.now c.args.starts.now c.args.first c.args.rows.now c.requires;
 }
 
@@ -18,6 +19,7 @@ loop-page-preserved g c =
     let next : 64 * c.loop-page.page + 64 ≡ 64 * (c.loop-page.page + 1) = omega arith in
     record {
       count = c.fill_page.ensures.count ∙ c.loop-page.invariant.count;
+      stretches = c.fill_page.ensures.stretches;
       filled =
           subst (λ n. IsFilledBy g.F.L.Lattice.algebra g.F.EdgeFn.edge c.args.graph.now c.args.tables.now c.args.starts.now c.args.first n c.fill_page.new.rows)
           next c.fill_page.ensures.filled;

@@ -1,7 +1,7 @@
 use Rattle.std.proofs.Common.{◌≡◌, ◌+◌, ◌*◌, ◌%◌, None, ap, arith, rules, subst, sym, ◌∙◌}
 use Rattle.ide_wire.specs.Key.{node_of}
 use Rattle.ide_values.specs.Jumps.{AreListed}
-use Rattle.ide_values.proofs.Nowhere.{listed_more, listed_none, listed_page}
+use Rattle.ide_values.proofs.Nowhere.{listed_more, listed_none, listed_over, listed_page}
 use Rattle.ide_values.proofs.starts.list_page.Goals as goal
 use Rattle.ide_values.proofs.starts.list_page.Goals.{in-Some-jump_at+in_ok-push, in_default-jump_at}
 
@@ -12,8 +12,18 @@ returns-in_default g c =
 
 pub loop-offset-init : goal.loop-offset-init
 loop-offset-init g c =
+    let A = g.P.L.Lattice.algebra in
+    let B = g.P.F.EdgeFn.edge in
+    let targets = g.P.Problem.targets in
+    let jump = c.in-Some.first in
     let same : 64 * c.args.page ≡ 64 * c.args.page + 0 = omega arith in
-    subst (λ n. AreListed g.P.L.Lattice.algebra g.P.F.EdgeFn.edge g.P.Problem.targets c.args.graph.now c.args.tables.now n c.args.jumps.now.items) same c.requires.listed
+    record {
+      within = c.next_offset-offset.ensures.within;
+      listed =
+          listed_over A B targets c.args.graph.now c.args.tables.now c.args.jumps.now.items c.args.page jump.node jump.from jump.to 0 c.next_offset-offset.result
+          c.in-Some.ensures.first (omega arith) c.next_offset-offset.ensures.within c.next_offset-offset.ensures.none
+          (subst (λ n. AreListed A B targets c.args.graph.now c.args.tables.now n c.args.jumps.now.items) same c.requires.listed);
+    }
 
 pub jump_at-requires : goal.jump_at-requires
 jump_at-requires g c =
@@ -30,21 +40,30 @@ loop-offset-preserved g c =
     let graph = c.args.graph.now in
     let tables = c.args.tables.now in
     let jumps = c.loop-offset.jumps.items in
+    let jump = c.in-Some.first in
     let cell = 64 * c.args.page + c.loop-offset.offset in
     let next : cell + 1 ≡ 64 * c.args.page + (c.loop-offset.offset + 1) = omega arith in
+    let listed : AreListed A B targets graph tables (64 * c.args.page + (c.loop-offset.offset + 1)) c.match-jump_at.jumps.items =
     subst (λ n. AreListed A B targets graph tables n c.match-jump_at.jumps.items) next
     (elim c.match-jump_at.branch [
       | in-Some-jump_at+in_ok-push w ↦
           listed_more A B targets graph tables jumps c.match-jump_at.jumps.items w.in-Some-jump_at.jump cell
-          (ap (λ v. v.items) w.jumps-is ∙ w.in_ok-push.ensures.items) w.in-Some-jump_at.ensures.cell w.in-Some-jump_at.ensures.shown c.loop-offset.invariant
+          (ap (λ v. v.items) w.jumps-is ∙ w.in_ok-push.ensures.items) w.in-Some-jump_at.ensures.cell w.in-Some-jump_at.ensures.shown c.loop-offset.invariant.listed
       | in_default-jump_at w ↦
           let none : c.jump_at.result ≡ None = search rules in
           subst (AreListed A B targets graph tables (cell + 1)) (sym (ap (λ v. v.items) w.jumps-is))
-          (listed_none A B targets graph tables jumps cell (c.jump_at.ensures.nothing none) c.loop-offset.invariant)
-    ])
+          (listed_none A B targets graph tables jumps cell (c.jump_at.ensures.nothing none) c.loop-offset.invariant.listed)
+    ]) in
+    record {
+      within = c.next_offset-offset-in-loop-offset.ensures.within;
+      listed =
+          listed_over A B targets graph tables c.match-jump_at.jumps.items c.args.page jump.node jump.from jump.to (c.loop-offset.offset + 1) c.next_offset-offset-in-loop-offset.result
+          c.in-Some.ensures.first c.next_offset-offset-in-loop-offset.ensures.order c.next_offset-offset-in-loop-offset.ensures.within c.next_offset-offset-in-loop-offset.ensures.none listed;
+    }
 
 pub returns : goal.returns
 returns g c =
-    let end : c.loop-offset.offset ≡ 64 = omega (arith, c.loop-offset-test.false, c.loop-offset.auto.offset-end) in
+    let least = c.loop-offset.invariant.within in
+    let end : c.loop-offset.offset ≡ 64 = omega (arith, c.loop-offset-test.false, least) in
     subst (λ n. AreListed g.P.L.Lattice.algebra g.P.F.EdgeFn.edge g.P.Problem.targets c.args.graph.now c.args.tables.now (64 * c.args.page + n) c.loop-offset.jumps.items)
-    end c.loop-offset.invariant
+    end c.loop-offset.invariant.listed
