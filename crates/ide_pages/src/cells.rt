@@ -9,8 +9,8 @@ use crate::rows::Rows;
 use ide_wire::{Fact, Key};
 use std::alloc::{AllocError, Global};
 
-// The cell at an offset of the page, if there is the page. No look-up where the page is the one at `last`, or in the
-// row that was asked for last.
+// The cell at an offset of the page, if there is the page. No look-up where the page is the one at `last`, or in a
+// row that is known.
 #[inline(always)]
 pub(crate) fn cell_near(
     pages: &[Key],

@@ -22,7 +22,8 @@ const MOST_PAGES: usize = 4_294_967_295;
 ///
 /// A look-up finds the row of a key's page, by a number, and a search in the row finds the page: a row has those of one
 /// kind and one block of nodes that have one fact in common, a jump's its end and a summary's its start. None is
-/// needed for a page, or a row, that was asked for last.
+/// needed for the page that was asked for last, nor for a row that is known: 1,024 of those that were asked for are,
+/// at most.
 #[derive(Drop)]
 pub struct Pages {
     /// The key of each page.

@@ -14,10 +14,30 @@ pub(crate) struct Rows {
     alloc: Global,
     numbers: IndexSet<u64>,
     rows: Vec<Row>,
-    /// The index of the row that was asked for last, and the place of the fact there. A fact that follows in the same
-    /// row is found with no look-up and no search.
-    last: usize,
-    place: usize,
+    /// Rows that were asked for, each at the seat that its number tells ([`seat_of`]): one that is asked for again is
+    /// found with no look-up, and a fact in it that stands where the last one did, or behind it, with no search. There
+    /// is no seat before a row is made, in a copy either.
+    known: Vec<KnownRow>,
+}
+
+/// A row that was asked for: its index, and the place of the fact that was asked for in it. Both are looked at before
+/// they are believed, since another row, or none, may have been asked for at this seat.
+#[derive(Clone, Copy)]
+struct KnownRow {
+    index: u32,
+    place: u32,
+}
+
+/// The most rows that are known at once.
+const KNOWN: usize = 1_024;
+
+/// What is known where no row was asked for: the first row, at its first fact.
+const UNKNOWN: KnownRow = KnownRow { index: 0, place: 0 };
+
+/// The seat of the row of the number: where it is known, if it is.
+#[inline(always)]
+fn seat_of(number: u64) -> usize {
+    (number ^ (number >> 10)) as usize % KNOWN
 }
 
 impl Model for Rows {
@@ -40,8 +60,7 @@ impl Rows {
             alloc,
             numbers: IndexSet::new(alloc),
             rows: Vec::new(alloc),
-            last: 0,
-            place: 0,
+            known: Vec::new(alloc),
         }
     }
 
@@ -49,8 +68,9 @@ impl Rows {
     pub(crate) fn find(&self, number: u64, fact: Fact) -> Option<u32>
         ensures { result ≡ page_in (row_at self.now number) fact }
     {
-        let row = &self.rows[self.index(number)?];
-        row.page_at(row.place(self.place, fact), fact)
+        let known = self.known_row(number);
+        let row = &self.rows[self.index_by(known, number)?];
+        row.page_at(row.place(known.place as usize, fact), fact)
     }
 
     /// The same, where it is remembered which row and which place were asked for.
@@ -59,12 +79,12 @@ impl Rows {
         ensures page { result ≡ page_in (row_at self.old number) fact }
         ensures same { self.new ≡ self.old }
     {
-        let index = self.index(number)?;
+        let known = self.known_row(number);
+        let index = self.index_by(known, number)?;
         let row = &self.rows[index];
-        let place = row.place(self.place, fact);
+        let place = row.place(known.place as usize, fact);
         let page = row.page_at(place, fact);
-        self.last = index;
-        self.place = place;
+        remember(&mut self.known, number, index, place);
         page
     }
 
@@ -76,10 +96,9 @@ impl Rows {
         ensures same { OnErr result (KeepsPages self.old self.new) }
     {
         let index = self.make_row(number)?;
-        let place = self.rows[index].place(self.place, fact);
+        let place = self.rows[index].place(self.known_row(number).place as usize, fact);
         insert_in(&mut self.rows, index, place, fact, page)?;
-        self.last = index;
-        self.place = place;
+        remember(&mut self.known, number, index, place);
         Ok(())
     }
 
@@ -95,17 +114,35 @@ impl Rows {
     }
 
     /// The index of the row of the number, if there is one. One look-up at most.
-    #[inline(always)]
     fn index(&self, number: u64) -> Option<usize>
         ensures index { result ≡ position (nat_eq number) self.now.numbers }
         ensures there { IfSome result (λ index. index < length self.now.rows) }
     {
-        if let Some(last) = self.numbers.as_slice().get(self.last) {
-            if *last == number {
-                return Some(self.last);
+        self.index_by(self.known_row(number), number)
+    }
+
+    /// The same, where the row that is known is looked at first. No look-up where that is the one.
+    #[inline(always)]
+    fn index_by(&self, known: KnownRow, number: u64) -> Option<usize>
+        ensures index { result ≡ position (nat_eq number) self.now.numbers }
+        ensures there { IfSome result (λ index. index < length self.now.rows) }
+    {
+        let index = known.index as usize;
+        if let Some(there) = self.numbers.as_slice().get(index) {
+            if *there == number {
+                return Some(index);
             }
         }
         self.numbers.get_index_of(&number)
+    }
+
+    /// What is known at the seat of the row of the number.
+    #[inline(always)]
+    fn known_row(&self, number: u64) -> KnownRow {
+        match self.known.get(seat_of(number)) {
+            Some(known) => *known,
+            None => UNKNOWN,
+        }
     }
 
     /// The index of the row of the number, which is made, with no fact, if there is none.
@@ -119,12 +156,13 @@ impl Rows {
         }
         let index = self.rows.len();
         self.rows.reserve(1)?;
+        make_seats(&mut self.known)?;
         let _ = self.numbers.insert(number)?;
         self.rows.push_reserved(Row::new(self.alloc));
         Ok(index)
     }
 
-    /// The same rows.
+    /// The same rows, of which none is known.
     pub(crate) fn copy(&self, alloc: Global) -> Result<Rows, AllocError>
         ensures { IfOk result (λ copy. copy ≡ self.now) }
     {
@@ -132,9 +170,29 @@ impl Rows {
             alloc,
             numbers: copied_numbers(&self.numbers)?,
             rows: copied_rows(alloc, &self.rows)?,
-            last: self.last,
-            place: self.place,
+            known: Vec::new(alloc),
         })
+    }
+}
+
+/// Makes the seats, if there are none.
+fn make_seats(known: &mut Vec<KnownRow>) -> Result<(), AllocError> {
+    if known.is_empty() {
+        known.resize(KNOWN, UNKNOWN)?;
+    }
+    Ok(())
+}
+
+/// Remembers that the row of the number, which is at the index, was asked for, and the place of the fact in it. Of both
+/// the lower 32 bits are kept: an index that has more is not found again at its seat.
+#[inline(always)]
+fn remember(known: &mut Vec<KnownRow>, number: u64, index: usize, place: usize) {
+    let seat = seat_of(number);
+    if seat < known.len() {
+        known[seat] = KnownRow {
+            index: (index % 0x1_0000_0000) as u32,
+            place: (place % 0x1_0000_0000) as u32,
+        };
     }
 }
 
