@@ -36,6 +36,11 @@ impl Problem for Inputs {
         unchanged_over(edge, received_on(edge, fact), fact)
     }
 
+    #[tactic(auto, using(crate::specs::InputsLaws::inputs_keep))]
+    fn keeps_unnamed() -> bool {
+        true
+    }
+
     ghost lawful = { inputs_flow };
 
     ghost tag_not_zero = { lit≤ tt };

@@ -33,5 +33,6 @@ pub mod SiteLemmas
 pub mod SliceLemmas
 pub mod SpotLemmas
 pub mod StatementLemmas
+pub mod StepLemmas
 pub mod WithinLemmas
 pub mod ZipLemmas

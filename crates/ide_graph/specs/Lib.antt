@@ -1,3 +1,4 @@
+pub mod Alone
 pub mod Building
 pub mod Closed
 pub mod EdgeLaws
@@ -18,5 +19,6 @@ pub mod Numbering
 pub mod Numbers
 pub mod ProgramEdges
 pub mod SameGraphs
+pub mod Steps
 pub mod Supergraph
 pub mod Whole

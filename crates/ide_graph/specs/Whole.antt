@@ -5,6 +5,7 @@ use Rattle.std.specs.List.{All}
 use Rattle.ide_graph.specs.declared.graph.Graph.TheInside.{Inside}
 use Rattle.ide_graph.specs.Edges.{EdgesWithin}
 use Rattle.ide_graph.specs.Numbered.{StandWithin}
+use Rattle.ide_graph.specs.Steps.{AreStepsOf}
 use Rattle.ide_graph.specs.Supergraph.{Supergraph}
 
 -- the counts, and what stands where: numbers of facts stop at the greatest that a fact has
@@ -24,7 +25,7 @@ counts_of graph = record {
   own = map (λ layout. layout.own) graph.layouts.items;
 }
 
--- sites, procedures and names speak of the graph's own nodes, procedures and facts
+-- sites, steps, procedures and names speak of the graph's own nodes, procedures and facts
 pub record IsWhole (graph : Inside) : Type 0 where
   pub few : length graph.sites.items < 2 ^ 32
   pub edges : All (λ site. EdgesWithin (length graph.sites.items) (arc_value site)) graph.sites.items
@@ -33,3 +34,4 @@ pub record IsWhole (graph : Inside) : Type 0 where
   pub placed : StandWithin (length graph.sites.items) graph.layouts.items
   pub named : graph.directory.count ≡ length graph.layouts.items
   pub own : All (λ layout. length layout.own ≤ graph.most_own) graph.layouts.items
+  pub stepped : AreStepsOf (min (length graph.globals.names + 2 + graph.most_own) 65536) (map arc_value graph.sites.items) graph.steps.items

@@ -1,5 +1,5 @@
 //! The supergraph of a program.
-ghost use Rattle.std.specs.Prelude.{◌≡◌, ℕ, ◌+◌, ◌↔◌, None, Err, ◌<◌, ◌≤◌, ◌^◌, IfOk, IfErr, IfSome, length, map, slice_index, slice_index_or, IsOkUnless};
+ghost use Rattle.std.specs.Prelude.{◌≡◌, ℕ, true, ◌+◌, ◌↔◌, None, Err, ◌<◌, ◌≤◌, ◌^◌, IfOk, IfErr, IfSome, length, map, slice_index, slice_index_or, IsOkUnless};
 ghost use Rattle.std.specs.List.{All};
 ghost use Rattle.std.specs.Arc.{arc_value};
 ghost use Rattle.std.specs.Option.{option_copied};
@@ -7,6 +7,7 @@ ghost use Rattle.ide_wire.specs.declared.refused.Refused.TheVariants.{NoMemory, 
 ghost use Rattle.ide_graph.specs.Edges.{EdgesWithin};
 ghost use Rattle.ide_graph.specs.GraphOf.{IsGraphOf};
 ghost use Rattle.ide_graph.specs.ProgramEdges.{HasEdgesOf};
+ghost use Rattle.ide_graph.specs.Steps.{PassesBy};
 
 use crate::builder::Builder;
 use crate::directory::Directory;
@@ -14,6 +15,7 @@ use crate::globals::Globals;
 use crate::layout::Layout;
 use crate::numbering::{Numbering, Spot};
 use crate::site::Site;
+use crate::step::{Step, steps_of};
 use ide_text::Program;
 use ide_wire::{Fact, Node, Refused};
 use std::alloc::{AllocError, Global};
@@ -40,6 +42,8 @@ pub struct Graph {
     owners: Vec<u32>,
     /// The most parameters and locals that a procedure has.
     most_own: usize,
+    /// What is told of each node beside its site.
+    steps: Vec<Step>,
 }
 
 impl Model for Graph {
@@ -72,6 +76,7 @@ impl Graph {
         let sites = Builder::new(alloc, &globals, &directory, &numbering, facts).sites()?;
         let Numbering { spots, layouts, .. } = numbering;
         let owners = owners_of(alloc, &spots)?;
+        let steps = steps_of(alloc, &sites, facts)?;
         Ok(Graph {
             globals,
             directory,
@@ -79,6 +84,7 @@ impl Graph {
             sites,
             owners,
             most_own,
+            steps,
         })
     }
 
@@ -134,6 +140,18 @@ impl Graph {
         ensures refused { IsOkUnless result NoMemory }
     {
         Ok(Arc::try_clone(&self.sites[node as usize])?)
+    }
+
+    /// Whether one edge leaves the node, to the node behind it, by a statement that does not name the fact. Where it answers
+    /// `false`, that may be so all the same: of `@zero`, and of what goes on at a procedure's start, it is not told.
+    /// The node's site is not read.
+    #[inline(always)]
+    pub fn passes_by(&self, node: Node, fact: Fact) -> bool
+        requires { node < self.now.nodes }
+        ensures passes { result ≡ true → PassesBy self.now.sites node fact }
+        ensures within { result ≡ true → node + 1 < self.now.nodes }
+    {
+        usize::from(fact) < self.fact_count() && self.steps[node as usize].passes_by(fact)
     }
 
     /// The index of the procedure that a node belongs to.

@@ -19,6 +19,7 @@ mod names;
 mod numbering;
 mod scope;
 mod site;
+mod step;
 
 pub use edge::{EdgeData, EdgeKind, Effect};
 pub use graph::Graph;

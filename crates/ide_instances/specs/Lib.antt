@@ -12,3 +12,4 @@ pub mod UninitFn
 pub mod UninitForm
 pub mod UninitLaws
 pub mod UninitValue
+pub mod UnnamedLaws

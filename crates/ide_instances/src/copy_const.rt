@@ -39,6 +39,12 @@ impl Problem for CopyConst {
         unchanged_over(edge, received_by(edge, fact), fact)
     }
 
+    #[tactic(auto, using(crate::specs::UnnamedLaws::copy_keeps))]
+    #[inline(always)]
+    fn keeps_unnamed() -> bool {
+        true
+    }
+
     ghost lawful = { copy_flow };
 
     ghost tag_not_zero = { lit≤ tt };

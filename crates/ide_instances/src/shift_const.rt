@@ -42,6 +42,12 @@ impl Problem for ShiftConst {
         unchanged_over(edge, received_by(edge, fact), fact)
     }
 
+    #[tactic(auto, using(crate::specs::UnnamedLaws::shift_keeps))]
+    #[inline(always)]
+    fn keeps_unnamed() -> bool {
+        true
+    }
+
     ghost lawful = { shift_flow };
 
     ghost tag_not_zero = { lit≤ tt };

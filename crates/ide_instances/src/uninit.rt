@@ -40,6 +40,12 @@ impl Problem for Uninit {
         unchanged_over(edge, received_by(edge, fact), fact)
     }
 
+    #[tactic(auto, using(crate::specs::UnnamedLaws::uninit_keeps))]
+    #[inline(always)]
+    fn keeps_unnamed() -> bool {
+        true
+    }
+
     ghost lawful = { uninit_flow };
 
     ghost tag_not_zero = { lit≤ tt };

@@ -1,6 +1,7 @@
 -- What the flow of an analysis is, and its laws.
 use Rattle.std.specs.Prelude.{◌≡◌, ℕ, ◌+◌, ◌<◌, ◌≤◌, Bool, List, [], ◌∷◌, IsTrue, cond, nat_eq}
 use Rattle.ide_graph.specs.declared.edge.EdgeData.{EdgeData}
+use Rattle.ide_graph.specs.Alone.{LeavesAlone}
 use Rattle.ide_graph.specs.Lawful.{IsEdge}
 use Rattle.ide_lattice.specs.Algebra.{EdgeAlgebra}
 
@@ -11,6 +12,10 @@ Targets F = EdgeData → ℕ → List (ℕ × F)
 -- the targets are the fact alone, by the identity
 abbrev pub IsPassed : {F : Type 0} → F → List (ℕ × F) → ℕ → Type 0
 IsPassed id targets fact = targets ≡ (fact, id) ∷ []
+
+-- over each edge each fact that it leaves alone is passed on unchanged
+abbrev pub KeepsUnnamed : {F : Type 0} → F → Targets F → Type 0
+KeepsUnnamed id targets = (edge : EdgeData) (fact : ℕ) → LeavesAlone edge fact → IsPassed id (targets edge fact) fact
 
 -- the function to a fact: the listed one, else the one that always gives top
 abbrev pub function_to : {F L : Type 0} → EdgeAlgebra F L → ℕ → List (ℕ × F) → F

@@ -1,3 +1,4 @@
 pub mod Flow
 pub mod Shared
 pub mod SharedLaws
+pub mod UnnamedLaws

@@ -1,6 +1,6 @@
 //! The trait of analyses.
 ghost use Rattle.std.specs.Prelude.{◌≡◌, ◌<◌, ℕ, [], true, OnOk, OnErr};
-ghost use Rattle.ide_problem.specs.Flow.{IsFlow, IsPassed, Targets};
+ghost use Rattle.ide_problem.specs.Flow.{IsFlow, IsPassed, KeepsUnnamed, Targets};
 
 use crate::target_list::TargetList;
 use ide_graph::EdgeData;
@@ -35,7 +35,17 @@ pub trait Problem {
     fn passes_unchanged(edge: &EdgeData, fact: Fact) -> bool
         ensures { result ≡ true → IsPassed Self.F.edge.id (targets edge.now fact) fact }
     {
-        false
+        false // so its flow is asked for
+    }
+
+    /// Whether each edge within a procedure passes each fact on unchanged that its statement does not name, be it to assign
+    /// it or to read it; of `@zero`, and of a procedure's start, it is not asked. Where that is so, the solver reads next to
+    /// nothing of most nodes, so an analysis of assignments is solved faster if it tells. `false`, which is what an analysis
+    /// answers that has no such method, is always right.
+    fn keeps_unnamed() -> bool
+        ensures { result ≡ true → KeepsUnnamed Self.F.edge.id targets }
+    {
+        false // so each edge is asked about
     }
 
     ghost lawful: { IsFlow Self.F.edge targets };

@@ -7,7 +7,6 @@ use Rattle.std.specs.Map.{keys_of, lookup}
 use Rattle.std.specs.Option.{is_some}
 use Rattle.std.proofs.lemmas.List.{append_assoc, append-nil, length-append}
 use Rattle.std.proofs.lemmas.Option.{same_Some}
-use Rattle.ide_graph.specs.Edges.{EdgesWithin, EndsWithin}
 use Rattle.ide_graph.specs.Supergraph.{Supergraph}
 use Rattle.ide_graph.specs.declared.site.Site.{Site}
 use Rattle.ide_graph.specs.declared.site.Site.TheVariants.{Normal, Call, Exit}
@@ -158,13 +157,6 @@ module _ {F L : Type 0} (B : EdgeAlgebra F L) (targets : Targets F) where
   passed-partners graph table m from fact (Normal edges) h = tt
   passed-partners graph table m from fact (Call calls along) h = elim h [ ]
   passed-partners graph table m from fact (Exit start callers) h = elim h [ ]
-
-  -- the node behind one that passes a fact on is a node too
-  pub passed-within : (m fact nodes : ℕ) (site : Site) → PassesBehind B targets m fact site → EdgesWithin nodes site → m + 1 < nodes
-  passed-within m fact nodes (Normal edges) (edge, is, end, passed) within =
-      subst (λ n. n < nodes) end (subst (All (EndsWithin nodes)) is within 0 edge (omega arith))
-  passed-within m fact nodes (Call calls along) h within = elim h [ ]
-  passed-within m fact nodes (Exit start callers) h within = elim h [ ]
 
   -- one node more passes the fact on
   pub passes-more : (graph : Supergraph) (node fact count : ℕ) → PassesFor B targets graph node fact count → PassesAt B targets graph (node + count) fact

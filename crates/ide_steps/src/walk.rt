@@ -1,6 +1,6 @@
 //! Walks: keys behind each other along a procedure, of which each does nothing but pass its function on.
 ghost use Rattle.std.specs.Prelude.{◌≡◌, ◌<◌, ◌≤◌, ◌+◌, Ok, Some, true, false, IfOk, OnErr, IsOkUnless};
-ghost use Rattle.ide_steps.specs.Walk.{GoesOnUnchanged, MayWalk, MayWalkIn, PassesFor, WalksOwed};
+ghost use Rattle.ide_steps.specs.Walk.{GoesOnUnchanged, MayWalk, MayWalkIn, PassesAt, PassesFor, WalksOwed};
 ghost use Rattle.ide_image.specs.Tables.{found};
 ghost use Rattle.ide_image.specs.Worklist.{is_claimed, is_pending};
 ghost use Rattle.ide_wire.specs.declared.key.Key.TheVariants.{Jump};
@@ -106,15 +106,30 @@ fn passing<P: Problem>(graph: &Graph, node: Node, fact: Fact, most: usize) -> us
     ensures passes { PassesFor P.F.edge P.targets graph.now node fact result }
     ensures within { node + result < graph.now.nodes }
 {
-    // What is known of the graph: it has a site for each node, and a node's number has 32 bits.
+    // What is known of the graph: a node's number has 32 bits.
     let _ = graph.node_count();
     for count in 0..most {
-        let at = node + count as Node;
-        if !passes_behind::<P>(at, graph.site(at), fact) {
+        if !passes_at::<P>(graph, node + count as Node, fact) {
             return count;
         }
     }
     most
+}
+
+/// Whether the node passes the fact on unchanged to the node behind it. Its site is read only where its statement names the
+/// fact, or where the analysis does not say that it keeps what is not named.
+#[inline(always)]
+fn passes_at<P: Problem>(graph: &Graph, node: Node, fact: Fact) -> bool
+    requires node { node < graph.now.nodes }
+    ensures passes { result ≡ true → PassesAt P.F.edge P.targets graph.now node fact }
+    ensures within { result ≡ true → node + 1 < graph.now.nodes }
+{
+    if P::keeps_unnamed() && graph.passes_by(node, fact) {
+        return true;
+    }
+    // There is a site for each node.
+    let _ = graph.node_count();
+    passes_behind::<P>(node, graph.site(node), fact)
 }
 
 /// Whether the function goes on as it is: each does by the laws, but the one that always gives top, which no key that is

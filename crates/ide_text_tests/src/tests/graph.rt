@@ -211,6 +211,40 @@ fn statements_have_their_effects_and_targets(rt: HostRuntime) {
     expect_sites(&rt, &graph_of(&rt, STATEMENTS), &steps, &idle, &exits);
 }
 
+/// That each of these nodes is passed by these facts, and by no others of the program or behind its last one.
+fn expect_passed(rt: &impl Abort, graph: &Graph, rows: &[(Node, &[Fact])]) {
+    for (node, facts) in rows {
+        assert!(rt; (*node as usize) < graph.node_count());
+        for fact in 0..=4 {
+            assert!(rt;
+                graph.passes_by(*node, fact) == facts.contains(&fact),
+                "node {node}"
+            );
+        }
+    }
+}
+
+#[test]
+fn facts_pass_by_where_no_statement_names_them(rt: HostRuntime) {
+    let rows: [(Node, &[Fact]); 14] = [
+        (0, &[]),
+        (1, &[1, 2, 3]),
+        (2, &[]),
+        (3, &[2]),
+        (4, &[]),
+        (5, &[2]),
+        (6, &[1, 2]),
+        (7, &[1, 2, 3]),
+        (8, &[1, 2, 3]),
+        (9, &[1, 2, 3]),
+        (10, &[2]),
+        (11, &[2]),
+        (12, &[1, 2, 3]),
+        (13, &[]),
+    ];
+    expect_passed(&rt, &graph_of(&rt, STATEMENTS), &rows);
+}
+
 #[test]
 fn a_procedure_may_call_itself(rt: HostRuntime) {
     let again = Call::of(2, 0, 3).passing(3, 3);

@@ -59,6 +59,13 @@ fn values_of_meets_at_each_analysis(rt: HostRuntime) {
 }
 
 #[test]
+fn analyses_keep_what_is_not_named(rt: HostRuntime) {
+    assert!(rt; Uninit::keeps_unnamed());
+    assert!(rt; CopyConst::keeps_unnamed());
+    assert!(rt; ShiftConst::keeps_unnamed());
+}
+
+#[test]
 fn compositions_of_functions(rt: HostRuntime) {
     let met = ConstFn::ShiftMeet(1, 7);
     assert!(rt; met.compose(ConstFn::Shift(3)) == ConstFn::ShiftMeet(4, 10));

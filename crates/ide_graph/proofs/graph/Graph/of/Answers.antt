@@ -10,6 +10,7 @@ use Rattle.ide_text.specs.declared.program.Procedure.{Procedure}
 use Rattle.ide_text.specs.Program.{globals_of, procedures_of}
 use Rattle.ide_graph.specs.Named.{procedure_of_name}
 use Rattle.ide_graph.specs.Naming.{AreNew}
+use Rattle.ide_graph.specs.Steps.{AreStepsOf}
 use Rattle.ide_graph.specs.Numbering.{IsNumberingOf}
 use Rattle.ide_graph.specs.Numbers.{nodes_of, procedure_of, facts_of}
 use Rattle.ide_graph.proofs.BuilderOfLemmas.{builder_of}
@@ -33,6 +34,7 @@ pub invariant_of-result : goal.invariant_of-result
 invariant_of-result c =
     let procedure : Spot → ℕ = λ spot. spot.procedure in
     let numbered = c.in_ok-numbering.ensures.numbered in
+    let facts = min (length c.in_ok-globals.globals.names + 2 + c.most_own_of-most_own.result) 65536 in
     let sites : length c.in_ok-sites.sites.items ≡ length c.in_ok-numbering.numbering.spots.items =
     c.in_ok-sites.ensures.whole ∙ ap (λ n. length n.now.spots.items) c.new.ensures.same in
     let owners : c.in_ok-owners.owners.items ≡ map procedure c.in_ok-numbering.numbering.spots.items =
@@ -45,6 +47,8 @@ invariant_of-result c =
       placed = rw sites numbered.placed;
       named = c.in_ok-directory.ensures.counted ∙ sym c.in_ok-numbering.ensures.whole;
       own = All-same (λ layout. length layout.own ≤ c.most_own_of-most_own.result) _ _ (sym c.deref.ensures.value) c.most_own_of-most_own.ensures.most;
+      stepped = subst (λ sites. AreStepsOf facts (map arc_value sites) c.in_ok-steps.steps.items) c.deref-3.ensures.value
+          (subst (λ n. AreStepsOf n (map arc_value c.deref-3.result.now) c.in_ok-steps.steps.items) c.fact_count-facts.ensures c.in_ok-steps.ensures);
     }
 
 pub returns-clause-numbered : goal.returns-clause-numbered
@@ -64,6 +68,7 @@ returns-clause-numbered c =
       sites = c.in_ok-sites.sites;
       owners = c.in_ok-owners.owners;
       most_own = c.most_own_of-most_own.result;
+      steps = c.in_ok-steps.steps;
     } in
     graph_of p made numbering
     (subst (λ (ps : List Procedure). IsNumberingOf ps numbering) procedures c.in_ok-numbering.ensures.numbering)
