@@ -63,6 +63,10 @@ module _ {F : Type 0} where
   shown-at (x ∷ cells) zero = refl
   shown-at (x ∷ cells) (suc n) = shown-at cells n
 
+  -- and their functions alone
+  pub shown-function : (cells : List (Key × Option F)) (n : ℕ) → kept_in cells n ≡ option_map (λ (e : Key × F). e.1) (get_or (map entry_of_cell cells) n None)
+  shown-function cells n = ap (option_map (λ (e : Key × F). e.1)) (shown-at cells n)
+
   pub show-table : (cells : List (Key × Option F)) → IsDistinct same_key (keys_of cells) → ShowTable (record { table = table_of cells; cells = map entry_of_cell cells })
   show-table cells apart = record {
     found = λ q. ap (lookup (same_key q)) (sym (shown-same cells));

@@ -1,5 +1,5 @@
 -- Tables as they are read: by cells, of which each page has 64 side by side.
-use Rattle.std.specs.Prelude.{◌≡◌, ℕ, ◌+◌, ◌/◌, ◌%◌, ◌≤◌, ◌^◌, List, Option, None, Some, map}
+use Rattle.std.specs.Prelude.{◌≡◌, ℕ, ◌+◌, ◌/◌, ◌%◌, ◌<◌, ◌≤◌, ◌^◌, List, Option, None, Some, map}
 use Rattle.std.specs.List.{IsDistinct, filter_map, slice_index_or}
 use Rattle.std.specs.Map.{keys_of, lookup}
 use Rattle.std.specs.Option.{option_map}
@@ -35,6 +35,10 @@ module _ {F : Type 0} where
   -- the function alone of what it shows
   abbrev pub function_shown_in : TablesData F → ℕ → Option F
   function_shown_in tables cell = option_map (λ e. e.1) (shown_in tables cell)
+
+  -- the cells from one on, up to before another, show the same function, or none
+  abbrev pub AreAlike : TablesData F → (begin end : ℕ) → Type 0
+  AreAlike tables begin end = (cell : ℕ) → begin ≤ cell → cell < end → function_shown_in tables cell ≡ function_shown_in tables begin
 
   -- the cells show the entries of the table, and no two of them are of one key
   pub record ShowTable (tables : TablesData F) : Type 0 where

@@ -11,7 +11,7 @@ ghost use Rattle.ide_wire.specs.KeyOrder.{key_cmp};
 ghost use Rattle.ide_pages.specs.Pages.{number_on_page, partner_of, read_at};
 ghost use Rattle.ide_image.specs.Tables.{AreJumpsTo, AreKeys, AreSummariesFrom, or_top, partner_at, partners_at};
 ghost use Rattle.ide_image.specs.Indexed.{ForKeyAt, HasCell, HasDistinctKeys, HaveCells, PutsEntry, Widens, entries_in, entry_in, function_of, kept_in, place_of_key, table_of};
-ghost use Rattle.ide_image.specs.Cells.{BeginsWith, HasRoomBehind, tables_of};
+ghost use Rattle.ide_image.specs.Cells.{AreAlike, BeginsWith, HasRoomBehind, tables_of};
 ghost use Rattle.ide_image.specs.Walk.{AreAbsent, StandBehind, jump_behind, with_walked};
 
 use crate::functions::Functions;
@@ -101,6 +101,24 @@ impl<F: EdgeFn> Indexed<F> {
             return None;
         }
         self.functions.get(number as usize - 1)
+    }
+
+    /// How far the cells from one on, up to before another, have the same function, or none: where they end. It
+    /// compares the numbers in the cells. No look-up.
+    #[inline(always)]
+    pub(crate) fn alike_to(&self, cell: usize, end: usize) -> usize
+        requires { cell < end }
+        ensures after { cell < result }
+        ensures within { result ≤ end }
+        ensures alike { AreAlike (tables_of self.now) cell result }
+    {
+        let number = self.places.number_in(cell);
+        for next in cell + 1..end {
+            if self.places.number_in(next) != number {
+                return next;
+            }
+        }
+        end
     }
 
     /// Whether the key of a cell has a function. No look-up.

@@ -1,9 +1,9 @@
 //! The functions of an image's keys, to be read.
-ghost use Rattle.std.specs.Prelude.{◌≡◌, ◌*◌, ◌%◌, ◌≤◌, None, Some, length, IfSome};
+ghost use Rattle.std.specs.Prelude.{◌≡◌, ◌*◌, ◌%◌, ◌<◌, ◌≤◌, None, Some, length, IfSome};
 ghost use Rattle.std.specs.List.{IsDistinct, slice_index_or};
 ghost use Rattle.std.specs.Map.{keys_of};
 ghost use Rattle.ide_wire.specs.Key.{same_key};
-ghost use Rattle.ide_image.specs.Cells.{BeginsWith, HasRoomBehind, ShowTable, function_shown_in};
+ghost use Rattle.ide_image.specs.Cells.{AreAlike, BeginsWith, HasRoomBehind, ShowTable, function_shown_in};
 ghost use Rattle.ide_image.specs.Indexed.{table_of};
 ghost use Rattle.ide_image.specs.Tables.{found};
 
@@ -85,6 +85,18 @@ impl<F: EdgeFn> Tables<F> {
         ensures { result ≡ function_shown_in self.now cell }
     {
         self.indexed.kept_in(cell)
+    }
+
+    /// How far the cells from one on, up to before another, have the same function, or none: where they
+    /// end. It is read once for all of them. No look-up.
+    #[inline(always)]
+    pub fn alike_to(&self, cell: usize, end: usize) -> usize
+        requires { cell < end }
+        ensures after { cell < result }
+        ensures within { result ≤ end }
+        ensures alike { AreAlike self.now cell result }
+    {
+        self.indexed.alike_to(cell, end)
     }
 
     /// The key of the page's first cell, be it present or absent, where a page is given by its index:

@@ -17,14 +17,14 @@ use Rattle.ide_wire.specs.declared.key.Key.{Key}
 use Rattle.ide_wire.specs.declared.key.Key.TheVariants.{Jump, Summary}
 use Rattle.ide_wire.specs.Key.{node_of, same_key, same_key_laws, same_key_exact}
 use Rattle.ide_graph.specs.Supergraph.{Supergraph}
-use Rattle.ide_image.specs.Cells.{BeginsWith, ShowTable, TablesData, shown_entries}
+use Rattle.ide_image.specs.Cells.{AreAlike, BeginsWith, ShowTable, TablesData, function_shown_in, shown_entries}
 use Rattle.ide_image.specs.Tables.{Table, found}
 use Rattle.ide_values.specs.Fill.{Fills, FillsFrom, IsFilledAt, IsFilledBy, Meets, lowered, value_from}
 use Rattle.ide_values.specs.Near.{AreNear, HasNoJump}
 use Rattle.ide_values.specs.Start.{AreTops, value_before}
 use Rattle.ide_values.proofs.Lowered.{meets_elsewhere, meets_summary}
 use Rattle.ide_values.proofs.Places.{place_within}
-use Rattle.ide_values.proofs.Shown.{shown_is_found, shown_more}
+use Rattle.ide_values.proofs.Shown.{nothing_shown, shown_is_found, shown_more}
 
 module _ {F L : Type 0} (A : LatticeAlgebra L) (laws : IsLattice A) (B : EdgeAlgebra F L) (functions : IsEdgeAlgebra A B)
     (start : ℕ → ℕ → L) (started : (n a : ℕ) → IsTrue (A.proper (start n a))) (n d : ℕ) where
@@ -177,6 +177,25 @@ module _ {F L : Type 0} (A : LatticeAlgebra L) (B : EdgeAlgebra F L) (graph : Su
         ∙ ap (λ v. lower v e) (so_far.filled image k n d there h r place)
         ∙ sym (ap (fold lower A.top) (shown_more tables.cells i (Some e) shows) ∙ fold-append lower A.top (shown_entries (take i tables.cells)) (e ∷ []));
   }
+
+  -- nor do cells side by side that are all like the first of them, where that shows nothing
+  pub passed_none : (rows : List L) (base begin end : ℕ) → begin ≤ end → AreAlike tables (base + begin) (base + end)
+      → function_shown_in tables (base + begin) ≡ None
+      → IsFilledBy A B graph tables starts first (base + begin) rows → IsFilledBy A B graph tables starts first (base + end) rows
+  passed_none rows base begin end order alike none so_far =
+      let last : base + begin + (end - begin) ≡ base + end = omega (arith, order) in
+      subst (λ n. IsFilledBy A B graph tables starts first n rows) last (past (end - begin) (omega (arith, order)))
+    where
+      past : (count : ℕ) → begin + count ≤ end → IsFilledBy A B graph tables starts first (base + begin + count) rows
+      past zero within =
+          let same : base + begin ≡ base + begin + 0 = omega arith in
+          subst (λ n. IsFilledBy A B graph tables starts first n rows) same so_far
+      past (suc count) within =
+          let cell = base + begin + count in
+          let next : cell + 1 ≡ base + begin + suc count = omega arith in
+          let shows = nothing_shown tables cell (alike cell (omega arith) (omega (arith, within)) ∙ none) in
+          subst (λ n. IsFilledBy A B graph tables starts first n rows) next
+          (filled_none cell rows (sym shows) (past count (omega (arith, within))))
 
   module _ (show : ShowTable tables) (rows : List L) where
     -- a cell whose entry lowers none of the rows is passed over

@@ -18,6 +18,7 @@ pub mod Rows
 pub mod Refusal
 pub mod Settled
 pub mod Share
+pub mod Runs
 pub mod SharedFill
 pub mod Start
 pub mod Stretches

@@ -1,8 +1,9 @@
 //! The fill: each jump function lowers the value where it ends.
 ghost use Rattle.std.specs.Prelude.{◌≡◌, ◌+◌, ◌*◌, ◌^◌, ◌<◌, ◌≤◌, None, IfOk, IfSome, length};
-ghost use Rattle.ide_image.specs.Cells.{BeginsWith, ShowTable};
+ghost use Rattle.ide_image.specs.Cells.{AreAlike, BeginsWith, ShowTable};
 ghost use Rattle.ide_values.specs.Fill.{FillsFrom, FillsRows, IsFilledBy};
 ghost use Rattle.ide_values.specs.Near.{AreNear, HasNoJump};
+ghost use Rattle.ide_values.specs.Runs.{FillsRun};
 ghost use Rattle.ide_values.specs.Start.{AreTops, row_value};
 ghost use Rattle.ide_values.specs.Stretches.{AreOwnedBy, AreStretches};
 ghost use Rattle.ide_wire.specs.declared.key.Key.TheVariants.{Jump};
@@ -119,7 +120,8 @@ fn fill_page<F: EdgeFn>(
 }
 
 /// Fills rows by the cells of a page from one offset to before another, whose nodes are of one procedure.
-/// So what each of their functions is applied to is its one value of the fact where the jumps begin.
+/// So what each of their functions is applied to is its one value of the fact where the jumps begin. Mostly
+/// cells side by side have the same function, and these are gone through at once.
 fn fill_stretch<F: EdgeFn>(
     graph: &Graph,
     tables: &Tables<F>,
@@ -143,13 +145,48 @@ fn fill_stretch<F: EdgeFn>(
     ensures count { length rows.new ≡ length rows.old }
     ensures filled { IsFilledBy F.L.algebra F.edge graph.now tables.now starts.now first (64 * page + end) rows.new }
 {
-    let facts = graph.fact_count();
     let start = start_of(graph, starts, procedure, jump.from);
+    let cells = PAGE * page;
+    let mut offset = begin;
+    while offset < end {
+        let next = tables.alike_to(cells + offset, cells + end) - cells;
+        fill_run(graph, tables, first, page, jump, start, offset, next, rows);
+        offset = next;
+    }
+}
+
+/// Fills rows by the cells of a page from one offset to before another, which all have the same function, or
+/// none, where the fact at which the jumps begin has one start value. So the function is applied once.
+fn fill_run<F: EdgeFn>(
+    graph: &Graph,
+    tables: &Tables<F>,
+    first: Node,
+    page: usize,
+    jump: PageJump,
+    start: F::L,
+    begin: usize,
+    end: usize,
+    rows: &mut [F::L],
+)
+    requires shown { ShowTable tables.now }
+    requires page { 64 * page + 64 < 2 ^ 64 }
+    requires jump { BeginsWith tables.now page (Jump jump.node jump.from jump.to) }
+    requires order { begin ≤ end }
+    requires end { end ≤ 64 }
+    requires near { first ≤ jump.node + begin }
+    requires alike { AreAlike tables.now (64 * page + begin) (64 * page + end) }
+    ensures count { length rows.new ≡ length rows.old }
+    ensures filled { FillsRun F.L.algebra F.edge graph.now tables.now first page jump start
+        begin end rows.old rows.new }
+{
+    let Some(function) = tables.function_in(PAGE * page + begin) else {
+        return;
+    };
+    let value = function.apply(start);
+    let facts = graph.fact_count();
     let mut place = (jump.node as usize + begin - first as usize) * facts + jump.to as usize;
-    for offset in begin..end {
-        if let Some(function) = tables.function_in(PAGE * page + offset) {
-            lower(rows, place, function.apply(start));
-        }
+    for _offset in begin..end {
+        lower(rows, place, value);
         place += facts;
     }
 }

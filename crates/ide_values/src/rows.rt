@@ -13,9 +13,8 @@ pub(crate) fn tops<L: Lattice>(alloc: Global, count: usize) -> Result<Vec<L>, Al
     ensures tops { IfOk result (λ values. AreTops L.algebra values.items) }
 {
     let mut values = Vec::with_capacity(alloc, count)?;
-    for _place in 0..count {
-        values.push(L::top())?;
-    }
+    // `vec!` would call `clone` for each, which may give another value than its own.
+    values.resize(count, L::top())?;
     Ok(values)
 }
 
