@@ -8,7 +8,7 @@ use Rattle.ide_graph.specs.declared.edge.Effect.{Effect}
 use Rattle.ide_graph.specs.declared.edge.Effect.TheVariants.{Nothing, Number, Copy, Sum, Difference, Unknown, Mix, Enter}
 use Rattle.ide_problem.specs.Flow.{IsFlow, KeepsUnnamed}
 use Rattle.ide_problem.specs.SharedLaws.{IsReceived, shared_flow}
-use Rattle.ide_problem.specs.UnnamedLaws.{neither, not-given, shared_keeps, unnamed-parts}
+use Rattle.ide_problem.specs.UnnamedLaws.{neither, not-given, not-source, shared_keeps, unnamed-parts}
 use Rattle.ide_example.specs.Carry.{carries}
 use Rattle.ide_example.specs.CarryLaws.{carries_are_edge_functions}
 use Rattle.ide_example.specs.Inputs.{inputs_targets, received_on, received_over}
@@ -26,18 +26,15 @@ pub inputs_flow : IsFlow carries inputs_targets
 inputs_flow = shared_flow origins carries carries_are_edge_functions (λ edge fact. received_on edge.kind fact) carry.Nothing
     (λ edge fact lawful. any-received (received_on edge.kind fact)) refl
 
-read : (target source fact : ℕ) → (nat_eq fact target || nat_eq fact source) ≡ false → nat_eq fact source ≡ false
-read target source fact h = (neither (nat_eq fact target) (nat_eq fact source) h).1
-
 -- from what a statement does not name the assigned fact receives nothing
 over_nothing : (effect : Effect) (fact : ℕ) → is_unnamed (Normal effect) fact ≡ true → received_over effect fact ≡ None
 over_nothing Nothing fact h = refl
 over_nothing (Number target number) fact h = refl
-over_nothing (Copy target source) fact h = not-given (nat_eq fact source) carry.Origin (read target source fact (unnamed-parts (Copy target source) fact h).1)
+over_nothing (Copy target source) fact h = not-given (nat_eq fact source) carry.Origin (not-source target source fact (unnamed-parts (Copy target source) fact h).1)
 over_nothing (Sum target source number) fact h =
-    not-given (nat_eq fact source) carry.Origin (read target source fact (unnamed-parts (Sum target source number) fact h).1)
+    not-given (nat_eq fact source) carry.Origin (not-source target source fact (unnamed-parts (Sum target source number) fact h).1)
 over_nothing (Difference target source number) fact h =
-    not-given (nat_eq fact source) carry.Origin (read target source fact (unnamed-parts (Difference target source number) fact h).1)
+    not-given (nat_eq fact source) carry.Origin (not-source target source fact (unnamed-parts (Difference target source number) fact h).1)
 over_nothing (Unknown target) fact h = not-given (nat_eq fact 0) carry.Origin (unnamed-parts (Unknown target) fact h).0
 over_nothing (Mix target first second) fact h =
     let parts = neither (nat_eq fact target || nat_eq fact first) (nat_eq fact second) (unnamed-parts (Mix target first second) fact h).1 in

@@ -1,7 +1,8 @@
 -- What is told of each node beside its site: the facts that it surely leaves alone on the way to the node behind it.
 use Rattle.std.specs.Prelude.{◌≡◌, ℕ, ◌+◌, ◌<◌, Bool, true, false, not, ◌&&◌, ◌||◌, List, [], ◌∷◌, Some, length, nat_eq, slice_get}
-use Rattle.ide_graph.specs.Alone.{LeavesAlone}
+use Rattle.ide_graph.specs.Alone.{LeavesAlone, is_unnamed}
 use Rattle.ide_graph.specs.declared.edge.EdgeData.{EdgeData}
+use Rattle.ide_graph.specs.declared.edge.EdgeKind.{EdgeKind}
 use Rattle.ide_graph.specs.declared.site.Site.{Site}
 use Rattle.ide_graph.specs.declared.site.Site.TheVariants.{Normal}
 use Rattle.ide_graph.specs.declared.step.Step.{Step}
@@ -22,6 +23,18 @@ abbrev pub passes_by : Step → ℕ → Bool
 passes_by step fact =
     step.leads_behind && not (nat_eq fact 0) && not (nat_eq fact step.first) && not (nat_eq fact step.second)
     && not (nat_eq fact step.third)
+
+-- the step of a statement that names these facts
+abbrev pub step_beside : (first second third : ℕ) → Step
+step_beside first second third = record { leads_behind = true; first = first; second = second; third = third }
+
+-- the step says so of no fact that the statement on an edge of the kind names
+abbrev pub IsStepOver : EdgeKind → Step → Type 0
+IsStepOver kind step = (fact : ℕ) → passes_by step fact ≡ true → is_unnamed kind fact ≡ true
+
+-- it says no more than what is so at a node with the site, of facts that the program has
+abbrev pub IsStepFor : (facts node : ℕ) → Site → Step → Type 0
+IsStepFor facts node site step = (fact : ℕ) → fact < facts → passes_by step fact ≡ true → LeadsBehind node fact site
 
 -- the step of the node says no more than what is so, of facts that the program has
 abbrev pub IsStepAt : (facts : ℕ) → List Site → ℕ → Step → Type 0

@@ -1,4 +1,5 @@
 //! Edges of the supergraph, as plain data that carry all that a flow function needs.
+ghost use Rattle.std.specs.Prelude.{◌≡◌, ◌+◌, ◌↔◌, IsTrue};
 
 use ide_wire::{Fact, Listing, Node};
 
@@ -14,6 +15,16 @@ pub struct EdgeData {
     /// How many facts the program has.
     pub facts: u32,
     pub kind: EdgeKind,
+}
+
+impl EdgeData {
+    /// Whether it ends at the node behind this one.
+    #[inline(always)]
+    pub fn leads_behind(&self, node: Node) -> bool
+        ensures { IsTrue result ↔ (self.now.end ≡ node + 1) }
+    {
+        self.end > node && self.end - node == 1
+    }
 }
 
 /// The four kinds of edges, each with what its flow depends on.

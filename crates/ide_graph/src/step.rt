@@ -1,8 +1,7 @@
 //! Steps: what a node does to facts where one edge leaves it, to the node behind it.
-ghost use Rattle.std.specs.Prelude.{◌≡◌, ℕ, ◌+◌, ◌<◌, ◌≤◌, ◌^◌, length, map, true, IfOk};
+ghost use Rattle.std.specs.Prelude.{◌≡◌, ◌≤◌, ◌^◌, length, map, IfOk};
 ghost use Rattle.std.specs.Arc.{arc_value};
-ghost use Rattle.ide_graph.specs.Alone.{is_unnamed};
-ghost use Rattle.ide_graph.specs.Steps.{AreStepsOf, LeadsBehind, passes_by};
+ghost use Rattle.ide_graph.specs.Steps.{AreStepsOf, IsStepFor, IsStepOver, passes_by, step_beside};
 
 use crate::edge::{EdgeData, EdgeKind, Effect};
 use crate::site::Site;
@@ -61,28 +60,21 @@ pub(crate) fn steps_of(
 
 /// The step of a node that has the site.
 fn step_of(site: &Site, node: Node, facts: u32) -> Step
-    ensures { (fact : ℕ) → fact < facts → passes_by result fact ≡ true → LeadsBehind node fact site.now }
+    ensures { IsStepFor facts node site.now result }
 {
     match site {
         Site::Normal(edges) => match edges.as_slice() {
-            [edge] if edge.facts == facts && leads_behind(node, edge.end) => step_over(&edge.kind),
+            [edge] if edge.facts == facts && edge.leads_behind(node) => step_over(&edge.kind),
             _ => UNTOLD,
         },
         Site::Call { .. } | Site::Exit { .. } => UNTOLD,
     }
 }
 
-/// Whether the end is the node behind the other.
-fn leads_behind(node: Node, end: Node) -> bool
-    ensures { result ≡ true → end ≡ node + 1 }
-{
-    end > node && end - node == 1
-}
-
 /// The step over an edge of that kind to the node behind: nothing is told of a procedure's start, which has to do with
 /// many facts.
 fn step_over(kind: &EdgeKind) -> Step
-    ensures { (fact : ℕ) → passes_by result fact ≡ true → is_unnamed kind.now fact ≡ true }
+    ensures { IsStepOver kind.now result }
 {
     let EdgeKind::Normal(effect) = kind else {
         return UNTOLD;
@@ -104,7 +96,7 @@ fn step_over(kind: &EdgeKind) -> Step
 
 /// The step of a statement that names these facts.
 fn step_beside(first: Fact, second: Fact, third: Fact) -> Step
-    ensures { result ≡ record { leads_behind = true; first = first; second = second; third = third } }
+    ensures { result ≡ step_beside first second third }
 {
     Step {
         leads_behind: true,

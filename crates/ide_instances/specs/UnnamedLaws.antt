@@ -7,7 +7,7 @@ use Rattle.ide_graph.specs.declared.edge.EdgeKind.TheVariants.{Normal, Call, Ret
 use Rattle.ide_graph.specs.declared.edge.Effect.{Effect}
 use Rattle.ide_graph.specs.declared.edge.Effect.TheVariants.{Nothing, Number, Copy, Sum, Difference, Unknown, Mix, Enter}
 use Rattle.ide_problem.specs.Flow.{KeepsUnnamed}
-use Rattle.ide_problem.specs.UnnamedLaws.{neither, not-given, shared_keeps, unnamed-parts}
+use Rattle.ide_problem.specs.UnnamedLaws.{neither, not-given, not-source, shared_keeps, unnamed-parts}
 use Rattle.ide_instances.specs.Modular.{negated_of}
 use Rattle.ide_instances.specs.Received.{received_by, copy_received, shift_received, uninit_received, copy_targets, shift_targets, uninit_targets}
 use Rattle.ide_instances.specs.declared.const_fn.ConstFn.TheVariants.{Shift, Const, Bottom}
@@ -22,13 +22,10 @@ by_kind by_effect nothing (Call pairs) fact h = refl
 by_kind by_effect nothing (Return assigned) fact h = refl
 by_kind by_effect nothing (CallToReturn assigned) fact h = refl
 
-read : (target source fact : ℕ) → (nat_eq fact target || nat_eq fact source) ≡ false → nat_eq fact source ≡ false
-read target source fact h = (neither (nat_eq fact target) (nat_eq fact source) h).1
-
 copy_nothing : (effect : Effect) (fact : ℕ) → is_unnamed (Normal effect) fact ≡ true → copy_received effect fact ≡ None
 copy_nothing Nothing fact h = refl
 copy_nothing (Number target number) fact h = not-given (nat_eq fact 0) (Const number) (unnamed-parts (Number target number) fact h).0
-copy_nothing (Copy target source) fact h = not-given (nat_eq fact source) (Shift 0) (read target source fact (unnamed-parts (Copy target source) fact h).1)
+copy_nothing (Copy target source) fact h = not-given (nat_eq fact source) (Shift 0) (not-source target source fact (unnamed-parts (Copy target source) fact h).1)
 copy_nothing (Sum target source number) fact h = not-given (nat_eq fact 0) Bottom (unnamed-parts (Sum target source number) fact h).0
 copy_nothing (Difference target source number) fact h = not-given (nat_eq fact 0) Bottom (unnamed-parts (Difference target source number) fact h).0
 copy_nothing (Unknown target) fact h = not-given (nat_eq fact 0) Bottom (unnamed-parts (Unknown target) fact h).0
@@ -38,11 +35,11 @@ copy_nothing (Enter first end) fact h = refl
 shift_nothing : (effect : Effect) (fact : ℕ) → is_unnamed (Normal effect) fact ≡ true → shift_received effect fact ≡ None
 shift_nothing Nothing fact h = refl
 shift_nothing (Number target number) fact h = not-given (nat_eq fact 0) (Const number) (unnamed-parts (Number target number) fact h).0
-shift_nothing (Copy target source) fact h = not-given (nat_eq fact source) (Shift 0) (read target source fact (unnamed-parts (Copy target source) fact h).1)
+shift_nothing (Copy target source) fact h = not-given (nat_eq fact source) (Shift 0) (not-source target source fact (unnamed-parts (Copy target source) fact h).1)
 shift_nothing (Sum target source number) fact h =
-    not-given (nat_eq fact source) (Shift number) (read target source fact (unnamed-parts (Sum target source number) fact h).1)
+    not-given (nat_eq fact source) (Shift number) (not-source target source fact (unnamed-parts (Sum target source number) fact h).1)
 shift_nothing (Difference target source number) fact h =
-    not-given (nat_eq fact source) (Shift (negated_of number)) (read target source fact (unnamed-parts (Difference target source number) fact h).1)
+    not-given (nat_eq fact source) (Shift (negated_of number)) (not-source target source fact (unnamed-parts (Difference target source number) fact h).1)
 shift_nothing (Unknown target) fact h = not-given (nat_eq fact 0) Bottom (unnamed-parts (Unknown target) fact h).0
 shift_nothing (Mix target first second) fact h = not-given (nat_eq fact 0) Bottom (unnamed-parts (Mix target first second) fact h).0
 shift_nothing (Enter first end) fact h = refl
@@ -50,10 +47,10 @@ shift_nothing (Enter first end) fact h = refl
 uninit_nothing : (effect : Effect) (fact : ℕ) → is_unnamed (Normal effect) fact ≡ true → uninit_received effect fact ≡ None
 uninit_nothing Nothing fact h = refl
 uninit_nothing (Number target number) fact h = refl
-uninit_nothing (Copy target source) fact h = not-given (nat_eq fact source) Id (read target source fact (unnamed-parts (Copy target source) fact h).1)
-uninit_nothing (Sum target source number) fact h = not-given (nat_eq fact source) Id (read target source fact (unnamed-parts (Sum target source number) fact h).1)
+uninit_nothing (Copy target source) fact h = not-given (nat_eq fact source) Id (not-source target source fact (unnamed-parts (Copy target source) fact h).1)
+uninit_nothing (Sum target source number) fact h = not-given (nat_eq fact source) Id (not-source target source fact (unnamed-parts (Sum target source number) fact h).1)
 uninit_nothing (Difference target source number) fact h =
-    not-given (nat_eq fact source) Id (read target source fact (unnamed-parts (Difference target source number) fact h).1)
+    not-given (nat_eq fact source) Id (not-source target source fact (unnamed-parts (Difference target source number) fact h).1)
 uninit_nothing (Unknown target) fact h = refl
 uninit_nothing (Mix target first second) fact h =
     let parts = neither (nat_eq fact target || nat_eq fact first) (nat_eq fact second) (unnamed-parts (Mix target first second) fact h).1 in

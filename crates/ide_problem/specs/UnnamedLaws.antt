@@ -26,6 +26,10 @@ neither false b h = (refl, h)
 pub unnamed-parts : (effect : Effect) (fact : ℕ) → is_unnamed (Normal effect) fact ≡ true → (nat_eq fact 0 ≡ false) × (statement_names effect fact ≡ false)
 unnamed-parts effect fact h = both-not (nat_eq fact 0) (statement_names effect fact) h
 
+-- a fact that a statement with one source does not name is not the source
+pub not-source : (target source fact : ℕ) → (nat_eq fact target || nat_eq fact source) ≡ false → nat_eq fact source ≡ false
+not-source target source fact h = (neither (nat_eq fact target) (nat_eq fact source) h).1
+
 -- nothing is received where a test does not hold
 pub not-given : {F : Type 0} (test : Bool) (function : F) → test ≡ false → then_some test function ≡ None
 not-given test function h = ap (λ b. then_some b function) h

@@ -1,5 +1,5 @@
 //! The parts of one key after another, in one list.
-ghost use Rattle.std.specs.Prelude.{◌≡◌, ◌+◌, ◌∷◌, [], false, true, Ok, IfSome, OnOk};
+ghost use Rattle.std.specs.Prelude.{◌≡◌, ◌∷◌, [], false, true, Ok, IfSome, OnOk};
 ghost use Rattle.ide_tasks.specs.Partners.{partners_in};
 ghost use Rattle.ide_tasks.specs.Parts.{FillsUnchanged, PassesBehind, parts_at};
 
@@ -145,16 +145,9 @@ pub fn passes_behind<P: Problem>(node: Node, site: &Site, fact: Fact) -> bool
 {
     match site {
         Site::Normal(edges) => match edges.as_slice() {
-            [edge] => leads_behind(node, edge.end) && P::passes_unchanged(edge, fact),
+            [edge] => edge.leads_behind(node) && P::passes_unchanged(edge, fact),
             _ => false,
         },
         _ => false,
     }
-}
-
-/// Whether the end is the node behind the other.
-fn leads_behind(node: Node, end: Node) -> bool
-    ensures { result ≡ true → end ≡ node + 1 }
-{
-    end > node && end - node == 1
 }
