@@ -1,5 +1,5 @@
 //! Lines: the spelling of one line alone, whatever stands around it.
-ghost use Rattle.std.specs.Prelude.{ℕ, ◌≡◌, ◌≢◌, List, ◌∷◌, ◌++◌, MatchOption, IfSome, IfNone, IfOk, IfErr};
+ghost use Rattle.std.specs.Prelude.{ℕ, ◌≡◌, ◌≢◌, List, ◌∷◌, ◌++◌, MatchOption, IfSome, IfNone, IfOk, IfErr, OnOk};
 ghost use Rattle.ide_text.specs.Flaw.{IsNoLine};
 ghost use Rattle.ide_text.specs.Grammar.{IsLine};
 ghost use Rattle.ide_text.specs.Spelled.{AreCallees, AreNoCall, Spell, SpellNone};
@@ -31,21 +31,25 @@ pub(crate) enum Line {
 
 impl Line {
     /// The line that these bytes, without the LF, spell. The one fault is [`Fault::NoSuchLine`].
-    pub(crate) fn read(alloc: Global, text: &[u8]) -> Result<Line, Flaw>
+    ///
+    /// Its tokens are put into the list, in place of what stood there: one list serves for all the
+    /// lines of a text, so that a line takes memory for nothing but what it keeps.
+    pub(crate) fn read(alloc: Global, tokens: &mut Vec<Token>, text: &[u8]) -> Result<Line, Flaw>
         ensures found { IfOk result (λ line. (line_text line ≡ text.now) × IsLine line) }
         ensures none { IfErr result (IsNoLine ((line : Line) → IsLine line → line_text line ≢ text.now)) }
     {
-        let tokens = split(alloc, text)?;
-        line_of(alloc, &tokens)
+        split(text, tokens)?;
+        line_of(alloc, tokens)
     }
 }
 
-/// The tokens between the single spaces of the line.
-fn split(alloc: Global, text: &[u8]) -> Result<Vec<Token>, Flaw>
-    ensures found { IfOk result (λ tokens. Tokenizes text.now tokens.items) }
+/// Makes the list the tokens between the single spaces of the line. What stood in it is gone, and
+/// its room is used again. The time grows with the length of the line.
+fn split(text: &[u8], tokens: &mut Vec<Token>) -> Result<(), Flaw>
+    ensures found { OnOk result (Tokenizes text.now tokens.new.items) }
     ensures none { IfErr result (IsNoLine ((tokens : List Token) → ¬ (Tokenizes text.now tokens))) }
 {
-    let mut tokens = Vec::new(alloc);
+    tokens.clear();
     let mut rest = text;
     while let Some((word, after)) = cut(rest, b' ') {
         let token = Token::of(word).ok_or(Fault::NoSuchLine)?;
@@ -54,7 +58,7 @@ fn split(alloc: Global, text: &[u8]) -> Result<Vec<Token>, Flaw>
     }
     let last = Token::of(rest).ok_or(Fault::NoSuchLine)?;
     tokens.push(last)?;
-    Ok(tokens)
+    Ok(())
 }
 
 /// The line of these tokens.

@@ -4,11 +4,12 @@ ghost use Rattle.std.specs.Prelude.{◌≡◌, ◌≤◌, length};
 use std::marker::Model;
 
 /// A name: 1 to 31 bytes, kept in place, so that a program's names take no allocation of their
-/// own. Contracts see it as the list of its bytes.
+/// own. Their count is a byte too, so that a name takes 32 bytes and no padding. Contracts see it
+/// as the list of its bytes.
 #[derive(Drop)]
 pub struct Name {
     bytes: [u8; Name::MAX],
-    length: usize,
+    length: u8,
 }
 
 impl Model for Name {
@@ -34,7 +35,7 @@ impl Name {
         kept[..bytes.len()].copy_from_slice(bytes);
         Name {
             bytes: kept,
-            length: bytes.len(),
+            length: bytes.len() as u8,
         }
     }
 
@@ -43,7 +44,7 @@ impl Name {
         ensures value { result.now ≡ self.now }
         ensures short { length result.now ≤ 31 }
     {
-        &self.bytes[..self.length]
+        &self.bytes[..usize::from(self.length)]
     }
 
     /// The same name again. It takes no memory.

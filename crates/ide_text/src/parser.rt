@@ -15,6 +15,7 @@ use crate::flaw::Flaw;
 use crate::line::Line;
 use crate::program::{Draft, Program};
 use crate::reader::Reader;
+use crate::token::Token;
 use ide_wire::{Fault, Refused};
 use std::alloc::Global;
 
@@ -55,10 +56,11 @@ fn read(alloc: Global, text: &[u8]) -> Result<Draft, Refused>
     ensures faults { IfErr result (IsFirstFault text.now) }
 {
     let mut reader = Reader::new(alloc);
+    let mut tokens = Vec::new(alloc);
     let mut line: u32 = 1;
     let mut rest = text;
     while let Some((next, after)) = cut(rest, b'\n') {
-        if let Err(flaw) = read_line(alloc, &mut reader, next) {
+        if let Err(flaw) = read_line(alloc, &mut tokens, &mut reader, next) {
             return Err(flaw.on_line(line));
         }
         line += 1;
@@ -73,13 +75,19 @@ fn read(alloc: Global, text: &[u8]) -> Result<Draft, Refused>
     }
 }
 
-/// Takes the line that these bytes, without the LF, spell.
-fn read_line(alloc: Global, reader: &mut Reader, text: &[u8]) -> Result<(), Flaw>
+/// Takes the line that these bytes, without the LF, spell. The list is for its tokens, and what
+/// stood in it is gone.
+fn read_line(
+    alloc: Global,
+    tokens: &mut Vec<Token>,
+    reader: &mut Reader,
+    text: &[u8],
+) -> Result<(), Flaw>
     requires { IsCounted reader.old }
     ensures taken { OnOk result (TakesLine (taken_lines reader.old) (taken_lines reader.new) text.now) }
     ensures counted { OnOk result (IsCounted reader.new) }
     ensures fault { IfErr result (λ flaw. IfFaulty flaw (RefusesLine (taken_lines reader.old) text.now)) }
 {
-    let line = Line::read(alloc, text)?;
+    let line = Line::read(alloc, tokens, text)?;
     reader.take(line)
 }

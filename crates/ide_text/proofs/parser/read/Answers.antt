@@ -40,13 +40,13 @@ returns-in-Ok-clause-spelled c =
     let none : c.loop-next.rest.now ≡ [] = nil_from_length c.loop-next.rest.now (grind (arith, nat_tests, c.if-not-is_empty.ensures)) in
     Spells-at_end c.args.text.now (taken_lines c.loop-next.reader) c.loop-next.rest.now c.in-Ok.draft c.loop-next.invariant.taken c.loop-next.invariant.text none c.in-Ok.ensures.lines
 
-pub returns-in-Err-finish-clause-refusals : goal.returns-in-Err-finish-clause-refusals
-returns-in-Err-finish-clause-refusals c =
+pub returns-clause-refusals : goal.returns-clause-refusals
+returns-clause-refusals c =
     let few = lines_fit c.args.text.now (taken_lines c.loop-next.reader) c.loop-next.rest.now c.loop-next.invariant.text in
     IsTextRefusal-wider _ _ _ _ _ (omega (arith, c.loop-next.invariant.line)) (omega (arith, few, c.loop-next.invariant.line)) c.on_line-in-Err-finish.ensures.range
 
-pub returns-in-Err-finish-clause-faults : goal.returns-in-Err-finish-clause-faults
-returns-in-Err-finish-clause-faults c =
+pub returns-clause-faults : goal.returns-clause-faults
+returns-clause-faults c =
     let none : c.loop-next.rest.now ≡ [] = nil_from_length c.loop-next.rest.now (grind (arith, nat_tests, c.if-not-is_empty.ensures)) in
     rw c.on_line-in-Err-finish.ensures.exact (FirstFault-ended c.args.text.now (taken_lines c.loop-next.reader) c.loop-next.rest.now c.loop-next.line c.in-Err-finish.fault
     c.loop-next.invariant.taken c.loop-next.invariant.text none c.in-Err-finish.ensures.fault.1 c.in-Err-finish.ensures.fault.0 c.loop-next.invariant.line)
