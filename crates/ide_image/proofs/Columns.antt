@@ -1,6 +1,6 @@
 -- The cells of pages: where each key's stands, which function it has, and what they are once a function is put in or a page is added.
 use Rattle.std.proofs.Common.{◌≡◌, ℕ, zero, suc, ◌+◌, ◌-◌, ◌*◌, ◌/◌, ◌%◌, ◌<◌, ◌≤◌, ◌^◌, refl, sym, ap, subst, ◌∙◌, arith, List, [], ◌∷◌, ◌++◌, length, get_or, Option, Some, None, Result, Ok, Err, Bool, true, false, cond, inl, inr, replicate, take, ⊎_elim}
-use Rattle.std.specs.Prelude.{IfOk, map, nat_eq, slice_get, unwrap_or, position}
+use Rattle.std.specs.Prelude.{IfOk, map, min, nat_eq, slice_get, unwrap_or, position}
 use Rattle.std.specs.BTreeMap.{is_at}
 use Rattle.std.specs.List.{AllByRecursion, IsDistinct, cons_option, filter_map, range_with_len}
 use Rattle.std.specs.List.Sorted.{IsStrictlySortedBy}
@@ -376,6 +376,18 @@ module _ {F : Type 0} where
   pub kept-long : (old new : List F) (f : F) → MayKeep f old new → length old ≤ length new
   kept-long old new f (inl same) = let long = ap length same in omega (arith, long)
   kept-long old new f (inr more) = let long = ap length more ∙ length-append old (f ∷ []) in omega (arith, long)
+
+  kept-few : (old new : List F) (f : F) → MayKeep f old new → length new ≤ length old + 1
+  kept-few old new f (inl same) = let long = ap length same in omega (arith, long)
+  kept-few old new f (inr more) = let long = ap length more ∙ length-append old (f ∷ []) in omega (arith, long)
+
+  -- one function more at most is kept, so that one more than its index is a number that there was room for
+  pub kept-fits : (old new : List F) (f : F) (index room most : ℕ) → MayKeep f old new → slice_get new index ≡ Some f
+      → 0 < min room (most - length old) → index + 1 ≤ most
+  kept-fits old new f index room most keeps there some =
+      let within = slice_get_within new index f there in
+      let few = kept-few old new f keeps in
+      omega (arith, within, few, some)
 
   module _ (old new : Numbers) (functions : List F) (own : HasOwnCells old) (key : Key) (cell n : ℕ) (f : F) (is : cell_of old key ≡ Some cell)
       (puts : Puts old new key n) (there : kept_at functions n ≡ Some f) where

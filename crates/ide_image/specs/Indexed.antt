@@ -1,9 +1,10 @@
 -- What contracts say of cells: each has a key, and a function where the key is present.
-use Rattle.std.specs.Prelude.{◌≡◌, ℕ, ◌-◌, ◌*◌, ◌<◌, ◌≤◌, ◌^◌, ◌++◌, List, Option, None, Some, length, map, nat_eq, slice_get, if◌then◌else◌}
+use Rattle.std.specs.Prelude.{◌≡◌, ℕ, ◌-◌, ◌*◌, ◌<◌, ◌≤◌, ◌^◌, ◌++◌, List, Option, None, Some, length, map, min, nat_eq, slice_get, if◌then◌else◌}
 use Rattle.std.specs.List.{All, IsDistinct, filter_map, range_with_len}
 use Rattle.std.specs.Map.{keys_of, lookup}
 use Rattle.std.specs.Option.{option_flatten, option_map}
 use Rattle.ide_pages.specs.Pages.{ArePaged, Numbers, key_at, number_at}
+use Rattle.ide_image.specs.Functions.{Functions}
 use Rattle.ide_image.specs.Tables.{Table, place_in, with_all, with_entry}
 use Rattle.ide_wire.specs.Key.{same_key}
 use Rattle.ide_wire.specs.declared.key.Key.{Key}
@@ -25,6 +26,10 @@ module _ {F : Type 0} where
   -- the cells of all pages, 64 each
   abbrev pub cells_by : Numbers → List F → List (Key × Option F)
   cells_by numbers functions = map (cell_by numbers functions) (range_with_len 0 (64 * length numbers.pages))
+
+  -- for how many more functions there is room, which the cells have room to tell too
+  abbrev pub room_of : Numbers → Functions F → ℕ
+  room_of numbers functions = min functions.room (numbers.most - length functions.items)
 
   -- what a cell shows: its key with its function, if it has one
   abbrev pub entry_of_cell : Key × Option F → Option (Key × F)

@@ -1,5 +1,5 @@
 //! Functions that are kept, each under an index that stays.
-ghost use Rattle.std.specs.Prelude.{◌≡◌, ◌+◌, ◌<◌, ◌≤◌, ◌^◌, [], Some, slice_get, IfOk, IfSome, OnOk};
+ghost use Rattle.std.specs.Prelude.{◌≡◌, ◌+◌, ◌<◌, ◌≤◌, ◌^◌, [], Some, length, slice_get, IfOk, IfSome, OnOk};
 ghost use Rattle.ide_image.specs.Functions.{MayKeep};
 
 use ide_lattice::EdgeFn;
@@ -12,7 +12,7 @@ const MOST_KEPT: usize = 4_294_967_295;
 /// With how many of the functions that were kept last one that comes is compared.
 const RECENT: usize = 4;
 
-/// Functions, each under an index that takes 4 bytes where it is written. One that is among the last few is not
+/// Functions, each under an index, which takes two or four bytes where it is written. One that is among the last few is not
 /// kept again: keys that follow each other along a procedure mostly have one function. A function that no
 /// key has any more stays.
 #[derive(Drop)]
@@ -47,6 +47,14 @@ impl<F: EdgeFn> Functions<F> {
         self.list.get(index).copied()
     }
 
+    /// How many functions are kept.
+    #[inline(always)]
+    pub(crate) fn len(&self) -> usize
+        ensures { result ≡ length self.now.items }
+    {
+        self.list.len()
+    }
+
     /// The same functions under the same indices.
     pub(crate) fn copy(&self, alloc: Global) -> Result<Functions<F>, AllocError>
         ensures { IfOk result (λ copy. copy.items ≡ self.now.items) }
@@ -61,7 +69,7 @@ impl<F: EdgeFn> Functions<F> {
     pub(crate) fn reserve(&mut self, additional: usize) -> Result<(), AllocError>
         ensures items { self.new.items ≡ self.old.items }
         ensures room { OnOk result (additional ≤ self.new.room) }
-        ensures few { OnOk result (additional < 2 ^ 32) }
+        ensures few { OnOk result (length self.new.items + additional < 2 ^ 32) }
     {
         self.list.reserve(additional)?;
         if self.list.len() > MOST_KEPT || additional > MOST_KEPT - self.list.len() {

@@ -24,8 +24,9 @@ use std::marker::Model;
 /// The most cells, on 67,108,863 pages, so that one more than the index of each has 32 bits.
 const MOST_CELLS: usize = 4_294_967_232;
 
-/// A finite map from keys to functions. A key has a cell of 4 bytes on its page, which stays where it is; in it stands
-/// one more than the index of the key's function, or 0.
+/// A finite map from keys to functions. A key has a cell on its page, which stays where it is; in it stands one more than
+/// the index of the key's function, or 0. A cell has two bytes, and four from when more functions are kept than two tell
+/// apart.
 #[derive(Drop)]
 pub(crate) struct Indexed<F: EdgeFn> {
     places: Pages,
@@ -33,11 +34,11 @@ pub(crate) struct Indexed<F: EdgeFn> {
 }
 
 impl<F: EdgeFn> Model for Indexed<F> {
-    ghost use Rattle.ide_image.specs.Indexed.{AreIndexed, Indexed, cells_by};
+    ghost use Rattle.ide_image.specs.Indexed.{AreIndexed, Indexed, cells_by, room_of};
 
     ghost Value = { Indexed F };
 
-    ghost view = { λ t. record { cells = cells_by t.places t.functions.items; room = t.functions.room } };
+    ghost view = { λ t. record { cells = cells_by t.places t.functions.items; room = room_of t.places t.functions } };
 
     ghost invariant = { λ t. AreIndexed t.places t.functions.items };
 }
@@ -324,14 +325,22 @@ impl<F: EdgeFn> Indexed<F> {
         Ok(())
     }
 
-    /// Makes room for so many more functions.
+    /// Makes room for so many more functions, and for their numbers in cells: once they may be too many for two bytes, all
+    /// cells are copied.
     #[inline(always)]
-    pub(crate) fn reserve(&mut self, additional: usize) -> Result<(), AllocError>
+    pub(crate) fn reserve(&mut self, additional: usize) -> Result<(), Refused>
         ensures cells { self.new.cells ≡ self.old.cells }
         ensures room { OnOk result (additional ≤ self.new.room) }
         ensures few { OnOk result (additional < 2 ^ 32) }
+        ensures refused { IsOkUnless result NoMemory }
     {
-        self.functions.reserve(additional)
+        self.functions.reserve(additional)?;
+        if self.functions.len() + additional > self.places.most() {
+            self.places.widen()?;
+        }
+        // The pages have their cells as before.
+        let _ = self.places.cell_count();
+        Ok(())
     }
 
     /// Puts the function into the key's cell, which this is. No look-up.

@@ -4,14 +4,13 @@ use Rattle.std.specs.Prelude.{IfNone, IfSome, position, slice_set, if◌then◌e
 use Rattle.std.specs.List.{IsDistinct}
 use Rattle.std.specs.Map.{keys_of}
 use Rattle.std.specs.Option.{option_map, option_to_list, unwrap_or}
-use Rattle.std.proofs.lemmas.Grind.{get_or_default_zero}
 use Rattle.std.proofs.lemmas.List.{length-append, length-set}
 use Rattle.std.proofs.lemmas.List.FromFn.{fill_by_all}
 use Rattle.std.proofs.lemmas.List.Quantifiers.{position-Some}
 use Rattle.ide_wire.specs.declared.key.Key.{Key}
 use Rattle.ide_wire.specs.declared.key.Key.TheVariants.{Jump}
 use Rattle.ide_wire.specs.Key.{same_key, same_key_exact, node_of}
-use Rattle.ide_pages.specs.Pages.{ArePaged, ArePages, Puts, cell_of, cell_on, entries, key_at, key_on, number_at, number_in, cell_number, numbers_of, own, page_at, page_of, shown, slot_at, slot_by, slots_from, weight}
+use Rattle.ide_pages.specs.Pages.{ArePaged, ArePages, Puts, cell_of, cell_on, entries, key_at, key_on, number_at, number_in, cell_number, numbers_of, numbers_within, own, page_at, page_of, shown, slot_at, slot_by, slots_from, weight}
 use Rattle.ide_pages.specs.Rows.{RowsData}
 use Rattle.ide_pages.proofs.Places.{key_on-page_of, offset-key_on, page_of-key_on, position-at}
 use Rattle.ide_pages.proofs.Numbering.{IsNumbering, distinct-entries, number-after, number-is}
@@ -85,9 +84,9 @@ module _ {pages : List Key} {cells : List ℕ} {rows : RowsData} {count : ℕ} (
       ap (λ (slot : Option (Key × ℕ)). unwrap_or (option_map (λ (entry : Key × ℕ). entry.1) slot) 0) (slot-of-cell cell)
       ∙ shown-number (key_at pages cell) (get_or cells cell 0)
 
-  pub are-paged : ArePaged (numbers_of pages cells)
-  are-paged =
-      let numbers = numbers_of pages cells in
+  pub are-paged : (most : ℕ) → ArePaged (numbers_within most pages cells)
+  are-paged most =
+      let numbers = numbers_within most pages cells in
       let long : length numbers.slots ≡ 64 * length pages = length-slots (key_at pages) 0 cells ∙ are.paged in
       let paged = are.paged in
       record {
@@ -155,8 +154,8 @@ module _ {pages : List Key} {cells : List ℕ} {rows : RowsData} {count : ℕ} (
         ap full (slots-set (key_at pages) 0 cells cell number ∙ ap (λ k. slice_set slots cell (shown k number)) own-key)
         ∙ full-set slots cell (shown key number) in-slots
 
-    pub puts : Puts (numbers_of pages cells) (numbers_of pages (slice_set cells cell number)) key number
-    puts = record {
+    pub puts : (most : ℕ) → Puts (numbers_within most pages cells) (numbers_within most pages (slice_set cells cell number)) key number
+    puts most = record {
       numbers = λ q.
           number-is (key_at pages) (cell_in pages) (slice_set cells cell number)
           (numbering pages are.distinct (slice_set cells cell number) (length-set cells cell number ∙ are.paged)) q
@@ -185,23 +184,22 @@ module _ {pages : List Key} {cells : List ℕ} {rows : RowsData} {count : ℕ} (
     count-now = ap length now ∙ long (own key number) ∙ ap (λ n. others + n) (length-shown key number)
 
     -- the number that the cell had, as it was read
-    module _ (old : ℕ) (read : old ≡ get_or cells cell old) where
-      old-is : old ≡ get_or cells cell 0
-      old-is = read ∙ get_or_default_zero cells cell old in-cells
-
+    module _ (old : ℕ) (read : old ≡ get_or cells cell 0) where
       pub weight-within : weight old ≤ count
-      weight-within = let w = count-was in let o = ap weight old-is in omega (arith, w, o)
+      weight-within = let w = count-was in let o = ap weight read in omega (arith, w, o)
 
-      pub weight-few : length cells < 2 ^ 64 → count + weight number < 2 ^ 64 + weight old
-      weight-few few =
+      pub weight-few : count + weight number < 2 ^ 64 + weight old
+      weight-few =
           let w = count-was in
-          let o = ap weight old-is in
+          let o = ap weight read in
           let n = count-now in
+          let paged = are.paged in
+          let few = are.few in
           let l : length (entries (numbers_of pages (slice_set cells cell number))) ≤ length cells =
           subst (λ m. length (entries (numbers_of pages (slice_set cells cell number))) ≤ m)
           (length-slots (key_at pages) 0 (slice_set cells cell number) ∙ length-set cells cell number)
           (length-full (slots_from (key_at pages) 0 (slice_set cells cell number))) in
-          omega (arith, w, o, n, l, few)
+          omega (arith, w, o, n, l, paged, few)
 
       pub are-written : (after : ℕ) → after + weight old ≡ count + weight number → ArePages pages (slice_set cells cell number) rows after
       are-written after is_after = record {
@@ -212,7 +210,7 @@ module _ {pages : List Key} {cells : List ℕ} {rows : RowsData} {count : ℕ} (
         told = are.told;
         counted =
             let w = count-was in
-            let o = ap weight old-is in
+            let o = ap weight read in
             let n = count-now in
             omega (arith, w, o, n, is_after);
       }

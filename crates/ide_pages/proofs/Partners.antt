@@ -13,7 +13,7 @@ use Rattle.std.proofs.lemmas.Bool.Decides.{nat_tests}
 use Rattle.ide_wire.specs.declared.key.Key.{Key}
 use Rattle.ide_wire.specs.declared.key.Key.TheVariants.{Jump, Summary}
 use Rattle.ide_wire.specs.Key.{same_key, node_of}
-use Rattle.ide_pages.specs.Pages.{ArePages, AreRow, IsPage, key_beside, listed_fact, nonzero, cell_number, number_at, number_by, numbers_of, page_of, partner_of, read_at, row_of}
+use Rattle.ide_pages.specs.Pages.{ArePages, AreRow, IsPage, key_beside, listed_fact, nonzero, cell_number, number_at, number_by, numbers_of, numbers_within, page_of, partner_of, read_at, row_of}
 use Rattle.ide_pages.specs.Rows.{IsRow, RowsData, page_in, row_at}
 use Rattle.ide_pages.proofs.KeyCells.{number-found, number-in-cell}
 
@@ -108,9 +108,9 @@ module _ {pages : List Key} {cells : List ℕ} {rows : RowsData} {count : ℕ} (
   listed-beside (Summary n a b) d is few = number-listed (Summary n a d) (is.0, is.1, few)
 
   -- the row of a key, read at its offset
-  pub are-row : (key : Key) (row : List (ℕ × ℕ)) → IsPage (page_of key) → row ≡ row_at rows (row_of (page_of key)) → IsRow row
-      → AreRow (key_beside key) (numbers_of pages cells) (filter_map (partner_of (number_by cells (node_of key % 64))) row)
-  are-row key row is at sorted =
+  are-row : (most : ℕ) (key : Key) (row : List (ℕ × ℕ)) → IsPage (page_of key) → row ≡ row_at rows (row_of (page_of key)) → IsRow row
+      → AreRow (key_beside key) (numbers_within most pages cells) (filter_map (partner_of (number_by cells (node_of key % 64))) row)
+  are-row most key row is at sorted =
       let get : ℕ → Option ℕ = λ index. nonzero (number_by cells (node_of key % 64) index) in
       record {
         ascending = ascending get row sorted.ascending;
@@ -119,14 +119,14 @@ module _ {pages : List Key} {cells : List ℕ} {rows : RowsData} {count : ℕ} (
       }
 
   -- the numbers in the cells of the pages that are listed are those of the keys
-  pub read-listed : (offset : ℕ) (row : List (ℕ × ℕ)) → read_at (numbers_of pages cells) offset row ≡ filter_map (partner_of (number_by cells offset)) row
+  read-listed : (offset : ℕ) (row : List (ℕ × ℕ)) → read_at (numbers_of pages cells) offset row ≡ filter_map (partner_of (number_by cells offset)) row
   read-listed offset [] = refl
   read-listed offset (e ∷ es) =
       ap (λ n. cons_option (option_map (λ (m : ℕ). (e.0, m)) (nonzero n)) (read_at (numbers_of pages cells) offset es)) (number-in-cell are (64 * e.1 + offset))
       ∙ ap (cons_option (partner_of (number_by cells offset) e)) (read-listed offset es)
 
   -- the row of a key, where the pages that it lists are read at its offset
-  pub are-listed : (key : Key) (row : List (ℕ × ℕ)) → IsPage (page_of key) → row ≡ row_at rows (row_of (page_of key)) → IsRow row
-      → AreRow (key_beside key) (numbers_of pages cells) (read_at (numbers_of pages cells) (node_of key % 64) row)
-  are-listed key row is at sorted =
-      subst (AreRow (key_beside key) (numbers_of pages cells)) (sym (read-listed (node_of key % 64) row)) (are-row key row is at sorted)
+  pub are-listed : (most : ℕ) (key : Key) (row : List (ℕ × ℕ)) → IsPage (page_of key) → row ≡ row_at rows (row_of (page_of key)) → IsRow row
+      → AreRow (key_beside key) (numbers_within most pages cells) (read_at (numbers_within most pages cells) (node_of key % 64) row)
+  are-listed most key row is at sorted =
+      subst (AreRow (key_beside key) (numbers_within most pages cells)) (sym (read-listed (node_of key % 64) row)) (are-row most key row is at sorted)

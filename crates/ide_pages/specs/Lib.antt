@@ -1,2 +1,3 @@
+pub mod CellNumbers
 pub mod Pages
 pub mod Rows

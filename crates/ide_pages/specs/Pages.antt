@@ -11,10 +11,12 @@ use Rattle.ide_wire.specs.declared.key.Key.TheVariants.{Jump, Summary}
 use Rattle.ide_wire.specs.Key.{same_key, node_of}
 use Rattle.ide_pages.specs.Rows.{RowsData, page_in, row_at}
 
--- numbers at keys: for each cell its key with its number, where that is not 0; and the pages, 64 cells each, in the order of their cells
+-- numbers at keys: for each cell its key with its number, where that is not 0; the pages, 64 cells each, in the order of their cells;
+-- and the greatest number that a cell has room for
 pub record Numbers : Type 0 where
   pub slots : List (Option (Key × ℕ))
   pub pages : List Key
+  pub most : ℕ
 
 -- the keys whose number is not 0, with it. Their order is that of the cells, and means nothing else
 abbrev pub entries : Numbers → List (Key × ℕ)
@@ -106,9 +108,13 @@ abbrev pub slots_from : (ℕ → Key) → ℕ → List ℕ → List (Option (Key
 slots_from at first [] = []
 slots_from at first (n ∷ ns) = shown (at first) n ∷ slots_from at (first + 1) ns
 
--- the numbers that the cells of the pages have
+-- the numbers that the cells of the pages have, with room for numbers up to one
+abbrev pub numbers_within : (most : ℕ) → List Key → List ℕ → Numbers
+numbers_within most pages cells = record { slots = slots_from (key_at pages) 0 cells; pages = pages; most = most }
+
+-- the same, whatever there is room for
 abbrev pub numbers_of : List Key → List ℕ → Numbers
-numbers_of pages cells = record { slots = slots_from (key_at pages) 0 cells; pages = pages }
+numbers_of pages cells = numbers_within 0 pages cells
 
 -- the number in a cell, if there is one, or 0
 abbrev pub cell_number : List ℕ → Option ℕ → ℕ

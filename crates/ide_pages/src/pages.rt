@@ -9,6 +9,7 @@ ghost use Rattle.ide_wire.specs.Key.{node_of, same_key};
 ghost use Rattle.ide_pages.specs.Pages.{AddsPage, ArePaged, AreRow, IsPage, IsRowOfJumps, IsRowOfSummaries, IsNumberIn, KeepsCells, Puts, cell_of, entries, key_beside, listed_fact, number_at, number_in, read_at, row_of, slot_at, weight};
 ghost use Rattle.ide_pages.specs.Rows.{KeepsPages, ListsIn, page_in, row_at};
 
+use crate::cell_numbers::CellNumbers;
 use crate::rows::Rows;
 use crate::{cells, keys};
 use ide_wire::{Fact, Key, Node, Refused};
@@ -18,7 +19,8 @@ use std::marker::Model;
 /// The most pages, so that the index of each has 32 bits.
 const MOST_PAGES: usize = 4_294_967_295;
 
-/// A finite map from keys to numbers, where an absent key has 0. It has 4,294,967,295 pages at most.
+/// A finite map from keys to numbers, where an absent key has 0. It has 4,294,967,295 pages at most. A cell has room for
+/// a number of two bytes at first, and of four once [`Pages::widen`] was called.
 ///
 /// A look-up finds the row of a key's page, by a number, and a search in the row finds the page: a row has those of one
 /// kind and one block of nodes that have one fact in common, a jump's its end and a summary's its start. None is
@@ -28,7 +30,8 @@ const MOST_PAGES: usize = 4_294_967_295;
 pub struct Pages {
     /// The key of each page.
     pages: Vec<Key>,
-    cells: Vec<u32>,
+    /// The number in each cell.
+    cells: CellNumbers,
     /// The index of each page, by its row.
     rows: Rows,
     count: usize,
@@ -38,11 +41,11 @@ pub struct Pages {
 }
 
 impl Model for Pages {
-    ghost use Rattle.ide_pages.specs.Pages.{ArePages, Numbers, numbers_of};
+    ghost use Rattle.ide_pages.specs.Pages.{ArePages, Numbers, numbers_within};
 
     ghost Value = { Numbers };
 
-    ghost view = { λ p. numbers_of p.pages.items p.cells.items };
+    ghost view = { λ p. numbers_within p.cells.most p.pages.items p.cells.items };
 
     ghost invariant = { λ p. ArePages p.pages.items p.cells.items p.rows p.count };
 }
@@ -55,7 +58,7 @@ impl Pages {
     {
         Pages {
             pages: Vec::new(alloc),
-            cells: Vec::new(alloc),
+            cells: CellNumbers::new(alloc),
             rows: Rows::new(alloc),
             count: 0,
             last: 0,
@@ -130,7 +133,7 @@ impl Pages {
         ensures number { result ≡ number_in self.now cell }
         ensures same { IsNumberIn self.now cell result }
     {
-        cells::number_in(&self.cells, cell)
+        self.cells.get(cell)
     }
 
     /// The cell's key, or `None` behind the last cell. No look-up.
@@ -147,7 +150,7 @@ impl Pages {
         ensures slot { result ≡ slot_at self.now cell }
         ensures present { IfSome result (λ entry. number_at self.now entry.0 ≡ entry.1) }
     {
-        let number = cells::number_in(&self.cells, cell);
+        let number = self.cells.get(cell);
         if number == 0 {
             return None;
         }
@@ -165,6 +168,7 @@ impl Pages {
         ensures entries { entries self.new ≡ entries self.old }
         ensures cells { KeepsCells self.old self.new }
         ensures pages { AddsPage self.old self.new key }
+        ensures most { self.new.most ≡ self.old.most }
         ensures err { OnErr result (self.new ≡ self.old) }
         ensures refused { IsOkUnless result NoMemory }
     {
@@ -183,43 +187,39 @@ impl Pages {
         Ok(64 * index + offset)
     }
 
-    /// Puts the number into the cell, which is the key's. Of the key the clauses speak; the call
+    /// The greatest number that a cell has room for: one of two bytes at first.
+    #[inline(always)]
+    pub fn most(&self) -> usize
+        ensures { result ≡ self.now.most }
+    {
+        self.cells.most()
+    }
+
+    /// Makes room in each cell for every number of four bytes. Where there was none, it copies the numbers to twice the
+    /// memory that they had, which is given back then, in time in proportion to them; or else it does nothing.
+    ///
+    /// Refusal: `NoMemory`, which leaves the map as it was.
+    pub fn widen(&mut self) -> Result<(), Refused>
+        ensures most { OnOk result (self.new.most ≡ 4294967295) }
+        ensures slots { self.new.slots ≡ self.old.slots }
+        ensures pages { self.new.pages ≡ self.old.pages }
+        ensures err { OnErr result (self.new ≡ self.old) }
+        ensures refused { IsOkUnless result NoMemory }
+    {
+        self.cells.widen()?;
+        Ok(())
+    }
+
+    /// Puts the number into the cell, which is the key's and has room for it. Of the key the clauses speak; the call
     /// does not look at it. No look-up, and no memory.
     pub fn set(&mut self, cell: usize, key: Key, number: u32)
-        requires { cell_of self.old key ≡ Some cell }
-        ensures { Puts self.old self.new key number }
+        requires cell { cell_of self.old key ≡ Some cell }
+        requires fits { number ≤ self.old.most }
+        ensures puts { Puts self.old self.new key number }
+        ensures most { self.new.most ≡ self.old.most }
     {
-        let old = self.cells[cell];
-        self.cells[cell] = number;
+        let old = self.cells.replace(cell, number);
         self.count = counted(self.count, old, number);
-    }
-
-    /// The jumps at the node to the fact whose number is not 0: for each the fact at the start of
-    /// its procedure, and its number, ascending by fact. One look-up.
-    pub fn jumps_to(
-        &self,
-        alloc: Global,
-        node: Node,
-        fact: Fact,
-    ) -> Result<Vec<(Fact, u32)>, Refused>
-        ensures row { IfOk result (λ row. IsRowOfJumps node fact self.now row.items) }
-        ensures refused { IsOkUnless result NoMemory }
-    {
-        self.row(alloc, Key::Jump(node, 0, fact))
-    }
-
-    /// The summaries at the call from the fact whose number is not 0: for each the fact at the
-    /// return site, and its number, ascending by fact. One look-up.
-    pub fn summaries_from(
-        &self,
-        alloc: Global,
-        call: Node,
-        fact: Fact,
-    ) -> Result<Vec<(Fact, u32)>, Refused>
-        ensures row { IfOk result (λ row. IsRowOfSummaries call fact self.now row.items) }
-        ensures refused { IsOkUnless result NoMemory }
-    {
-        self.row(alloc, Key::Summary(call, fact, 0))
     }
 
     /// The pages that have the jumps at the node to the fact: for each the fact at the start of its
@@ -249,24 +249,13 @@ impl Pages {
         self.rows.row(keys::row_of(keys::page_of(key)))
     }
 
-    /// The facts of the key's row whose keys at its node have a number that is not 0, each with that number.
-    fn row(&self, alloc: Global, key: Key) -> Result<Vec<(Fact, u32)>, Refused>
-        ensures row { IfOk result (λ row. AreRow (key_beside key) self.now row.items) }
-        ensures refused { IsOkUnless result NoMemory }
-    {
-        let page = keys::page_of(key);
-        let row = self.rows.row(keys::row_of(page));
-        let partners = cells::partners(alloc, &self.cells, keys::offset_of(key), row)?;
-        Ok(partners)
-    }
-
     /// A map with the same numbers in the same cells.
     pub fn copy(&self, alloc: Global) -> Result<Pages, Refused>
         ensures ok { IfOk result (λ copy. copy ≡ self.now) }
         ensures refused { IsOkUnless result NoMemory }
     {
         let pages = self.pages.to_vec(alloc)?;
-        let cells = self.cells.to_vec(alloc)?;
+        let cells = self.cells.copy(alloc)?;
         let rows = self.rows.copy(alloc)?;
         Ok(Pages {
             pages,
@@ -296,7 +285,7 @@ fn counted(count: usize, old: u32, number: u32) -> usize
 // Adds a page of zeros behind the others, and answers its index. One more than 4,294,967,295 pages are refused.
 fn add_page(
     pages: &mut Vec<Key>,
-    cells: &mut Vec<u32>,
+    cells: &mut CellNumbers,
     rows: &mut Rows,
     page: Key,
 ) -> Result<usize, Refused>
@@ -309,6 +298,7 @@ fn add_page(
     ensures rows { IfOk result (λ index. ListsIn (row_of page) (listed_fact page) index rows.old rows.new) }
     ensures same_pages { OnErr result (pages.new.items ≡ pages.old.items) }
     ensures same_cells { OnErr result (cells.new.items ≡ cells.old.items) }
+    ensures most { cells.new.most ≡ cells.old.most }
     ensures same_rows { OnErr result (KeepsPages rows.old rows.new) }
     ensures refused { IsOkUnless result NoMemory }
 {
@@ -319,7 +309,7 @@ fn add_page(
     cells.reserve(64)?;
     pages.reserve(1)?;
     rows.insert(keys::row_of(page), keys::listed_fact(page), index as u32)?;
-    let _ = cells.extend_from_slice(&[0; 64]);
+    cells.add_page();
     pages.push_reserved(page);
     Ok(index)
 }

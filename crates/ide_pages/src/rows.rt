@@ -34,8 +34,8 @@ const KNOWN: usize = 1_024;
 /// What is known where no row was asked for: the first row, at its first fact.
 const UNKNOWN: KnownRow = KnownRow { index: 0, place: 0 };
 
-/// The seat of the row of the number: where it is known, if it is. Rows of facts side by side, or of blocks side by side,
-/// or of the two kinds have seats of their own.
+/// The seat of the row of the number: where it is known, if it is. Of rows that are asked for together few share a
+/// seat: those of facts side by side at one block do not.
 #[inline(always)]
 fn seat_of(number: u64) -> usize {
     (number ^ (number >> 10) ^ (number >> 37)) as usize % KNOWN

@@ -169,3 +169,35 @@ fn leaves_its_tables(rt: HostRuntime) {
     lower_both(&rt, &mut image);
     expect_tables(&rt, image);
 }
+
+/// More functions than a number of two bytes tells apart.
+const MANY: u32 = 70_000;
+
+/// The jump that gets the constant of its node.
+fn jump_at(node: u32) -> Key {
+    Key::Jump(node, 0, 2)
+}
+
+/// Lowers the jump at each node to a function that no other one has.
+fn lower_many(rt: &impl Abort, image: &mut Image) {
+    for node in 0..MANY {
+        let function = ConstFn::Const(u64::from(node));
+        assert!(rt; lower(rt, image, jump_at(node), function));
+    }
+}
+
+/// Asserts that each jump has its own function.
+fn expect_many(rt: &impl Abort, image: &Image) {
+    assert!(rt; image.key_count() == MANY as usize);
+    for node in 0..MANY {
+        let function = ConstFn::Const(u64::from(node));
+        assert!(rt; image.get(jump_at(node)) == Some(function));
+    }
+}
+
+#[test]
+fn keeps_many_functions(rt: HostRuntime) {
+    let mut image = KeyedImage::new(rt.alloc());
+    lower_many(&rt, &mut image);
+    expect_many(&rt, &image);
+}

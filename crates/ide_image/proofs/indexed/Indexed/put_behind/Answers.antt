@@ -4,7 +4,7 @@ use Rattle.ide_pages.proofs.KeyCells.{cell-back}
 use Rattle.ide_wire.specs.declared.key.Key.TheVariants.{Jump}
 use Rattle.ide_image.specs.Indexed.{cells_by}
 use Rattle.ide_image.specs.Walk.{jump_behind}
-use Rattle.ide_image.proofs.Columns.{cell-at, cell-behind, distinct-cells, kept-long, kept-next, next-cell, own-same, place-there, put-cells, put-kept, same-kept, walked-more}
+use Rattle.ide_image.proofs.Columns.{cell-at, cell-behind, distinct-cells, kept-fits, kept-long, kept-next, next-cell, own-same, place-there, put-cells, put-kept, same-kept, walked-more}
 use Rattle.ide_image.proofs.indexed.Indexed.put_behind.Goals as goal
 
 pub loop-step-init : goal.loop-step-init
@@ -23,6 +23,9 @@ loop-step-init g c =
       kept = λ key. let one = are.kept key in omega (arith, one, more);
       there = kept-next after c.keep-number.result c.args.function keep.kept;
       few = omega (arith, within);
+      fits =
+          kept-fits functions after c.args.function c.keep-number.result c.self.inside.functions.room numbers.most keep.others keep.kept
+          (rw (← c.self.view_is) at c.requires.room);
     }
 
 pub overflow_add-cell : goal.overflow_add-cell
@@ -39,8 +42,11 @@ overflow_add-cell-in-loop-step g c =
     let few = c.self.invariant.few in
     omega (arith, within, few, c.requires.page, c.loop-step-test.true)
 
-pub set-requires : goal.set-requires
-set-requires g c =
+pub set-requires-clause-fits : goal.set-requires-clause-fits
+set-requires-clause-fits g c = c.loop-step.invariant.fits
+
+pub set-requires-clause-cell : goal.set-requires-clause-cell
+set-requires-clause-cell g c =
     let is = cell-at c.self.inside.places c.self.inside.functions.items c.self.invariant.paged (Jump c.args.node c.args.from c.args.to) c.args.cell (rw (← c.self.view_is) at c.requires.cell) in
     next-cell c.args.node c.args.from c.args.to c.self.inside.places c.loop-step.self-inside.places c.args.cell c.loop-step.step is
     (omega (arith, c.requires.page, c.loop-step-test.true)) c.loop-step.invariant.pages
@@ -59,11 +65,12 @@ loop-step-preserved g c =
     record {
       cells =
           walked-more c.args.node c.args.from c.args.to c.args.function c.args.self.now.cells (cells_by now functions) (cells_by c.set.new.self functions) step before.cells
-          (put-cells now c.set.new.self functions own key cell (c.keep-number.result + 1) c.args.function there c.set.ensures before.there);
-      pages = c.set.ensures.pages ∙ before.pages;
-      kept = put-kept now c.set.new.self functions own key cell (c.keep-number.result + 1) c.args.function there c.set.ensures before.there before.few before.kept;
+          (put-cells now c.set.new.self functions own key cell (c.keep-number.result + 1) c.args.function there c.set.ensures.puts before.there);
+      pages = c.set.ensures.puts.pages ∙ before.pages;
+      kept = put-kept now c.set.new.self functions own key cell (c.keep-number.result + 1) c.args.function there c.set.ensures.puts before.there before.few before.kept;
       there = before.there;
       few = before.few;
+      fits = let most = c.set.ensures.most in let fits = before.fits in omega (arith, most, fits);
     }
 
 pub returns-clause-stands : goal.returns-clause-stands

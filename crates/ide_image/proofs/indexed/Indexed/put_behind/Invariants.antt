@@ -13,4 +13,5 @@ invariant-loop-step g l = record {
   kept : (key : Key) → number_at l.self-inside.places key ≤ length l.self-inside.functions.items;
   there : kept_at l.self-inside.functions.items l.number ≡ Some l.fn.function;
   few : l.number ≤ length l.self-inside.functions.items;
+  fits : l.number ≤ l.self-inside.places.most;
 }

@@ -6,13 +6,11 @@ use Rattle.ide_pages.proofs.pages.Pages.cell_count.Goals as goal
 
 pub returns-clause-count : goal.returns-clause-count
 returns-clause-count c =
-    let cells = c.self.inside.cells in
-    rw (← c.self.view_is) (c.len.ensures ∙ cells.ok.0 ∙ sym (length-slots (key_at c.self.inside.pages.items) 0 cells.items))
+    rw (← c.self.view_is) (c.len.ensures ∙ sym (length-slots (key_at c.self.inside.pages.items) 0 c.self.inside.cells.items))
 
 pub returns-clause-pages : goal.returns-clause-pages
 returns-clause-pages c =
-    let cells = c.self.inside.cells in
-    rw (← c.self.view_is) (c.len.ensures ∙ cells.ok.0 ∙ c.self.invariant.paged)
+    rw (← c.self.view_is) (c.len.ensures ∙ c.self.invariant.paged)
 
 pub returns-clause-paged : goal.returns-clause-paged
-returns-clause-paged c = rw (← c.self.view_is) (are-paged c.self.invariant)
+returns-clause-paged c = rw (← c.self.view_is) (are-paged c.self.invariant c.self.inside.cells.most)
