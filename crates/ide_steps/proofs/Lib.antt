@@ -15,5 +15,5 @@ pub mod Noted
 pub mod Lent
 pub mod Refusing
 pub mod Left
-pub mod Unchanged
+pub mod Alone
 pub mod Walked

@@ -242,7 +242,7 @@ impl<P: Problem> Core<P> {
 }
 
 /// Makes the list the parts that a key owes, at the site of its node and with the partners that are
-/// present now. Most keys owe one part, over an edge that passes their fact on unchanged: these have no partners. The
+/// present now. Most keys are jumps at nodes that are neither calls nor exits: these have no partners. The
 /// partners of the others stand in lists that the list of parts keeps for the next key; where one is refused, their
 /// room is given up.
 fn fill_parts<P: Problem>(
@@ -261,7 +261,7 @@ fn fill_parts<P: Problem>(
 {
     let node = key.node();
     let site = loaded.graph.site(node);
-    if parts.fill_unchanged(key, function, site)? {
+    if parts.fill_alone(key, function, site)? {
         return Ok(());
     }
     let procedure = loaded.graph.procedure_of(node);

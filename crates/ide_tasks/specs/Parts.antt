@@ -56,9 +56,9 @@ module _ {F L : Type 0} (B : EdgeAlgebra F L) (targets : Targets F) where
   parts_at key function site partners = []
 
   -- the key is a jump at a node that is neither call nor exit, and they are the parts that it owes there
-  abbrev pub FillsUnchanged : Key → F → Site → List (Key × F) → Type 0
-  FillsUnchanged (Jump n from to) function (Normal edges) parts = parts ≡ flat_map (flat_parts from to function) edges
-  FillsUnchanged key function site parts = ⊥
+  abbrev pub FillsAlone : Key → F → Site → List (Key × F) → Type 0
+  FillsAlone (Jump n from to) function (Normal edges) parts = parts ≡ flat_map (flat_parts from to function) edges
+  FillsAlone key function site parts = ⊥
 
   -- one edge leaves the site of a node that is neither call nor exit, which leads to the node behind it and passes the fact on
   -- unchanged

@@ -1,10 +1,10 @@
 //! The parts of one key after another, in one list.
-ghost use Rattle.std.specs.Prelude.{◌≡◌, ◌∷◌, [], false, true, Ok, IfSome, OnOk};
+ghost use Rattle.std.specs.Prelude.{◌≡◌, [], false, true, Ok, OnOk};
 ghost use Rattle.ide_tasks.specs.Partners.{partners_in};
-ghost use Rattle.ide_tasks.specs.Parts.{FillsUnchanged, PassesBehind, parts_at};
+ghost use Rattle.ide_tasks.specs.Parts.{FillsAlone, PassesBehind, parts_at};
 
 use crate::partners::{PartnerLists, Partners};
-use crate::parts::{Parts, passed_part};
+use crate::parts::Parts;
 use ide_graph::Site;
 use ide_lattice::EdgeFn;
 use ide_problem::Problem;
@@ -85,25 +85,21 @@ impl<P: Problem> PartList<P> {
             .add_all(key, function, site, self.partners.lend())
     }
 
-    /// Makes it the one part that a key with that function owes at its site, where one edge leaves it, which passes the
-    /// fact on unchanged ([`Problem::passes_unchanged`]), and answers whether that is so. Where it is not, nothing is done.
+    /// Makes it the parts that a key with that function owes at its site, where the key is a jump and its node neither call
+    /// nor exit, and answers whether that is so: such a key has no partners, so that none have to be gathered. Where it
+    /// is not, nothing is done. Where memory is wanting, it has some of the parts.
     #[inline(always)]
-    pub fn fill_unchanged(
-        &mut self,
-        key: Key,
-        function: P::F,
-        site: &Site,
-    ) -> Result<bool, AllocError>
-        ensures filled { result ≡ Ok true → FillsUnchanged P.F.edge P.targets key function site.now self.new }
+    pub fn fill_alone(&mut self, key: Key, function: P::F, site: &Site) -> Result<bool, AllocError>
+        ensures filled { result ≡ Ok true → FillsAlone P.F.edge P.targets key function site.now self.new }
         ensures same { result ≡ Ok false → self.new ≡ self.old }
     {
-        match unchanged_part::<P>(key, function, site) {
-            Some(part) => {
+        match (key, site) {
+            (Key::Jump(_, from, to), Site::Normal(edges)) => {
                 self.parts.list.clear();
-                self.parts.list.push(part)?;
+                self.parts.add_edges(edges.as_slice(), function, from, to)?;
                 Ok(true)
             }
-            None => Ok(false),
+            _ => Ok(false),
         }
     }
 
@@ -121,20 +117,6 @@ impl<P: Problem> PartList<P> {
         let PartList { parts, partners: _ } = self;
         let Parts { list, targets: _ } = parts;
         list
-    }
-}
-
-/// The one part that a key owes at its site, where one edge leaves it, which passes the fact on unchanged.
-#[inline(always)]
-fn unchanged_part<P: Problem>(key: Key, function: P::F, site: &Site) -> Option<(Key, P::F)>
-    ensures { IfSome result (λ part. FillsUnchanged P.F.edge P.targets key function site.now (part ∷ [])) }
-{
-    match (key, site) {
-        (Key::Jump(_, from, to), Site::Normal(edges)) => match edges.as_slice() {
-            [edge] => passed_part::<P>(edge, function, from, to),
-            _ => None,
-        },
-        _ => None,
     }
 }
 

@@ -75,7 +75,8 @@ impl<P: Problem> Parts<P> {
     }
 
     /// At a node that is neither call nor exit: `function`, then each target of each edge.
-    fn add_edges(
+    #[inline(always)]
+    pub(crate) fn add_edges(
         &mut self,
         edges: &[EdgeData],
         function: P::F,
@@ -217,7 +218,7 @@ impl<P: Problem> Parts<P> {
 
 /// The one part over an edge that passes the fact on unchanged.
 #[inline(always)]
-pub(crate) fn passed_part<P: Problem>(
+fn passed_part<P: Problem>(
     edge: &EdgeData,
     function: P::F,
     from: Fact,
