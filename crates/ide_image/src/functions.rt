@@ -94,6 +94,34 @@ impl<F: EdgeFn> Functions<F> {
         self.list.push_reserved(function);
         count as u32
     }
+
+    /// The same, where the function is likely to be the one under that index, if there is one.
+    #[inline(always)]
+    pub(crate) fn keep_likely(&mut self, likely: Option<usize>, function: F) -> u32
+        requires room { 0 < self.old.room }
+        ensures kept { slice_get self.new.items result ≡ Some function }
+        ensures few { result + 1 < 2 ^ 32 }
+        ensures others { MayKeep function self.old.items self.new.items }
+        ensures room { self.old.room ≤ self.new.room + 1 }
+    {
+        match likely_index(&self.list, likely, function) {
+            Some(index) => index as u32,
+            None => self.keep(function),
+        }
+    }
+}
+
+/// The index that is likely, if the function stands there.
+#[inline(always)]
+fn likely_index<F: EdgeFn>(functions: &[F], likely: Option<usize>, function: F) -> Option<usize>
+    ensures { IfSome result (λ index. slice_get functions.now index ≡ Some function) }
+{
+    let index = likely?;
+    if index < functions.len() && functions[index] == function {
+        Some(index)
+    } else {
+        None
+    }
 }
 
 /// The index of the function, if it is one of the last few.

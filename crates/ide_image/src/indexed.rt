@@ -114,12 +114,7 @@ impl<F: EdgeFn> Indexed<F> {
         ensures alike { AreAlike (tables_of self.now) cell result }
     {
         let number = self.places.number_in(cell);
-        for next in cell + 1..end {
-            if self.places.number_in(next) != number {
-                return next;
-            }
-        }
-        end
+        self.places.alike_to(cell + 1, end, number)
     }
 
     /// Whether the key of a cell has a function. No look-up.
@@ -352,10 +347,19 @@ impl<F: EdgeFn> Indexed<F> {
         ensures distinct { HasDistinctKeys self.old }
         ensures room { self.old.room ≤ self.new.room + 1 }
     {
-        let index = self.functions.keep(function);
+        // Keys of one pair of facts mostly have one function along a procedure.
+        let likely = self.index_in(cell.saturating_sub(1));
+        let index = self.functions.keep_likely(likely, function);
         self.places.set(cell, key, index + 1);
         // The pages have their cells as before.
         let _ = self.places.cell_count();
+    }
+
+    /// The index of the function in a cell, if there is the cell, and one in it. No look-up.
+    #[inline(always)]
+    fn index_in(&self, cell: usize) -> Option<usize> {
+        let number = self.places.number_in(cell) as usize;
+        number.checked_sub(1)
     }
 
     /// How many jumps between the facts at the nodes behind this one are absent, one after the other, up to a count and
@@ -378,12 +382,7 @@ impl<F: EdgeFn> Indexed<F> {
             return 0;
         };
         let most = most.min(63 - (node % 64) as usize);
-        for count in 0..most {
-            if self.places.number_in(cell + 1 + count) != 0 {
-                return count;
-            }
-        }
-        most
+        self.places.alike_to(cell + 1, cell + 1 + most, 0) - (cell + 1)
     }
 
     /// Puts the function into the cells of the jumps between the facts at so many nodes behind this one, which are on
@@ -405,7 +404,8 @@ impl<F: EdgeFn> Indexed<F> {
         ensures stands { StandBehind cell (jump_behind node from to) count self.old }
         ensures distinct { HasDistinctKeys self.old }
     {
-        let number = self.functions.keep(function) + 1;
+        let likely = self.index_in(cell);
+        let number = self.functions.keep_likely(likely, function) + 1;
         for step in 0..count {
             self.places.set(
                 cell + 1 + step,

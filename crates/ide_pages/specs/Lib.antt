@@ -1,3 +1,4 @@
+pub mod Alike
 pub mod CellNumbers
 pub mod Pages
 pub mod Rows

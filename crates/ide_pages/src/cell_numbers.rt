@@ -1,5 +1,6 @@
 //! The numbers in the cells of pages: of two bytes each, until there has to be room for greater ones.
 ghost use Rattle.std.specs.Prelude.{◌≡◌, ◌≤◌, ◌<◌, ◌++◌, [], length, replicate, slice_index_or, slice_set, IfOk, OnOk, OnErr};
+ghost use Rattle.ide_pages.specs.Alike.{AllAre, EndsAt};
 
 use std::alloc::{AllocError, Global};
 use std::marker::Model;
@@ -82,6 +83,27 @@ impl CellNumbers {
         }
     }
 
+    /// How far the cells from one on, up to before another, have the number: where they end. It looks at none behind the
+    /// last cell.
+    #[inline(always)]
+    pub(crate) fn alike_to(&self, begin: usize, end: usize, number: u32) -> usize
+        requires order { begin ≤ end }
+        ensures from { begin ≤ result }
+        ensures within { result ≤ end }
+        ensures alike { AllAre number self.now.items begin result }
+        ensures ends { result < end → EndsAt number self.now.items result }
+    {
+        let last = end.min(self.len());
+        if last <= begin {
+            return begin;
+        }
+        if self.is_wide {
+            alike_in_wide(&self.wide, begin, last, number)
+        } else {
+            alike_in_narrow(&self.narrow, begin, last, number)
+        }
+    }
+
     /// Puts the number into the cell, which has room for it, and answers the one that it had.
     #[inline(always)]
     pub(crate) fn replace(&mut self, cell: usize, number: u32) -> u32
@@ -151,6 +173,42 @@ impl CellNumbers {
             is_wide: self.is_wide,
         })
     }
+}
+
+/// How far the numbers from one on, up to before another, are this one: where they end.
+#[inline(always)]
+fn alike_in_wide(numbers: &[u32], begin: usize, end: usize, number: u32) -> usize
+    requires order { begin ≤ end }
+    requires there { end ≤ length numbers.now }
+    ensures from { begin ≤ result }
+    ensures within { result ≤ end }
+    ensures alike { AllAre number numbers.now begin result }
+    ensures ends { result < end → EndsAt number numbers.now result }
+{
+    for cell in begin..end {
+        if numbers[cell] != number {
+            return cell;
+        }
+    }
+    end
+}
+
+/// The same of narrow ones.
+#[inline(always)]
+fn alike_in_narrow(numbers: &[u16], begin: usize, end: usize, number: u32) -> usize
+    requires order { begin ≤ end }
+    requires there { end ≤ length numbers.now }
+    ensures from { begin ≤ result }
+    ensures within { result ≤ end }
+    ensures alike { AllAre number numbers.now begin result }
+    ensures ends { result < end → EndsAt number numbers.now result }
+{
+    for cell in begin..end {
+        if u32::from(numbers[cell]) != number {
+            return cell;
+        }
+    }
+    end
 }
 
 /// The same numbers, of four bytes each.

@@ -7,6 +7,7 @@ ghost use Rattle.ide_wire.specs.declared.key.Key.TheVariants.{Jump, Summary};
 ghost use Rattle.ide_wire.specs.declared.refused.Refused.TheVariants.{NoMemory};
 ghost use Rattle.ide_wire.specs.Key.{node_of, same_key};
 ghost use Rattle.ide_pages.specs.Pages.{AddsPage, ArePaged, AreRow, IsPage, IsRowOfJumps, IsRowOfSummaries, IsNumberIn, KeepsCells, Puts, cell_of, entries, key_beside, listed_fact, number_at, number_in, read_at, row_of, slot_at, weight};
+ghost use Rattle.ide_pages.specs.Alike.{EndsAtOther, HaveNumber};
 ghost use Rattle.ide_pages.specs.Rows.{KeepsPages, ListsIn, page_in, row_at};
 
 use crate::cell_numbers::CellNumbers;
@@ -134,6 +135,18 @@ impl Pages {
         ensures same { IsNumberIn self.now cell result }
     {
         self.cells.get(cell)
+    }
+
+    /// How far the cells from one on, up to before another, have the number: where they end, or the cells do. No look-up.
+    #[inline(always)]
+    pub fn alike_to(&self, begin: usize, end: usize, number: u32) -> usize
+        requires order { begin ≤ end }
+        ensures from { begin ≤ result }
+        ensures within { result ≤ end }
+        ensures alike { HaveNumber number self.now begin result }
+        ensures ends { result < end → EndsAtOther number self.now result }
+    {
+        self.cells.alike_to(begin, end, number)
     }
 
     /// The cell's key, or `None` behind the last cell. No look-up.
@@ -273,13 +286,7 @@ fn counted(count: usize, old: u32, number: u32) -> usize
     requires few { count + weight number < 2 ^ 64 + weight old }
     ensures { result + weight old ≡ count + weight number }
 {
-    if old == 0 && number != 0 {
-        count + 1
-    } else if old != 0 && number == 0 {
-        count - 1
-    } else {
-        count
-    }
+    count - usize::from(old != 0) + usize::from(number != 0)
 }
 
 // Adds a page of zeros behind the others, and answers its index. One more than 4,294,967,295 pages are refused.

@@ -11,20 +11,20 @@ pub loop-step-init : goal.loop-step-init
 loop-step-init g c =
     let numbers = c.self.inside.places in
     let functions = c.self.inside.functions.items in
-    let after = c.keep-number.new.self.items in
+    let after = c.keep_likely-number.new.self.items in
     let are = c.self.invariant in
-    let keep = c.keep-number.ensures in
+    let keep = c.keep_likely-number.ensures in
     let same : cells_by numbers after ≡ c.args.self.now.cells = rw (← c.self.view_is) (same-kept numbers functions after c.args.function keep.others are.kept) in
     let more = kept-long functions after c.args.function keep.others in
-    let within = slice_get_within after c.keep-number.result c.args.function keep.kept in
+    let within = slice_get_within after c.keep_likely-number.result c.args.function keep.kept in
     record {
       cells = same;
       pages = refl;
       kept = λ key. let one = are.kept key in omega (arith, one, more);
-      there = kept-next after c.keep-number.result c.args.function keep.kept;
+      there = kept-next after c.keep_likely-number.result c.args.function keep.kept;
       few = omega (arith, within);
       fits =
-          kept-fits functions after c.args.function c.keep-number.result c.self.inside.functions.room numbers.most keep.others keep.kept
+          kept-fits functions after c.args.function c.keep_likely-number.result c.self.inside.functions.room numbers.most keep.others keep.kept
           (rw (← c.self.view_is) at c.requires.room);
     }
 
@@ -65,9 +65,9 @@ loop-step-preserved g c =
     record {
       cells =
           walked-more c.args.node c.args.from c.args.to c.args.function c.args.self.now.cells (cells_by now functions) (cells_by c.set.new.self functions) step before.cells
-          (put-cells now c.set.new.self functions own key cell (c.keep-number.result + 1) c.args.function there c.set.ensures.puts before.there);
+          (put-cells now c.set.new.self functions own key cell (c.keep_likely-number.result + 1) c.args.function there c.set.ensures.puts before.there);
       pages = c.set.ensures.puts.pages ∙ before.pages;
-      kept = put-kept now c.set.new.self functions own key cell (c.keep-number.result + 1) c.args.function there c.set.ensures.puts before.there before.few before.kept;
+      kept = put-kept now c.set.new.self functions own key cell (c.keep_likely-number.result + 1) c.args.function there c.set.ensures.puts before.there before.few before.kept;
       there = before.there;
       few = before.few;
       fits = let most = c.set.ensures.most in let fits = before.fits in omega (arith, most, fits);
