@@ -21,8 +21,8 @@ use ide_wire::{Fact, Key, Node, Refused};
 use std::alloc::{AllocError, Global};
 use std::marker::Model;
 
-/// The most cells, on 67,108,863 pages, so that one more than the index of each has 32 bits.
-const MOST_CELLS: usize = 4_294_967_232;
+/// The most pages, so that one more than the index of each of their 4,294,967,232 cells has 32 bits.
+const MOST_PAGES: usize = 67_108_863;
 
 /// A finite map from keys to functions. A key has a cell on its page, which stays where it is; in it stands one more than
 /// the index of the key's function, or 0. A cell has two bytes, and four from when more functions are kept than two tell
@@ -280,16 +280,10 @@ impl<F: EdgeFn> Indexed<F> {
         ensures room { self.new.room ≡ self.old.room }
         ensures refused { IsOkUnless result NoMemory }
     {
-        if self.places.cell_count() < MOST_CELLS {
-            let cell = self.places.make_room(key);
-            // The pages that there are now have their cells.
-            let _ = self.places.cell_count();
-            return cell;
-        }
-        match self.places.cell(key) {
-            Some(cell) => Ok(cell),
-            None => Err(Refused::NoMemory),
-        }
+        let cell = self.places.cell_for(key, MOST_PAGES);
+        // The pages that there are now have their cells.
+        let _ = self.places.cell_count();
+        cell
     }
 
     /// The cell of a key that has one. The page of the cell `near` is looked at first: where it is the key's, there is no

@@ -105,11 +105,6 @@ module _ (rows new_rows : RowsData) (pages : List Key) (page : Key) (index : ℕ
         | false ↦ λ differ. told-other q proper differ
       ] refl
 
--- a page that its row does not list is not there
-pub unlisted-page : (rows : RowsData) (pages : List Key) (page : Key) → TellPages rows pages → IsPage page
-    → page_in (row_at rows (row_of page)) (listed_fact page) ≡ None → list_any (same_key page) pages ≡ false
-unlisted-page rows pages page told is none = position-none (same_key page) pages (sym (told page is) ∙ none)
-
 -- no page
 pub are-none : (pages : List Key) (cells : List ℕ) (rows : RowsData) → pages ≡ [] → cells ≡ [] → rows.numbers ≡ [] → ArePages pages cells rows 0
 unfolding IsDistinct

@@ -171,16 +171,17 @@ impl Pages {
         Some((key, number))
     }
 
-    /// The key's cell, for which a page of 64 zeros is made where there is none: one page too many is refused
-    /// as `NoMemory`, which leaves the map as it was. Where there is the page it takes one look-up at most, and no
-    /// memory; a new page takes time in proportion to those of its row.
+    /// The key's cell, for which a page of 64 zeros is made where there is none and there are fewer pages than the limit
+    /// and than 4,294,967,295: else it is refused as `NoMemory`, which leaves the map as it was. Where there is the page
+    /// it takes one look-up at most, and no memory; a new page takes time in proportion to those of its row.
     #[inline(always)]
-    pub fn make_room(&mut self, key: Key) -> Result<usize, Refused>
+    pub fn cell_for(&mut self, key: Key, limit: usize) -> Result<usize, Refused>
         ensures cell { IfOk result (λ cell. cell_of self.new key ≡ Some cell) }
         ensures there { IfSome (cell_of self.old key) (λ cell. result ≡ Ok cell) }
         ensures entries { entries self.new ≡ entries self.old }
         ensures cells { KeepsCells self.old self.new }
         ensures pages { AddsPage self.old self.new key }
+        ensures limit { length self.old.pages ≤ limit → length self.new.pages ≤ limit }
         ensures most { self.new.most ≡ self.old.most }
         ensures err { OnErr result (self.new ≡ self.old) }
         ensures refused { IsOkUnless result NoMemory }
@@ -195,6 +196,28 @@ impl Pages {
             self.last = index as usize;
             return Ok(64 * self.last + offset);
         }
+        self.cell_on_new_page(key, limit)
+    }
+
+    /// The cell of the key, which has none, on a page that is made for it. Few keys need one, so it stands apart: what it
+    /// takes of a key need not be kept where the page is there.
+    #[inline(never)]
+    fn cell_on_new_page(&mut self, key: Key, limit: usize) -> Result<usize, Refused>
+        requires absent { cell_of self.old key ≡ None }
+        ensures cell { IfOk result (λ cell. cell_of self.new key ≡ Some cell) }
+        ensures entries { entries self.new ≡ entries self.old }
+        ensures cells { KeepsCells self.old self.new }
+        ensures pages { AddsPage self.old self.new key }
+        ensures limit { length self.old.pages ≤ limit → length self.new.pages ≤ limit }
+        ensures most { self.new.most ≡ self.old.most }
+        ensures err { OnErr result (self.new ≡ self.old) }
+        ensures refused { IsOkUnless result NoMemory }
+    {
+        if self.pages.len() >= limit {
+            return Err(Refused::NoMemory);
+        }
+        let page = keys::page_of(key);
+        let offset = keys::offset_of(key);
         let index = add_page(&mut self.pages, &mut self.cells, &mut self.rows, page)?;
         self.last = index;
         Ok(64 * index + offset)
