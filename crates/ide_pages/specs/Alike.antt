@@ -10,6 +10,13 @@ AllAre number items begin end = (cell : ℕ) → begin ≤ cell → cell < end �
 abbrev pub EndsAt : ℕ → List ℕ → ℕ → Type 0
 EndsAt number items cell = cell < length items → slice_index_or items cell 0 ≢ number
 
+-- from one cell on, up to before another, the numbers are this one as far as `last`
+pub record IsStretch (number : ℕ) (items : List ℕ) (begin end last : ℕ) : Type 0 where
+  pub from : begin ≤ last
+  pub within : last ≤ end
+  pub alike : AllAre number items begin last
+  pub ends : last < end → EndsAt number items last
+
 -- the cells from one on, up to before another, have the number, and so have their keys
 abbrev pub HaveNumber : ℕ → Numbers → (begin end : ℕ) → Type 0
 HaveNumber number numbers begin end =

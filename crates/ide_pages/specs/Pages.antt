@@ -1,5 +1,5 @@
 -- What contracts say of numbers at keys: the number of each key, the cell that has it, and the pages that there are.
-use Rattle.std.specs.Prelude.{◌≡◌, ◌⊎◌, ℕ, ◌+◌, ◌*◌, ◌/◌, ◌%◌, ◌<◌, ◌^◌, List, [], ◌∷◌, ◌++◌, length, map, nat_eq, position, Option, None, Some, if◌then◌else◌}
+use Rattle.std.specs.Prelude.{◌≡◌, ◌⊎◌, ℕ, ◌+◌, ◌*◌, ◌/◌, ◌%◌, ◌<◌, ◌≤◌, ◌^◌, List, [], ◌∷◌, ◌++◌, length, map, nat_eq, position, Option, None, Some, if◌then◌else◌}
 use Rattle.std.specs.List.{AllByRecursion, IsDistinct, filter_map, range_with_len, slice_index_or}
 use Rattle.std.specs.List.Sorted.{IsStrictlySortedBy}
 use Rattle.std.specs.Map.{lookup, keys_of}
@@ -138,6 +138,14 @@ pub record ArePaged (numbers : Numbers) : Type 0 where
 -- the pages are those of before, behind which the key's may stand now
 abbrev pub AddsPage : (old new : Numbers) → Key → Type 0
 AddsPage old new key = (new.pages ≡ old.pages) ⊎ (new.pages ≡ old.pages ++ page_of key ∷ [])
+
+-- there may be a page more, the key's, but none beyond a limit: each key has the number and the cell that it had
+pub record GrowsFor (key : Key) (limit : ℕ) (old new : Numbers) : Type 0 where
+  pub same : entries new ≡ entries old
+  pub cells : KeepsCells old new
+  pub pages : AddsPage old new key
+  pub most : new.most ≡ old.most
+  pub within : length old.pages ≤ limit → length new.pages ≤ limit
 
 -- how many entries a cell with the number makes
 abbrev pub weight : ℕ → ℕ

@@ -6,7 +6,7 @@ ghost use Rattle.ide_wire.specs.declared.key.Key.{Key};
 ghost use Rattle.ide_wire.specs.declared.key.Key.TheVariants.{Jump, Summary};
 ghost use Rattle.ide_wire.specs.declared.refused.Refused.TheVariants.{NoMemory};
 ghost use Rattle.ide_wire.specs.Key.{node_of, same_key};
-ghost use Rattle.ide_pages.specs.Pages.{AddsPage, ArePaged, AreRow, IsPage, IsRowOfJumps, IsRowOfSummaries, IsNumberIn, KeepsCells, Puts, cell_of, entries, key_beside, listed_fact, number_at, number_in, read_at, row_of, slot_at, weight};
+ghost use Rattle.ide_pages.specs.Pages.{ArePaged, AreRow, GrowsFor, IsPage, IsRowOfJumps, IsRowOfSummaries, IsNumberIn, Puts, cell_of, entries, key_beside, listed_fact, number_at, number_in, read_at, row_of, slot_at, weight};
 ghost use Rattle.ide_pages.specs.Alike.{EndsAtOther, HaveNumber};
 ghost use Rattle.ide_pages.specs.Rows.{KeepsPages, ListsIn, page_in, row_at};
 
@@ -178,11 +178,7 @@ impl Pages {
     pub fn cell_for(&mut self, key: Key, limit: usize) -> Result<usize, Refused>
         ensures cell { IfOk result (λ cell. cell_of self.new key ≡ Some cell) }
         ensures there { IfSome (cell_of self.old key) (λ cell. result ≡ Ok cell) }
-        ensures entries { entries self.new ≡ entries self.old }
-        ensures cells { KeepsCells self.old self.new }
-        ensures pages { AddsPage self.old self.new key }
-        ensures limit { length self.old.pages ≤ limit → length self.new.pages ≤ limit }
-        ensures most { self.new.most ≡ self.old.most }
+        ensures grows { GrowsFor key limit self.old self.new }
         ensures err { OnErr result (self.new ≡ self.old) }
         ensures refused { IsOkUnless result NoMemory }
     {
@@ -205,11 +201,7 @@ impl Pages {
     fn cell_on_new_page(&mut self, key: Key, limit: usize) -> Result<usize, Refused>
         requires absent { cell_of self.old key ≡ None }
         ensures cell { IfOk result (λ cell. cell_of self.new key ≡ Some cell) }
-        ensures entries { entries self.new ≡ entries self.old }
-        ensures cells { KeepsCells self.old self.new }
-        ensures pages { AddsPage self.old self.new key }
-        ensures limit { length self.old.pages ≤ limit → length self.new.pages ≤ limit }
-        ensures most { self.new.most ≡ self.old.most }
+        ensures grows { GrowsFor key limit self.old self.new }
         ensures err { OnErr result (self.new ≡ self.old) }
         ensures refused { IsOkUnless result NoMemory }
     {

@@ -11,7 +11,7 @@ returns-clause-widens g c =
     let made = c.cell_for-cell.ensures in
     rw (← c.self.view_is)
     (widened c.self.inside.places c.cell_for-cell.new.self c.self.inside.functions.items c.cell_count.ensures.paged
-    made.entries made.cells c.args.key made.pages c.self.invariant.paged.absent)
+    made.grows.same made.grows.cells c.args.key made.grows.pages c.self.invariant.paged.absent)
 
 pub returns-clause-distinct : goal.returns-clause-distinct
 returns-clause-distinct g c =

@@ -1,4 +1,5 @@
-use Rattle.std.proofs.Common.{ap, ◌∙◌, ◌≡◌, false}
+use Rattle.std.proofs.Common.{ap, arith, rules, ◌∙◌, ◌≡◌, false}
+use Rattle.std.proofs.lemmas.Grind.{common_steps}
 use Rattle.std.specs.List.{list_any}
 use Rattle.ide_wire.specs.Key.{same_key}
 use Rattle.ide_pages.specs.Pages.{entries}
@@ -25,8 +26,14 @@ returns-clause-cell c =
     c.in_ok-index.ensures.pages c.in_ok-index.ensures.cells
     c.args.key c.in_ok-index.index c.offset_of-offset.result c.page_of-page.ensures.page (absent c) c.in_ok-index.ensures.index c.offset_of-offset.ensures.offset
 
-pub returns-clause-entries : goal.returns-clause-entries
-returns-clause-entries c =
-    entries-grown c.self.invariant c.page_of-page.result c.add_page.new.pages.items c.add_page.new.cells.items
-    c.in_ok-index.ensures.pages c.in_ok-index.ensures.cells
-    ∙ ap entries c.self.view_is
+pub returns-clause-grows : goal.returns-clause-grows
+returns-clause-grows c = record {
+  same =
+      entries-grown c.self.invariant c.page_of-page.result c.add_page.new.pages.items c.add_page.new.cells.items
+      c.in_ok-index.ensures.pages c.in_ok-index.ensures.cells
+      ∙ ap entries c.self.view_is;
+  cells = grind (arith, common_steps);
+  pages = search rules;
+  most = search rules;
+  within = grind (arith, common_steps);
+}
