@@ -7,15 +7,15 @@ abbrev pub AllAre : ℕ → List ℕ → (begin end : ℕ) → Type 0
 AllAre number items begin end = (cell : ℕ) → begin ≤ cell → cell < end → slice_index_or items cell 0 ≡ number
 
 -- that of the cell is another one, if there is the cell
-abbrev pub EndsAt : ℕ → List ℕ → ℕ → Type 0
-EndsAt number items cell = cell < length items → slice_index_or items cell 0 ≢ number
+abbrev pub IsOtherAt : ℕ → List ℕ → ℕ → Type 0
+IsOtherAt number items cell = cell < length items → slice_index_or items cell 0 ≢ number
 
 -- from one cell on, up to before another, the numbers are this one as far as `last`
-pub record IsStretch (number : ℕ) (items : List ℕ) (begin end last : ℕ) : Type 0 where
+pub record AreSameUpTo (number : ℕ) (items : List ℕ) (begin end last : ℕ) : Type 0 where
   pub from : begin ≤ last
   pub within : last ≤ end
   pub alike : AllAre number items begin last
-  pub ends : last < end → EndsAt number items last
+  pub ends : last < end → IsOtherAt number items last
 
 -- the cells from one on, up to before another, have the number, and so have their keys
 abbrev pub HaveNumber : ℕ → Numbers → (begin end : ℕ) → Type 0

@@ -1,6 +1,6 @@
 //! The numbers in the cells of pages: of two bytes each, until there has to be room for greater ones.
 ghost use Rattle.std.specs.Prelude.{◌≡◌, ◌≤◌, ◌<◌, ◌++◌, [], length, replicate, slice_index_or, slice_set, IfOk, OnOk, OnErr};
-ghost use Rattle.ide_pages.specs.Alike.{IsStretch};
+ghost use Rattle.ide_pages.specs.Alike.{AreSameUpTo};
 
 use std::alloc::{AllocError, Global};
 use std::marker::Model;
@@ -88,7 +88,7 @@ impl CellNumbers {
     #[inline(always)]
     pub(crate) fn alike_to(&self, begin: usize, end: usize, number: u32) -> usize
         requires order { begin ≤ end }
-        ensures { IsStretch number self.now.items begin end result }
+        ensures { AreSameUpTo number self.now.items begin end result }
     {
         let last = end.min(self.len());
         if last <= begin {
@@ -177,7 +177,7 @@ impl CellNumbers {
 fn alike_in_wide(numbers: &[u32], begin: usize, end: usize, number: u32) -> usize
     requires order { begin ≤ end }
     requires there { end ≤ length numbers.now }
-    ensures { IsStretch number numbers.now begin end result }
+    ensures { AreSameUpTo number numbers.now begin end result }
 {
     for cell in begin..end {
         if numbers[cell] != number {
@@ -192,7 +192,7 @@ fn alike_in_wide(numbers: &[u32], begin: usize, end: usize, number: u32) -> usiz
 fn alike_in_narrow(numbers: &[u16], begin: usize, end: usize, number: u32) -> usize
     requires order { begin ≤ end }
     requires there { end ≤ length numbers.now }
-    ensures { IsStretch number numbers.now begin end result }
+    ensures { AreSameUpTo number numbers.now begin end result }
 {
     for cell in begin..end {
         if u32::from(numbers[cell]) != number {
