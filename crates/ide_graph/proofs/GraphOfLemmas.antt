@@ -1,6 +1,5 @@
 -- The numbers of a graph are those of the program, where both passes went over it.
 use Rattle.std.proofs.Common.{◌≡◌, ℕ, ◌≤◌, codes, List, [], ◌∷◌, ◌++◌, length, map, get_or, slice_get, Some, ◌∙◌, sym, ap, refl, arith, append_assoc}
-use Rattle.std.specs.Arc.{arc_value}
 use Rattle.std.specs.List.{All}
 use Rattle.std.specs.Option.{option_map}
 use Rattle.std.proofs.lemmas.List.{length-map}
@@ -17,7 +16,7 @@ use Rattle.ide_graph.specs.Named.{procedure_of_name, fact_of_name, names_of_fact
 use Rattle.ide_graph.specs.Naming.{AreNew}
 use Rattle.ide_graph.specs.Numbering.{node_value, IsLayoutOf, IsNumberingOf}
 use Rattle.ide_graph.specs.Numbers.{procedure_of}
-use Rattle.ide_graph.specs.Whole.{counts_of}
+use Rattle.ide_graph.specs.Whole.{counts_of, sites_of}
 use Rattle.ide_graph.proofs.FirstPass.{layout_at, facts_are}
 use Rattle.ide_graph.proofs.SliceLemmas.{element_of}
 use Rattle.ide_graph.proofs.LimitLemmas.{few_facts, few_nodes, global_names, own_names, fact_of_name_at}
@@ -34,7 +33,7 @@ module _ (p : Program) (graph : Inside) (numbering : Numbering) (is : IsNumberin
     (globals : AreNew [] (globals_of p) → graph.globals.names ≡ globals_of p)
     (directory : (name : List ℕ) → procedure_of_name graph.directory.procedures name ≡ procedure_of (procedures_of p) name)
     (owners : graph.owners.items ≡ map (λ node. node.procedure) numbering.spots.items)
-    (sites : length graph.sites.items ≡ length numbering.spots.items)
+    (sites : length (sites_of graph) ≡ length numbering.spots.items)
     (most : All (λ layout. length layout.own ≤ graph.most_own) numbering.layouts.items)
     (least : (bound : ℕ) → All (λ layout. length layout.own ≤ bound) numbering.layouts.items → graph.most_own ≤ bound) where
   -- what the layout of a procedure gives
@@ -50,7 +49,7 @@ module _ (p : Program) (graph : Inside) (numbering : Numbering) (is : IsNumberin
   graph_of = record {
     procedures = ap length layouts ∙ is.layouts;
     nodes = sites ∙ (sym (length-map numbering.spots.items node_value) ∙ ap length is.spots);
-    sited = length-map graph.sites.items arc_value ∙ (sites ∙ (sym (length-map numbering.spots.items node_value) ∙ ap length is.spots));
+    sited = sites ∙ (sym (length-map numbering.spots.items node_value) ∙ ap length is.spots);
     owners = owners ∙ (owners_in numbering.spots.items ∙ ap (map (λ node. node.0)) is.spots);
     starts = λ i within. let at = element_of (procedures_of p) i within in let l = from_layout (λ layout. layout.start) 0 i at.0 at.1 in l.1 ∙ l.2.start;
     exits = λ i within. let at = element_of (procedures_of p) i within in let l = from_layout (λ layout. layout.exit) 0 i at.0 at.1 in l.1 ∙ l.2.exit;

@@ -1,6 +1,6 @@
 -- What is known of a program that `parse` answers: few nodes, few facts, and names that are declared
 -- once and are none of the reserved ones.
-use Rattle.std.proofs.Common.{◌≡◌, ◌≢◌, ℕ, zero, suc, ◌+◌, ◌-◌, ◌<◌, ◌≤◌, Bool, true, false, true≢false, ◌||◌, codes, List, [], ◌∷◌, ◌++◌, length, map, take, get_or, slice_get, Some, None, sum_by, inl, inr, ◌∙◌, sym, ap, subst, refl, arith, append_assoc, length-append}
+use Rattle.std.proofs.Common.{◌≡◌, ◌≢◌, ℕ, zero, suc, ◌+◌, ◌-◌, ◌<◌, ◌≤◌, Bool, true, false, true≢false, ◌||◌, codes, List, [], ◌∷◌, ◌++◌, length, map, take, get_or, slice_get, Some, sum_by, inl, inr, ◌∙◌, sym, ap, subst, refl, arith, append_assoc, length-append}
 use Rattle.std.specs.List.{AllByRecursion, flat_map, list_any, position}
 use Rattle.std.proofs.Math.Seq.{take-append-add}
 use Rattle.std.proofs.lemmas.Bool.{cases_lt}

@@ -1,5 +1,5 @@
 -- Lists of names, as sets and maps keep them, whose keys hold the names.
-use Rattle.std.proofs.Common.{◌≡◌, ℕ, Bool, true, false, true≢false, List, [], ◌∷◌, ◌++◌, map, cond, is_some, Option, Some, None, ◌||◌, ◌∙◌, sym, ap, subst, refl, if◌then◌else◌}
+use Rattle.std.proofs.Common.{◌≡◌, ℕ, Bool, true, false, List, [], ◌∷◌, ◌++◌, map, cond, ◌||◌, ◌∙◌, sym, ap, subst, refl, if◌then◌else◌}
 use Rattle.std.specs.List.{list_any}
 use Rattle.std.proofs.lemmas.List.{map-append}
 use Rattle.indexmap.specs.IndexSet.{insert_key}

@@ -111,14 +111,14 @@ lesser_first p next label low high apart lower higher xs is =
           rw (is, first, second) (lists_two (λ edge. edge.end) P (at label) (at next) (inr refl) (inl refl) less (λ x h. elim h as (λ w. (x ≡ at label) ⊎ (x ≡ at next)) [ inl a ↦ inr a | inr b ↦ inl b ]))
     ]
 
--- the same, of what a call that may fail returned
-pub plain_result : (p : Program) (n i : ℕ) (q : Procedure) (spot : Spot) → Stands p n i q spot → IsPlain spot → ((l : List ℕ) → spot ≢ statement (Branch l)) → (end : ℕ) (effect : Effect) → Goes p n i q spot end effect
-    → {E : Type 0} (r : Result Site E) (e : ℕ) (f : Effect) → e ≡ end → f ≡ effect → IfOk r (HasNormal (λ edge. edge ≡ edge_of p e (kind.Normal f))) → IfOk r (IsSiteOf p n)
-plain_result p n i q spot stands plain one end effect goes r e f ends does has =
-    IfOk-weaker r (HasNormal (λ edge. edge ≡ edge_of p e (kind.Normal f))) (IsSiteOf p n)
-    (λ s h. one_way p n i q spot stands plain one end effect goes s (subst (λ x. HasNormal (λ edge. edge ≡ edge_of p end (kind.Normal x)) s) does (subst (λ x. HasNormal (λ edge. edge ≡ edge_of p x (kind.Normal f)) s) ends h)))
-    has
+-- the same, of an end and an effect that are these
+pub plain_site : (p : Program) (n i : ℕ) (q : Procedure) (spot : Spot) → Stands p n i q spot → IsPlain spot → ((l : List ℕ) → spot ≢ statement (Branch l)) → (end : ℕ) (effect : Effect) → Goes p n i q spot end effect
+    → (s : Site) (e : ℕ) (f : Effect) → e ≡ end → f ≡ effect → HasNormal (λ edge. edge ≡ edge_of p e (kind.Normal f)) s → IsSiteOf p n s
+plain_site p n i q spot stands plain one end effect goes s e f ends does has =
+    one_way p n i q spot stands plain one end effect goes s
+    (subst (λ x. HasNormal (λ edge. edge ≡ edge_of p end (kind.Normal x)) s) does (subst (λ x. HasNormal (λ edge. edge ≡ edge_of p x (kind.Normal f)) s) ends has))
 
+-- of what a call that may fail returned
 pub branch_result : (p : Program) (n i : ℕ) (q : Procedure) (l : List ℕ) (label : ℕ) → Stands p n i q (statement (Branch l)) → label_from (start_of (procedures_of p) i) q l ≡ Some label → {E : Type 0} (r : Result Site E) (a b : ℕ) → a ≡ n + 1 → b ≡ label
     → IfOk r (HasNormal (λ edge. (edge ≡ edge_of p a (kind.Normal Nothing)) ⊎ (edge ≡ edge_of p b (kind.Normal Nothing)))) → IfOk r (IsSiteOf p n)
 branch_result p n i q l label stands labelled r a b next there has =

@@ -2,7 +2,6 @@
 use Rattle.std.proofs.Common.{◌≡◌, ◌<◌, ℕ, zero, suc, ◌+◌, List, [], ◌∷◌, ◌++◌, Some, ◌⊎◌, inl, inr, map, length, refl, sym, ap, subst, ◌∙◌, zero-add, arith}
 use Rattle.std.specs.Prelude.{slice_get}
 use Rattle.std.specs.List.{AllByRecursion, Contains}
-use Rattle.std.proofs.lemmas.List.{length-map, map_push}
 use Rattle.std.proofs.lemmas.Option.{same_Some, slice_get_cases, slice_get_within, get_or_from_slice_get, slice_get-get_or, some_pair_parts}
 
 module _ {X : Type 0} where
@@ -45,19 +44,19 @@ pub element_of : {X : Type 0} (xs : List X) (i : ℕ) → i < length xs → (x :
 element_of xs i within = elim (slice_get_cases xs i).1 [ inl a ↦ (a.0, a.2) | inr b ↦ absurd (omega (arith, b.0)) ]
 
 -- what holds of each element at its place holds so with one more
-module _ {X Y : Type 0} (f : X → Y) (P : ℕ → Y → Type 0) where
-  pushed_at : (n j k : ℕ) (x : X) (y : Y) → k ≡ n + j → slice_get (f x ∷ []) j ≡ Some y → P n (f x) → P k y
+module _ {X : Type 0} (P : ℕ → X → Type 0) where
+  pushed_at : (n j k : ℕ) (x y : X) → k ≡ n + j → slice_get (x ∷ []) j ≡ Some y → P n x → P k y
   pushed_at n zero k x y at e one =
-      let same : f x ≡ y = same_Some (f x) y e in
+      let same : x ≡ y = same_Some x y e in
       let here : n ≡ k = omega arith in
-      subst (λ z. P k z) same (subst (λ m. P m (f x)) here one)
+      subst (λ z. P k z) same (subst (λ m. P m x) here one)
   pushed_at n (suc j) k x y at e one = let none : ⊥ = cc in elim none [ ]
 
-  pub mapped_push : (xs : List X) (x : X) (n : ℕ) → length xs ≡ n → ((k : ℕ) (y : Y) → slice_get (map f xs) k ≡ Some y → P k y) → P n (f x) → (k : ℕ) (y : Y) → slice_get (map f (xs ++ x ∷ [])) k ≡ Some y → P k y
-  mapped_push xs x n long all one k y e =
-      elim (at_either (map f xs) (f x ∷ []) k y (rw map_push at e)) [
+  pub each_push : (xs : List X) (x : X) (n : ℕ) → length xs ≡ n → ((k : ℕ) (y : X) → slice_get xs k ≡ Some y → P k y) → P n x → (k : ℕ) (y : X) → slice_get (xs ++ x ∷ []) k ≡ Some y → P k y
+  each_push xs x n long all one k y e =
+      elim (at_either xs (x ∷ []) k y e) [
         | inl old ↦ all k y old
-        | inr r ↦ pushed_at n r.0 k x y (omega (arith, r.1, length-map xs f, long)) r.2 one
+        | inr r ↦ pushed_at n r.0 k x y (omega (arith, r.1, long)) r.2 one
       ]
 
 -- what holds of each element holds of that at an index

@@ -2,6 +2,7 @@ pub mod Alone
 pub mod Building
 pub mod Closed
 pub mod EdgeLaws
+pub mod EdgeList
 pub mod Edges
 pub mod Ends
 pub mod Exact
@@ -19,6 +20,7 @@ pub mod Numbering
 pub mod Numbers
 pub mod ProgramEdges
 pub mod SameGraphs
+pub mod SharedSite
 pub mod Steps
 pub mod Supergraph
 pub mod Whole

@@ -1,5 +1,5 @@
 -- What is told of each node beside its site: the facts that it surely leaves alone on the way to the node behind it.
-use Rattle.std.specs.Prelude.{◌≡◌, ℕ, ◌+◌, ◌<◌, Bool, true, false, not, ◌&&◌, ◌||◌, List, [], ◌∷◌, Some, length, nat_eq, slice_get}
+use Rattle.std.specs.Prelude.{◌≡◌, ℕ, ◌+◌, ◌<◌, Bool, true, not, ◌&&◌, List, [], ◌∷◌, Some, length, nat_eq, slice_get}
 use Rattle.ide_graph.specs.Alone.{LeavesAlone, is_unnamed}
 use Rattle.ide_graph.specs.declared.edge.EdgeData.{EdgeData}
 use Rattle.ide_graph.specs.declared.edge.EdgeKind.{EdgeKind}

@@ -1,7 +1,6 @@
 //! The second pass over a program: the sites of its nodes.
 ghost use Rattle.std.specs.Prelude.{ℕ, ◌≡◌, ◌-◌, ◌+◌, ◌<◌, ◌≤◌, [], length, map, IfOk, IfSome, IsOkUnless};
 ghost use Rattle.std.specs.List.{All};
-ghost use Rattle.std.specs.Arc.{arc_value};
 ghost use Rattle.ide_wire.specs.declared.refused.Refused.TheVariants.{NoMemory};
 ghost use Rattle.ide_graph.specs.Edges.{EdgesWithin, EndsWithin, IsCallerWithin};
 ghost use Rattle.ide_graph.specs.Numbered.{IsNumbered};
@@ -10,6 +9,7 @@ ghost use Rattle.ide_graph.specs.ProgramEdges.{AreSitesOf, IsCall, IsSiteOf, edg
 use crate::call::Call;
 use crate::directory::Directory;
 use crate::edge::{EdgeData, EdgeKind, Effect};
+use crate::edges::Edges;
 use crate::globals::Globals;
 use crate::numbering::{Numbering, Place, Spot};
 use crate::scope::Scope;
@@ -18,7 +18,6 @@ use ide_text::{Name, Statement};
 use ide_wire::{Listing, Node, Refused};
 use std::alloc::Global;
 use std::mem;
-use std::sync::Arc;
 
 /// What the sites of a program are made from: its names and the numbers that the first pass gave.
 #[derive(Drop)]
@@ -65,18 +64,17 @@ impl<'a, 'p> Builder<'a, 'p> {
     }
 
     /// The sites of all nodes, in order. Time grows with the number of edges.
-    pub fn sites(&self) -> Result<Vec<Arc<Site>>, Refused>
+    pub fn sites(&self) -> Result<Vec<Site>, Refused>
         requires { IsReady self.now }
         ensures whole { IfOk result (λ sites. length sites.items ≡ node_count self.now) }
-        ensures within { IfOk result (λ sites. All (λ site. EdgesWithin (node_count self.now) (arc_value site)) sites.items) }
-        ensures exact { ForProgram self.now (λ p. IfOk result (λ sites. AreSitesOf p (map arc_value sites.items))) }
+        ensures within { IfOk result (λ sites. All (EdgesWithin (node_count self.now)) sites.items) }
+        ensures exact { ForProgram self.now (λ p. IfOk result (λ sites. AreSitesOf p sites.items)) }
         ensures refused { IsOkUnless result NoMemory }
     {
         let mut callers = self.callers()?;
         let mut sites = Vec::with_capacity(self.alloc, self.numbering.spots.len())?;
         for (node, spot) in self.numbering.spots.iter().enumerate() {
-            let site = self.site(node as Node, *spot, &mut callers)?;
-            sites.push(Arc::new(self.alloc, site)?)?;
+            sites.push(self.site(node as Node, *spot, &mut callers)?)?;
         }
         Ok(sites)
     }
@@ -184,9 +182,9 @@ impl<'a, 'p> Builder<'a, 'p> {
         let scope = self.scope(spot);
         let next = node.saturating_add(1);
         match spot.place {
-            Place::Start => self.normal(next, scope.enter()),
+            Place::Start => Ok(self.normal(next, scope.enter())),
             Place::Statement(statement) => self.statement_site(node, scope, statement),
-            Place::ReturnSite => self.normal(next, Effect::Nothing),
+            Place::ReturnSite => Ok(self.normal(next, Effect::Nothing)),
             Place::Exit => {
                 let owner = &mut callers[spot.procedure as usize];
                 Ok(Site::Exit {
@@ -213,34 +211,31 @@ impl<'a, 'p> Builder<'a, 'p> {
         let next = node.saturating_add(1);
         match statement {
             Statement::Assign(target, expression) => {
-                self.normal(next, scope.assign(target, expression))
+                Ok(self.normal(next, scope.assign(target, expression)))
             }
-            Statement::Skip | Statement::At(_) => self.normal(next, Effect::Nothing),
-            Statement::Goto(label) => self.normal(scope.label(label), Effect::Nothing),
+            Statement::Skip | Statement::At(_) => Ok(self.normal(next, Effect::Nothing)),
+            Statement::Goto(label) => Ok(self.normal(scope.label(label), Effect::Nothing)),
             Statement::Branch(label) => self.branch(next, scope.label(label)),
             Statement::Call {
                 target,
                 callees,
                 arguments,
             } => self.call_site(&self.call(node, scope, target, callees, arguments)?),
-            Statement::Return(None) => self.normal(scope.layout.exit, Effect::Nothing),
+            Statement::Return(None) => Ok(self.normal(scope.layout.exit, Effect::Nothing)),
             Statement::Return(Some(value)) => {
-                self.normal(scope.layout.exit, scope.give_back(value))
+                Ok(self.normal(scope.layout.exit, scope.give_back(value)))
             }
         }
     }
 
     /// A site with one normal edge.
-    fn normal(&self, end: Node, effect: Effect) -> Result<Site, Refused>
+    fn normal(&self, end: Node, effect: Effect) -> Site
         requires ready { IsReady self.now }
         requires some { 0 < node_count self.now }
-        ensures edges { IfOk result (λ site. EdgesWithin (node_count self.now) site) }
-        ensures exact { ForNode self.now end (λ p. IfOk result (HasNormalTo p end effect)) }
-        ensures refused { IsOkUnless result NoMemory }
+        ensures edges { EdgesWithin (node_count self.now) result }
+        ensures exact { ForNode self.now end (λ p. HasNormalTo p end effect result) }
     {
-        let mut edges = Vec::with_capacity(self.alloc, 1)?;
-        edges.push(self.edge(end, EdgeKind::Normal(effect)))?;
-        Ok(Site::Normal(Listing::of(edges)))
+        Site::Normal(Edges::one(self.edge(end, EdgeKind::Normal(effect))))
     }
 
     /// The site of a branch: the edges to the next node and to the label's, once if they are one.
@@ -252,12 +247,12 @@ impl<'a, 'p> Builder<'a, 'p> {
         ensures refused { IsOkUnless result NoMemory }
     {
         if next == label {
-            return self.normal(next, Effect::Nothing);
+            return Ok(self.normal(next, Effect::Nothing));
         }
         let mut edges = Vec::with_capacity(self.alloc, 2)?;
         edges.push(self.edge(next.min(label), EdgeKind::Normal(Effect::Nothing)))?;
         edges.push(self.edge(next.max(label), EdgeKind::Normal(Effect::Nothing)))?;
-        Ok(Site::Normal(Listing::of(edges)))
+        Ok(Site::Normal(Edges::of(edges)))
     }
 
     /// The site of a call.

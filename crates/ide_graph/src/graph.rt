@@ -1,7 +1,6 @@
 //! The supergraph of a program.
 ghost use Rattle.std.specs.Prelude.{◌≡◌, ℕ, true, ◌+◌, ◌↔◌, None, Err, ◌<◌, ◌≤◌, ◌^◌, IfOk, IfErr, IfSome, length, map, slice_index, slice_index_or, IsOkUnless};
 ghost use Rattle.std.specs.List.{All};
-ghost use Rattle.std.specs.Arc.{arc_value};
 ghost use Rattle.std.specs.Option.{option_copied};
 ghost use Rattle.ide_wire.specs.declared.refused.Refused.TheVariants.{NoMemory, NoProcedure, OutOfRange};
 ghost use Rattle.ide_graph.specs.Edges.{EdgesWithin};
@@ -14,6 +13,7 @@ use crate::directory::Directory;
 use crate::globals::Globals;
 use crate::layout::Layout;
 use crate::numbering::{Numbering, Spot};
+use crate::shared_site::SharedSite;
 use crate::site::Site;
 use crate::step::{Step, steps_of};
 use ide_text::Program;
@@ -37,7 +37,7 @@ pub struct Graph {
     globals: Globals,
     directory: Directory,
     layouts: Vec<Layout>,
-    sites: Vec<Arc<Site>>,
+    sites: Arc<Vec<Site>>,
     /// The procedure of each node.
     owners: Vec<u32>,
     /// The most parameters and locals that a procedure has.
@@ -77,6 +77,7 @@ impl Graph {
         let Numbering { spots, layouts, .. } = numbering;
         let owners = owners_of(alloc, &spots)?;
         let steps = steps_of(alloc, &sites, facts)?;
+        let sites = Arc::new(alloc, sites)?;
         Ok(Graph {
             globals,
             directory,
@@ -132,14 +133,14 @@ impl Graph {
     }
 
     /// What stands at a node, to be carried away. It takes no memory, and is refused where the
-    /// site has as many holders as can be counted.
-    pub fn shared_site(&self, node: Node) -> Result<Arc<Site>, Refused>
+    /// sites have as many holders as can be counted.
+    pub fn shared_site(&self, node: Node) -> Result<SharedSite, Refused>
         requires { node < self.now.nodes }
-        ensures site { IfOk result (λ site. arc_value site ≡ slice_index_or self.now.sites node (arc_value site)) }
-        ensures edges { IfOk result (λ site. EdgesWithin self.now.nodes (arc_value site)) }
+        ensures site { IfOk result (λ site. site ≡ slice_index_or self.now.sites node site) }
+        ensures edges { IfOk result (EdgesWithin self.now.nodes) }
         ensures refused { IsOkUnless result NoMemory }
     {
-        Ok(Arc::try_clone(&self.sites[node as usize])?)
+        Ok(SharedSite::of(&self.sites, node as usize)?)
     }
 
     /// Whether one edge leaves the node, to the node behind it, by a statement that does not name the fact. Where it answers

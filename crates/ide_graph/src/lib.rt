@@ -11,6 +11,7 @@ mod builder;
 mod call;
 mod directory;
 mod edge;
+mod edges;
 mod globals;
 mod graph;
 mod laws;
@@ -18,10 +19,12 @@ mod layout;
 mod names;
 mod numbering;
 mod scope;
+mod shared_site;
 mod site;
 mod step;
 
 pub use edge::{EdgeData, EdgeKind, Effect};
+pub use edges::Edges;
 pub use graph::Graph;
 pub use laws::{
     along_edges_reach_the_return_site, back_edges_return, call_edges_enter, edges_are_lawful,
@@ -29,4 +32,5 @@ pub use laws::{
     graphs_of_one_text_have_the_same_edges, graphs_of_programs_are_closed, nodes_have_one_site,
     normal_edges_stay_within, return_sites_follow_calls, sites_of_programs_are_joined,
 };
+pub use shared_site::SharedSite;
 pub use site::{Caller, Site};

@@ -1,5 +1,6 @@
 //! Sites: what stands at a node, with the edges out of it.
 use crate::edge::EdgeData;
+use crate::edges::Edges;
 use ide_wire::{Listing, Node};
 
 /// What stands at a node of the supergraph.
@@ -7,7 +8,7 @@ use ide_wire::{Listing, Node};
 pub enum Site {
     /// A start, a statement but a call, or a return site: its normal edges by ascending target,
     /// each once.
-    Normal(Listing<EdgeData>),
+    Normal(Edges),
     /// A call node: one call edge for each callee, by ascending start, and the call-to-return edge
     /// along the call, which ends at the return site, the node after the call node.
     Call {

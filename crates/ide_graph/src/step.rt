@@ -1,13 +1,11 @@
 //! Steps: what a node does to facts where one edge leaves it, to the node behind it.
 ghost use Rattle.std.specs.Prelude.{◌≡◌, ◌≤◌, ◌^◌, length, map, IfOk};
-ghost use Rattle.std.specs.Arc.{arc_value};
 ghost use Rattle.ide_graph.specs.Steps.{AreStepsOf, IsStepFor, IsStepOver, passes_by, step_beside};
 
 use crate::edge::{EdgeData, EdgeKind, Effect};
 use crate::site::Site;
 use ide_wire::{Fact, Node};
 use std::alloc::{AllocError, Global};
-use std::sync::Arc;
 
 /// What is told of a node in eight bytes, so that a walk along a procedure reads no site of most of its nodes.
 #[derive(Clone, Copy)]
@@ -43,13 +41,9 @@ impl Step {
 }
 
 /// The step of each node, where these are the nodes' sites, in a program of so many facts.
-pub(crate) fn steps_of(
-    alloc: Global,
-    sites: &[Arc<Site>],
-    facts: u32,
-) -> Result<Vec<Step>, AllocError>
+pub(crate) fn steps_of(alloc: Global, sites: &[Site], facts: u32) -> Result<Vec<Step>, AllocError>
     requires { length sites.now ≤ 2 ^ 32 }
-    ensures { IfOk result (λ steps. AreStepsOf facts (map arc_value sites.now) steps.items) }
+    ensures { IfOk result (λ steps. AreStepsOf facts sites.now steps.items) }
 {
     let mut steps = Vec::with_capacity(alloc, sites.len())?;
     for node in 0..sites.len() {

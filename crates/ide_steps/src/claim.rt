@@ -107,7 +107,7 @@ fn task_of<P: Problem>(
     let node = key.node();
     let site = loaded.graph.shared_site(node)?;
     let procedure = loaded.graph.procedure_of(node);
-    let partners = partners_of(alloc, loaded, image, key, procedure, &*site)?;
+    let partners = partners_of(alloc, loaded, image, key, procedure, site.site())?;
     Ok(Task {
         key,
         function: image.function(key),

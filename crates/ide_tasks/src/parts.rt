@@ -18,7 +18,7 @@ pub fn parts_of<P: Problem>(alloc: Global, task: &Task<P>) -> Result<Vec<(Key, P
     ensures { IfOk result (λ parts. parts.items ≡ owed P.F.edge P.targets task.now) }
 {
     let mut parts: PartList<P> = PartList::new(alloc);
-    parts.fill(task.key, task.function, &task.site, &task.partners)?;
+    parts.fill(task.key, task.function, task.site.site(), &task.partners)?;
     Ok(parts.into_vec())
 }
 

@@ -204,6 +204,8 @@ fn sources_at<P: Problem>(
 {
     let mut sources = unsorted_sources_at::<P>(alloc, graph, site)?;
     sources.sort_by_key(|source| source.reached)?;
+    // The list grew by doubling, and grows no more.
+    sources.shrink_to_fit();
     Ok(sources)
 }
 

@@ -2,30 +2,28 @@
 ghost use Rattle.std.specs.Prelude.{◌≡◌, ◌↔◌, IfOk, IsTrue};
 
 use crate::partners::Partners;
-use ide_graph::Site;
+use ide_graph::{SharedSite, Site};
 use ide_lattice::EdgeFn;
 use ide_problem::Problem;
 use ide_wire::Key;
 use std::alloc::{AllocError, Global};
 use std::marker::Model;
-use std::sync::Arc;
 
 /// A claimed key, its function when it was claimed, the site of its node, and its partners.
 #[derive(Drop)]
 pub struct Task<P: Problem> {
     pub key: Key,
     pub function: P::F,
-    pub site: Arc<Site>,
+    pub site: SharedSite,
     pub partners: Partners<P::F>,
 }
 
 impl<P: Problem> Model for Task<P> {
-    ghost use Rattle.std.specs.Arc.{arc_value};
     ghost use Rattle.ide_tasks.specs.Task.{TaskData};
 
     ghost Value = { TaskData P.F };
 
-    ghost view = { λ t. record { key = t.key; function = t.function; site = arc_value t.site; partners = t.partners } };
+    ghost view = { λ t. record { key = t.key; function = t.function; site = t.site; partners = t.partners } };
 }
 
 impl<P: Problem> Task<P> {
@@ -34,7 +32,7 @@ impl<P: Problem> Task<P> {
         ensures { IfOk result (λ t. t ≡ self.now) }
     {
         let partners = self.partners.copy(alloc)?;
-        let site = Arc::try_clone(&self.site)?;
+        let site = self.site.share()?;
         Ok(Task {
             key: self.key,
             function: self.function,
@@ -51,7 +49,7 @@ impl<P: Problem> Task<P> {
         self.key == other.key
             && self.function == other.function
             && is_same_partners(&self.partners, &other.partners)
-            && is_same_site(&self.site, &other.site)
+            && is_same_site(self.site.site(), other.site.site())
     }
 }
 

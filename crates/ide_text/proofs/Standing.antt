@@ -186,11 +186,20 @@ global_taken gs [] None g closed none = lines_push (λ x. Global x) gs g
 global_taken gs (p ∷ ps) None g closed none = absurd (omega arith)
 global_taken gs ps (Some p) g closed none = absurd (false≢true (sym closed))
 
-pub end_taken : (gs : List (List ℕ)) (ps : List Procedure) (o : Option Procedure) (p : Procedure) → o ≡ Some p →
-    lines_in gs (ps ++ p ∷ []) None ≡ End ∷ lines_in gs ps o
-end_taken gs ps o p e =
-    ap (λ ls. ls ++ global_lines gs) (ended_push ps p)
-    ∙ ap (λ ls. End ∷ ls) (append_assoc (open_lines p) (ended_lines ps) (global_lines gs))
+-- what a procedure has in its lists decides its lines, and not the room of these
+open_same : (p p' : Procedure) → p'.name ≡ p.name → p'.parameters ≡ p.parameters → p'.locals ≡ p.locals → p'.statements.items ≡ p.statements.items → open_lines p' ≡ open_lines p
+open_same p p' name parameters locals statements =
+    let step : reverse (map (λ t. Step t) p'.statements.items) ≡ reverse (map (λ t. Step t) p.statements.items) = ap (λ ts. reverse (map (λ t. Step t) ts)) statements in
+    let head : reverse (map (λ x. Local x) p'.locals.items) ++ Begin p'.name p'.parameters ∷ [] ≡ reverse (map (λ x. Local x) p.locals.items) ++ Begin p.name p.parameters ∷ [] = cc in
+    cc
+
+pub end_taken : (gs : List (List ℕ)) (ps : List Procedure) (o : Option Procedure) (p p' : Procedure) → o ≡ Some p →
+    p'.name ≡ p.name → p'.parameters ≡ p.parameters → p'.locals ≡ p.locals → p'.statements.items ≡ p.statements.items →
+    lines_in gs (ps ++ p' ∷ []) None ≡ End ∷ lines_in gs ps o
+end_taken gs ps o p p' e name parameters locals statements =
+    ap (λ ls. ls ++ global_lines gs) (ended_push ps p')
+    ∙ ap (λ ls. End ∷ ls) (append_assoc (open_lines p') (ended_lines ps) (global_lines gs))
+    ∙ ap (λ ls. End ∷ (ls ++ (ended_lines ps ++ global_lines gs))) (open_same p p' name parameters locals statements)
     ∙ ap (λ x. End ∷ lines_in gs ps x) (sym e)
 
 open_step : (p p' : Procedure) (s : Statement) → p'.name ≡ p.name → p'.parameters ≡ p.parameters → p'.locals ≡ p.locals → p'.statements.items ≡ p.statements.items ++ s ∷ [] →

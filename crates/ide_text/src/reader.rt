@@ -193,9 +193,11 @@ impl Reader {
         ensures place { OnOk result (MayFollow (taken_lines self.old) Line.End) }
         ensures fault { IfErr result (λ flaw. IfFaulty flaw (KeepsOut (taken_lines self.old) Line.End)) }
     {
-        let Some(procedure) = self.open.take() else {
+        let Some(mut procedure) = self.open.take() else {
             return Err(Flaw::Faulty(Fault::OutOfPlace));
         };
+        // The list grew by doubling, and grows no more.
+        procedure.statements.shrink_to_fit();
         self.procedures.push(procedure)?;
         Ok(())
     }

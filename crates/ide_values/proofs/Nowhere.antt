@@ -2,9 +2,7 @@
 use Rattle.std.proofs.Common.{◌≡◌, ℕ, ◌+◌, ◌*◌, ◌/◌, ◌%◌, ◌<◌, ◌≤◌, ◌⊎◌, ◌++◌, List, [], ◌∷◌, Option, Some, None, inl, inr, arith, length, ap, subst, sym, ◌∙◌}
 use Rattle.std.proofs.lemmas.Bool.{cases_lt}
 use Rattle.std.proofs.lemmas.List.Elements.{All-push, Contains-append_left, Contains-push}
-use Rattle.std.proofs.lemmas.List.Sorted.{All-permutation, Contains-permutation}
 use Rattle.std.specs.List.{All, Contains}
-use Rattle.std.specs.List.Sorted.{IsPermutation}
 use Rattle.std.specs.Prelude.{IfSome, slice_index_or}
 use Rattle.ide_graph.specs.Supergraph.{Supergraph}
 use Rattle.ide_lattice.specs.Algebra.{LatticeAlgebra, EdgeAlgebra}
@@ -14,9 +12,9 @@ use Rattle.ide_image.specs.Cells.{BeginsWith, TablesData, shown_in}
 use Rattle.ide_wire.specs.Key.{node_of}
 use Rattle.ide_wire.specs.declared.key.Key.{Key}
 use Rattle.ide_wire.specs.declared.key.Key.TheVariants.{Jump, Summary}
-use Rattle.ide_values.specs.declared.starts.CallJump.{CallJump}
+use Rattle.ide_values.specs.declared.call_jumps.CallJump.{CallJump}
 use Rattle.ide_values.specs.Pass.{IsSteadyBy, IsSteadyOver, calls_of}
-use Rattle.ide_values.specs.Jumps.{AreJumps, AreListed, HandsNothing, HasJump, IsNoCall, Shows}
+use Rattle.ide_values.specs.Jumps.{AddsJump, AreJumps, AreListed, HandsNothing, HasJump, IsNoCall, Shows}
 use Rattle.ide_values.specs.Near.{HasNoJump, IsSummary}
 use Rattle.ide_values.specs.NextCalls.{HaveNoCalls}
 use Rattle.ide_values.specs.Settled.{IsSteady}
@@ -72,13 +70,13 @@ module _ {F L : Type 0} (A : LatticeAlgebra L) (B : EdgeAlgebra F L) (targets : 
   none_listed = record { shown = λ i d less. absurd (omega (arith, less)); all = λ i less. absurd (omega (arith, less)) }
 
   -- one cell more is listed, or hands nothing on
-  pub listed_more : (jumps new : List CallJump) (x : CallJump) (n : ℕ) → new ≡ jumps ++ x ∷ [] → x.cell ≡ n → Shows tables n
+  pub listed_more : (jumps new : List CallJump) (n : ℕ) → AddsJump n jumps new → Shows tables n
       → AreListed A B targets graph tables n jumps → AreListed A B targets graph tables (n + 1) new
-  listed_more jumps new x n is at shows are =
+  listed_more jumps new n adds shows are =
       let shown : CallJump → Type 0 = λ jump. Shows tables jump.cell in
       record {
-        shown = subst (All shown) (sym is) (All-push shown jumps x are.shown (subst (Shows tables) (sym at) shows));
-        all = jump_more (HandsNothing A B targets graph tables) jumps new x n is at are.all;
+        shown = subst (All shown) (sym adds.listed) (All-push shown jumps adds.jump are.shown (subst (Shows tables) (sym adds.is) shows));
+        all = jump_more (HandsNothing A B targets graph tables) jumps new adds.jump n adds.listed adds.is are.all;
       }
 
   pub listed_none : (jumps : List CallJump) (n : ℕ) → HandsNothing A B targets graph tables n
@@ -110,17 +108,6 @@ module _ {F L : Type 0} (A : LatticeAlgebra L) (B : EdgeAlgebra F L) (targets : 
           let high : node + i % 64 < node + end = omega (arith, less, behind, order, within) in
           steady-none A B targets graph values e.0 e.1
           (no-call-at graph e.0 (node + i % 64) (ap node_of (at i e here is)) (none (node + i % 64) low high)))
-    ];
-  }
-
-  -- jumps in another order
-  pub jumps_sorted : (jumps new : List CallJump) → IsPermutation jumps new → AreJumps A B targets graph tables jumps → AreJumps A B targets graph tables new
-  jumps_sorted jumps new moved are = record {
-    table = are.table;
-    shown = All-permutation (λ (jump : CallJump). Shows tables jump.cell) jumps new moved are.shown;
-    all = λ i within. elim (are.all i within) [
-      | inl has ↦ inl (record { jump = has.jump; there = Contains-permutation jumps new has.jump moved has.there; is = has.is })
-      | inr none ↦ inr none
     ];
   }
 

@@ -1,6 +1,5 @@
 -- The cells of tables whose entries hand values on: jump functions at call nodes.
-use Rattle.std.specs.Global.{Vec}
-use Rattle.std.specs.Prelude.{◌≡◌, ℕ, ◌<◌, ◌⊎◌, List, [], Some, length}
+use Rattle.std.specs.Prelude.{◌≡◌, ℕ, ◌<◌, ◌⊎◌, ◌++◌, ◌∷◌, List, [], Some, length}
 use Rattle.std.specs.List.{All, Contains}
 use Rattle.ide_graph.specs.Supergraph.{Supergraph}
 use Rattle.ide_lattice.specs.Algebra.{LatticeAlgebra, EdgeAlgebra}
@@ -9,7 +8,8 @@ use Rattle.ide_image.specs.Cells.{ShowTable, TablesData, shown_in}
 use Rattle.ide_wire.specs.Key.{node_of}
 use Rattle.ide_wire.specs.declared.key.Key.{Key}
 use Rattle.ide_wire.specs.declared.key.Key.TheVariants.{Jump, Summary}
-use Rattle.ide_values.specs.declared.starts.CallJump.{CallJump}
+use Rattle.ide_values.specs.declared.call_jumps.CallJump.{CallJump}
+use Rattle.ide_values.specs.declared.call_jumps.CallJumps.{CallJumps}
 use Rattle.ide_values.specs.Pass.{IsSteadyBy, calls_of}
 
 -- the key is that of a summary, or of a jump where no call edge leaves
@@ -31,6 +31,12 @@ pub record HasJump (jumps : List CallJump) (cell : ℕ) : Type 0 where
   pub there : Contains jumps jump
   pub is : jump.cell ≡ cell
 
+-- behind the jumps stands the one in a cell
+pub record AddsJump (cell : ℕ) (old new : List CallJump) : Type 0 where
+  pub jump : CallJump
+  pub is : jump.cell ≡ cell
+  pub listed : new ≡ old ++ jump ∷ []
+
 module _ {F L : Type 0} (A : LatticeAlgebra L) (B : EdgeAlgebra F L) (targets : Targets F) (graph : Supergraph) (tables : TablesData F) where
   -- the entry that the cell shows, if it shows one, hands nothing on, whatever the start values are
   abbrev pub HandsNothing : ℕ → Type 0
@@ -48,5 +54,5 @@ module _ {F L : Type 0} (A : LatticeAlgebra L) (B : EdgeAlgebra F L) (targets : 
     pub all : (cell : ℕ) → cell < length tables.cells → HasJump jumps cell ⊎ HandsNothing cell
 
   -- the same for jumps that are answered
-  abbrev pub AreJumpsIn : Vec CallJump → Type 0
-  AreJumpsIn jumps = AreJumps jumps.items
+  abbrev pub AreJumpsIn : CallJumps → Type 0
+  AreJumpsIn jumps = AreJumps jumps.list.items

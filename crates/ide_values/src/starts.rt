@@ -6,6 +6,7 @@ ghost use Rattle.ide_values.specs.NextCalls.{AreNextCalls, AreNextCallsIn, HaveN
 ghost use Rattle.ide_values.specs.Passing.{Comes, LeavesEach, PassesAt, PassesBy, RisesNowhere, Rests};
 ghost use Rattle.ide_values.specs.Settled.{AreStartRows};
 
+use crate::call_jumps::{CallJump, CallJumps};
 use crate::enter::entered_rows;
 use crate::fill::{PAGE, first_jump};
 use crate::passes::{JumpAt, Starts, calls_at, is_call};
@@ -34,13 +35,6 @@ pub fn start_values<P: Problem>(
     Ok(starts.into_values())
 }
 
-/// A jump function at a call node: the place that it starts from, and its cell in the tables.
-#[derive(Clone, Copy, Drop)]
-pub(crate) struct CallJump {
-    pub(crate) from: usize,
-    pub(crate) cell: usize,
-}
-
 impl<P: Problem> Starts<P> {
     /// Goes through the places that wait and then once through all jump functions at call nodes, until
     /// that changes nothing. Each round but the last lowers some value.
@@ -53,12 +47,12 @@ impl<P: Problem> Starts<P> {
         ensures comes { Comes P.L.algebra P.F.edge P.targets graph.now tables.now.table result self.old self.new }
         ensures steady { OnOk result (Rests P.L.algebra P.F.edge P.targets graph.now tables.now.table self.new) }
     {
-        let jumps = jumps_at_calls::<P>(alloc, graph, tables)?;
+        let jumps = jumps_at_calls::<P>(alloc, graph, tables, self.values.len())?;
         let mut targets = TargetList::new(alloc);
         loop {
-            self.settle(graph, tables, jumps.as_slice(), &mut targets)?;
+            self.settle(graph, tables, &jumps, &mut targets)?;
             self.has_fallen = false;
-            self.pass_each(graph, tables, jumps.as_slice(), &mut targets)?;
+            self.pass_each(graph, tables, jumps.list.as_slice(), &mut targets)?;
             if !self.has_fallen {
                 return Ok(());
             }
@@ -71,7 +65,7 @@ impl<P: Problem> Starts<P> {
         &mut self,
         graph: &Graph,
         tables: &Tables<P::F>,
-        jumps: &[CallJump],
+        jumps: &CallJumps,
         targets: &mut TargetList<P::F>,
     ) -> Result<(), AllocError>
         ensures comes { Comes P.L.algebra P.F.edge P.targets graph.now tables.now.table result self.old self.new }
@@ -88,19 +82,18 @@ impl<P: Problem> Starts<P> {
         &mut self,
         graph: &Graph,
         tables: &Tables<P::F>,
-        jumps: &[CallJump],
+        jumps: &CallJumps,
         place: usize,
         targets: &mut TargetList<P::F>,
     ) -> Result<(), AllocError>
         ensures comes { Comes P.L.algebra P.F.edge P.targets graph.now tables.now.table result self.old self.new }
         ensures falls { OnOk result (StartsFall P.L.algebra self.old self.new) }
     {
-        let first = jumps.partition_point(|jump| jump.from < place);
-        for jump in &jumps[first..] {
-            if jump.from != place {
-                break;
-            }
+        let mut index = jumps.last_from(place);
+        while let Some(jump) = jumps.at(index) {
             self.pass_cell(graph, tables, jump.cell, targets)?;
+            // A link leads to one that was added before.
+            index = jump.before.min(index - 1);
         }
         Ok(())
     }
@@ -171,29 +164,17 @@ impl<P: Problem> Starts<P> {
     }
 }
 
-/// The jump functions at call nodes, by the place that they start from.
+/// The jump functions at call nodes, in the order of their cells, where they start from so many places.
 fn jumps_at_calls<P: Problem>(
     alloc: Global,
     graph: &Graph,
     tables: &Tables<P::F>,
-) -> Result<Vec<CallJump>, AllocError>
-    ensures { IfOk result (AreJumpsIn P.L.algebra P.F.edge P.targets graph.now tables.now) }
-{
-    let mut jumps = listed_jumps::<P>(alloc, graph, tables)?;
-    jumps.sort_by_key(|jump| jump.from)?;
-    Ok(jumps)
-}
-
-/// The same, in the order of their cells.
-fn listed_jumps<P: Problem>(
-    alloc: Global,
-    graph: &Graph,
-    tables: &Tables<P::F>,
-) -> Result<Vec<CallJump>, AllocError>
+    places: usize,
+) -> Result<CallJumps, AllocError>
     ensures { IfOk result (AreJumpsIn P.L.algebra P.F.edge P.targets graph.now tables.now) }
 {
     let nexts = next_calls(alloc, graph)?;
-    let mut jumps = Vec::new(alloc);
+    let mut jumps = CallJumps::new(alloc, places)?;
     for page in 0..tables.cell_count() / PAGE {
         list_page::<P>(graph, tables, nexts.as_slice(), page, &mut jumps)?;
     }
@@ -230,12 +211,12 @@ fn list_page<P: Problem>(
     tables: &Tables<P::F>,
     nexts: &[Node],
     page: usize,
-    jumps: &mut Vec<CallJump>,
+    jumps: &mut CallJumps,
 ) -> Result<(), AllocError>
     requires nexts { AreNextCalls graph.now nexts.now }
     requires page { 64 * page + 64 < 2 ^ 64 }
-    requires listed { AreListed P.L.algebra P.F.edge P.targets graph.now tables.now (64 * page) jumps.old.items }
-    ensures { OnOk result (AreListed P.L.algebra P.F.edge P.targets graph.now tables.now (64 * page + 64) jumps.new.items) }
+    requires listed { AreListed P.L.algebra P.F.edge P.targets graph.now tables.now (64 * page) jumps.old.list.items }
+    ensures { OnOk result (AreListed P.L.algebra P.F.edge P.targets graph.now tables.now (64 * page + 64) jumps.new.list.items) }
 {
     let Some(first) = first_jump(tables, page) else {
         return Ok(());
@@ -243,8 +224,9 @@ fn list_page<P: Problem>(
     let mut offset = next_offset(graph, nexts, first.node, 0);
     while offset < PAGE {
         let node = first.node + offset as Node;
-        if let Some(jump) = jump_at::<P>(graph, tables, node, first.from, PAGE * page + offset) {
-            jumps.push(jump)?;
+        let cell = PAGE * page + offset;
+        if let Some(place) = call_place::<P>(graph, tables, node, first.from, cell) {
+            jumps.add(place, cell)?;
         }
         offset = next_offset(graph, nexts, first.node, offset + 1);
     }
@@ -268,17 +250,16 @@ fn next_offset(graph: &Graph, nexts: &[Node], first: Node, offset: usize) -> usi
     (nexts[node] as usize - first as usize).min(PAGE)
 }
 
-/// The entry that a cell shows, which is a jump from the fact to the node, if that is a call node.
+/// The place that the jump starts from which a cell shows, from the fact to the node, if that is a call node.
 #[inline(always)]
-fn jump_at<P: Problem>(
+fn call_place<P: Problem>(
     graph: &Graph,
     tables: &Tables<P::F>,
     node: Node,
     from: Fact,
     cell: usize,
-) -> Option<CallJump>
+) -> Option<usize>
     requires { IsShownAt tables.now cell node }
-    ensures cell { IfSome result (λ jump. jump.cell ≡ cell) }
     ensures shown { IfSome result (λ _. Shows tables.now cell) }
     ensures nothing { result ≡ None → HandsNothing P.L.algebra P.F.edge P.targets graph.now tables.now cell }
 {
@@ -287,8 +268,5 @@ fn jump_at<P: Problem>(
     }
     // Whether there is a function is enough.
     let _ = tables.function_in(cell)?;
-    Some(CallJump {
-        from: start_place(graph, procedure_at(graph, node), from),
-        cell,
-    })
+    Some(start_place(graph, procedure_at(graph, node), from))
 }

@@ -224,7 +224,7 @@ pub(crate) fn expect_shared_step(
 ) {
     assert!(rt; (node as usize) < graph.node_count(), "at node {node}");
     match graph.shared_site(node) {
-        Ok(site) => assert!(rt; is_step(&site, end, effect), "at node {node}"),
+        Ok(site) => assert!(rt; is_step(site.site(), end, effect), "at node {node}"),
         Err(refused) => panic!(rt; "{refused} at node {node}"),
     }
 }

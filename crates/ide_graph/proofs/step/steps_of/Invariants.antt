@@ -1,6 +1,5 @@
-use Rattle.std.proofs.Common.{◌≡◌, ℕ, Some, length, map}
+use Rattle.std.proofs.Common.{◌≡◌, ℕ, Some, length}
 use Rattle.std.specs.Prelude.{slice_get}
-use Rattle.std.specs.Arc.{arc_value}
 use Rattle.ide_graph.specs.Steps.{IsStepAt}
 use Rattle.ide_graph.specs.declared.step.Step.{Step}
 use Rattle.ide_graph.proofs.step.steps_of.Given as goal
@@ -9,5 +8,5 @@ use Rattle.ide_graph.proofs.step.steps_of.Given as goal
 abbrev pub invariant-loop-node : goal.invariant-loop-node
 invariant-loop-node l = record {
   counted : length l.steps.items ≡ l.node;
-  each : (node : ℕ) (step : Step) → slice_get l.steps.items node ≡ Some step → IsStepAt l.fn.facts (map arc_value l.fn.sites) node step;
+  each : (node : ℕ) (step : Step) → slice_get l.steps.items node ≡ Some step → IsStepAt l.fn.facts l.fn.sites node step;
 }

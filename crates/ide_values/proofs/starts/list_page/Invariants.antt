@@ -6,7 +6,7 @@ use Rattle.ide_values.proofs.starts.list_page.Given as goal
 abbrev pub invariant-loop-offset : goal.invariant-loop-offset
 invariant-loop-offset g l = record {
   within : l.offset ≤ 64;
-  listed : AreListed g.P.L.Lattice.algebra g.P.F.EdgeFn.edge g.P.Problem.targets l.graph l.tables (64 * l.page + l.offset) l.jumps.items;
+  listed : AreListed g.P.L.Lattice.algebra g.P.F.EdgeFn.edge g.P.Problem.targets l.graph l.tables (64 * l.page + l.offset) l.jumps.list.items;
 }
 
 abbrev pub decreases-loop-offset : goal.decreases-loop-offset

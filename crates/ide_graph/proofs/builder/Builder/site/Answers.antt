@@ -15,7 +15,7 @@ use Rattle.ide_graph.specs.Numbers.{Spot, start, return_site, exit, exit_of, res
 use Rattle.ide_graph.specs.ProgramEdges.{IsCallerOf, Stands}
 use Rattle.ide_graph.proofs.CallerLemmas.{at_set_other}
 use Rattle.ide_graph.proofs.ProgramLemmas.{counted, exit_is, next_within}
-use Rattle.ide_graph.proofs.SiteLemmas.{plain_result}
+use Rattle.ide_graph.proofs.SiteLemmas.{plain_site}
 use Rattle.ide_graph.proofs.builder.Builder.site.Goals as goal
 
 next_below : (p : Program) (b : Builder) → IsBuilderOf p b → (n i : ℕ) (q : Procedure) (spot : Spot) → Stands p n i q spot → spot ≢ exit → n + 1 < node_count b
@@ -32,7 +32,7 @@ returns-in-Start-clause-exact c = λ p q is stands from.
     let few = few_below p c.args.self.now is (c.args.node + 1) below in
     let next : c.saturating_add-next.result ≡ c.args.node + 1 = omega (arith, c.saturating_add-next.ensures, few) in
     let effect = c.enter.ensures p i q (c.scope-scope.ensures.exact p q is here.owner) in
-    plain_result p c.args.node i q start here tt (λ l e. cc) (c.args.node + 1) (Enter (result_of p + 1 + length q.parameters.items) (result_of p + 1 + length q.parameters.items + length q.locals.items)) (refl, refl)
+    plain_site p c.args.node i q start here tt (λ l e. cc) (c.args.node + 1) (Enter (result_of p + 1 + length q.parameters.items) (result_of p + 1 + length q.parameters.items + length q.locals.items)) (refl, refl)
     c.normal.result c.saturating_add-next.result c.enter.result next effect (c.normal.ensures.exact p is (rw next below))
 
 pub returns-in-ReturnSite-clause-exact : goal.returns-in-ReturnSite-clause-exact
@@ -42,7 +42,7 @@ returns-in-ReturnSite-clause-exact c = λ p q is stands from.
     let below = next_below p c.args.self.now is c.args.node i q return_site here (λ e. cc) in
     let few = few_below p c.args.self.now is (c.args.node + 1) below in
     let next : c.saturating_add-next.result ≡ c.args.node + 1 = omega (arith, c.saturating_add-next.ensures, few) in
-    plain_result p c.args.node i q return_site here tt (λ l e. cc) (c.args.node + 1) Nothing (refl, refl)
+    plain_site p c.args.node i q return_site here tt (λ l e. cc) (c.args.node + 1) Nothing (refl, refl)
     c.normal-in-ReturnSite.result c.saturating_add-next.result Nothing next refl (c.normal-in-ReturnSite.ensures.exact p is (rw next below))
 
 pub returns-in-Start-clause-left : goal.returns-in-Start-clause-left

@@ -1,6 +1,5 @@
-use Rattle.std.proofs.Common.{◌≡◌, ◌+◌, ◌<◌, Some, get_or, length, refl, sym, ap, subst, ◌∙◌, arith}
+use Rattle.std.proofs.Common.{◌≡◌, ◌+◌, ◌<◌, Some, get_or, length, refl, ap, subst, ◌∙◌, arith}
 use Rattle.std.specs.Prelude.{slice_get}
-use Rattle.std.specs.Arc.{arc_value}
 use Rattle.std.proofs.lemmas.List.{length_push}
 use Rattle.std.proofs.lemmas.List.Elements.{All-push}
 use Rattle.std.proofs.lemmas.Option.{slice_get_read}
@@ -9,7 +8,7 @@ use Rattle.ide_graph.specs.Edges.{EdgesWithin}
 use Rattle.ide_graph.specs.ProgramEdges.{IsSiteOf}
 use Rattle.ide_graph.proofs.CallerLemmas.{before_all}
 use Rattle.ide_graph.proofs.ProgramLemmas.{counted, spot_stands}
-use Rattle.ide_graph.proofs.SliceLemmas.{mapped_push}
+use Rattle.ide_graph.proofs.SliceLemmas.{each_push}
 use Rattle.ide_graph.proofs.builder.Builder.sites.Goals as goal
 
 pub loop-node-init : goal.loop-node-init
@@ -23,7 +22,6 @@ loop-node-init c = record {
 
 pub loop-node-preserved : goal.loop-node-preserved
 loop-node-preserved c =
-    let value : arc_value c.in_ok-new.field-0 ≡ c.in_ok-site.site = c.in_ok-new.ensures.ok in
     let pushed = c.in_ok-push.ensures.items in
     let spots = c.args.self.now.numbering.now.spots.items in
     let items = c.deref-spot-items.ensures.value in
@@ -32,16 +30,14 @@ loop-node-preserved c =
     slice_get_read spots (length spots) c.loop-node.node c.spot-item.result refl before (subst (λ xs. c.spot-item.result ≡ get_or xs c.loop-node.node c.spot-item.result) items c.spot-item.is) in
     record {
       callers = c.in_ok-site.ensures.callers;
-      whole = ap length pushed ∙ (length_push c.loop-node.sites.items c.in_ok-new.field-0 ∙ ap (λ n. n + 1) c.loop-node.invariant.whole);
+      whole = ap length pushed ∙ (length_push c.loop-node.sites.items c.in_ok-site.field-0 ∙ ap (λ n. n + 1) c.loop-node.invariant.whole);
       within = rw pushed
-          (All-push (λ site. EdgesWithin (node_count c.args.self.now) (arc_value site)) c.loop-node.sites.items c.in_ok-new.field-0 c.loop-node.invariant.within
-          (subst (λ site. EdgesWithin (node_count c.args.self.now) site) (sym value) c.in_ok-site.ensures.edges));
+          (All-push (EdgesWithin (node_count c.args.self.now)) c.loop-node.sites.items c.in_ok-site.field-0 c.loop-node.invariant.within c.in_ok-site.ensures.edges);
       exact = λ p is.
           let stands = spot_stands p c.args.self.now is c.loop-node.node c.spot-item.result at in
           let made = c.in_ok-site.ensures.exact p stands.0 is stands.1 (c.loop-node.invariant.left p is) in
           rw pushed
-          (mapped_push arc_value (IsSiteOf p) c.loop-node.sites.items c.in_ok-new.field-0 c.loop-node.node c.loop-node.invariant.whole (c.loop-node.invariant.exact p is)
-          (subst (λ site. IsSiteOf p c.loop-node.node site) (sym value) made));
+          (each_push (IsSiteOf p) c.loop-node.sites.items c.in_ok-site.field-0 c.loop-node.node c.loop-node.invariant.whole (c.loop-node.invariant.exact p is) made);
       left = λ p is.
           let stands = spot_stands p c.args.self.now is c.loop-node.node c.spot-item.result at in
           c.in_ok-site.ensures.left p stands.0 is stands.1 (c.loop-node.invariant.left p is);

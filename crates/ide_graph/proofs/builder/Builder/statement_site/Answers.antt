@@ -11,7 +11,7 @@ use Rattle.ide_graph.specs.Numbers.{statement, exit_of, start_of, result_of}
 use Rattle.ide_graph.specs.ProgramEdges.{CallAt, IsSiteOf, Stands}
 use Rattle.ide_graph.proofs.DeclaredLemmas.{label_known, variables_known}
 use Rattle.ide_graph.proofs.ProgramLemmas.{counted, exit_within, label_within, next_within, statement_of}
-use Rattle.ide_graph.proofs.SiteLemmas.{branch_result, plain_result}
+use Rattle.ide_graph.proofs.SiteLemmas.{branch_result, plain_site}
 use Rattle.ide_graph.proofs.builder.Builder.statement_site.Goals as goal
 
 next_below : (p : Program) (b : Builder) → IsBuilderOf p b → (n i : ℕ) (q : Procedure) (s : Statement) → Stands p n i q (statement s) → n + 1 < node_count b
@@ -30,7 +30,7 @@ returns-in-Assign-clause-exact c = λ p i q is scope stands.
     let place = statement_of p c.args.node i q s here in
     let known = variables_known p i q here.owner place.0 s place.1 in
     let effect = c.assign.ensures p i q scope known in
-    plain_result p c.args.node i q (statement s) here tt (λ l e. cc) (c.args.node + 1) c.assign.result (refl, effect.0, effect.1, effect.2) c.normal.result c.saturating_add-next.result c.assign.result next refl
+    plain_site p c.args.node i q (statement s) here tt (λ l e. cc) (c.args.node + 1) c.assign.result (refl, effect.0, effect.1, effect.2) c.normal.result c.saturating_add-next.result c.assign.result next refl
     (c.normal.ensures.exact p is (rw next below))
 
 pub returns-in-Goto-clause-exact : goal.returns-in-Goto-clause-exact
@@ -41,7 +41,7 @@ returns-in-Goto-clause-exact c = λ p i q is scope stands.
     let label = label_known p i q here.owner place.0 s place.1 (start_of (procedures_of p) i) c.in-Goto.label (0, omega arith, refl) in
     let there : c.label.result ≡ label.0 = c.label.ensures p i q label.0 scope label.1 in
     let below : label.0 < node_count c.args.self.now = omega (arith, counted p c.args.self.now is, label_within p i q c.in-Goto.label label.0 here.owner label.1) in
-    plain_result p c.args.node i q (statement s) here tt (λ l e. cc) label.0 Nothing (label.1, refl) c.normal-in-Goto.result c.label.result Nothing there refl
+    plain_site p c.args.node i q (statement s) here tt (λ l e. cc) label.0 Nothing (label.1, refl) c.normal-in-Goto.result c.label.result Nothing there refl
     (c.normal-in-Goto.ensures.exact p is (rw there below))
 
 pub returns-in-Branch-clause-exact : goal.returns-in-Branch-clause-exact
@@ -72,7 +72,7 @@ returns-in-Return-None-clause-exact c = λ p i q is scope stands.
     let here : Stands p c.args.node i q (statement s) = subst (λ s. Stands p c.args.node i q (statement s)) is_none stands in
     let exit : c.args.scope.layout.now.exit ≡ exit_of (procedures_of p) i = scope.layout.exit in
     let below : exit_of (procedures_of p) i < node_count c.args.self.now = omega (arith, counted p c.args.self.now is, exit_within p i q here.owner) in
-    plain_result p c.args.node i q (statement s) here tt (λ l e. cc) (exit_of (procedures_of p) i) Nothing (refl, refl) c.normal-in-Return-None.result c.args.scope.layout.now.exit Nothing exit refl
+    plain_site p c.args.node i q (statement s) here tt (λ l e. cc) (exit_of (procedures_of p) i) Nothing (refl, refl) c.normal-in-Return-None.result c.args.scope.layout.now.exit Nothing exit refl
     (c.normal-in-Return-None.ensures.exact p is (rw exit below))
 
 pub returns-in-Return-Some-clause-exact : goal.returns-in-Return-Some-clause-exact
@@ -86,7 +86,7 @@ returns-in-Return-Some-clause-exact c = λ p i q is scope stands.
     let effect = c.give_back.ensures p i q source.0 scope source.1 in
     let exit : c.args.scope.layout.now.exit ≡ exit_of (procedures_of p) i = scope.layout.exit in
     let below : exit_of (procedures_of p) i < node_count c.args.self.now = omega (arith, counted p c.args.self.now is, exit_within p i q here.owner) in
-    plain_result p c.args.node i q (statement s) here tt (λ l e. cc) (exit_of (procedures_of p) i) (Copy (result_of p) source.0) (refl, source.0, source.1, refl {a = Copy (result_of p) source.0})
+    plain_site p c.args.node i q (statement s) here tt (λ l e. cc) (exit_of (procedures_of p) i) (Copy (result_of p) source.0) (refl, source.0, source.1, refl {a = Copy (result_of p) source.0})
     c.normal-in-Return-Some.result c.args.scope.layout.now.exit c.give_back.result exit effect
     (c.normal-in-Return-Some.ensures.exact p is (rw exit below))
 
@@ -99,8 +99,8 @@ returns-in-Skip-clause-exact c = λ p i q is scope stands.
     elim c.in-Skip.is [
       | inl skip ↦
           let here : Stands p c.args.node i q (statement Skip) = subst (λ s. Stands p c.args.node i q (statement s)) skip stands in
-          plain_result p c.args.node i q (statement Skip) here tt (λ l e. cc) (c.args.node + 1) Nothing (refl, refl) c.normal-in-Skip.result c.saturating_add-next.result Nothing next refl has
+          plain_site p c.args.node i q (statement Skip) here tt (λ l e. cc) (c.args.node + 1) Nothing (refl, refl) c.normal-in-Skip.result c.saturating_add-next.result Nothing next refl has
       | inr at ↦
           let here : Stands p c.args.node i q (statement (At at.0)) = subst (λ s. Stands p c.args.node i q (statement s)) at.1 stands in
-          plain_result p c.args.node i q (statement (At at.0)) here tt (λ l e. cc) (c.args.node + 1) Nothing (refl, refl) c.normal-in-Skip.result c.saturating_add-next.result Nothing next refl has
+          plain_site p c.args.node i q (statement (At at.0)) here tt (λ l e. cc) (c.args.node + 1) Nothing (refl, refl) c.normal-in-Skip.result c.saturating_add-next.result Nothing next refl has
     ]

@@ -1,15 +1,18 @@
 use Rattle.std.proofs.Common.{◌≡◌, ℕ, ◌+◌, ◌≤◌, ◌^◌, min, arith, List, [], length, map, ap, ◌∙◌, sym, subst, refl, lit≤}
 use Rattle.std.specs.Arc.{arc_value}
+use Rattle.std.specs.Global.{Vec}
 use Rattle.std.specs.List.{All}
 use Rattle.std.proofs.lemmas.List.{length-map}
 use Rattle.std.proofs.lemmas.List.Elements.{All-same}
 use Rattle.ide_graph.specs.Edges.{EdgesWithin}
 use Rattle.ide_graph.specs.declared.graph.Graph.TheInside.{Inside}
 use Rattle.ide_graph.specs.declared.numbering.Spot.{Spot}
+use Rattle.ide_graph.specs.declared.site.Site.{Site}
 use Rattle.ide_text.specs.declared.program.Procedure.{Procedure}
 use Rattle.ide_text.specs.Program.{globals_of, procedures_of}
 use Rattle.ide_graph.specs.Named.{procedure_of_name}
 use Rattle.ide_graph.specs.Naming.{AreNew}
+use Rattle.ide_graph.specs.ProgramEdges.{AreSitesOf}
 use Rattle.ide_graph.specs.Steps.{AreStepsOf}
 use Rattle.ide_graph.specs.Numbering.{IsNumberingOf}
 use Rattle.ide_graph.specs.Numbers.{nodes_of, procedure_of, facts_of}
@@ -35,20 +38,22 @@ invariant_of-result c =
     let procedure : Spot → ℕ = λ spot. spot.procedure in
     let numbered = c.in_ok-numbering.ensures.numbered in
     let facts = min (length c.in_ok-globals.globals.names + 2 + c.most_own_of-most_own.result) 65536 in
-    let sites : length c.in_ok-sites.sites.items ≡ length c.in_ok-numbering.numbering.spots.items =
-    c.in_ok-sites.ensures.whole ∙ ap (λ n. length n.now.spots.items) c.new.ensures.same in
+    let made : (arc_value c.in_ok-sites-2.sites).items ≡ c.in_ok-sites.sites.items = ap (λ (sites : Vec Site). sites.items) c.in_ok-sites-2.ensures.ok in
+    let sites : length (arc_value c.in_ok-sites-2.sites).items ≡ length c.in_ok-numbering.numbering.spots.items =
+    ap length made ∙ (c.in_ok-sites.ensures.whole ∙ ap (λ n. length n.now.spots.items) c.new.ensures.same) in
     let owners : c.in_ok-owners.owners.items ≡ map procedure c.in_ok-numbering.numbering.spots.items =
     c.in_ok-owners.ensures ∙ ap (map procedure) c.deref-2.ensures.value in
     record {
       few = rw sites numbered.few;
-      edges = subst (λ n. All (λ site. EdgesWithin n (arc_value site)) c.in_ok-sites.sites.items) (sym c.in_ok-sites.ensures.whole) c.in_ok-sites.ensures.within;
+      edges = subst (λ sites. All (EdgesWithin (length sites)) sites) (sym made)
+          (subst (λ n. All (EdgesWithin n) c.in_ok-sites.sites.items) (sym c.in_ok-sites.ensures.whole) c.in_ok-sites.ensures.within);
       owners = ap length owners ∙ (length-map _ procedure ∙ sym sites);
       owned = All-owners _ _ _ owners numbered.owned;
       placed = rw sites numbered.placed;
       named = c.in_ok-directory.ensures.counted ∙ sym c.in_ok-numbering.ensures.whole;
       own = All-same (λ layout. length layout.own ≤ c.most_own_of-most_own.result) _ _ (sym c.deref.ensures.value) c.most_own_of-most_own.ensures.most;
-      stepped = subst (λ sites. AreStepsOf facts (map arc_value sites) c.in_ok-steps.steps.items) c.deref-3.ensures.value
-          (subst (λ n. AreStepsOf n (map arc_value c.deref-3.result.now) c.in_ok-steps.steps.items) c.fact_count-facts.ensures c.in_ok-steps.ensures);
+      stepped = subst (λ sites. AreStepsOf facts sites c.in_ok-steps.steps.items) (c.deref-3.ensures.value ∙ sym made)
+          (subst (λ n. AreStepsOf n c.deref-3.result.now c.in_ok-steps.steps.items) c.fact_count-facts.ensures c.in_ok-steps.ensures);
     }
 
 pub returns-clause-numbered : goal.returns-clause-numbered
@@ -65,7 +70,7 @@ returns-clause-numbered c =
       globals = c.in_ok-globals.globals;
       directory = c.in_ok-directory.directory;
       layouts = numbering.layouts;
-      sites = c.in_ok-sites.sites;
+      sites = c.in_ok-sites-2.sites;
       owners = c.in_ok-owners.owners;
       most_own = c.most_own_of-most_own.result;
       steps = c.in_ok-steps.steps;
@@ -76,7 +81,7 @@ returns-clause-numbered c =
     (subst (λ (gs : List (List ℕ)). AreNew [] gs → c.in_ok-globals.globals.names ≡ gs) globals c.in_ok-globals.ensures.named)
     (subst (λ (ps : List Procedure). (name : List ℕ) → procedure_of_name c.in_ok-directory.directory.procedures name ≡ procedure_of ps name) procedures c.in_ok-directory.ensures.named)
     owners
-    (c.in_ok-sites.ensures.whole ∙ ap (λ n. length n.now.spots.items) c.new.ensures.same)
+    (ap (λ (sites : Vec Site). length sites.items) c.in_ok-sites-2.ensures.ok ∙ (c.in_ok-sites.ensures.whole ∙ ap (λ n. length n.now.spots.items) c.new.ensures.same))
     (All-same (λ layout. length layout.own ≤ c.most_own_of-most_own.result) _ _ (sym layouts) c.most_own_of-most_own.ensures.most)
     (λ bound all. c.most_own_of-most_own.ensures.least bound (All-same (λ layout. length layout.own ≤ bound) _ _ layouts all))
 
@@ -102,4 +107,4 @@ returns-clause-edges c =
     (λ new. ap (λ g. g.now.names) c.new.ensures.globals ∙ globals new)
     (λ name. ap (λ d. procedure_of_name d.now.procedures name) c.new.ensures.directory ∙ directory name)
     (omega (arith, c.new.ensures.facts, count, few_facts p)) in
-    c.in_ok-sites.ensures.exact p builder
+    subst (λ (sites : Vec Site). AreSitesOf p sites.items) (sym c.in_ok-sites-2.ensures.ok) (c.in_ok-sites.ensures.exact p builder)

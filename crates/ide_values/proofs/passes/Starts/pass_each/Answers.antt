@@ -6,7 +6,7 @@ use Rattle.ide_image.specs.Cells.{shown_in}
 use Rattle.ide_image.specs.Tables.{found}
 use Rattle.ide_wire.specs.declared.key.Key.{Key}
 use Rattle.ide_values.specs.Pass.{IsSteadyBy, by_entry, stays}
-use Rattle.ide_values.specs.declared.starts.CallJump.{CallJump}
+use Rattle.ide_values.specs.declared.call_jumps.CallJump.{CallJump}
 use Rattle.ide_values.proofs.Coming.{goes_trans}
 use Rattle.ide_values.proofs.Falling.{falls_not, falls_then}
 use Rattle.ide_values.proofs.Nowhere.{each_steady}
@@ -24,7 +24,7 @@ pub loop-jump-preserved : goal.loop-jump-preserved
 loop-jump-preserved g c =
     let jumps = c.args.jumps.now in
     let at = c.loop-jump.jump-index in
-    let none : CallJump = record { from = 0; cell = 0 } in
+    let none : CallJump = record { cell = 0; before = 0 } in
     let cell = (slice_index_or jumps at none).cell in
     let there = c.requires.shown at none c.loop-jump-test.true in
     let passes = c.in_ok-pass_cell.ensures.passes there.0 there.1 in

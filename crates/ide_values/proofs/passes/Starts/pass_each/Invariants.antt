@@ -5,7 +5,7 @@ use Rattle.ide_wire.specs.declared.key.Key.{Key}
 use Rattle.ide_values.specs.Falling.{StartsFall}
 use Rattle.ide_values.specs.Pass.{IsSteadyBy}
 use Rattle.ide_values.specs.Settled.{ComesTo}
-use Rattle.ide_values.specs.declared.starts.CallJump.{CallJump}
+use Rattle.ide_values.specs.declared.call_jumps.CallJump.{CallJump}
 use Rattle.ide_values.proofs.passes.Starts.pass_each.Given as goal
 
 -- where no fall is marked, the first jumps are steady

@@ -7,3 +7,7 @@ invariant-loop-jump g l = record {
   comes : ComesTo g.P.L.Lattice.algebra g.P.F.EdgeFn.edge g.P.Problem.targets l.graph l.tables.table l.initial.self.values.items l.self.values.items;
   falls : StartsFall g.P.L.Lattice.algebra l.initial.self l.self;
 }
+
+-- each link leads to a jump before
+abbrev pub decreases-loop-jump : goal.decreases-loop-jump
+decreases-loop-jump g l = l.index

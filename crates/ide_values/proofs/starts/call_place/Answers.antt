@@ -1,7 +1,7 @@
 use Rattle.std.proofs.Common.{rules, ◌≡◌, None, Some, sym, ◌∙◌}
 use Rattle.ide_values.proofs.Nowhere.{no-call-at, steady-none}
 use Rattle.ide_values.proofs.Shown.{nothing_shown, something_shown}
-use Rattle.ide_values.proofs.starts.jump_at.Goals as goal
+use Rattle.ide_values.proofs.starts.call_place.Goals as goal
 
 pub returns-in_err-function_in-clause-nothing : goal.returns-in_err-function_in-clause-nothing
 returns-in_err-function_in-clause-nothing g c =

@@ -1,0 +1,62 @@
+//! The jump functions at call nodes, each with a link to another one that starts from the same place.
+ghost use Rattle.std.specs.Prelude.{◌≡◌, ◌<◌, [], IfOk, IfSome, OnOk};
+ghost use Rattle.ide_values.specs.Jumps.{AddsJump};
+
+use std::alloc::{AllocError, Global};
+
+/// A jump function at a call node.
+#[derive(Clone, Copy, Drop)]
+pub(crate) struct CallJump {
+    /// Its cell in the tables.
+    pub(crate) cell: usize,
+    /// One more than the index of the last jump listed before it that starts from the same place: 0 for none.
+    pub(crate) before: usize,
+}
+
+/// Jump functions at call nodes, in the order in which they were added. Those from one place are found one behind the
+/// other by links, with no sort of all.
+#[derive(Drop)]
+pub(crate) struct CallJumps {
+    pub(crate) list: Vec<CallJump>,
+    /// For each place one more than the index of the last jump that starts there: 0 for none.
+    lasts: Vec<usize>,
+}
+
+impl CallJumps {
+    /// No jump, at so many places.
+    pub(crate) fn new(alloc: Global, places: usize) -> Result<CallJumps, AllocError>
+        ensures { IfOk result (λ jumps. jumps.list.items ≡ []) }
+    {
+        Ok(CallJumps {
+            list: Vec::new(alloc),
+            lasts: vec![in alloc; 0; places]?,
+        })
+    }
+
+    /// Adds the jump in a cell, which starts from a place.
+    pub(crate) fn add(&mut self, place: usize, cell: usize) -> Result<(), AllocError>
+        ensures added { OnOk result (AddsJump cell self.old.list.items self.new.list.items) }
+    {
+        let before = self.last_from(place);
+        self.list.push(CallJump { cell, before })?;
+        if let Some(last) = self.lasts.get_mut(place) {
+            *last = self.list.len();
+        }
+        Ok(())
+    }
+
+    /// One more than the index of the last jump that starts from a place: 0 for none.
+    pub(crate) fn last_from(&self, place: usize) -> usize {
+        match self.lasts.get(place) {
+            Some(last) => *last,
+            None => 0,
+        }
+    }
+
+    /// The jump at one less than this index, if there is one.
+    pub(crate) fn at(&self, index: usize) -> Option<CallJump>
+        ensures { IfSome result (λ _. 0 < index) }
+    {
+        self.list.get(index.checked_sub(1)?).copied()
+    }
+}
