@@ -4,13 +4,13 @@ ghost use Rattle.ide_values.specs.Jumps.{AddsJump};
 
 use std::alloc::{AllocError, Global};
 
-/// A jump function at a call node.
+/// A jump function at a call node, in eight bytes: there may be as many as all else that is held beside the tables takes.
 #[derive(Clone, Copy, Drop)]
 pub(crate) struct CallJump {
     /// Its cell in the tables.
-    pub(crate) cell: usize,
+    pub(crate) cell: u32,
     /// One more than the index of the last jump listed before it that starts from the same place: 0 for none.
-    pub(crate) before: usize,
+    pub(crate) before: u32,
 }
 
 /// Jump functions at call nodes, in the order in which they were added. Those from one place are found one behind the
@@ -19,7 +19,7 @@ pub(crate) struct CallJump {
 pub(crate) struct CallJumps {
     pub(crate) list: Vec<CallJump>,
     /// For each place one more than the index of the last jump that starts there: 0 for none.
-    lasts: Vec<usize>,
+    lasts: Vec<u32>,
 }
 
 impl CallJumps {
@@ -33,20 +33,31 @@ impl CallJumps {
         })
     }
 
-    /// Adds the jump in a cell, which starts from a place.
+    /// Adds the jump in a cell, which starts from a place. It is refused where the cell's index has more than 32 bits.
     pub(crate) fn add(&mut self, place: usize, cell: usize) -> Result<(), AllocError>
         ensures added { OnOk result (AddsJump cell self.old.list.items self.new.list.items) }
     {
+        let Ok(cell) = u32::try_from(cell) else {
+            return Err(AllocError);
+        };
         let before = self.last_from(place);
         self.list.push(CallJump { cell, before })?;
-        if let Some(last) = self.lasts.get_mut(place) {
-            *last = self.list.len();
-        }
+        self.set_last(place);
         Ok(())
     }
 
+    /// Notes that the last jump starts from a place. A link leads to no index that has more than 32 bits.
+    fn set_last(&mut self, place: usize)
+        ensures { self.new.list ≡ self.old.list }
+    {
+        let index = u32::try_from(self.list.len()).unwrap_or(0);
+        if let Some(last) = self.lasts.get_mut(place) {
+            *last = index;
+        }
+    }
+
     /// One more than the index of the last jump that starts from a place: 0 for none.
-    pub(crate) fn last_from(&self, place: usize) -> usize {
+    pub(crate) fn last_from(&self, place: usize) -> u32 {
         match self.lasts.get(place) {
             Some(last) => *last,
             None => 0,
@@ -54,9 +65,9 @@ impl CallJumps {
     }
 
     /// The jump at one less than this index, if there is one.
-    pub(crate) fn at(&self, index: usize) -> Option<CallJump>
+    pub(crate) fn at(&self, index: u32) -> Option<CallJump>
         ensures { IfSome result (λ _. 0 < index) }
     {
-        self.list.get(index.checked_sub(1)?).copied()
+        self.list.get(index.checked_sub(1)? as usize).copied()
     }
 }

@@ -91,7 +91,7 @@ impl<P: Problem> Starts<P> {
     {
         let mut index = jumps.last_from(place);
         while let Some(jump) = jumps.at(index) {
-            self.pass_cell(graph, tables, jump.cell, targets)?;
+            self.pass_cell(graph, tables, jump.cell as usize, targets)?;
             // A link leads to one that was added before.
             index = jump.before.min(index - 1);
         }
@@ -132,7 +132,7 @@ impl<P: Problem> Starts<P> {
         ensures falls { OnOk result (StartsFall P.L.algebra self.old self.new) }
     {
         for jump in jumps {
-            self.pass_cell(graph, tables, jump.cell, targets)?;
+            self.pass_cell(graph, tables, jump.cell as usize, targets)?;
         }
         Ok(())
     }
