@@ -70,9 +70,9 @@ module _ {F L : Type 0} (A : LatticeAlgebra L) (B : EdgeAlgebra F L) (targets : 
   none_listed = record { shown = λ i d less. absurd (omega (arith, less)); all = λ i less. absurd (omega (arith, less)) }
 
   -- one cell more is listed, or hands nothing on
-  pub listed_more : (jumps new : List CallJump) (n : ℕ) → AddsJump n jumps new → Shows tables n
+  pub listed_more : (jumps new : List CallJump) (n before : ℕ) → AddsJump n before jumps new → Shows tables n
       → AreListed A B targets graph tables n jumps → AreListed A B targets graph tables (n + 1) new
-  listed_more jumps new n adds shows are =
+  listed_more jumps new n before adds shows are =
       let shown : CallJump → Type 0 = λ jump. Shows tables jump.cell in
       record {
         shown = subst (All shown) (sym adds.listed) (All-push shown jumps adds.jump are.shown (subst (Shows tables) (sym adds.is) shows));

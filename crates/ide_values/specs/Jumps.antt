@@ -1,5 +1,5 @@
 -- The cells of tables whose entries hand values on: jump functions at call nodes.
-use Rattle.std.specs.Prelude.{◌≡◌, ℕ, ◌<◌, ◌⊎◌, ◌++◌, ◌∷◌, List, [], Some, length}
+use Rattle.std.specs.Prelude.{◌≡◌, ℕ, zero, suc, ◌<◌, ◌^◌, ◌⊎◌, ◌++◌, ◌∷◌, List, [], Option, None, Some, length, slice_get, slice_index_or, slice_set}
 use Rattle.std.specs.List.{All, Contains}
 use Rattle.ide_graph.specs.Supergraph.{Supergraph}
 use Rattle.ide_lattice.specs.Algebra.{LatticeAlgebra, EdgeAlgebra}
@@ -31,11 +31,30 @@ pub record HasJump (jumps : List CallJump) (cell : ℕ) : Type 0 where
   pub there : Contains jumps jump
   pub is : jump.cell ≡ cell
 
--- behind the jumps stands the one in a cell
-pub record AddsJump (cell : ℕ) (old new : List CallJump) : Type 0 where
+-- the jump at one less than the index, if there is one
+abbrev pub jump_below : List CallJump → ℕ → Option CallJump
+jump_below jumps zero = None
+jump_below jumps (suc index) = slice_get jumps index
+
+-- behind the jumps stands the one in a cell, with a link to the one at one less than an index
+pub record AddsJump (cell before : ℕ) (old new : List CallJump) : Type 0 where
   pub jump : CallJump
   pub is : jump.cell ≡ cell
+  pub link : jump.before ≡ before
   pub listed : new ≡ old ++ jump ∷ []
+
+-- one more than the index of the last jump from a place: 0 for none
+abbrev pub last_at : CallJumps → ℕ → ℕ
+last_at jumps place = slice_index_or jumps.lasts.items place 0
+
+-- the one in a cell is added, linked to the last one from its place
+abbrev pub AddsFrom : (place cell : ℕ) → (old new : CallJumps) → Type 0
+AddsFrom place cell old new = AddsJump cell (last_at old place) old.list.items new.list.items
+
+-- the last jump of all is the last one from the place now, where its index has 32 bits
+abbrev pub LinksLast : (place : ℕ) → (lasts : List ℕ) → CallJumps → Type 0
+LinksLast place lasts jumps =
+    length jumps.list.items < 2 ^ 32 → jumps.lasts.items ≡ slice_set lasts place (length jumps.list.items)
 
 module _ {F L : Type 0} (A : LatticeAlgebra L) (B : EdgeAlgebra F L) (targets : Targets F) (graph : Supergraph) (tables : TablesData F) where
   -- the entry that the cell shows, if it shows one, hands nothing on, whatever the start values are

@@ -1,10 +1,10 @@
 //! The jump functions at call nodes, each with a link to another one that starts from the same place.
-ghost use Rattle.std.specs.Prelude.{◌≡◌, ◌<◌, [], IfOk, IfSome, OnOk};
-ghost use Rattle.ide_values.specs.Jumps.{AddsJump};
+ghost use Rattle.std.specs.Prelude.{◌≡◌, ◌<◌, [], replicate, IfOk, IfSome, OnOk};
+ghost use Rattle.ide_values.specs.Jumps.{AddsFrom, LinksLast, jump_below, last_at};
 
 use std::alloc::{AllocError, Global};
 
-/// A jump function at a call node, in eight bytes: there may be as many as all else that is held beside the tables takes.
+/// A jump function at a call node. There may be many of them, so each takes eight bytes.
 #[derive(Clone, Copy, Drop)]
 pub(crate) struct CallJump {
     /// Its cell in the tables.
@@ -25,7 +25,8 @@ pub(crate) struct CallJumps {
 impl CallJumps {
     /// No jump, at so many places.
     pub(crate) fn new(alloc: Global, places: usize) -> Result<CallJumps, AllocError>
-        ensures { IfOk result (λ jumps. jumps.list.items ≡ []) }
+        ensures list { IfOk result (λ jumps. jumps.list.items ≡ []) }
+        ensures lasts { IfOk result (λ jumps. jumps.lasts.items ≡ replicate places 0) }
     {
         Ok(CallJumps {
             list: Vec::new(alloc),
@@ -35,7 +36,8 @@ impl CallJumps {
 
     /// Adds the jump in a cell, which starts from a place. It is refused where the cell's index has more than 32 bits.
     pub(crate) fn add(&mut self, place: usize, cell: usize) -> Result<(), AllocError>
-        ensures added { OnOk result (AddsJump cell self.old.list.items self.new.list.items) }
+        ensures added { OnOk result (AddsFrom place cell self.old self.new) }
+        ensures last { OnOk result (LinksLast place self.old.lasts.items self.new) }
     {
         let Ok(cell) = u32::try_from(cell) else {
             return Err(AllocError);
@@ -48,7 +50,8 @@ impl CallJumps {
 
     /// Notes that the last jump starts from a place. A link leads to no index that has more than 32 bits.
     fn set_last(&mut self, place: usize)
-        ensures { self.new.list ≡ self.old.list }
+        ensures list { self.new.list ≡ self.old.list }
+        ensures last { LinksLast place self.old.lasts.items self.new }
     {
         let index = u32::try_from(self.list.len()).unwrap_or(0);
         if let Some(last) = self.lasts.get_mut(place) {
@@ -57,7 +60,9 @@ impl CallJumps {
     }
 
     /// One more than the index of the last jump that starts from a place: 0 for none.
-    pub(crate) fn last_from(&self, place: usize) -> u32 {
+    pub(crate) fn last_from(&self, place: usize) -> u32
+        ensures { result ≡ last_at self.now place }
+    {
         match self.lasts.get(place) {
             Some(last) => *last,
             None => 0,
@@ -66,7 +71,8 @@ impl CallJumps {
 
     /// The jump at one less than this index, if there is one.
     pub(crate) fn at(&self, index: u32) -> Option<CallJump>
-        ensures { IfSome result (λ _. 0 < index) }
+        ensures jump { result ≡ jump_below self.now.list.items index }
+        ensures some { IfSome result (λ _. 0 < index) }
     {
         self.list.get(index.checked_sub(1)? as usize).copied()
     }

@@ -5,7 +5,7 @@ use Rattle.ide_values.proofs.starts.jumps_at_calls.Goals as goal
 
 pub loop-page-init : goal.loop-page-init
 loop-page-init g c =
-    subst (AreListed g.P.L.Lattice.algebra g.P.F.EdgeFn.edge g.P.Problem.targets c.args.graph.now c.args.tables.now 0) (sym c.in_ok-jumps.ensures)
+    subst (AreListed g.P.L.Lattice.algebra g.P.F.EdgeFn.edge g.P.Problem.targets c.args.graph.now c.args.tables.now 0) (sym c.in_ok-jumps.ensures.list)
     (none_listed g.P.L.Lattice.algebra g.P.F.EdgeFn.edge g.P.Problem.targets c.args.graph.now c.args.tables.now)
 
 pub loop-page-preserved : goal.loop-page-preserved

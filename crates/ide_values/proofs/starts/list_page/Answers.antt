@@ -1,7 +1,7 @@
 use Rattle.std.proofs.Common.{◌≡◌, ◌+◌, ◌*◌, ◌%◌, None, ap, arith, rules, subst, sym, ◌∙◌}
 use Rattle.ide_wire.specs.Key.{node_of}
 use Rattle.ide_values.specs.declared.call_jumps.CallJumps.{CallJumps}
-use Rattle.ide_values.specs.Jumps.{AddsJump, AreListed}
+use Rattle.ide_values.specs.Jumps.{AddsJump, AreListed, last_at}
 use Rattle.ide_values.proofs.Nowhere.{listed_more, listed_none, listed_over, listed_page}
 use Rattle.ide_values.proofs.starts.list_page.Goals as goal
 use Rattle.ide_values.proofs.starts.list_page.Goals.{in-Some-call_place+in_ok-add, in_default-call_place}
@@ -48,8 +48,9 @@ loop-offset-preserved g c =
     subst (λ n. AreListed A B targets graph tables n c.match-call_place.jumps.list.items) next
     (elim c.match-call_place.branch [
       | in-Some-call_place+in_ok-add w ↦
-          listed_more A B targets graph tables jumps c.match-call_place.jumps.list.items cell
-          (subst (AddsJump cell jumps) (ap (λ (js : CallJumps). js.list.items) (sym w.jumps-is)) w.in_ok-add.ensures.added) w.in-Some-call_place.ensures.shown c.loop-offset.invariant.listed
+          let before = last_at c.loop-offset.jumps w.in-Some-call_place.place in
+          listed_more A B targets graph tables jumps c.match-call_place.jumps.list.items cell before
+          (subst (AddsJump cell before jumps) (ap (λ (js : CallJumps). js.list.items) (sym w.jumps-is)) w.in_ok-add.ensures.added) w.in-Some-call_place.ensures.shown c.loop-offset.invariant.listed
       | in_default-call_place w ↦
           let none : c.call_place.result ≡ None = search rules in
           subst (AreListed A B targets graph tables (cell + 1)) (sym (ap (λ (js : CallJumps). js.list.items) w.jumps-is))
