@@ -1,5 +1,6 @@
 pub mod Agree
 pub mod Before
+pub mod Codes
 pub mod Columns
 pub mod Falls
 pub mod Firsts

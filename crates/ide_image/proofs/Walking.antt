@@ -10,11 +10,12 @@ use Rattle.ide_wire.specs.Key.{same_key}
 use Rattle.ide_image.specs.declared.claim.Claim.{Claim}
 use Rattle.ide_image.specs.declared.entry.Entry.{Entry}
 use Rattle.ide_image.specs.ChangeLog.{ChangeLog, KeepsSlotsAt, MarksNoted, noted_at}
+use Rattle.ide_image.specs.Changes.{absent_entry}
 use Rattle.ide_image.specs.Indexed.{Indexed, place_of_key}
 use Rattle.ide_image.specs.KeyedImage.{AreParts}
 use Rattle.ide_image.specs.Notes.{noted, with_note}
 use Rattle.ide_image.specs.Queue.{SlotMarks}
-use Rattle.ide_image.specs.Walk.{AreListedFrom, AreNotesIn, StandBehind, StandFrom, absent_entry, jump_behind, with_entered}
+use Rattle.ide_image.specs.Walk.{AreListedFrom, AreNotesIn, StandBehind, StandFrom, jump_behind, with_entered}
 use Rattle.ide_image.proofs.Agree.{at-index, note-silent, noted-with, once-with}
 use Rattle.ide_image.proofs.Marked.{at-set, covers-set}
 

@@ -3,6 +3,7 @@ use Rattle.std.specs.Prelude.{◌≡◌, ℕ, ◌+◌, ◌-◌, ◌<◌, ◌≤�
 use Rattle.std.specs.Global.{Vec}
 use Rattle.std.specs.Option.{is_some}
 use Rattle.ide_wire.specs.declared.key.Key.{Key}
+use Rattle.ide_image.specs.Changes.{Changes}
 use Rattle.ide_image.specs.Queue.{SetsMark}
 use Rattle.ide_image.specs.declared.entry.Entry.{Entry}
 use Rattle.ide_image.specs.declared.noted_marks.NotedMarks.{NotedMarks}
@@ -17,12 +18,12 @@ pub record ChangeLog (F : Type 0) : Type 0 where
   pub room : ℕ
 
 -- how many notes more there is room for, each with its slot
-abbrev pub note_room : {X Y : Type 0} → Option (Vec X) → Vec Y → ℕ
+abbrev pub note_room : {F Y : Type 0} → Option (Changes F) → Vec Y → ℕ
 note_room None slots = 0
-note_room (Some list) slots = min (vec_capacity list - vec_len list) (vec_capacity slots - vec_len slots)
+note_room (Some list) slots = min list.room (vec_capacity slots - vec_len slots)
 
 -- the list, if there is one
-abbrev pub list_of : {X : Type 0} → Option (Vec X) → Option (List X)
+abbrev pub list_of : {F : Type 0} → Option (Changes F) → Option (List (Key × Entry F))
 list_of None = None
 list_of (Some list) = Some list.items
 

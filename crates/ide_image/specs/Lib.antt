@@ -1,5 +1,6 @@
 pub mod Cells
 pub mod ChangeLog
+pub mod Changes
 pub mod Functions
 pub mod Grid
 pub mod Indexed

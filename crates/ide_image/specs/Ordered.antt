@@ -33,7 +33,7 @@ module _ {F L : Type 0} {E : EdgeFn F L} {W : Wire F} {Q : PartialEq F} {D : Def
 
   -- the page of each note's slot has a row
   abbrev pub HasPagesOf : NotedSlots F L E W Q D A P → List ℕ → Type 0
-  HasPagesOf left pages = HavePages left.slots.now (length left.notes.now) pages
+  HasPagesOf left pages = HavePages left.slots.now (length left.notes.now.items) pages
 
   -- the slot has an item of the key with which it is listed
   abbrev pub IsKeyedIn : NotedSlots F L E W Q D A P → Key × ℕ → Type 0
@@ -47,15 +47,15 @@ module _ {F L : Type 0} {E : EdgeFn F L} {W : Wire F} {Q : PartialEq F} {D : Def
   module _ (same : F → F → Bool) (left : NotedSlots F L E W Q D A P) where
     -- what is left, in the order of the notes
     abbrev pub items_left : List (Key × F × Bool)
-    items_left = left_by_slots same left.indexed.now left.queue.now left.notes.now
+    items_left = left_by_slots same left.indexed.now left.queue.now left.notes.now.items
 
     -- it is what is left of the note at the index
     abbrev pub IsLeftOf : ℕ → Option (Key × F × Bool) → Type 0
-    IsLeftOf index item = IsLeftAt same left.indexed.now left.queue.now left.notes.now index item
+    IsLeftOf index item = IsLeftAt same left.indexed.now left.queue.now left.notes.now.items index item
 
     -- it says whether something is left of the note at the index
     abbrev pub SaysIfLeft : ℕ → Bool → Type 0
-    SaysIfLeft index is = SaysIfLeftAt same left.indexed.now left.queue.now left.notes.now index is
+    SaysIfLeft index is = SaysIfLeftAt same left.indexed.now left.queue.now left.notes.now.items index is
 
     -- each slot has an item, and these are what is left, in some order
     abbrev pub AreLeft : Vec ℕ → Type 0
@@ -67,7 +67,7 @@ module _ {F L : Type 0} {E : EdgeFn F L} {W : Wire F} {Q : PartialEq F} {D : Def
 
     -- something is left of each note
     abbrev pub AreAllLeft : Type 0
-    AreAllLeft = (index : ℕ) → index < length left.notes.now → SaysIfLeft index true
+    AreAllLeft = (index : ℕ) → index < length left.notes.now.items → SaysIfLeft index true
 
     -- the numbers tell what is left
     abbrev pub AreNumbersOf : Vec ℕ → Type 0

@@ -5,6 +5,7 @@ use Rattle.std.specs.List.Sorted.{IsPermutation}
 use Rattle.std.specs.Map.{keys_of}
 use Rattle.std.specs.Option.{is_some}
 use Rattle.ide_image.specs.ChangeLog.{AreSlotsOf, ChangeLog, noted_at}
+use Rattle.ide_image.specs.Changes.{absent_entry}
 use Rattle.ide_image.specs.Indexed.{Indexed, place_of_key}
 use Rattle.ide_image.specs.KeyedImage.{Covers, IsListed, KeyedImageData, entry_by, entry_now}
 use Rattle.ide_image.specs.Notes.{noted, with_note}
@@ -51,10 +52,6 @@ abbrev pub StandBehind : {F : Type 0} → ℕ → (ℕ → Key) → ℕ → Inde
 StandBehind cell at count indexed = (n : ℕ) → n ≤ count → (cell + n) + 1 ≡ place_of_key indexed (at n)
 
 module _ {F : Type 0} where
-  -- the entry of an absent key
-  abbrev pub absent_entry : Entry F
-  absent_entry = record { function = None; pending = false }
-
   -- the first so many of the keys behind the one at 0 are noted as absent, one after the other
   abbrev pub with_entered : Option (List (Key × Entry F)) → (ℕ → Key) → ℕ → Option (List (Key × Entry F))
   with_entered notes at zero = notes

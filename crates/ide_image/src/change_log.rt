@@ -5,6 +5,7 @@ ghost use Rattle.ide_image.specs.ChangeLog.{AreStamps, KeepsSlotsAt, MarksNoted,
 ghost use Rattle.ide_image.specs.Notes.{noted, with_note};
 ghost use Rattle.ide_image.specs.Queue.{SameMarks};
 
+use crate::changes::Changes;
 use crate::entry::Entry;
 use crate::noted_marks::NotedMarks;
 use ide_wire::Key;
@@ -16,7 +17,7 @@ use std::mem;
 /// nobody asked.
 #[derive(Drop)]
 pub(crate) struct ChangeLog<F: Drop> {
-    list: Option<Vec<(Key, Entry<F>)>>,
+    list: Option<Changes<F>>,
     /// The slot of each note's key.
     slots: Vec<u32>,
     /// For each slot the number of the list that its key was last noted in: 0 for none. One byte, so that those of a
@@ -60,13 +61,10 @@ impl<F: Copy + Drop> ChangeLog<F> {
     }
 
     /// The notes, in the order of the first changes, if changes are noted.
-    pub(crate) fn notes(&self) -> Option<&[(Key, Entry<F>)]>
-        ensures { option_copied result ≡ self.now.list }
+    pub(crate) fn notes(&self) -> Option<&Changes<F>>
+        ensures { list_of (option_copied result) ≡ self.now.list }
     {
-        match &self.list {
-            Some(list) => Some(list.as_slice()),
-            None => None,
-        }
+        self.list.as_ref()
     }
 
     /// The slot of each note's key, in the order of the notes.
@@ -133,7 +131,7 @@ impl<F: Copy + Drop> ChangeLog<F> {
         let is_noted = self.is_noted(slot);
         if let Some(list) = &mut self.list {
             if !is_noted {
-                list.push_reserved((key, before));
+                list.push(key, before);
                 self.slots.push_reserved(slot as u32);
                 self.stamps[slot] = self.epoch;
             }
@@ -141,7 +139,7 @@ impl<F: Copy + Drop> ChangeLog<F> {
     }
 
     /// Hands the notes out, if changes were noted. From now on they are, and no key is noted yet.
-    pub(crate) fn take(&mut self, alloc: Global) -> Option<Vec<(Key, Entry<F>)>>
+    pub(crate) fn take(&mut self, alloc: Global) -> Option<Changes<F>>
         ensures taken { list_of result ≡ self.old.list }
         ensures list { self.new.list ≡ Some [] }
         ensures slots { self.new.slots ≡ [] }
@@ -149,7 +147,7 @@ impl<F: Copy + Drop> ChangeLog<F> {
     {
         self.slots.clear();
         begin_list(&mut self.stamps, &mut self.epoch);
-        mem::replace(&mut self.list, Some(Vec::new(alloc)))
+        mem::replace(&mut self.list, Some(Changes::new(alloc)))
     }
 
     /// Forgets what is noted. From now on changes are, and no key is noted yet. The room for notes stays.
@@ -160,7 +158,7 @@ impl<F: Copy + Drop> ChangeLog<F> {
     {
         self.clear();
         if self.list.is_none() {
-            self.list = Some(Vec::new(alloc));
+            self.list = Some(Changes::new(alloc));
         }
     }
 

@@ -25,8 +25,8 @@ use std::marker::Model;
 const MOST_PAGES: usize = 67_108_863;
 
 /// A finite map from keys to functions. A key has a cell on its page, which stays where it is; in it stands one more than
-/// the index of the key's function, or 0. A cell has two bytes, and four from when more functions are kept than two tell
-/// apart.
+/// the index of the key's function, or 0. A cell has one byte, and two or four from when more functions are kept than it
+/// tells apart.
 #[derive(Drop)]
 pub(crate) struct Indexed<F: EdgeFn> {
     places: Pages,
@@ -314,8 +314,8 @@ impl<F: EdgeFn> Indexed<F> {
         Ok(())
     }
 
-    /// Makes room for so many more functions, and for their numbers in cells: once they may be too many for two bytes, all
-    /// cells are copied.
+    /// Makes room for so many more functions, and for their numbers in cells: once they may be too many for the bytes that a
+    /// cell has, all cells are copied.
     #[inline(always)]
     pub(crate) fn reserve(&mut self, additional: usize) -> Result<(), Refused>
         ensures cells { self.new.cells ≡ self.old.cells }
@@ -324,8 +324,9 @@ impl<F: EdgeFn> Indexed<F> {
         ensures refused { IsOkUnless result NoMemory }
     {
         self.functions.reserve(additional)?;
-        if self.functions.len() + additional > self.places.most() {
-            self.places.widen()?;
+        let most = self.functions.len() + additional;
+        if most > self.places.most() {
+            self.places.widen(most as u32)?;
         }
         // The pages have their cells as before.
         let _ = self.places.cell_count();

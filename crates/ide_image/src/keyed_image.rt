@@ -21,8 +21,8 @@ ghost use Rattle.ide_image.specs.Walk.{AreAbsent, AreSettled, EntersWalked, Goes
 use crate::change::Change;
 use crate::change_log::ChangeLog;
 use crate::changed_items::ChangedItems;
+use crate::changes::Changes;
 use crate::claim::Claim;
-use crate::entry::Entry;
 use crate::indexed::Indexed;
 use crate::noted_slots::NotedSlots;
 use crate::queue::Queue;
@@ -553,7 +553,7 @@ impl<F: EdgeFn, T: Drop> KeyedImage<F, T> {
     /// Hands out, for each key that changed since this was last called, the entry that the key had then,
     /// in the order of the first changes: none the first time. From now on changes are noted. It takes
     /// constant time, and no memory.
-    pub fn take_changes(&mut self, alloc: Global) -> Vec<(Key, Entry<F>)>
+    pub fn take_changes(&mut self, alloc: Global) -> Changes<F>
         ensures once { IsDistinct same_key (keys_of result.items) }
         ensures list { result.items ≡ unwrap_or self.old.changes [] }
         ensures changes { self.new.changes ≡ Some [] }
@@ -562,7 +562,7 @@ impl<F: EdgeFn, T: Drop> KeyedImage<F, T> {
     {
         match self.changes.take(alloc) {
             Some(notes) => notes,
-            None => Vec::new(alloc),
+            None => Changes::new(alloc),
         }
     }
 

@@ -12,6 +12,7 @@
 mod change;
 mod change_log;
 mod changed_items;
+mod changes;
 mod claim;
 mod claims;
 mod entry;
@@ -29,6 +30,7 @@ mod tables;
 
 pub use change::Change;
 pub use changed_items::ChangedItems;
+pub use changes::Changes;
 pub use claim::Claim;
 pub use entry::Entry;
 pub use keyed_image::KeyedImage;

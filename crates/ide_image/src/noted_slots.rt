@@ -6,12 +6,11 @@ ghost use Rattle.ide_image.specs.ChangeLog.{is_noted_in};
 ghost use Rattle.ide_image.specs.Indexed.{place_of_key};
 ghost use Rattle.ide_image.specs.Ranks.{AreAmong, AreSlots};
 
-use crate::entry::Entry;
+use crate::changes::Changes;
 use crate::indexed::Indexed;
 use crate::noted_marks::NotedMarks;
 use crate::queue::Queue;
 use ide_lattice::EdgeFn;
-use ide_wire::Key;
 
 /// Notes, each with the slot of its key, the marks of slots whose keys are noted, and what has the entries of these keys
 /// as they stand.
@@ -19,9 +18,9 @@ use ide_wire::Key;
 pub(crate) struct NotedSlots<'a, F: EdgeFn> {
     pub(crate) indexed: &'a Indexed<F>,
     pub(crate) queue: &'a Queue,
-    pub(crate) notes: &'a [(Key, Entry<F>)],
+    pub(crate) notes: &'a Changes<F>,
     pub(crate) slots: &'a [u32],
     pub(crate) marks: NotedMarks<'a>,
-    ghost stand: { AreSlots (place_of_key indexed.now) notes.now slots.now },
+    ghost stand: { AreSlots (place_of_key indexed.now) notes.now.items slots.now },
     ghost marked: { AreAmong (is_noted_in marks) slots.now },
 }

@@ -200,7 +200,7 @@ impl<'a, F: EdgeFn> NotedSlots<'a, F> {
         ensures left { IsLeftOf F.eq self.now index result }
         ensures item { IfSome result (IsItemAt self.now index) }
     {
-        let (key, before) = *self.notes.get(index)?;
+        let (key, before) = self.notes.get(index)?;
         let slot = *self.slots.get(index)?;
         parts::left_at(self.indexed, self.queue, slot, key, before)
     }

@@ -1,6 +1,7 @@
 -- The numbers of cells, and how great they may be.
-use Rattle.std.specs.Prelude.{◌-◌, ℕ, Bool, true, false, List, vec_capacity, vec_len}
+use Rattle.std.specs.Prelude.{◌-◌, ℕ, List, vec_capacity, vec_len}
 use Rattle.std.specs.Global.{Vec}
+use Rattle.ide_pages.specs.declared.cell_numbers.Width.{Width}
 
 -- the number of each cell, the greatest one that a cell has room for, and for how many cells more there is room
 pub record CellNumbersData : Type 0 where
@@ -8,7 +9,8 @@ pub record CellNumbersData : Type 0 where
   pub most : ℕ
   pub room : ℕ
 
--- the wide numbers, if they are wide, or else the narrow ones
-abbrev pub cell_numbers : (is_wide : Bool) → (narrow wide : Vec ℕ) → CellNumbersData
-cell_numbers true narrow wide = record { items = wide.items; most = 4294967295; room = vec_capacity wide - vec_len wide }
-cell_numbers false narrow wide = record { items = narrow.items; most = 65535; room = vec_capacity narrow - vec_len narrow }
+-- the numbers of that width
+abbrev pub cell_numbers : Width → (bytes narrow wide : Vec ℕ) → CellNumbersData
+cell_numbers Width.One bytes narrow wide = record { items = bytes.items; most = 255; room = vec_capacity bytes - vec_len bytes }
+cell_numbers Width.Two bytes narrow wide = record { items = narrow.items; most = 65535; room = vec_capacity narrow - vec_len narrow }
+cell_numbers Width.Four bytes narrow wide = record { items = wide.items; most = 4294967295; room = vec_capacity wide - vec_len wide }

@@ -1,4 +1,4 @@
-//! The numbers in the cells of pages: of two bytes each, until there has to be room for greater ones.
+//! The numbers in the cells of pages: of one byte each, until there has to be room for greater ones.
 ghost use Rattle.std.specs.Prelude.{◌≡◌, ◌≤◌, ◌<◌, ◌++◌, [], length, replicate, slice_index_or, slice_set, IfOk, OnOk, OnErr};
 ghost use Rattle.ide_pages.specs.Alike.{AreSameUpTo};
 
@@ -6,22 +6,35 @@ use std::alloc::{AllocError, Global};
 use std::marker::Model;
 use std::mem;
 
+/// The greatest number of one byte.
+const NARROWEST: usize = 255;
+
 /// The greatest number of two bytes.
-const NARROWEST: usize = 65_535;
+const MIDDLE: usize = 65_535;
 
 /// The greatest number of four bytes.
 const WIDEST: usize = 4_294_967_295;
 
-/// The number of each cell. Most runs have few functions, so that two bytes serve. Once there has to be room for a
-/// greater number, all of them are copied to four bytes each.
+/// How many bytes a number takes.
+#[derive(Clone, Copy, PartialEq, Eq)]
+pub(crate) enum Width {
+    One,
+    Two,
+    Four,
+}
+
+/// The number of each cell. Many runs have few functions, so that a byte serves, or two. Once there has to be room for a
+/// greater number, all of them are copied to two bytes each, or four.
 #[derive(Drop)]
 pub(crate) struct CellNumbers {
     alloc: Global,
-    /// The numbers, while two bytes serve.
+    width: Width,
+    /// The numbers, while one byte serves.
+    bytes: Vec<u8>,
+    /// The numbers, while two do.
     narrow: Vec<u16>,
     /// The numbers, from then on.
     wide: Vec<u32>,
-    is_wide: bool,
 }
 
 impl Model for CellNumbers {
@@ -29,19 +42,20 @@ impl Model for CellNumbers {
 
     ghost Value = { CellNumbersData };
 
-    ghost view = { λ c. cell_numbers c.is_wide c.narrow c.wide };
+    ghost view = { λ c. cell_numbers c.width c.bytes c.narrow c.wide };
 }
 
 impl CellNumbers {
-    /// No cell, and room for narrow numbers. It allocates nothing.
+    /// No cell, and room for numbers of one byte. It allocates nothing.
     pub(crate) fn new(alloc: Global) -> CellNumbers
         ensures { result.items ≡ [] }
     {
         CellNumbers {
             alloc,
+            width: Width::One,
+            bytes: Vec::new(alloc),
             narrow: Vec::new(alloc),
             wide: Vec::new(alloc),
-            is_wide: false,
         }
     }
 
@@ -50,10 +64,10 @@ impl CellNumbers {
     pub(crate) fn len(&self) -> usize
         ensures { result ≡ length self.now.items }
     {
-        if self.is_wide {
-            self.wide.len()
-        } else {
-            self.narrow.len()
+        match self.width {
+            Width::One => self.bytes.len(),
+            Width::Two => self.narrow.len(),
+            Width::Four => self.wide.len(),
         }
     }
 
@@ -62,7 +76,11 @@ impl CellNumbers {
     pub(crate) fn most(&self) -> usize
         ensures { result ≡ self.now.most }
     {
-        if self.is_wide { WIDEST } else { NARROWEST }
+        match self.width {
+            Width::One => NARROWEST,
+            Width::Two => MIDDLE,
+            Width::Four => WIDEST,
+        }
     }
 
     /// The number in the cell: 0 behind the last one.
@@ -70,16 +88,19 @@ impl CellNumbers {
     pub(crate) fn get(&self, cell: usize) -> u32
         ensures { result ≡ slice_index_or self.now.items cell 0 }
     {
-        if self.is_wide {
-            match self.wide.get(cell) {
-                Some(number) => *number,
-                None => 0,
-            }
-        } else {
-            match self.narrow.get(cell) {
+        match self.width {
+            Width::One => match self.bytes.get(cell) {
                 Some(number) => u32::from(*number),
                 None => 0,
-            }
+            },
+            Width::Two => match self.narrow.get(cell) {
+                Some(number) => u32::from(*number),
+                None => 0,
+            },
+            Width::Four => match self.wide.get(cell) {
+                Some(number) => *number,
+                None => 0,
+            },
         }
     }
 
@@ -94,10 +115,10 @@ impl CellNumbers {
         if last <= begin {
             return begin;
         }
-        if self.is_wide {
-            alike_in_wide(&self.wide, begin, last, number)
-        } else {
-            alike_in_narrow(&self.narrow, begin, last, number)
+        match self.width {
+            Width::One => alike_in_bytes(&self.bytes, begin, last, number),
+            Width::Two => alike_in_narrow(&self.narrow, begin, last, number),
+            Width::Four => alike_in_wide(&self.wide, begin, last, number),
         }
     }
 
@@ -110,10 +131,10 @@ impl CellNumbers {
         ensures items { self.new.items ≡ slice_set self.old.items cell number }
         ensures most { self.new.most ≡ self.old.most }
     {
-        if self.is_wide {
-            mem::replace(&mut self.wide[cell], number)
-        } else {
-            u32::from(mem::replace(&mut self.narrow[cell], number as u16))
+        match self.width {
+            Width::One => u32::from(mem::replace(&mut self.bytes[cell], number as u8)),
+            Width::Two => u32::from(mem::replace(&mut self.narrow[cell], number as u16)),
+            Width::Four => mem::replace(&mut self.wide[cell], number),
         }
     }
 
@@ -123,10 +144,10 @@ impl CellNumbers {
         ensures most { self.new.most ≡ self.old.most }
         ensures room { OnOk result (additional ≤ self.new.room) }
     {
-        if self.is_wide {
-            self.wide.reserve(additional)
-        } else {
-            self.narrow.reserve(additional)
+        match self.width {
+            Width::One => self.bytes.reserve(additional),
+            Width::Two => self.narrow.reserve(additional),
+            Width::Four => self.wide.reserve(additional),
         }
     }
 
@@ -136,26 +157,45 @@ impl CellNumbers {
         ensures items { self.new.items ≡ self.old.items ++ replicate 64 0 }
         ensures most { self.new.most ≡ self.old.most }
     {
-        if self.is_wide {
-            let _ = self.wide.extend_from_slice(&[0; 64]);
-        } else {
-            let _ = self.narrow.extend_from_slice(&[0; 64]);
-        }
+        let _ = match self.width {
+            Width::One => self.bytes.extend_from_slice(&[0; 64]),
+            Width::Two => self.narrow.extend_from_slice(&[0; 64]),
+            Width::Four => self.wide.extend_from_slice(&[0; 64]),
+        };
     }
 
-    /// Makes room in each cell for every number of four bytes. Where there was none, it copies all numbers.
-    pub(crate) fn widen(&mut self) -> Result<(), AllocError>
+    /// Makes room in each cell for numbers up to this one. Where there was none, it copies all numbers.
+    pub(crate) fn widen(&mut self, most: u32) -> Result<(), AllocError>
         ensures items { self.new.items ≡ self.old.items }
-        ensures most { OnOk result (self.new.most ≡ 4294967295) }
+        ensures most { OnOk result (most ≤ self.new.most) }
         ensures same { OnErr result (self.new ≡ self.old) }
     {
-        if self.is_wide {
+        let most = most as usize;
+        if most <= self.most() {
             return Ok(());
         }
-        self.wide = widened(self.alloc, &self.narrow)?;
-        self.narrow = Vec::new(self.alloc);
-        self.is_wide = true;
+        if most <= MIDDLE {
+            self.narrow = narrowed(self.alloc, &self.bytes)?;
+            self.bytes = Vec::new(self.alloc);
+            self.width = Width::Two;
+        } else {
+            self.wide = self.all(self.alloc)?;
+            self.bytes = Vec::new(self.alloc);
+            self.narrow = Vec::new(self.alloc);
+            self.width = Width::Four;
+        }
         Ok(())
+    }
+
+    /// All numbers, of four bytes each.
+    fn all(&self, alloc: Global) -> Result<Vec<u32>, AllocError>
+        ensures { IfOk result (λ all. all.items ≡ self.now.items) }
+    {
+        match self.width {
+            Width::One => widened_bytes(alloc, &self.bytes),
+            Width::Two => widened(alloc, &self.narrow),
+            Width::Four => self.wide.to_vec(alloc),
+        }
     }
 
     /// The same numbers, with room for the same.
@@ -165,29 +205,30 @@ impl CellNumbers {
     {
         Ok(CellNumbers {
             alloc,
+            width: self.width,
+            bytes: self.bytes.to_vec(alloc)?,
             narrow: self.narrow.to_vec(alloc)?,
             wide: self.wide.to_vec(alloc)?,
-            is_wide: self.is_wide,
         })
     }
 }
 
 /// How far the numbers from one on, up to before another, are this one: where they end.
 #[inline(always)]
-fn alike_in_wide(numbers: &[u32], begin: usize, end: usize, number: u32) -> usize
+fn alike_in_bytes(bytes: &[u8], begin: usize, end: usize, number: u32) -> usize
     requires order { begin ≤ end }
-    requires there { end ≤ length numbers.now }
-    ensures { AreSameUpTo number numbers.now begin end result }
+    requires there { end ≤ length bytes.now }
+    ensures { AreSameUpTo number bytes.now begin end result }
 {
     for cell in begin..end {
-        if numbers[cell] != number {
+        if u32::from(bytes[cell]) != number {
             return cell;
         }
     }
     end
 }
 
-/// The same of narrow ones.
+/// The same of numbers of two bytes.
 #[inline(always)]
 fn alike_in_narrow(numbers: &[u16], begin: usize, end: usize, number: u32) -> usize
     requires order { begin ≤ end }
@@ -202,6 +243,21 @@ fn alike_in_narrow(numbers: &[u16], begin: usize, end: usize, number: u32) -> us
     end
 }
 
+/// The same of numbers of four bytes.
+#[inline(always)]
+fn alike_in_wide(numbers: &[u32], begin: usize, end: usize, number: u32) -> usize
+    requires order { begin ≤ end }
+    requires there { end ≤ length numbers.now }
+    ensures { AreSameUpTo number numbers.now begin end result }
+{
+    for cell in begin..end {
+        if numbers[cell] != number {
+            return cell;
+        }
+    }
+    end
+}
+
 /// The same numbers, of four bytes each.
 fn widened(alloc: Global, narrow: &[u16]) -> Result<Vec<u32>, AllocError>
     ensures { IfOk result (λ wide. wide.items ≡ narrow.now) }
@@ -210,4 +266,18 @@ fn widened(alloc: Global, narrow: &[u16]) -> Result<Vec<u32>, AllocError>
         .iter()
         .map(|number| u32::from(*number))
         .collect(alloc)
+}
+
+/// The same of numbers of one byte.
+fn widened_bytes(alloc: Global, bytes: &[u8]) -> Result<Vec<u32>, AllocError>
+    ensures { IfOk result (λ wide. wide.items ≡ bytes.now) }
+{
+    bytes.iter().map(|number| u32::from(*number)).collect(alloc)
+}
+
+/// The same numbers, of two bytes each.
+fn narrowed(alloc: Global, bytes: &[u8]) -> Result<Vec<u16>, AllocError>
+    ensures { IfOk result (λ narrow. narrow.items ≡ bytes.now) }
+{
+    bytes.iter().map(|number| u16::from(*number)).collect(alloc)
 }

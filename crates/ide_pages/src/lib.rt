@@ -4,7 +4,7 @@
 //! one kind and one pair of facts, whose nodes stand side by side: so the numbers of a pair at the
 //! nodes of a procedure lie together, and one look-up leads to all 64. The pages of one row stand side
 //! by side: from a node and a fact it leads to all keys between them and another fact. A cell keeps its place, by
-//! which it is read and written with no look-up, and has two bytes until one has to have more.
+//! which it is read and written with no look-up, and has one byte until one has to have more.
 #![tactic(auto)]
 
 mod cell_numbers;

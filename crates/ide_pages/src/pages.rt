@@ -21,7 +21,7 @@ use std::marker::Model;
 const MOST_PAGES: usize = 4_294_967_295;
 
 /// A finite map from keys to numbers, where an absent key has 0. It has 4,294,967,295 pages at most. A cell has room for
-/// a number of two bytes at first, and of four once [`Pages::widen`] was called.
+/// a number of one byte at first, and for greater ones once [`Pages::widen`] was called.
 ///
 /// A look-up finds the row of a key's page, by a number, and a search in the row finds the page: a row has those of one
 /// kind and one block of nodes that have one fact in common, a jump's its end and a summary's its start. None is
@@ -215,7 +215,7 @@ impl Pages {
         Ok(64 * index + offset)
     }
 
-    /// The greatest number that a cell has room for: one of two bytes at first.
+    /// The greatest number that a cell has room for: one of one byte at first.
     #[inline(always)]
     pub fn most(&self) -> usize
         ensures { result ≡ self.now.most }
@@ -223,18 +223,18 @@ impl Pages {
         self.cells.most()
     }
 
-    /// Makes room in each cell for every number of four bytes. Where there was none, it copies the numbers to twice the
-    /// memory that they had, which is given back then, in time in proportion to them; or else it does nothing.
+    /// Makes room in each cell for numbers up to this one. Where there was none, it copies the numbers to two bytes each, or
+    /// four, and gives the memory that they had back then, in time in proportion to them; or else it does nothing.
     ///
     /// Refusal: `NoMemory`, which leaves the map as it was.
-    pub fn widen(&mut self) -> Result<(), Refused>
-        ensures most { OnOk result (self.new.most ≡ 4294967295) }
+    pub fn widen(&mut self, most: u32) -> Result<(), Refused>
+        ensures most { OnOk result (most ≤ self.new.most) }
         ensures slots { self.new.slots ≡ self.old.slots }
         ensures pages { self.new.pages ≡ self.old.pages }
         ensures err { OnErr result (self.new ≡ self.old) }
         ensures refused { IsOkUnless result NoMemory }
     {
-        self.cells.widen()?;
+        self.cells.widen(most)?;
         Ok(())
     }
 

@@ -19,7 +19,8 @@ use Rattle.ide_tasks.specs.declared.partners.Partners.TheVariants.{Entries}
 use Rattle.ide_image.specs.Notes.{noted, noted_count, or_entry, with_note}
 use Rattle.ide_image.specs.Spent.{fallen, spent}
 use Rattle.ide_image.specs.Tables.{Table, found, or_top}
-use Rattle.ide_image.specs.Walk.{AreAbsent, AreSettled, EntersWalked, GoesTo, absent_entry, walked_entries, jump_behind, with_entered}
+use Rattle.ide_image.specs.Changes.{absent_entry}
+use Rattle.ide_image.specs.Walk.{AreAbsent, AreSettled, EntersWalked, GoesTo, walked_entries, jump_behind, with_entered}
 use Rattle.ide_image.specs.Worklist.{IsFree, claim_at, is_pending, marked}
 use Rattle.ide_image.specs.declared.entry.Entry.{Entry}
 use Rattle.ide_image.proofs.Places.{distinct-put, place-absent, put-last}

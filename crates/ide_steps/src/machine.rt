@@ -21,7 +21,7 @@ ghost use Rattle.ide_image.specs.Worklist.{claim_at, is_pending};
 
 use crate::loaded::Loaded;
 use ide_graph::Graph;
-use ide_image::{Change, Claim, Entry, KeyedImage};
+use ide_image::{Change, Changes, Claim, KeyedImage};
 use ide_problem::Problem;
 use ide_tasks::Task;
 use ide_text::Program;
@@ -166,7 +166,7 @@ impl<P: Problem> Core<P> {
 
     /// Hands out, for each key that changed since this was last called, the entry that the key had
     /// then: none the first time. From now on changes are noted. It takes constant time, and no memory.
-    pub fn take_changes(&mut self) -> Vec<(Key, Entry<P::F>)>
+    pub fn take_changes(&mut self) -> Changes<P::F>
         ensures once { IsDistinct same_key (keys_of result.items) }
         ensures list { result.items ≡ unwrap_or self.old.changes [] }
         ensures entries { HandsOut self.old self.new result.items }

@@ -1,6 +1,6 @@
 //! The tables of the worked programs: how many tasks they take, and what is in them then.
 use super::cores::{begin, given, load, root_main};
-use ide_image::Entry;
+use ide_image::Changes;
 use ide_instances::{ConstFn, CopyConst, Uninit};
 use ide_lattice::EdgeFn;
 use ide_problem::Problem;
@@ -70,11 +70,15 @@ fn expect_no_change<P: Problem>(rt: &impl Abort, core: &mut Core<P>) {
 }
 
 /// Asserts that the keys are present that are told to have changed, from absent and not pending.
-fn expect_changes<P: Problem>(rt: &impl Abort, core: &Core<P>, changes: &[(Key, Entry<P::F>)]) {
-    for (key, entry) in changes {
-        assert!(rt; core.get(*key).is_some());
-        assert!(rt; entry.function.is_none() && !entry.pending);
+fn expect_changes<P: Problem>(rt: &impl Abort, core: &Core<P>, changes: &Changes<P::F>) {
+    for index in 0..changes.len() {
+        assert!(rt;
+            changes.get(index).is_some_and(|(key, entry)| {
+                core.get(key).is_some() && entry.function.is_none() && !entry.pending
+            })
+        );
     }
+    assert!(rt; changes.get(changes.len()).is_none());
 }
 
 /// Asserts that each present key is told to have changed, from absent and not pending.
@@ -83,7 +87,7 @@ fn expect_all_changed<P: Problem>(rt: &impl Abort, core: &mut Core<P>) {
     assert!(rt; core.changed_count() == keys);
     let changes = core.take_changes();
     assert!(rt; changes.len() == keys);
-    expect_changes(rt, core, changes.as_slice());
+    expect_changes(rt, core, &changes);
     assert!(rt; core.changed_count() == 0);
 }
 

@@ -4,8 +4,9 @@ use Rattle.std.specs.Prelude.{nat_eq}
 use Rattle.ide_wire.specs.Key.{same_key}
 use Rattle.ide_wire.specs.declared.key.Key.TheVariants.{Jump}
 use Rattle.ide_image.specs.ChangeLog.{MayNote}
+use Rattle.ide_image.specs.Changes.{absent_entry}
 use Rattle.ide_image.specs.Indexed.{place_of_key}
-use Rattle.ide_image.specs.Walk.{absent_entry, jump_behind}
+use Rattle.ide_image.specs.Walk.{jump_behind}
 use Rattle.ide_image.proofs.Walking.{behind-key, entered-more, listed-beside, notes-more}
 use Rattle.ide_image.proofs.parts.note_behind.Goals as goal
 

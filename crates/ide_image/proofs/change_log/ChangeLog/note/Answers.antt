@@ -32,7 +32,7 @@ returns-then-not-is_noted-clause-room g c = λ n s room.
     let long : length c.args.self.now.stamps ≡ length c.self.inside.stamps.items = ap (λ (v : ChangeLog _). length v.stamps) (sym c.self.view_is) in
     let kept = length-set c.self.inside.stamps.items c.args.slot c.self.inside.epoch in
     record {
-      free = λ _. omega (arith, free, same, some, c.push_reserved.ensures.len, c.push_reserved.ensures.capacity, c.push_reserved-then-not-is_noted.ensures.len, c.push_reserved-then-not-is_noted.ensures.capacity);
+      free = λ _. omega (arith, free, same, some, c.push.ensures.room, c.push_reserved.ensures.len, c.push_reserved.ensures.capacity);
       stamped = λ _. omega (arith, stamped, long, kept);
     }
 

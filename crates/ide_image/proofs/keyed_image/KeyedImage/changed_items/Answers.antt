@@ -39,7 +39,7 @@ invariant_of-noted-clause-marked g c = λ slot is.
 pub returns-clause-same : goal.returns-clause-same
 returns-clause-same g c =
     let inside = c.self.inside in
-    let left = left-same g.F.PartialEq.eq inside.indexed inside.queue inside.claims.items inside.changes c.self.invariant c.in-Some.notes.now c.in-Some.ensures in
+    let left = left-same g.F.PartialEq.eq inside.indexed inside.queue inside.claims.items inside.changes c.self.invariant c.in-Some.notes.now.items c.in-Some.ensures in
     let items = items_in inside.indexed inside.queue c.in_ok-slots.slots.items in
     subst (IsPermutation (left_items g.F.PartialEq.eq c.args.self.now)) (sym c.new-2.ensures)
     (subst (λ xs. IsPermutation xs items) (left ∙ ap (left_items g.F.PartialEq.eq) c.self.view_is) c.in_ok-slots.ensures.same.same)

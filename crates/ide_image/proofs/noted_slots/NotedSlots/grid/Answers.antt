@@ -9,7 +9,7 @@ use Rattle.ide_image.proofs.noted_slots.NotedSlots.grid.Goals as goal
 
 pub loop-index-preserved : goal.loop-index-preserved
 loop-index-preserved g c =
-    let says = SaysIfLeftAt g.F.PartialEq.eq c.args.self.now.indexed.now c.args.self.now.queue.now c.args.self.now.notes.now in
+    let says = SaysIfLeftAt g.F.PartialEq.eq c.args.self.now.indexed.now c.args.self.now.queue.now c.args.self.now.notes.now.items in
     let slots = c.args.self.now.slots.now in
     let index = c.loop-index.index in
     let slot = c.in-Some.slot.now in

@@ -7,5 +7,5 @@ use Rattle.ide_image.proofs.noted_slots.NotedSlots.grid.Given as goal
 abbrev pub invariant-loop-index : goal.invariant-loop-index
 invariant-loop-index g l = record {
   pages : HavePages l.self.slots.now l.index l.grid;
-  left : (i : ℕ) → i < l.index → SaysIfLeftAt g.F.PartialEq.eq l.self.indexed.now l.self.queue.now l.self.notes.now i true;
+  left : (i : ℕ) → i < l.index → SaysIfLeftAt g.F.PartialEq.eq l.self.indexed.now l.self.queue.now l.self.notes.now.items i true;
 }

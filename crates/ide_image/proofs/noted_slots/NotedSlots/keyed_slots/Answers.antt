@@ -19,7 +19,7 @@ loop-index-preserved g c =
     let marks = c.args.self.now.queue.now in
     let left = λ (note : Key × Entry _). left_by_slot g.F.PartialEq.eq indexed marks note.0 note.1 in
     let told = item_beside indexed marks in
-    let notes = c.args.self.now.notes.now in
+    let notes = c.args.self.now.notes.now.items in
     let index = c.loop-index.index in
     let keyed = c.loop-index.keyed.items in
     let done = filter_map told keyed in
@@ -62,7 +62,7 @@ returns g c =
     let indexed = c.args.self.now.indexed.now in
     let marks = c.args.self.now.queue.now in
     let done = filter_map (item_beside indexed marks) c.loop-index.keyed.items in
-    let notes = c.args.self.now.notes.now in
+    let notes = c.args.self.now.notes.now.items in
     let all : length notes ≤ c.loop-index.index = omega (arith, c.loop-index-test.false) in
     record {
       listed =

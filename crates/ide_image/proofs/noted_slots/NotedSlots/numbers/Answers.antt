@@ -16,7 +16,7 @@ pub loop-index-preserved : goal.loop-index-preserved
 loop-index-preserved g c =
     let left = λ (note : Key × Entry _). left_by_slot g.F.PartialEq.eq c.args.self.now.indexed.now c.args.self.now.queue.now note.0 note.1 in
     let told = item_told c.args.self.now.indexed.now c.args.self.now.queue.now c.args.self.now.slots.now in
-    let notes = c.args.self.now.notes.now in
+    let notes = c.args.self.now.notes.now.items in
     let index = c.loop-index.index in
     let numbers = c.loop-index.numbers.items in
     let done = filter_map told numbers in
@@ -65,7 +65,7 @@ loop-index-preserved g c =
 pub returns : goal.returns
 returns g c =
     let done = filter_map (item_told c.args.self.now.indexed.now c.args.self.now.queue.now c.args.self.now.slots.now) c.loop-index.numbers.items in
-    let notes = c.args.self.now.notes.now in
+    let notes = c.args.self.now.notes.now.items in
     let all : length notes ≤ c.loop-index.index = omega (arith, c.loop-index-test.false) in
     record {
       listed =

@@ -23,11 +23,11 @@ returns-clause-same g c =
     let grid = c.in-Some.grid in
     let all = subst (λ o. IfSome o (λ _. AreAllLeft same left)) c.in-Some.is c.in_ok-grid.ensures.left in
     let are = subst (λ o. IfSome o (AreNumbersOfRows indexed grid)) c.in-Some-2.is c.in_ok-rows.ensures.numbers in
-    let items = left_by_slots same indexed marks left.notes.now in
-    let told = told-noted same indexed marks left.notes.now all left.slots.now noted left.stand left.marked in
-    let count : length c.in_ok-slots.slots.items ≡ length left.notes.now = omega (arith, c.if-len-count.false) in
+    let items = left_by_slots same indexed marks left.notes.now.items in
+    let told = told-noted same indexed marks left.notes.now.items all left.slots.now noted left.stand left.marked in
+    let count : length c.in_ok-slots.slots.items ≡ length left.notes.now.items = omega (arith, c.if-len-count.false) in
     all-left indexed marks items noted told grid c.in-Some-2.rows.items are (Jump 0 0 0, g.F.EdgeFn.edge.all_top, false) c.deref.result.now
-    c.in_ok-slots.slots.items c.deref.ensures.value c.in_ok-slots.ensures (count ∙ sym (count-left same indexed marks left.notes.now all))
+    c.in_ok-slots.slots.items c.deref.ensures.value c.in_ok-slots.ensures (count ∙ sym (count-left same indexed marks left.notes.now.items all))
 
 pub returns-clause-sorted : goal.returns-clause-sorted
 returns-clause-sorted g c =
@@ -39,7 +39,7 @@ returns-clause-sorted g c =
     let grid = c.in-Some.grid in
     let all = subst (λ o. IfSome o (λ _. AreAllLeft same left)) c.in-Some.is c.in_ok-grid.ensures.left in
     let are = subst (λ o. IfSome o (AreNumbersOfRows indexed grid)) c.in-Some-2.is c.in_ok-rows.ensures.numbers in
-    let items = left_by_slots same indexed marks left.notes.now in
-    let told = told-noted same indexed marks left.notes.now all left.slots.now noted left.stand left.marked in
+    let items = left_by_slots same indexed marks left.notes.now.items in
+    let told = told-noted same indexed marks left.notes.now.items all left.slots.now noted left.stand left.marked in
     all-sorted indexed marks items noted told grid c.in-Some-2.rows.items are (Jump 0 0 0, g.F.EdgeFn.edge.all_top, false) c.deref.result.now
     c.in_ok-slots.slots.items c.deref.ensures.value c.in_ok-slots.ensures

@@ -14,7 +14,7 @@ returns-in-Some-clause-same g c =
     let indexed = c.args.self.now.indexed.now in
     let marks = c.args.self.now.queue.now in
     let slots = c.args.self.now.slots.now in
-    let left = left_by_slots g.F.PartialEq.eq indexed marks c.args.self.now.notes.now in
+    let left = left_by_slots g.F.PartialEq.eq indexed marks c.args.self.now.notes.now.items in
     let are : AreNumbers (item_told indexed marks slots) left c.in-Some.numbers.items =
     subst (λ o. IfSome o (λ numbers. AreNumbers (item_told indexed marks slots) left numbers.items)) c.in-Some.is c.in_ok-numbers.ensures in
     let sorted = c.sort_unstable.new.self.items in
@@ -26,7 +26,7 @@ returns-in-Some-clause-sorted g c =
     let indexed = c.args.self.now.indexed.now in
     let marks = c.args.self.now.queue.now in
     let slots = c.args.self.now.slots.now in
-    let left = left_by_slots g.F.PartialEq.eq indexed marks c.args.self.now.notes.now in
+    let left = left_by_slots g.F.PartialEq.eq indexed marks c.args.self.now.notes.now.items in
     let are : AreNumbers (item_told indexed marks slots) left c.in-Some.numbers.items =
     subst (λ o. IfSome o (λ numbers. AreNumbers (item_told indexed marks slots) left numbers.items)) c.in-Some.is c.in_ok-numbers.ensures in
     let sorted = c.sort_unstable.new.self.items in
@@ -40,7 +40,7 @@ pub returns-in_ok-keyed-clause-same : goal.returns-in_ok-keyed-clause-same
 returns-in_ok-keyed-clause-same g c =
     let indexed = c.args.self.now.indexed.now in
     let marks = c.args.self.now.queue.now in
-    let left = left_by_slots g.F.PartialEq.eq indexed marks c.args.self.now.notes.now in
+    let left = left_by_slots g.F.PartialEq.eq indexed marks c.args.self.now.notes.now.items in
     let sorted = c.sort_by_key.new.keyed.items in
     let same = keyed-same indexed marks (Jump 0 0 0, g.F.EdgeFn.edge.all_top, false) left c.in_ok-keyed.keyed.items sorted c.in_ok-keyed.ensures c.sort_by_key.ensures.same in
     told-slots (HaveTheItems indexed marks left) (map (λ k. k.1)) sorted c.deref-in_default.result.now c.slots_of.result c.deref-in_default.ensures.value c.slots_of.ensures same
@@ -49,7 +49,7 @@ pub returns-in_ok-keyed-clause-sorted : goal.returns-in_ok-keyed-clause-sorted
 returns-in_ok-keyed-clause-sorted g c =
     let indexed = c.args.self.now.indexed.now in
     let marks = c.args.self.now.queue.now in
-    let left = left_by_slots g.F.PartialEq.eq indexed marks c.args.self.now.notes.now in
+    let left = left_by_slots g.F.PartialEq.eq indexed marks c.args.self.now.notes.now.items in
     let sorted = c.sort_by_key.new.keyed.items in
     let up =
     keyed-up indexed marks (Jump 0 0 0, g.F.EdgeFn.edge.all_top, false) left c.in_ok-keyed.keyed.items sorted c.in_ok-keyed.ensures c.sort_by_key.ensures.same
