@@ -16,8 +16,11 @@ use ide_wire::{Fact, Key, Node};
 use std::alloc::{AllocError, Global};
 use std::cmp::Ordering;
 
-/// The items that the body spells in groups, if it spells any. They go onto one vector, which grows
-/// as they are read: no count reserves room for what may not be there.
+/// The fewest bytes of a member: those of two facts, one of a function, and one that says whether it is pending.
+const LEAST: usize = 6;
+
+/// The items that the body spells in groups, if it spells any. They go onto one vector, with room for as many as
+/// so many bytes may spell: no count reserves room for what may not be there.
 pub(crate) fn read_groups<F: EdgeFn>(
     alloc: Global,
     body: &[u8],
@@ -49,7 +52,7 @@ fn groups_in_front<F: EdgeFn>(
     ensures read { IfRead result (λ got. ReadsGroups ⟦<F as Spelled>⟧.forms count got.0.items bytes.now got.1.now) }
     ensures none { IfNotRead result (NoGroups ⟦<F as Spelled>⟧.forms count bytes.now) }
 {
-    let mut items = Vec::new(alloc);
+    let mut items = Vec::with_capacity(alloc, MOST.min(bytes.len() / LEAST))?;
     let mut before = None;
     let mut rest = bytes;
     for _taken in 0..count {

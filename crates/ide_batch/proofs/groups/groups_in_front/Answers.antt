@@ -7,7 +7,7 @@ use Rattle.ide_batch.proofs.groups.groups_in_front.Goals as goal
 pub loop-taken-init : goal.loop-taken-init
 loop-taken-init g c =
     subst (λ (xs : List (Item g.row.F.Denot)). ReadSoFar (functions_by g.F.Wire.proper g.F.Wire.form g.F.PartialEq.eq g.F.EdgeFn.edge.all_top) 0 _ xs c.args.bytes.now c.args.bytes.now)
-    (sym c.new-items.ensures.items)
+    (sym c.in_ok-items.ensures.items)
     (groups_none (functions_by g.F.Wire.proper g.F.Wire.form g.F.PartialEq.eq g.F.EdgeFn.edge.all_top) c.args.bytes.now)
 
 pub returns-in_default-clause-none : goal.returns-in_default-clause-none
