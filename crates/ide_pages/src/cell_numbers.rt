@@ -168,6 +168,7 @@ impl CellNumbers {
     pub(crate) fn widen(&mut self, most: u32) -> Result<(), AllocError>
         ensures items { self.new.items ≡ self.old.items }
         ensures most { OnOk result (most ≤ self.new.most) }
+        ensures kept { self.old.most ≤ self.new.most }
         ensures same { OnErr result (self.new ≡ self.old) }
     {
         let most = most as usize;

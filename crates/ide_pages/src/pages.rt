@@ -229,6 +229,7 @@ impl Pages {
     /// Refusal: `NoMemory`, which leaves the map as it was.
     pub fn widen(&mut self, most: u32) -> Result<(), Refused>
         ensures most { OnOk result (most ≤ self.new.most) }
+        ensures kept { self.old.most ≤ self.new.most }
         ensures slots { self.new.slots ≡ self.old.slots }
         ensures pages { self.new.pages ≡ self.old.pages }
         ensures err { OnErr result (self.new ≡ self.old) }
