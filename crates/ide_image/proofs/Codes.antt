@@ -1,6 +1,5 @@
 -- Notes of what changed, of which one more is kept.
-use Rattle.std.proofs.Common.{◌≡◌, ℕ, ◌≤◌, ◌++◌, refl, sym, ap, ◌∙◌, List, [], ◌∷◌, length, map}
-use Rattle.std.specs.List.{All}
+use Rattle.std.proofs.Common.{◌≡◌, ℕ, ◌≤◌, ◌++◌, refl, ap, ◌∙◌, List, [], ◌∷◌, length}
 use Rattle.std.proofs.lemmas.List.{map-append}
 use Rattle.std.proofs.lemmas.List.Elements.{All-head, All-tail}
 use Rattle.ide_wire.specs.declared.key.Key.{Key}

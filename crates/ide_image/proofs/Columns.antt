@@ -1,6 +1,6 @@
 -- The cells of pages: where each key's stands, which function it has, and what they are once a function is put in or a page is added.
 use Rattle.std.proofs.Common.{◌≡◌, ℕ, zero, suc, ◌+◌, ◌-◌, ◌*◌, ◌/◌, ◌%◌, ◌<◌, ◌≤◌, ◌^◌, refl, sym, ap, subst, ◌∙◌, arith, List, [], ◌∷◌, ◌++◌, length, get_or, Option, Some, None, Result, Ok, Err, Bool, true, false, cond, inl, inr, replicate, take, ⊎_elim}
-use Rattle.std.specs.Prelude.{IfOk, map, min, nat_eq, slice_get, unwrap_or, position}
+use Rattle.std.specs.Prelude.{IfOk, IfSome, map, min, nat_eq, slice_get, unwrap_or, position}
 use Rattle.std.specs.BTreeMap.{is_at}
 use Rattle.std.specs.List.{AllByRecursion, IsDistinct, cons_option, filter_map, range_with_len}
 use Rattle.std.specs.List.Sorted.{IsStrictlySortedBy}
@@ -12,12 +12,12 @@ use Rattle.std.proofs.lemmas.List.{append-nil, get_or_append_left, get_or_past, 
 use Rattle.std.proofs.lemmas.List.FromFn.{get_or-map-range_with_len, length-map-range_with_len}
 use Rattle.std.proofs.lemmas.Map.Entries.{length-keys_of}
 use Rattle.std.proofs.lemmas.Option.{same_Some, slice_get-get_or, slice_get_past, slice_get_within}
-use Rattle.ide_pages.specs.Pages.{AddsPage, ArePaged, AreRow, IsNumberIn, KeepsCells, Numbers, Puts, cell_of, cell_on, entries, key_at, key_on, nonzero, number_at, number_in, page_at, page_of, shown, slot_by}
+use Rattle.ide_pages.specs.Pages.{AddsPage, ArePaged, AreRow, Fits, IsNumberIn, KeepsCells, Numbers, Puts, cell_of, cell_on, entries, key_at, key_on, nonzero, number_at, number_in, offset_of, page_at, page_of, shown, slot_by}
 use Rattle.ide_pages.proofs.KeyCells.{cell-back, mapped}
 use Rattle.ide_pages.proofs.Numbering.{IsNumbering, apart-at, same-at}
 use Rattle.ide_wire.specs.declared.key.Key.{Key}
 use Rattle.ide_wire.specs.declared.key.Key.TheVariants.{Jump, Summary}
-use Rattle.ide_wire.specs.Key.{node_of, same_key}
+use Rattle.ide_wire.specs.Key.{same_key}
 use Rattle.ide_image.specs.Functions.{MayKeep}
 use Rattle.ide_image.specs.Indexed.{AreIndexed, cell_by, cells_by, empty_cells, entries_in, entry_in, function_of, kept_at, kept_in, entry_of_cell, table_of}
 use Rattle.ide_image.specs.Tables.{ArePartners, found, partner_at, place_in, with_entry}
@@ -87,7 +87,7 @@ HasOwnCells numbers = (cell : ℕ) → cell < 64 * length numbers.pages → cell
 -- pages that stay the same have the same cells
 pub own-same : (old new : Numbers) → new.pages ≡ old.pages → HasOwnCells old → HasOwnCells new
 own-same old new same own =
-    subst (λ pages. (cell : ℕ) → cell < 64 * length pages → cell_on pages (node_of (key_at pages cell) % 64) (page_of (key_at pages cell)) ≡ Some cell) (sym same) own
+    subst (λ pages. (cell : ℕ) → cell < 64 * length pages → cell_on pages (offset_of (key_at pages cell)) (page_of (key_at pages cell)) ≡ Some cell) (sym same) own
 
 module _ (numbers : Numbers) (own : HasOwnCells numbers) where
   abbrev zeros : List ℕ
@@ -113,22 +113,29 @@ module _ (numbers : Numbers) (own : HasOwnCells numbers) where
   apart-cells : (i j : ℕ) → i < j → j < 64 * length numbers.pages → same_key (key_at numbers.pages i) (key_at numbers.pages j) ≡ false
   apart-cells i j less l = one-cell (key_at numbers.pages i) i j (own i (omega (arith, less, l))) l ∙ ne_eqb i j (λ e. absurd (omega (arith, e, less)))
 
--- a key on a page is so many nodes behind the page's first
+-- a key on a page is so many cells behind the page's first
 key-on-behind : (page : Key) (offset : ℕ) → key_on page offset ≡ key_behind (key_on page 0) offset
 key-on-behind (Jump block a b) offset = let same : 64 * block + offset ≡ 64 * block + 0 + offset = omega arith in ap (λ n. Jump n a b) same
-key-on-behind (Summary block a b) offset = let same : 64 * block + offset ≡ 64 * block + 0 + offset = omega arith in ap (λ n. Summary n a b) same
+key-on-behind (Summary n a block) offset = let same : 64 * block + offset ≡ 64 * block + 0 + offset = omega arith in ap (Summary n a) same
 
 -- the function alone of an entry
 kept-of : {F : Type 0} (key : Key) (o : Option F) → option_map (λ e. e.1) (entry_of_cell (key, o)) ≡ o
 kept-of key None = refl
 kept-of key (Some f) = refl
 
--- 64 nodes from the first of a page on have 32 bits, where that one has
-pub room-behind : (numbers : Numbers) (page : ℕ) (key : Key) → cell_of numbers key ≡ Some (64 * page) → node_of key < 2 ^ 32 → HasRoomBehind key
-room-behind numbers page key is bound =
-    let found = mapped (position (same_key (page_of key)) numbers.pages) (node_of key % 64) (64 * page) is in
-    let at : 64 * found.0 + node_of key % 64 ≡ 64 * page = found.2 in
+-- those of 64 cells from the first of a page on fit, where that one does
+room-behind : (numbers : Numbers) (page : ℕ) (key : Key) → cell_of numbers key ≡ Some (64 * page) → Fits key → HasRoomBehind key
+room-behind numbers page (Jump n a b) is bound =
+    let at = (mapped (position (same_key (page_of (Jump n a b))) numbers.pages) (n % 64) (64 * page) is).2 in
     omega (arith, at, bound)
+room-behind numbers page (Summary n a b) is bound =
+    let at = (mapped (position (same_key (page_of (Summary n a b))) numbers.pages) (b % 64) (64 * page) is).2 in
+    omega (arith, at, bound)
+
+-- the same of the first key of a page, if there is the page
+pub room-if : (numbers : Numbers) (page : ℕ) (first : Option Key) → IfSome first (λ key. cell_of numbers key ≡ Some (64 * page)) → IfSome first Fits → IfSome first HasRoomBehind
+room-if numbers page None is fits = tt
+room-if numbers page (Some key) is fits = room-behind numbers page key is fits
 
 positive-of : (n : ℕ) → nat_eq n 0 ≡ false → 0 < n
 positive-of zero some = absurd (cc (some))
@@ -265,7 +272,7 @@ module _ {F : Type 0} (numbers : Numbers) (functions : List F) where
         (cases_lt cell (64 * length numbers.pages))
 
     -- the first cell of a page tells the keys of the others
-    pub begins : (page room : ℕ) (key : Key) → cell_of numbers key ≡ Some (64 * page)
+    begins : (page room : ℕ) (key : Key) → cell_of numbers key ≡ Some (64 * page)
         → BeginsWith (tables_of (record { cells = cells_by numbers functions; room = room })) page key
     begins page room key is cell e on shows =
         ⊎_elim
@@ -279,6 +286,11 @@ module _ {F : Type 0} (numbers : Numbers) (functions : List F) where
         ∙ ap (λ k. key_behind k (cell % 64)) first)
         (λ m. absurd (cc (sym (entry-past cell m) ∙ shown-at (cells_by numbers functions) cell ∙ shows)))
         (cases_lt cell (64 * length numbers.pages))
+
+    pub begins-if : (page room : ℕ) (first : Option Key) → IfSome first (λ key. cell_of numbers key ≡ Some (64 * page))
+        → IfSome first (BeginsWith (tables_of (record { cells = cells_by numbers functions; room = room })) page)
+    begins-if page room None is = tt
+    begins-if page room (Some key) is = begins page room key is
 
     -- ---- the entries, where each number has its function
 

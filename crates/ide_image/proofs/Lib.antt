@@ -1,5 +1,6 @@
 pub mod Agree
 pub mod Before
+pub mod Blocks
 pub mod Codes
 pub mod Columns
 pub mod Falls

@@ -9,11 +9,11 @@ use Rattle.std.proofs.lemmas.List.{get_or_append_left, get_or_push, length_push}
 use Rattle.std.proofs.lemmas.List.Edits.{get_or-between, length-between}
 use Rattle.std.proofs.lemmas.List.Elements.{All-nil, All-push, All-weaker}
 use Rattle.std.proofs.lemmas.List.Sorted.{All-permutation}
-use Rattle.ide_wire.specs.Key.{node_of}
+use Rattle.ide_pages.specs.Pages.{offset_of}
 use Rattle.ide_wire.specs.declared.key.Key.{Key}
 use Rattle.ide_wire.specs.declared.key.Key.TheVariants.{Jump, Summary}
 use Rattle.ide_image.specs.Cells.{BeginsWith, key_behind, tables_of}
-use Rattle.ide_image.specs.Grid.{AreNumbersTo, AreOfBlock, AreRanksOn, AreReadTo, AreRows, AreStarts, BeginsBlock, HasPage, IsBlock, IsGrid, IsPage, IsRow, IsRowNumber, RanksAscend, block_of, bound_at, rank_at, start_at}
+use Rattle.ide_image.specs.Grid.{AreNumbersTo, AreOfBlock, AreRanksOn, AreReadTo, AreRows, AreStarts, BeginsBlock, HasPage, IsBlock, IsGrid, IsPage, IsRow, IsRowNumber, RanksAscend, block_by, block_of, bound_at, rank_at, start_at, step_of}
 use Rattle.ide_image.specs.Indexed.{Indexed}
 use Rattle.ide_image.specs.Ranks.{HasRank, IsNumberOf, key_rank}
 
@@ -50,22 +50,131 @@ with-row has_row pages page whole is =
 
 -- ---- ranks
 
--- the key so many nodes behind the first one of a page, and its rank
-pub rank-behind : (first : Key) (offset : ℕ) → HasRank first → node_of first % 64 ≡ 0 → offset < 64
-    → HasRank (key_behind first offset) × (key_rank (key_behind first offset) ≡ key_rank first + offset * 16777216)
-rank-behind (Jump n a b) offset ranked whole few = ((omega (arith, ranked.0, whole, few), ranked.1, ranked.2), omega arith)
-rank-behind (Summary n a b) offset ranked whole few = ((omega (arith, ranked.0, whole, few), ranked.1, ranked.2), omega arith)
+-- how far the ranks of keys that stand side by side on a page are apart
+abbrev pub key_step : Key → ℕ
+key_step (Jump n a b) = 16777216
+key_step (Summary n a b) = 1
 
--- blocks are 64 nodes apart
-block-apart : (first : Key) (number : ℕ) → HasRank first → node_of first % 64 ≡ 0 → number / 65536 ≡ key_rank first → block_of number % 64 ≡ 0
+-- the key so many cells behind the first one of a page, and its rank
+pub rank-behind : (first : Key) (offset : ℕ) → HasRank first → offset_of first ≡ 0 → offset < 64
+    → HasRank (key_behind first offset) × (key_rank (key_behind first offset) ≡ key_rank first + offset * key_step first)
+rank-behind (Jump n a b) offset ranked whole few = ((omega (arith, ranked.0, whole, few), ranked.1, ranked.2), omega arith)
+rank-behind (Summary n a b) offset ranked whole few = ((ranked.0, ranked.1, omega (arith, ranked.2, whole, few)), omega arith)
+
+-- a number that has the rank of a key tells its kind
+jump-kind : (n a b number : ℕ) → HasRank (Jump n a b) → number / 65536 ≡ key_rank (Jump n a b) → number / 9223372036854775808 ≡ 0
+jump-kind n a b number ranked is = omega (arith, is, ranked.0, ranked.1, ranked.2)
+
+summary-kind : (n a b number : ℕ) → HasRank (Summary n a b) → number / 65536 ≡ key_rank (Summary n a b) → number / 9223372036854775808 ≡ 1
+summary-kind n a b number ranked is = omega (arith, is, ranked.0, ranked.1, ranked.2)
+
+pub step-told : (first : Key) (number : ℕ) → HasRank first → number / 65536 ≡ key_rank first → step_of (number / 9223372036854775808) ≡ key_step first
+step-told (Jump n a b) number ranked is = ap step_of (jump-kind n a b number ranked is)
+step-told (Summary n a b) number ranked is = ap step_of (summary-kind n a b number ranked is)
+
+-- blocks are 64 steps apart
+block-apart : (first : Key) (number : ℕ) → HasRank first → offset_of first ≡ 0 → number / 65536 ≡ key_rank first → block_of number % 64 ≡ 0
 block-apart (Jump n a b) number ranked whole is =
-    let block : block_of number ≡ n = omega (arith, is, ranked.1, ranked.2) in omega (arith, block, whole)
+    let block : block_of number ≡ number / 1099511627776 = ap (λ k. block_by k number) (jump-kind n a b number ranked is) in
+    let node : number / 1099511627776 ≡ n = omega (arith, is, ranked.1, ranked.2) in omega (arith, block, node, whole)
 block-apart (Summary n a b) number ranked whole is =
-    let block : block_of number ≡ 8388608 + n = omega (arith, is, ranked.1, ranked.2) in omega (arith, block, whole)
+    let block : block_of number ≡ number / 65536 = ap (λ k. block_by k number) (summary-kind n a b number ranked is) in omega (arith, block, is, whole)
+
+-- ---- numbers of rows
+
+-- what the number of a row of jumps tells
+record OfJumps (number : ℕ) : Type 0 where
+  low : number < 9223372036854775808
+  block : block_of number ≡ number / 1099511627776
+  rank : (offset : ℕ) → rank_at number offset ≡ number / 65536 + offset * 16777216
+  bound : (offset : ℕ) → bound_at number offset ≡ (number / 1099511627776 + offset) * 16777216
+
+-- and that of a row of summaries
+record OfSummaries (number : ℕ) : Type 0 where
+  high : 9223372036854775808 ≤ number
+  block : block_of number ≡ number / 65536
+  rank : (offset : ℕ) → rank_at number offset ≡ number / 65536 + offset
+  bound : (offset : ℕ) → bound_at number offset ≡ number / 65536 + offset
+
+kind-of : (number : ℕ) → OfJumps number ⊎ OfSummaries number
+kind-of number =
+    elim (number / 9223372036854775808) as (λ k. number / 9223372036854775808 ≡ k → OfJumps number ⊎ OfSummaries number) [
+      | zero ↦ λ is.
+          inl (record {
+            low = omega (arith, is);
+            block = ap (λ k. block_by k number) is;
+            rank = λ offset. ap (λ k. number / 65536 + offset * step_of k) is;
+            bound = λ offset. ap (λ k. (block_by k number + offset) * step_of k) is;
+          })
+      | suc n ↦ λ is.
+          inr (record {
+            high = omega (arith, is);
+            block = ap (λ k. block_by k number) is;
+            rank = λ offset. ap (λ k. number / 65536 + offset * step_of k) is ∙ times-one (number / 65536) offset;
+            bound = λ offset. ap (λ k. (block_by k number + offset) * step_of k) is ∙ omega arith;
+          })
+    ] refl
+  where
+    times-one : (m n : ℕ) → m + n * 1 ≡ m + n
+    times-one m n = omega arith
+
+-- of one kind or two
+by-kinds : (n m : ℕ) (P : Type 0) → (OfJumps n → OfJumps m → P) → (OfJumps n → OfSummaries m → P) → (OfSummaries n → OfJumps m → P) → (OfSummaries n → OfSummaries m → P) → P
+by-kinds n m P jj js sj ss =
+    ⊎_elim (λ x. ⊎_elim (λ y. jj x y) (λ y. js x y) (kind-of m)) (λ x. ⊎_elim (λ y. sj x y) (λ y. ss x y) (kind-of m)) (kind-of n)
+
+-- the rows of a block: a rank at an offset is not below the bound there, and is below that of the next offset
+column-low : (first number offset : ℕ) → block_of number ≡ block_of first → bound_at first offset ≤ rank_at number offset
+column-low first number offset same =
+    by-kinds first number (bound_at first offset ≤ rank_at number offset)
+    (λ f n. let b = f.bound offset in let r = n.rank offset in omega (arith, same, f.block, n.block, b, r))
+    (λ f n. absurd (omega (arith, same, f.block, n.block, f.low, n.high)))
+    (λ f n. absurd (omega (arith, same, f.block, n.block, f.high, n.low)))
+    (λ f n. let b = f.bound offset in let r = n.rank offset in omega (arith, same, f.block, n.block, b, r))
+
+column-top : (first number offset : ℕ) → block_of number ≡ block_of first → rank_at number offset + 1 ≤ bound_at first (offset + 1)
+column-top first number offset same =
+    by-kinds first number (rank_at number offset + 1 ≤ bound_at first (offset + 1))
+    (λ f n. let b = f.bound (offset + 1) in let r = n.rank offset in omega (arith, same, f.block, n.block, b, r))
+    (λ f n. absurd (omega (arith, same, f.block, n.block, f.low, n.high)))
+    (λ f n. absurd (omega (arith, same, f.block, n.block, f.high, n.low)))
+    (λ f n. let b = f.bound (offset + 1) in let r = n.rank offset in omega (arith, same, f.block, n.block, b, r))
+
+row-up : (n m offset : ℕ) → block_of n ≡ block_of m → n / 65536 < m / 65536 → rank_at n offset + 1 ≤ rank_at m offset
+row-up n m offset same less =
+    by-kinds n m (rank_at n offset + 1 ≤ rank_at m offset)
+    (λ x y. let p = x.rank offset in let q = y.rank offset in omega (arith, less, p, q))
+    (λ x y. absurd (omega (arith, same, x.block, y.block, x.low, y.high)))
+    (λ x y. absurd (omega (arith, same, x.block, y.block, x.high, y.low)))
+    (λ x y. let p = x.rank offset in let q = y.rank offset in omega (arith, less, p, q))
+
+-- the bounds of a block ascend
+bound-up : (number offset : ℕ) → bound_at number offset ≤ bound_at number (offset + 1)
+bound-up number offset =
+    ⊎_elim (λ x. let p = x.bound offset in let q = x.bound (offset + 1) in omega (arith, p, q)) (λ x. let p = x.bound offset in let q = x.bound (offset + 1) in omega (arith, p, q))
+    (kind-of number)
+
+-- of ranks that ascend so do the blocks
+block-up : (n m : ℕ) → n / 65536 ≤ m / 65536 → block_of n ≤ block_of m
+block-up n m up =
+    by-kinds n m (block_of n ≤ block_of m)
+    (λ x y. omega (arith, up, x.block, y.block))
+    (λ x y. omega (arith, up, x.block, y.block, x.low, y.high))
+    (λ x y. absurd (omega (arith, up, x.high, y.low)))
+    (λ x y. omega (arith, up, x.block, y.block))
+
+-- and the bound at the end of a block is not above that at the begin of another one behind it
+block-low : (n m : ℕ) → n / 65536 < m / 65536 → block_of n < block_of m → block_of n % 64 ≡ 0 → block_of m % 64 ≡ 0 → bound_at n 64 ≤ bound_at m 0
+block-low n m up less whole next =
+    by-kinds n m (bound_at n 64 ≤ bound_at m 0)
+    (λ x y. let p = x.bound 64 in let q = y.bound 0 in omega (arith, less, whole, next, x.block, y.block, p, q))
+    (λ x y. let p = x.bound 64 in let q = y.bound 0 in omega (arith, whole, x.block, x.low, y.high, p, q))
+    (λ x y. absurd (omega (arith, up, x.high, y.low)))
+    (λ x y. let p = x.bound 64 in let q = y.bound 0 in omega (arith, less, whole, next, x.block, y.block, p, q))
 
 module _ {F : Type 0} (indexed : Indexed F) (pages : List ℕ) where
   -- the number of a row's first key and the row
-  row-number : (row number : ℕ) (first : Key) → row < length pages → BeginsWith (tables_of indexed) (slice_index pages row) first → node_of first % 64 ≡ 0
+  row-number : (row number : ℕ) (first : Key) → row < length pages → BeginsWith (tables_of indexed) (slice_index pages row) first → offset_of first ≡ 0
       → IsNumberOf first row number → IsRowNumber indexed pages number
   row-number row number first there begins whole is =
       record {
@@ -78,7 +187,7 @@ module _ {F : Type 0} (indexed : Indexed F) (pages : List ℕ) where
   is-row row number is low = subst (λ n. IsRow indexed (slice_index pages n)) low is.row
 
   pub row-numbered : (row : ℕ) (first : Key) (number : Option ℕ) → row < length pages → BeginsWith (tables_of indexed) (slice_index pages row) first
-      → node_of first % 64 ≡ 0 → IfSome number (IsNumberOf first row) → IfSome number (IsRowNumber indexed pages)
+      → offset_of first ≡ 0 → IfSome number (IsNumberOf first row) → IfSome number (IsRowNumber indexed pages)
   row-numbered row first None there begins whole is = tt
   row-numbered row first (Some number) there begins whole is = row-number row number first there begins whole is
 
@@ -214,18 +323,18 @@ module _ (P : ℕ → Type 0) (rank : ℕ → ℕ) where
     pub bound : ℕ
     pub are : AreReadTo P rank bound slots
     pub under : (j : ℕ) → row ≤ j → j < length numbers → bound ≤ rank_at (slice_index numbers j) offset
-    pub top : bound ≤ bound_at (block_of (slice_index numbers 0)) (offset + 1)
+    pub top : bound ≤ bound_at (slice_index numbers 0) (offset + 1)
 
   module _ (pages numbers starts : List ℕ) (offset : ℕ) (block : IsBlock pages numbers starts) where
-    abbrev first-block : ℕ
-    first-block = block_of (slice_index numbers 0)
+    abbrev first-number : ℕ
+    first-number = slice_index numbers 0
 
-    pub begin-column : (slots : List ℕ) → AreReadTo P rank (bound_at first-block offset) slots → AreReadToRow numbers offset 0 slots
+    pub begin-column : (slots : List ℕ) → AreReadTo P rank (bound_at first-number offset) slots → AreReadToRow numbers offset 0 slots
     begin-column slots are = record {
-      bound = bound_at first-block offset;
+      bound = bound_at first-number offset;
       are = are;
-      under = λ j from there. let same = block.same j from there in omega (arith, same);
-      top = omega arith;
+      under = λ j from there. column-low first-number (slice_index numbers j) offset (block.same j from there);
+      top = bound-up first-number offset;
     }
 
     pub pass-row : (row : ℕ) (slots : List ℕ) → AreReadToRow numbers offset row slots → AreReadToRow numbers offset (row + 1) slots
@@ -239,12 +348,14 @@ module _ (P : ℕ → Type 0) (rank : ℕ → ℕ) where
         record {
           bound = rank slot + 1;
           are = read-more slots slot to.bound to.are has (omega (arith, under, is));
-          under = λ j from within. let above = block.ascend row j (omega (arith, from)) within in omega (arith, is, above);
-          top = omega (arith, is, same);
+          under = λ j from within.
+              let up = row-up (slice_index numbers row) (slice_index numbers j) offset (same ∙ sym (block.same j (omega arith) within)) (block.ascend row j (omega (arith, from)) within) in
+              omega (arith, is, up);
+          top = let top = column-top first-number (slice_index numbers row) offset same in omega (arith, is, top);
         }
 
-    pub end-column : (row : ℕ) (slots : List ℕ) → AreReadToRow numbers offset row slots → AreReadTo P rank (bound_at first-block (offset + 1)) slots
-    end-column row slots to = read-up slots to.bound (bound_at first-block (offset + 1)) to.top to.are
+    pub end-column : (row : ℕ) (slots : List ℕ) → AreReadToRow numbers offset row slots → AreReadTo P rank (bound_at first-number (offset + 1)) slots
+    end-column row slots to = read-up slots to.bound (bound_at first-number (offset + 1)) to.top to.are
 
   -- ---- all blocks
 
@@ -252,7 +363,7 @@ module _ (P : ℕ → Type 0) (rank : ℕ → ℕ) where
   pub record AreReadToBlock (numbers : List ℕ) (row : ℕ) (slots : List ℕ) : Type 0 where
     pub bound : ℕ
     pub are : AreReadTo P rank bound slots
-    pub under : (j : ℕ) → row ≤ j → j < length numbers → BeginsBlock numbers j → bound ≤ bound_at (block_of (slice_index numbers j)) 0
+    pub under : (j : ℕ) → row ≤ j → j < length numbers → BeginsBlock numbers j → bound ≤ bound_at (slice_index numbers j) 0
 
   module _ (pages numbers : List ℕ) (rows : AreRows pages numbers) where
     pub begin-blocks : AreReadToBlock numbers 0 []
@@ -261,37 +372,35 @@ module _ (P : ℕ → Type 0) (rank : ℕ → ℕ) where
     pub pass-block : (row : ℕ) (slots : List ℕ) → AreReadToBlock numbers row slots → AreReadToBlock numbers (row + 1) slots
     pass-block row slots to = record { bound = to.bound; are = to.are; under = λ j from. to.under j (omega (arith, from)) }
 
-    -- a block that begins behind another one begins 64 nodes behind it at least
-    next-block : (row j : ℕ) → row < j → j < length numbers → BeginsBlock numbers j → block_of (slice_index numbers row) + 64 ≤ block_of (slice_index numbers j)
+    -- a block that begins behind another one begins where that one ends, or behind
+    next-block : (row j : ℕ) → row < j → j < length numbers → BeginsBlock numbers j → bound_at (slice_index numbers row) 64 ≤ bound_at (slice_index numbers j) 0
     next-block row j less there begins =
+        let before : ℕ = slice_index numbers (j - 1) in
         let other = begins (j - 1) (omega (arith, less)) in
         let up = rows.ascend (j - 1) j (omega (arith, less)) there in
-        let whole = rows.apart row (omega (arith, less, there)) in
-        let next = rows.apart j there in
-        let above : slice_index numbers row / 65536 ≤ slice_index numbers (j - 1) / 65536 =
+        let above : slice_index numbers row / 65536 ≤ before / 65536 =
         ⊎_elim (λ l. let below = rows.ascend row (j - 1) l (omega (arith, there)) in omega (arith, below))
         (λ r. let same : row ≡ j - 1 = omega (arith, r, less) in let is = ap (λ n. slice_index numbers n / 65536) same in omega (arith, is))
         (cases_lt row (j - 1)) in
-        let higher : block_of (slice_index numbers (j - 1)) < block_of (slice_index numbers j) =
-        ⊎_elim (λ l. l) (λ r. let same : block_of (slice_index numbers (j - 1)) ≡ block_of (slice_index numbers j) = omega (arith, r, up) in absurd (other same))
-        (cases_lt (block_of (slice_index numbers (j - 1))) (block_of (slice_index numbers j))) in
-        let not : block_of (slice_index numbers row) ≤ block_of (slice_index numbers (j - 1)) = omega (arith, above) in
-        omega (arith, whole, next, higher, not)
+        let lower = block-up (slice_index numbers row) before above in
+        let higher = block-up before (slice_index numbers j) (omega (arith, up)) in
+        let apart : block_of (slice_index numbers row) < block_of (slice_index numbers j) =
+        ⊎_elim (λ l. omega (arith, lower, l)) (λ r. let same : block_of before ≡ block_of (slice_index numbers j) = omega (arith, r, higher) in absurd (other same))
+        (cases_lt (block_of before) (block_of (slice_index numbers j))) in
+        block-low (slice_index numbers row) (slice_index numbers j) (omega (arith, above, up)) apart (rows.apart row (omega (arith, less, there))) (rows.apart j there)
 
-    pub read-block : (row : ℕ) (slots : List ℕ) → AreReadTo P rank (bound_at (block_of (slice_index numbers row)) 64) slots
-        → AreReadToBlock numbers (row + 1) slots
+    pub read-block : (row : ℕ) (slots : List ℕ) → AreReadTo P rank (bound_at (slice_index numbers row) 64) slots → AreReadToBlock numbers (row + 1) slots
     read-block row slots are = record {
-      bound = bound_at (block_of (slice_index numbers row)) 64;
+      bound = bound_at (slice_index numbers row) 64;
       are = are;
-      under = λ j from there begins. let next = next-block row j (omega (arith, from)) there begins in omega (arith, next);
+      under = λ j from there begins. next-block row j (omega (arith, from)) there begins;
     }
 
     -- the rows from one on, up to another one, where they are the block that begins there
     pub read-rows : (row end : ℕ) (slots more : List ℕ) → row < length numbers → (up : row < end) → (within : end ≤ length numbers) → BeginsBlock numbers row
-        → (AreReadTo P rank (bound_at (block_of (slice_index (slice_range numbers row end) 0)) 0) slots
-        → AreReadTo P rank (bound_at (block_of (slice_index (slice_range numbers row end) 0)) 64) more)
+        → (AreReadTo P rank (bound_at (slice_index (slice_range numbers row end) 0) 0) slots → AreReadTo P rank (bound_at (slice_index (slice_range numbers row end) 0) 64) more)
         → AreReadToBlock numbers row slots → AreReadToBlock numbers (row + 1) more
     read-rows row end slots more there up within begins reads to =
-        let first : block_of (slice_index (slice_range numbers row end) 0) ≡ block_of (slice_index numbers row) = ap block_of (first-between numbers row end up within) in
-        let begun = read-up slots to.bound (bound_at (block_of (slice_index numbers row)) 0) (to.under row (omega arith) there begins) to.are in
-        read-block row more (subst (λ b. AreReadTo P rank (bound_at b 64) more) first (reads (subst (λ b. AreReadTo P rank (bound_at b 0) slots) (sym first) begun)))
+        let first : slice_index (slice_range numbers row end) 0 ≡ slice_index numbers row = first-between numbers row end up within in
+        let begun = read-up slots to.bound (bound_at (slice_index numbers row) 0) (to.under row (omega arith) there begins) to.are in
+        read-block row more (subst (λ n. AreReadTo P rank (bound_at n 64) more) first (reads (subst (λ n. AreReadTo P rank (bound_at n 0) slots) (sym first) begun)))

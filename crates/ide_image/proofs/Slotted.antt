@@ -32,7 +32,7 @@ use Rattle.ide_image.proofs.Agree.{at-index}
 use Rattle.ide_image.proofs.Columns.{shown-at}
 use Rattle.ide_image.proofs.Picked.{picked, picked-up}
 use Rattle.ide_image.proofs.Ranks.{by-rank, item-at, stands}
-use Rattle.ide_image.proofs.Rows.{rank-behind}
+use Rattle.ide_image.proofs.Rows.{key_step, rank-behind, step-told}
 use Rattle.ide_image.proofs.Spots.{place-at}
 
 module _ {X Y : Type 0} (f : X → Option Y) where
@@ -189,9 +189,9 @@ module _ {F : Type 0} (indexed : Indexed F) (marks : SlotMarks) where
       item-is : (slot : ℕ) (has : IsOn noted pages slot) → slot-item slot ≡ (told slot has.marked).item
       item-is slot has = ap (λ o. unwrap_or o d) (told slot has.marked).is
 
-      -- the key of a slot stands so many nodes behind the first one of its page
+      -- the key of a slot stands so many cells behind the first one of its page
       ranked-on : (page offset slot : ℕ) (row : IsRow indexed page) → slot ≡ 64 * page + offset → offset < 64 → (has : IsOn noted pages slot)
-          → HasRank (slot-item slot).0 × (rank_in slot ≡ key_rank row.first + offset * 16777216)
+          → HasRank (slot-item slot).0 × (rank_in slot ≡ key_rank row.first + offset * key_step row.first)
       ranked-on page offset slot row is low has =
           let tells = told slot has.marked in
           let shown = shown-item slot tells.item tells.is in
@@ -215,7 +215,9 @@ module _ {F : Type 0} (indexed : Indexed F) (marks : SlotMarks) where
           let one : IsRowNumber indexed pages number = are.each i 0 there in
           let page : slice_index pages (number % 65536) ≡ slot / 64 = omega (arith, low) in
           let has : IsOn noted pages slot = record { marked = is; page = (number % 65536, record { there = one.there; is = page }) } in
-          (ranked-on (slice_index pages (number % 65536)) offset slot one.row refl low has).1 ∙ ap (λ n. n + offset * 16777216) (sym one.rank)
+          (ranked-on (slice_index pages (number % 65536)) offset slot one.row refl low has).1
+          ∙ ap (λ n. n + offset * key_step one.row.first) (sym one.rank)
+          ∙ ap (λ step. number / 65536 + offset * step) (sym (step-told one.row.first number one.row.ranked one.rank))
 
       key-below : (slot next : ℕ) → IsOn noted pages slot → IsOn noted pages next → rank_in slot < rank_in next → key_cmp (slot-item slot).0 (slot-item next).0 ≡ Less
       key-below slot next has there less =

@@ -5,7 +5,7 @@ use Rattle.std.specs.Map.{keys_of, lookup}
 use Rattle.std.specs.Option.{option_map}
 use Rattle.ide_wire.specs.declared.key.Key.{Key}
 use Rattle.ide_wire.specs.declared.key.Key.TheVariants.{Jump, Summary}
-use Rattle.ide_wire.specs.Key.{node_of, same_key}
+use Rattle.ide_wire.specs.Key.{same_key}
 use Rattle.ide_image.specs.Indexed.{Indexed, entry_of_cell, table_of}
 use Rattle.ide_image.specs.Tables.{Table, found}
 
@@ -14,14 +14,15 @@ pub record TablesData (F : Type 0) : Type 0 where
   pub table : Table F
   pub cells : List (Option (Key × F))
 
--- the key so many nodes behind a key, of its kind and its facts
+-- the key so many cells behind that of a key on its page: of a jump so many nodes further on, of a summary so many facts
 abbrev pub key_behind : Key → ℕ → Key
 key_behind (Jump n a b) k = Jump (n + k) a b
-key_behind (Summary n a b) k = Summary (n + k) a b
+key_behind (Summary n a b) k = Summary n a (b + k)
 
--- those of 64 nodes from the key's on are keys: their nodes have 32 bits
+-- those of 64 cells from the key's on are keys: their nodes have 32 bits, and their facts 16
 abbrev pub HasRoomBehind : Key → Type 0
-HasRoomBehind key = node_of key + 64 ≤ 2 ^ 32
+HasRoomBehind (Jump n a b) = n + 64 ≤ 2 ^ 32
+HasRoomBehind (Summary n a b) = b + 64 ≤ 2 ^ 16
 
 module _ {F : Type 0} where
   -- the entries that cells show

@@ -1,5 +1,5 @@
 -- Notes of what changed, each the key with the entry that it had, as the code keeps them: most keys had none.
-use Rattle.std.specs.Prelude.{◌≡◌, ℕ, zero, suc, ◌-◌, ◌≤◌, List, Option, None, false, length, map, min, slice_get, unwrap_or, vec_capacity, vec_len}
+use Rattle.std.specs.Prelude.{◌≡◌, ℕ, zero, suc, ◌-◌, ◌≤◌, List, None, false, length, map, min, slice_get, unwrap_or, vec_capacity, vec_len}
 use Rattle.std.specs.Global.{Vec}
 use Rattle.std.specs.List.{All}
 use Rattle.ide_wire.specs.declared.key.Key.{Key}

@@ -1,8 +1,8 @@
 -- Pages in the rows of a grid, and the order in which the noted slots on them are read.
-use Rattle.std.specs.Prelude.{◌≡◌, ◌≢◌, ℕ, ◌+◌, ◌*◌, ◌/◌, ◌%◌, ◌<◌, ◌≤◌, Bool, true, List, Some, length, slice_get, slice_index}
+use Rattle.std.specs.Prelude.{◌≡◌, ◌≢◌, ℕ, zero, suc, ◌+◌, ◌*◌, ◌/◌, ◌%◌, ◌<◌, ◌≤◌, Bool, true, List, Some, length, slice_get, slice_index}
 use Rattle.std.specs.Global.{Vec}
 use Rattle.std.specs.List.{All, Contains}
-use Rattle.ide_wire.specs.Key.{node_of}
+use Rattle.ide_pages.specs.Pages.{offset_of}
 use Rattle.ide_wire.specs.declared.key.Key.{Key}
 use Rattle.ide_image.specs.Cells.{BeginsWith, tables_of}
 use Rattle.ide_image.specs.Indexed.{Indexed}
@@ -37,23 +37,33 @@ pub record IsGrid (has_row : List Bool) (pages : List ℕ) : Type 0 where
 
 -- ---- the order of rows, each told by a number that has the rank of its first key and its index
 
+-- the kind of a row, 0 of jumps and else of summaries, from which the step from the rank of a key on its page to the next one follows: keys of
+-- jumps are a node apart, and those of summaries a fact
+abbrev pub step_of : (kind : ℕ) → ℕ
+step_of zero = 16777216
+step_of (suc n) = 1
+
 -- the rank of the key at the offset
 abbrev pub rank_at : (number offset : ℕ) → ℕ
-rank_at number offset = number / 65536 + offset * 16777216
+rank_at number offset = number / 65536 + offset * step_of (number / 9223372036854775808)
 
--- the kind and the node of the first key in one number, which rows of a block have in common
+-- what rows of a block have in common: of jumps the node of the first key; and a row of summaries is a block of its own
+abbrev pub block_by : (kind number : ℕ) → ℕ
+block_by zero number = number / 1099511627776
+block_by (suc n) number = number / 65536
+
 abbrev pub block_of : ℕ → ℕ
-block_of number = number / 1099511627776
+block_of number = block_by (number / 9223372036854775808) number
 
--- keys of the block at nodes before the offset have ranks below this
-abbrev pub bound_at : (block offset : ℕ) → ℕ
-bound_at block offset = (block + offset) * 16777216
+-- keys of the number's block at offsets before this one have ranks below this
+abbrev pub bound_at : (number offset : ℕ) → ℕ
+bound_at number offset = (block_of number + offset) * step_of (number / 9223372036854775808)
 
 -- the ranks of the first keys ascend
 abbrev pub RanksAscend : List ℕ → Type 0
 RanksAscend numbers = (i j : ℕ) → i < j → j < length numbers → slice_index numbers i / 65536 < slice_index numbers j / 65536
 
--- and the rows are those of pages, with blocks 64 nodes apart
+-- and the rows are those of pages, with blocks 64 steps apart, of which those of jumps come first
 pub record AreRows (pages numbers : List ℕ) : Type 0 where
   pub ascend : RanksAscend numbers
   pub there : All (λ number. number % 65536 < length pages) numbers
@@ -121,16 +131,16 @@ module _ (noted : ℕ → Bool) where
   abbrev pub ReadsOffsets : (starts : List ℕ) → (from to : ℕ) → (old new : Vec ℕ) → Type 0
   ReadsOffsets starts from to old new =
       (pages numbers : List ℕ) (rank : ℕ → ℕ) → IsBlock pages numbers starts → AreRanksOn (λ i. slice_index starts i) numbers rank
-      → AreReadTo (IsOn pages) rank (bound_at (block_of (slice_index numbers 0)) from) old.items
-      → AreReadTo (IsOn pages) rank (bound_at (block_of (slice_index numbers 0)) to) new.items
+      → AreReadTo (IsOn pages) rank (bound_at (slice_index numbers 0) from) old.items
+      → AreReadTo (IsOn pages) rank (bound_at (slice_index numbers 0) to) new.items
 
 module _ {F : Type 0} (indexed : Indexed F) where
-  -- the page has a first key, which has a rank, at a node that is a multiple of 64
+  -- the page has a first key, which has a rank, at the first offset
   pub record IsRow (page : ℕ) : Type 0 where
     pub first : Key
     pub begins : BeginsWith (tables_of indexed) page first
     pub ranked : HasRank first
-    pub whole : node_of first % 64 ≡ 0
+    pub whole : offset_of first ≡ 0
 
   -- the number has the rank of the first key of its row's page
   pub record IsRowNumber (pages : List ℕ) (number : ℕ) : Type 0 where

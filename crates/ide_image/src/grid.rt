@@ -1,17 +1,19 @@
 //! Pages of noted keys, and the order in which the slots of these are read.
 //!
-//! A page has the keys of one pair of facts at 64 nodes that stand side by side, and keys are ordered by nodes
-//! before facts. So the keys of a block of 64 nodes ascend where the pages of the block, ordered by facts, are
-//! read offset by offset: pages are sorted, which are few, and no keys.
+//! A page of jumps has those of one pair of facts at 64 nodes that stand side by side, and keys are ordered by nodes
+//! before facts. So the jumps of a block of 64 nodes ascend where the pages of the block, ordered by facts, are
+//! read offset by offset. A page of summaries has those over one call from one fact, which ascend offset by offset: it is
+//! a block of its own. So pages are sorted, which are few, and no keys.
 ghost use Rattle.std.specs.Prelude.{◌≡◌, ◌+◌, ◌/◌, ◌%◌, ◌<◌, ◌≤◌, [], true, length, IfOk, IfSome, OnOk};
 ghost use Rattle.std.specs.List.{All};
 ghost use Rattle.ide_image.specs.ChangeLog.{is_noted_in};
-ghost use Rattle.ide_image.specs.Grid.{AreNumbersOfRows, AreOfBlock, AreReadOn, AreRows, AreStarts, BeginsBlock, HasPage, IsPage, IsRowNumber, IsStart, KeepsPages, RanksAscend, ReadsOffsets};
+ghost use Rattle.ide_image.specs.Grid.{AreNumbersOfRows, AreOfBlock, AreReadOn, AreRows, AreStarts, BeginsBlock, HasPage, IsPage, IsRowNumber, IsStart, KeepsPages, RanksAscend, ReadsOffsets, block_of};
 
 use crate::indexed::Indexed;
 use crate::noted_marks::NotedMarks;
 use crate::ordered::number_of;
 use ide_lattice::EdgeFn;
+use ide_pages::offset_of;
 use std::alloc::{AllocError, Global};
 use std::marker::Model;
 
@@ -24,8 +26,11 @@ const ROWS: usize = 65_536;
 /// What numbers of one rank have in common: the quotient by this.
 const RANK: u64 = 0x1_0000;
 
-/// What the numbers of all pages of a block have in common: the quotient by this.
+/// What the numbers of all pages of a block of jumps have in common: the quotient by this.
 const BLOCK: u64 = 0x100_0000_0000;
+
+/// The numbers of jumps are below this, and those of summaries are not.
+const SUMMARIES: u64 = 0x8000_0000_0000_0000;
 
 /// A row for each page that has a noted slot.
 #[derive(Drop)]
@@ -153,7 +158,7 @@ impl Grid {
         ensures row { IfSome result (λ number. number % 65536 ≡ row) }
     {
         let key = indexed.first_key(self.pages[row] as usize)?;
-        if key.node() % 64 != 0 {
+        if offset_of(key) != 0 {
             return None;
         }
         number_of(key, row)
@@ -232,12 +237,24 @@ fn ranks_ascend(numbers: &[u64]) -> bool
     true
 }
 
+/// The block of a number: the pages of jumps at the same nodes are one, and each page of summaries is one.
+#[inline(always)]
+fn block_of(number: u64) -> u64
+    ensures { result ≡ block_of number }
+{
+    if number < SUMMARIES {
+        number / BLOCK
+    } else {
+        number / RANK
+    }
+}
+
 /// Whether the number at an index is the first of its block.
 fn begins_block(numbers: &[u64], index: usize) -> bool
     requires there { index < length numbers.now }
     ensures { result ≡ true → BeginsBlock numbers.now index }
 {
-    index == 0 || numbers[index - 1] / BLOCK != numbers[index] / BLOCK
+    index == 0 || block_of(numbers[index - 1]) != block_of(numbers[index])
 }
 
 /// Where the block of the number at an index ends.
@@ -247,9 +264,9 @@ fn block_end(numbers: &[u64], index: usize) -> usize
     ensures to { result ≤ length numbers.now }
     ensures block { AreOfBlock numbers.now index result }
 {
-    let block = numbers[index] / BLOCK;
+    let block = block_of(numbers[index]);
     for end in index + 1..numbers.len() {
-        if numbers[end] / BLOCK != block {
+        if block_of(numbers[end]) != block {
             return end;
         }
     }

@@ -1,5 +1,5 @@
 //! Functions at keys, in the cells of pages.
-ghost use Rattle.std.specs.Prelude.{◌≡◌, ◌+◌, ◌*◌, ◌%◌, ◌<◌, ◌≤◌, ◌^◌, [], None, Some, length, IfOk, IfSome, OnOk, IsOkUnless};
+ghost use Rattle.std.specs.Prelude.{◌≡◌, ◌+◌, ◌*◌, ◌%◌, ◌<◌, ◌≤◌, ◌^◌, ◌++◌, [], None, Some, length, IfOk, IfSome, OnOk, IsOkUnless};
 ghost use Rattle.std.specs.List.{IsDistinct};
 ghost use Rattle.std.specs.Map.{keys_of};
 ghost use Rattle.std.specs.Option.{is_some};
@@ -8,7 +8,7 @@ ghost use Rattle.ide_wire.specs.declared.key.Key.TheVariants.{Jump};
 ghost use Rattle.ide_wire.specs.declared.refused.Refused.TheVariants.{NoMemory};
 ghost use Rattle.ide_wire.specs.Key.{same_key};
 ghost use Rattle.ide_wire.specs.KeyOrder.{key_cmp};
-ghost use Rattle.ide_pages.specs.Pages.{number_on_page, partner_of, read_at};
+ghost use Rattle.ide_pages.specs.Pages.{AreBlocks, number_on_page, partner_of, read_at, read_block, read_blocks};
 ghost use Rattle.ide_image.specs.Tables.{AreJumpsTo, AreKeys, AreSummariesFrom, or_top, partner_at, partners_at};
 ghost use Rattle.ide_image.specs.Indexed.{ForKeyAt, HasCell, HasDistinctKeys, HaveCells, PutsEntry, Widens, entries_in, entry_in, function_of, kept_in, place_of_key, table_of};
 ghost use Rattle.ide_image.specs.Cells.{AreAlike, BeginsWith, HasRoomBehind, tables_of};
@@ -168,10 +168,7 @@ impl<F: EdgeFn> Indexed<F> {
         if page >= count {
             return None;
         }
-        let key = self.places.key_in(64 * page)?;
-        // Its node has 32 bits.
-        let _ = key.node();
-        Some(key)
+        self.places.key_in(64 * page)
     }
 
     /// The present keys, ascending.
@@ -254,7 +251,7 @@ impl<F: EdgeFn> Indexed<F> {
         ensures refused { IsOkUnless result NoMemory }
     {
         let pages = self.places.pages_of_summaries(call, fact);
-        fill_partners(&self.places, &self.functions, call, pages, partners)?;
+        fill_from_blocks(&self.places, &self.functions, pages, partners)?;
         Ok(())
     }
 
@@ -430,6 +427,47 @@ fn fill_partners<F: EdgeFn>(
         if let Some(numbered) = numbered_fact(places, node, *listed) {
             partners.push_reserved(partner_at(functions, numbered));
         }
+    }
+    Ok(())
+}
+
+/// Makes the list the facts of blocks that have a number on the block's page, each with the function of its number.
+fn fill_from_blocks<F: EdgeFn>(
+    places: &Pages,
+    functions: &Functions<F>,
+    pages: &[(Fact, u32)],
+    partners: &mut Vec<(Fact, F)>,
+) -> Result<(), AllocError>
+    requires few { AreBlocks pages.now }
+    ensures { OnOk result (partners.new.items ≡ partners_at F.edge functions.now.items (read_blocks places.now pages.now)) }
+{
+    partners.clear();
+    for listed in pages {
+        add_block(places, functions, *listed, partners)?;
+    }
+    Ok(())
+}
+
+/// Adds the facts of a block to the list, as [`fill_from_blocks`] does. Cells that have no number are passed over in one go.
+fn add_block<F: EdgeFn>(
+    places: &Pages,
+    functions: &Functions<F>,
+    listed: (Fact, u32),
+    partners: &mut Vec<(Fact, F)>,
+) -> Result<(), AllocError>
+    requires few { listed.0 < 1024 }
+    ensures { OnOk result (partners.new.items ≡ partners.old.items ++ partners_at F.edge functions.now.items (read_block places.now listed)) }
+{
+    partners.reserve(64)?;
+    let first = 64 * listed.1 as usize;
+    let mut cell = places.alike_to(first, first + 64, 0);
+    while cell < first + 64 {
+        let number = places.number_in(cell);
+        if number != 0 {
+            let fact = 64 * listed.0 + (cell - first) as Fact;
+            partners.push_reserved(partner_at(functions, (fact, number)));
+        }
+        cell = places.alike_to(cell + 1, first + 64, 0);
     }
     Ok(())
 }

@@ -19,6 +19,7 @@ use crate::entry::Entry;
 use crate::indexed::Indexed;
 use crate::queue::Queue;
 use ide_lattice::EdgeFn;
+use ide_pages::offset_of;
 use ide_wire::{Fact, Key, Node, Refused};
 
 /// Whether the slot at a place is pending.
@@ -149,7 +150,7 @@ pub(crate) fn end_slot<F: EdgeFn>(
     ensures nobody { changes.old.list ≡ None → IsOk result }
     ensures refused { IsOkUnless result NoMemory }
 {
-    let near = queue.near_slot(key.node() as usize % 64);
+    let near = queue.near_slot(offset_of(key));
     let slot = indexed.cell_of(key, near);
     changes.make_room(1, slot + 1)?;
     note_now(indexed, queue, changes, slot, key);

@@ -15,10 +15,11 @@ use std::marker::Model;
 /// The present keys of an image with their functions: an absent key stands for the function that
 /// always gives top.
 ///
-/// They are read by cells. Each key has one, and 64 cells side by side are a page: the keys of one kind
-/// and one pair of facts at 64 nodes that follow each other. So the key of a page's first cell tells
-/// those of its other cells, and a walk over some nodes passes over pages at others. Of the order of
-/// pages nothing is said but that it stays.
+/// They are read by cells. Each key has one, and 64 cells side by side are a page: the jumps between one
+/// pair of facts at 64 nodes that follow each other, or the summaries over one call from one fact to 64
+/// facts that follow each other. So the key of a page's first cell tells those of its other cells, and a
+/// walk over some nodes passes over pages at others. Of the order of pages nothing is said but that it
+/// stays.
 #[derive(Drop)]
 pub struct Tables<F: EdgeFn> {
     indexed: Indexed<F>,
@@ -101,7 +102,7 @@ impl<F: EdgeFn> Tables<F> {
 
     /// The key of the page's first cell, be it present or absent, where a page is given by its index:
     /// `None` where there is no such page. Each other cell of the page is that of the key so many nodes
-    /// further on. No look-up.
+    /// further on, or so many facts where the key is a summary. No look-up.
     pub fn first_key(&self, page: usize) -> Option<Key>
         ensures first { IfSome result (BeginsWith self.now page) }
         ensures few { IfSome result HasRoomBehind }

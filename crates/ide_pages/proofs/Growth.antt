@@ -8,8 +8,8 @@ use Rattle.std.proofs.lemmas.List.{get_or_append_left, get_or-append_right, leng
 use Rattle.std.proofs.lemmas.Map.Keys.{IsDistinct-push}
 use Rattle.ide_wire.specs.declared.key.Key.{Key}
 use Rattle.ide_wire.specs.declared.key.Key.TheVariants.{Jump, Summary}
-use Rattle.ide_wire.specs.Key.{same_key, same_key_exact, same_key_laws, same_key_refl, node_of}
-use Rattle.ide_pages.specs.Pages.{ArePages, IsPage, TellPages, cell_of, cell_on, entries, key_at, key_on, listed_fact, numbers_of, page_at, page_of, row_of}
+use Rattle.ide_wire.specs.Key.{same_key, same_key_exact, same_key_laws, same_key_refl}
+use Rattle.ide_pages.specs.Pages.{ArePages, IsPage, IsSmall, TellPages, cell_of, cell_on, entries, key_at, key_on, listed_fact, numbers_of, offset_of, page_at, page_of, row_of}
 use Rattle.ide_pages.specs.Rows.{KeepsPages, ListsIn, RowsData, page_in, row_at, row_in}
 use Rattle.ide_pages.proofs.Places.{position-last, position-none, position-other}
 use Rattle.ide_pages.proofs.Slots.{full-grown}
@@ -39,16 +39,16 @@ entries-kept pages more cells count paged =
     (λ j l. let in_pages : j / 64 < length pages = omega (arith, paged, l) in
     ap (λ page. key_on page (j % 64)) (sym (page-kept pages more (j / 64) in_pages)))
 
--- the nodes of one page more
-small-push : (pages : List Key) (page : Key) (d : Key) → node_of d < 2 ^ 26 → ((index : ℕ) → node_of (get_or pages index d) < 2 ^ 26) → node_of page < 2 ^ 26
-    → (index : ℕ) → node_of (get_or (pages ++ page ∷ []) index d) < 2 ^ 26
+-- one small page more
+small-push : (pages : List Key) (page : Key) (d : Key) → IsSmall d → ((index : ℕ) → IsSmall (get_or pages index d)) → IsSmall page
+    → (index : ℕ) → IsSmall (get_or (pages ++ page ∷ []) index d)
 small-push pages page d default small own index =
     ⊎_elim
-    (λ l. subst (λ (p : Key). node_of p < 2 ^ 26) (sym (get_or_append_left pages (page ∷ []) d index l)) (small index))
-    (λ l. subst (λ (p : Key). node_of p < 2 ^ 26) (sym (get_or-append_right pages (page ∷ []) (length pages) index d refl l)) (one (index - length pages)))
+    (λ l. subst IsSmall (sym (get_or_append_left pages (page ∷ []) d index l)) (small index))
+    (λ l. subst IsSmall (sym (get_or-append_right pages (page ∷ []) (length pages) index d refl l)) (one (index - length pages)))
     (cases_lt index (length pages))
   where
-    one : (k : ℕ) → node_of (get_or (page ∷ []) k d) < 2 ^ 26
+    one : (k : ℕ) → IsSmall (get_or (page ∷ []) k d)
     one zero = own
     one (suc k) = default
 
@@ -120,13 +120,9 @@ are-none pages cells rows no_pages no_cells no_rows =
       counted = refl;
     }))
   where
-    none-small : (index : ℕ) → node_of (page_at [] index) < 2 ^ 26
+    none-small : (index : ℕ) → IsSmall (page_at [] index)
     none-small zero = lit< tt
     none-small (suc index) = lit< tt
-
-small-page : (page : Key) → IsPage page → node_of page < 2 ^ 26
-small-page (Jump n a b) is = is.0
-small-page (Summary n a b) is = is.0
 
 module _ {pages : List Key} {cells : List ℕ} {rows : RowsData} {count : ℕ} (are : ArePages pages cells rows count) where
   -- other rows that list the same pages
@@ -146,9 +142,9 @@ module _ {pages : List Key} {cells : List ℕ} {rows : RowsData} {count : ℕ} (
         ap (λ ps. entries (numbers_of ps new_cells)) pushed ∙ ap (λ ns. entries (numbers_of (pages ++ page ∷ []) ns)) zeros
         ∙ entries-kept pages (page ∷ []) cells 64 are.paged
 
-    pub are-grown : (new_rows : RowsData) (index : ℕ) → IsPage page → list_any (same_key page) pages ≡ false → index ≡ length pages → index + 1 < 2 ^ 32
+    pub are-grown : (new_rows : RowsData) (index : ℕ) → IsPage page → IsSmall page → list_any (same_key page) pages ≡ false → index ≡ length pages → index + 1 < 2 ^ 32
         → ListsIn (row_of page) (listed_fact page) index rows new_rows → ArePages new_pages new_cells new_rows count
-    are-grown new_rows index is none at few lists =
+    are-grown new_rows index is low none at few lists =
         let long_pages : length new_pages ≡ length pages + 1 = ap length pushed ∙ length-append pages (page ∷ []) in
         let long_cells : length new_cells ≡ length cells + 64 = ap length zeros ∙ length-append cells (replicate 64 0) ∙ ap (λ n. length cells + n) (length-replicate {A = ℕ} 64 0) in
         let paged = are.paged in
@@ -156,15 +152,15 @@ module _ {pages : List Key} {cells : List ℕ} {rows : RowsData} {count : ℕ} (
           paged = omega (arith, long_pages, long_cells, paged);
           few = omega (arith, long_pages, at, few);
           distinct = subst (IsDistinct same_key) (sym pushed) (IsDistinct-push same_key_laws pages page are.distinct none);
-          small = λ k. subst (λ ps. node_of (page_at ps k) < 2 ^ 26) (sym pushed) (small-push pages page (Jump 0 0 0) (lit< tt) are.small (small-page page is) k);
+          small = λ k. subst (λ ps. IsSmall (page_at ps k)) (sym pushed) (small-push pages page (Jump 0 0 0) (lit< tt) are.small low k);
           told = subst (TellPages new_rows) (sym pushed) (told-grown rows new_rows pages page index is none at are.told lists);
           counted = are.counted ∙ ap length (sym entries-grown);
         }
 
-    pub cell-grown : (key : Key) (index offset : ℕ) → page ≡ page_of key → list_any (same_key page) pages ≡ false → index ≡ length pages → offset ≡ node_of key % 64
+    pub cell-grown : (key : Key) (index offset : ℕ) → page ≡ page_of key → list_any (same_key page) pages ≡ false → index ≡ length pages → offset ≡ offset_of key
         → cell_of (numbers_of new_pages new_cells) key ≡ Some (64 * index + offset)
     cell-grown key index offset is none at on =
-        ap (λ ps. cell_on ps (node_of key % 64) (page_of key)) pushed
+        ap (λ ps. cell_on ps (offset_of key) (page_of key)) pushed
         ∙ ap (λ o. cell_on (pages ++ page ∷ []) o (page_of key)) (sym on)
         ∙ ap (cell_on (pages ++ page ∷ []) offset) (sym is)
         ∙ cell-last pages offset page none

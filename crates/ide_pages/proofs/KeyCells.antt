@@ -8,17 +8,17 @@ use Rattle.std.proofs.lemmas.List.{length-append, length-set}
 use Rattle.std.proofs.lemmas.List.FromFn.{fill_by_all}
 use Rattle.std.proofs.lemmas.List.Quantifiers.{position-Some}
 use Rattle.ide_wire.specs.declared.key.Key.{Key}
-use Rattle.ide_wire.specs.declared.key.Key.TheVariants.{Jump}
-use Rattle.ide_wire.specs.Key.{same_key, same_key_exact, node_of}
-use Rattle.ide_pages.specs.Pages.{ArePaged, ArePages, Puts, cell_of, cell_on, entries, key_at, key_on, number_at, number_in, cell_number, numbers_of, numbers_within, own, page_at, page_of, shown, slot_at, slot_by, slots_from, weight}
+use Rattle.ide_wire.specs.declared.key.Key.TheVariants.{Jump, Summary}
+use Rattle.ide_wire.specs.Key.{same_key, same_key_exact}
+use Rattle.ide_pages.specs.Pages.{ArePaged, ArePages, Fits, IsSmall, Puts, cell_of, cell_on, entries, key_at, key_on, number_at, number_in, cell_number, numbers_of, numbers_within, offset_of, own, page_at, page_of, shown, slot_at, slot_by, slots_from, weight}
 use Rattle.ide_pages.specs.Rows.{RowsData}
-use Rattle.ide_pages.proofs.Places.{key_on-page_of, offset-key_on, page_of-key_on, position-at}
+use Rattle.ide_pages.proofs.Places.{key_on-page_of, offset-key_on, offset-within, page_of-key_on, position-at}
 use Rattle.ide_pages.proofs.Numbering.{IsNumbering, distinct-entries, number-after, number-is}
 use Rattle.ide_pages.proofs.Slots.{full, full-get, full-set, get-slots, length-full, length-shown, length-slots, shown-number, shown-some, slots-set}
 
 -- the cell of a key, in the pages
 abbrev pub cell_in : List Key → Key → Option ℕ
-cell_in pages key = cell_on pages (node_of key % 64) (page_of key)
+cell_in pages key = cell_on pages (offset_of key) (page_of key)
 
 -- an offset behind an index, in a cell that is known
 pub mapped : (o : Option ℕ) (offset c : ℕ) → option_map (λ index. 64 * index + offset) o ≡ Some c → (index : ℕ) × (o ≡ Some index) × (64 * index + offset ≡ c)
@@ -28,11 +28,11 @@ mapped (Some index) offset c e = let same : 64 * index + offset ≡ c = cc in (i
 -- a key's cell is that of no other key, and not behind the last
 pub cell-back : (pages : List Key) (q : Key) (c : ℕ) → cell_in pages q ≡ Some c → (key_at pages c ≡ q) × (c < 64 * length pages)
 cell-back pages q c is =
-    let found = mapped (position (same_key (page_of q)) pages) (node_of q % 64) c is in
-    let in_page : node_of q % 64 < 64 = omega arith in
-    let at : c ≡ 64 * found.0 + node_of q % 64 = sym found.2 in
+    let found = mapped (position (same_key (page_of q)) pages) (offset_of q) c is in
+    let in_page = offset-within q in
+    let at : c ≡ 64 * found.0 + offset_of q = sym found.2 in
     let block : c / 64 ≡ found.0 = omega (arith, at, in_page) in
-    let offset : c % 64 ≡ node_of q % 64 = omega (arith, at, in_page) in
+    let offset : c % 64 ≡ offset_of q = omega (arith, at, in_page) in
     let some = position-Some (same_key (page_of q)) pages found.0 (Jump 0 0 0) found.1 in
     let page : page_at pages found.0 ≡ page_of q = sym (same_key_exact (page_of q) (page_at pages found.0) some.1) in (
       ap (λ i. key_on (page_at pages i) (c % 64)) block ∙ ap (λ p. key_on p (c % 64)) page ∙ ap (key_on (page_of q)) offset ∙ key_on-page_of q,
@@ -45,7 +45,7 @@ module _ (pages : List Key) (apart : IsDistinct same_key pages) where
       let page = page_at pages (c / 64) in
       let in_page : c % 64 < 64 = omega arith in
       let whole : 64 * (c / 64) + c % 64 ≡ c = omega arith in
-      ap (cell_on pages (node_of (key_at pages c) % 64)) (page_of-key_on page (c % 64) in_page)
+      ap (cell_on pages (offset_of (key_at pages c))) (page_of-key_on page (c % 64) in_page)
       ∙ ap (λ offset. cell_on pages offset page) (offset-key_on page (c % 64) in_page)
       ∙ ap (option_map (λ index. 64 * index + c % 64)) (position-at pages (c / 64) (Jump 0 0 0) apart (omega arith))
       ∙ ap Some whole
@@ -56,6 +56,11 @@ module _ (pages : List Key) (apart : IsDistinct same_key pages) where
     back = λ q c is. (cell-back pages q c is).0;
     within = λ q c is. let l = (cell-back pages q c is).1 in omega (arith, l);
   }
+
+-- a key on a small page has numbers that fit
+fits-on : (page : Key) (offset : ℕ) → IsSmall page → offset < 64 → Fits (key_on page offset)
+fits-on (Jump block a b) offset small low = omega (arith, small, low)
+fits-on (Summary n a block) offset small low = omega (arith, small, low)
 
 -- what follows of the fields
 module _ {pages : List Key} {cells : List ℕ} {rows : RowsData} {count : ℕ} (are : ArePages pages cells rows count) where
@@ -102,6 +107,10 @@ module _ {pages : List Key} {cells : List ℕ} {rows : RowsData} {count : ℕ} (
       → IfSome r (λ key. cell_of (numbers_of pages cells) key ≡ Some cell)
   key-in None cell is l = tt
   key-in (Some key) cell is l = let p = are.paged in ap (cell_in pages) is ∙ key-of-cell cell (omega (arith, p, l))
+
+  pub key-fits : (r : Option Key) (cell : ℕ) → IfSome r (λ key. key ≡ key_at pages cell) → IfSome r Fits
+  key-fits None cell is = tt
+  key-fits (Some key) cell is = subst Fits (sym is) (fits-on (page_at pages (cell / 64)) (cell % 64) (are.small (cell / 64)) (omega arith))
 
   pub key-end : (r : Option Key) (cell : ℕ) → IfSome r (λ _. cell < 64 * length pages) → IfNone r (64 * length pages ≤ cell)
       → (r ≡ None → length (numbers_of pages cells).slots ≤ cell) × (length (numbers_of pages cells).slots ≤ cell → r ≡ None)

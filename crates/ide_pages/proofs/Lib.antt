@@ -1,3 +1,4 @@
+pub mod Blocks
 pub mod Growth
 pub mod KeyCells
 pub mod Numbering

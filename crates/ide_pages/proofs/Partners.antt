@@ -1,6 +1,6 @@
 -- The numbers of a row's facts at one node, which are read off the row, are exact and ascend. `get` gives the number of the page at an
 -- index, where that is not 0.
-use Rattle.std.proofs.Common.{◌≡◌, ℕ, ◌+◌, ◌*◌, ◌%◌, ◌<◌, ◌^◌, refl, sym, ap, subst, ◌∙◌, arith, List, [], ◌∷◌, Option, None, Some, true, false, cond}
+use Rattle.std.proofs.Common.{◌≡◌, ℕ, ◌+◌, ◌*◌, ◌/◌, ◌%◌, ◌<◌, ◌^◌, refl, sym, ap, subst, ◌∙◌, arith, List, [], ◌∷◌, Option, None, Some, true, false, cond}
 use Rattle.std.specs.Prelude.{position}
 use Rattle.std.specs.BTreeMap.{is_at}
 use Rattle.std.specs.List.{filter_map, cons_option, AllByRecursion}
@@ -11,21 +11,21 @@ use Rattle.std.specs.Ordering.{nat_cmp}
 use Rattle.std.specs.declared.cmp.Ordering.TheVariants.{Less}
 use Rattle.std.proofs.lemmas.Bool.Decides.{nat_tests}
 use Rattle.ide_wire.specs.declared.key.Key.{Key}
-use Rattle.ide_wire.specs.declared.key.Key.TheVariants.{Jump, Summary}
-use Rattle.ide_wire.specs.Key.{same_key, node_of}
-use Rattle.ide_pages.specs.Pages.{ArePages, AreRow, IsPage, key_beside, listed_fact, nonzero, cell_number, number_at, number_by, numbers_of, numbers_within, page_of, partner_of, read_at, row_of}
+use Rattle.ide_wire.specs.declared.key.Key.TheVariants.{Jump}
+use Rattle.ide_wire.specs.Key.{same_key}
+use Rattle.ide_pages.specs.Pages.{ArePages, IsPage, IsRowOfJumps, listed_fact, nonzero, cell_number, number_at, number_by, numbers_of, numbers_within, offset_of, page_of, partner_of, read_at, row_of}
 use Rattle.ide_pages.specs.Rows.{IsRow, RowsData, page_in, row_at}
 use Rattle.ide_pages.proofs.KeyCells.{number-found, number-in-cell}
 
 -- a fact that is at another is that one
-at_exact : (a b : ℕ) → is_at (nat_cmp a) b ≡ true → a ≡ b
+pub at_exact : (a b : ℕ) → is_at (nat_cmp a) b ≡ true → a ≡ b
 at_exact a b e = grind (arith, nat_tests)
 
 not_at : (a b : ℕ) → nat_cmp a b ≡ Less → is_at (nat_cmp a) b ≡ false
 not_at a b less = grind (arith, nat_tests)
 
 -- a fact below all others is none of them
-lookup-above : (fact : ℕ) (row : List (ℕ × ℕ)) → AllByRecursion (λ d. nat_cmp fact d ≡ Less) (keys_of row) → lookup (is_at (nat_cmp fact)) row ≡ None
+pub lookup-above : (fact : ℕ) (row : List (ℕ × ℕ)) → AllByRecursion (λ d. nat_cmp fact d ≡ Less) (keys_of row) → lookup (is_at (nat_cmp fact)) row ≡ None
 lookup-above fact [] above = refl
 lookup-above fact (e ∷ es) above =
     ap (λ b. cond b (Some e.1) (lookup (is_at (nat_cmp fact)) es)) (not_at fact e.0 above.0) ∙ lookup-above fact es above.1
@@ -60,7 +60,7 @@ module _ (get : ℕ → Option ℕ) where
       ]
 
   -- the number of the page that is found, where it is not 0
-  abbrev got : Option ℕ → Option ℕ
+  abbrev pub got : Option ℕ → Option ℕ
   got None = None
   got (Some index) = get index
 
@@ -93,30 +93,13 @@ got-number cells offset (Some index) = refl
 
 module _ {pages : List Key} {cells : List ℕ} {rows : RowsData} {count : ℕ} (are : ArePages pages cells rows count) where
   -- the number of the key whose page a row has at a fact
-  number-listed : (key : Key) → IsPage (page_of key)
-      → got (λ index. nonzero (number_by cells (node_of key % 64) index)) (page_in (row_at rows (row_of (page_of key))) (listed_fact (page_of key)))
+  pub number-listed : (key : Key) → IsPage (page_of key)
+      → got (λ index. nonzero (number_by cells (offset_of key) index)) (page_in (row_at rows (row_of (page_of key))) (listed_fact (page_of key)))
       ≡ nonzero (number_at (numbers_of pages cells) key)
   number-listed key is =
-      ap (got (λ index. nonzero (number_by cells (node_of key % 64) index))) (are.told (page_of key) is)
-      ∙ got-number cells (node_of key % 64) (position (same_key (page_of key)) pages)
+      ap (got (λ index. nonzero (number_by cells (offset_of key) index))) (are.told (page_of key) is)
+      ∙ got-number cells (offset_of key) (position (same_key (page_of key)) pages)
       ∙ ap nonzero (sym (number-found are key))
-
-  listed-beside : (key : Key) (d : ℕ) → IsPage (page_of key) → d < 2 ^ 16
-      → got (λ index. nonzero (number_by cells (node_of key % 64) index)) (page_in (row_at rows (row_of (page_of key))) d)
-      ≡ nonzero (number_at (numbers_of pages cells) (key_beside key d))
-  listed-beside (Jump n a b) d is few = number-listed (Jump n d b) (is.0, few, is.2)
-  listed-beside (Summary n a b) d is few = number-listed (Summary n a d) (is.0, is.1, few)
-
-  -- the row of a key, read at its offset
-  are-row : (most : ℕ) (key : Key) (row : List (ℕ × ℕ)) → IsPage (page_of key) → row ≡ row_at rows (row_of (page_of key)) → IsRow row
-      → AreRow (key_beside key) (numbers_within most pages cells) (filter_map (partner_of (number_by cells (node_of key % 64))) row)
-  are-row most key row is at sorted =
-      let get : ℕ → Option ℕ = λ index. nonzero (number_by cells (node_of key % 64) index) in
-      record {
-        ascending = ascending get row sorted.ascending;
-        within = all-partners get (λ d. d < 2 ^ 16) row sorted.within;
-        exact = λ d few. exact get row d sorted.ascending ∙ ap (λ r. got get (page_in r d)) at ∙ listed-beside key d is few;
-      }
 
   -- the numbers in the cells of the pages that are listed are those of the keys
   read-listed : (offset : ℕ) (row : List (ℕ × ℕ)) → read_at (numbers_of pages cells) offset row ≡ filter_map (partner_of (number_by cells offset)) row
@@ -125,8 +108,16 @@ module _ {pages : List Key} {cells : List ℕ} {rows : RowsData} {count : ℕ} (
       ap (λ n. cons_option (option_map (λ (m : ℕ). (e.0, m)) (nonzero n)) (read_at (numbers_of pages cells) offset es)) (number-in-cell are (64 * e.1 + offset))
       ∙ ap (cons_option (partner_of (number_by cells offset) e)) (read-listed offset es)
 
-  -- the row of a key, where the pages that it lists are read at its offset
-  pub are-listed : (most : ℕ) (key : Key) (row : List (ℕ × ℕ)) → IsPage (page_of key) → row ≡ row_at rows (row_of (page_of key)) → IsRow row
-      → AreRow (key_beside key) (numbers_within most pages cells) (read_at (numbers_within most pages cells) (node_of key % 64) row)
-  are-listed most key row is at sorted =
-      subst (AreRow (key_beside key) (numbers_within most pages cells)) (sym (read-listed (node_of key % 64) row)) (are-row most key row is at sorted)
+  -- the pages of the jumps at a node to a fact, read at the node's offset
+  pub are-jumps : (most node fact : ℕ) (row : List (ℕ × ℕ)) → node < 2 ^ 32 → fact < 2 ^ 16 → row ≡ row_at rows (row_of (Jump (node / 64) 0 fact)) → IsRow row
+      → IsRowOfJumps node fact (numbers_within most pages cells) (read_at (numbers_within most pages cells) (node % 64) row)
+  are-jumps most node fact row low few at sorted =
+      let get : ℕ → Option ℕ = λ index. nonzero (number_by cells (node % 64) index) in
+      subst (IsRowOfJumps node fact (numbers_within most pages cells)) (sym (read-listed (node % 64) row))
+      (record {
+        ascending = ascending get row sorted.ascending;
+        within = all-partners get (λ d. d < 2 ^ 16) row sorted.within;
+        exact = λ d within.
+            exact get row d sorted.ascending ∙ ap (λ r. got get (page_in r d)) at
+            ∙ number-listed (Jump node d fact) (omega (arith, low), within, few);
+      })

@@ -9,8 +9,8 @@ use Rattle.std.proofs.lemmas.Map.Keys.{IsDistinct-tail, apart_from_distinct}
 use Rattle.std.proofs.lemmas.Option.{get_or_from_slice_get, slice_get_within}
 use Rattle.ide_wire.specs.declared.key.Key.{Key}
 use Rattle.ide_wire.specs.declared.key.Key.TheVariants.{Jump, Summary}
-use Rattle.ide_wire.specs.Key.{same_key, same_key_laws, node_of}
-use Rattle.ide_pages.specs.Pages.{key_on, page_of}
+use Rattle.ide_wire.specs.Key.{same_key, same_key_laws}
+use Rattle.ide_pages.specs.Pages.{key_on, offset_of, page_of}
 
 -- ---- a key, its page and its offset
 
@@ -20,20 +20,24 @@ block-of block offset l = omega arith
 offset-of : (block offset : ℕ) → offset < 64 → (64 * block + offset) % 64 ≡ offset
 offset-of block offset l = omega arith
 
-node-of : (node : ℕ) → 64 * (node / 64) + node % 64 ≡ node
-node-of node = omega arith
+whole-of : (n : ℕ) → 64 * (n / 64) + n % 64 ≡ n
+whole-of n = omega arith
 
 pub page_of-key_on : (page : Key) (offset : ℕ) → offset < 64 → page_of (key_on page offset) ≡ page
 page_of-key_on (Jump block a b) offset l = ap (λ n. Jump n a b) (block-of block offset l)
-page_of-key_on (Summary block a b) offset l = ap (λ n. Summary n a b) (block-of block offset l)
+page_of-key_on (Summary n a block) offset l = ap (Summary n a) (block-of block offset l)
 
-pub offset-key_on : (page : Key) (offset : ℕ) → offset < 64 → node_of (key_on page offset) % 64 ≡ offset
+pub offset-key_on : (page : Key) (offset : ℕ) → offset < 64 → offset_of (key_on page offset) ≡ offset
 offset-key_on (Jump block a b) offset l = offset-of block offset l
-offset-key_on (Summary block a b) offset l = offset-of block offset l
+offset-key_on (Summary n a block) offset l = offset-of block offset l
 
-pub key_on-page_of : (key : Key) → key_on (page_of key) (node_of key % 64) ≡ key
-key_on-page_of (Jump n a b) = ap (λ m. Jump m a b) (node-of n)
-key_on-page_of (Summary n a b) = ap (λ m. Summary m a b) (node-of n)
+pub key_on-page_of : (key : Key) → key_on (page_of key) (offset_of key) ≡ key
+key_on-page_of (Jump n a b) = ap (λ m. Jump m a b) (whole-of n)
+key_on-page_of (Summary n a b) = ap (Summary n a) (whole-of b)
+
+pub offset-within : (key : Key) → offset_of key < 64
+offset-within (Jump n a b) = omega arith
+offset-within (Summary n a b) = omega arith
 
 -- ---- the place of what passes a test
 

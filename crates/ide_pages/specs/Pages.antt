@@ -8,7 +8,7 @@ use Rattle.std.specs.Option.{option_map, option_to_list, unwrap_or}
 use Rattle.std.specs.Ordering.{nat_cmp}
 use Rattle.ide_wire.specs.declared.key.Key.{Key}
 use Rattle.ide_wire.specs.declared.key.Key.TheVariants.{Jump, Summary}
-use Rattle.ide_wire.specs.Key.{same_key, node_of}
+use Rattle.ide_wire.specs.Key.{same_key}
 use Rattle.ide_pages.specs.Rows.{RowsData, page_in, row_at}
 
 -- numbers at keys: for each cell its key with its number, where that is not 0; the pages, 64 cells each, in the order of their cells;
@@ -26,10 +26,16 @@ entries numbers = filter_map (λ slot. slot) numbers.slots
 abbrev pub number_at : Numbers → Key → ℕ
 number_at numbers key = unwrap_or (lookup (same_key key) (entries numbers)) 0
 
--- the page that a key is on: it has the keys of 64 nodes, of one kind and one pair of facts
+-- the page that a key is on: that of a jump has those between the two facts at 64 nodes, that of a summary those over the call from the
+-- first fact to 64 facts
 abbrev pub page_of : Key → Key
 page_of (Jump n a b) = Jump (n / 64) a b
-page_of (Summary n a b) = Summary (n / 64) a b
+page_of (Summary n a b) = Summary n a (b / 64)
+
+-- and the offset at which it is there
+abbrev pub offset_of : Key → ℕ
+offset_of (Jump n a b) = n % 64
+offset_of (Summary n a b) = b % 64
 
 -- the cell at an offset of the page, if there is the page
 abbrev pub cell_on : List Key → ℕ → Key → Option ℕ
@@ -37,7 +43,7 @@ cell_on pages offset page = option_map (λ index. 64 * index + offset) (position
 
 -- the cell of the key, if there is its page
 abbrev pub cell_of : Numbers → Key → Option ℕ
-cell_of numbers key = cell_on numbers.pages (node_of key % 64) (page_of key)
+cell_of numbers key = cell_on numbers.pages (offset_of key) (page_of key)
 
 -- what the cell shows: its key with its number, where that is not 0; nothing behind the last cell
 abbrev pub slot_at : Numbers → ℕ → Option (Key × ℕ)
@@ -93,7 +99,12 @@ IsRowOfSummaries call fact numbers row = AreRow (Summary call fact) numbers row
 -- the key at an offset of the page
 abbrev pub key_on : Key → ℕ → Key
 key_on (Jump block a b) offset = Jump (64 * block + offset) a b
-key_on (Summary block a b) offset = Summary (64 * block + offset) a b
+key_on (Summary n a block) offset = Summary n a (64 * block + offset)
+
+-- a jump's node is one that fits, and so is the fact to which a summary leads
+abbrev pub Fits : Key → Type 0
+Fits (Jump n a b) = n < 2 ^ 32
+Fits (Summary n a b) = b < 2 ^ 16
 
 -- the page at an index, where one that is not there stands for any page
 abbrev pub page_at : List Key → ℕ → Key
@@ -151,30 +162,30 @@ pub record GrowsFor (key : Key) (limit : ℕ) (old new : Numbers) : Type 0 where
 abbrev pub weight : ℕ → ℕ
 weight n = if nat_eq n 0 then 0 else 1
 
--- the number of a row: in its highest part is the kind, 0 of jumps and 1 of summaries; then come the block of nodes, and the fact
--- that its pages have in common
-abbrev pub row_number : (kind block fact : ℕ) → ℕ
-row_number kind block fact = kind * 4398046511104 + block * 65536 + fact
+-- the number of a row: in its highest part is the kind, 0 of jumps and 1 of summaries; then come the block of nodes, or the call, and
+-- the fact that its pages have in common
+abbrev pub row_number : (kind place fact : ℕ) → ℕ
+row_number kind place fact = kind * 281474976710656 + place * 65536 + fact
 
 -- the row of a page: that of the jumps to its fact, or of the summaries from it
 abbrev pub row_of : Key → ℕ
 row_of (Jump n a b) = row_number 0 n b
-row_of (Summary n a b) = row_number 1 n a
+row_of (Summary n a block) = row_number 1 n a
 
--- the fact that tells the page from the others of its row: of a jump where it starts, of a summary where it returns
+-- what tells the page from the others of its row: of jumps the fact where they start, of summaries the block of the facts where they return
 abbrev pub listed_fact : Key → ℕ
 listed_fact (Jump n a b) = a
-listed_fact (Summary n a b) = b
+listed_fact (Summary n a block) = block
 
--- the key of the same kind, at the same node, in the same row, with this fact to tell it from the others
-abbrev pub key_beside : Key → ℕ → Key
-key_beside (Jump n a b) d = Jump n d b
-key_beside (Summary n a b) d = Summary n a d
-
--- the block of a page and its facts are numbers that fit
+-- the numbers of a page fit where those of a key have to
 abbrev pub IsPage : Key → Type 0
 IsPage (Jump n a b) = (n < 2 ^ 26) × (a < 2 ^ 16) × (b < 2 ^ 16)
-IsPage (Summary n a b) = (n < 2 ^ 26) × (a < 2 ^ 16) × (b < 2 ^ 16)
+IsPage (Summary n a block) = (n < 2 ^ 32) × (a < 2 ^ 16) × (block < 2 ^ 16)
+
+-- and its block is so small that each key on it has numbers that fit
+abbrev pub IsSmall : Key → Type 0
+IsSmall (Jump n a b) = n < 2 ^ 26
+IsSmall (Summary n a block) = block < 2 ^ 10
 
 -- each page is told by its row, with its index
 abbrev pub TellPages : RowsData → List Key → Type 0
@@ -196,12 +207,29 @@ number_on_page numbers offset index = number_in numbers (64 * index + offset)
 abbrev pub read_at : Numbers → ℕ → List (ℕ × ℕ) → List (ℕ × ℕ)
 read_at numbers offset pages = filter_map (partner_of (number_on_page numbers offset)) pages
 
+-- the fact at an offset of a block, with the number there on the block's page, where that is not 0
+abbrev pub partner_on : Numbers → ℕ × ℕ → (offset : ℕ) → Option (ℕ × ℕ)
+partner_on numbers listed offset = option_map (λ n. (64 * listed.0 + offset, n)) (nonzero (number_on_page numbers offset listed.1))
+
+-- the facts of a block, each with its number on the block's page, where that is not 0
+abbrev pub read_block : Numbers → ℕ × ℕ → List (ℕ × ℕ)
+read_block numbers listed = filter_map (partner_on numbers listed) (range_with_len 0 64)
+
+-- the blocks are those of facts that fit
+abbrev pub AreBlocks : List (ℕ × ℕ) → Type 0
+AreBlocks pages = AllByRecursion (λ block. block < 2 ^ 10) (keys_of pages)
+
+-- those of blocks, one behind the other
+abbrev pub read_blocks : Numbers → List (ℕ × ℕ) → List (ℕ × ℕ)
+read_blocks numbers [] = []
+read_blocks numbers (listed ∷ more) = read_block numbers listed ++ read_blocks numbers more
+
 -- what holds of the fields: each page has 64 cells and stands once, they and the nodes of their keys are counted by 32 bits, the row of a
 -- page tells its index, and the count is that of the entries
 pub record ArePages (pages : List Key) (cells : List ℕ) (rows : RowsData) (count : ℕ) : Type 0 where
   pub paged : length cells ≡ 64 * length pages
   pub few : length pages < 2 ^ 32
   pub distinct : IsDistinct same_key pages
-  pub small : (index : ℕ) → node_of (page_at pages index) < 2 ^ 26
+  pub small : (index : ℕ) → IsSmall (page_at pages index)
   pub told : TellPages rows pages
   pub counted : count ≡ length (entries (numbers_of pages cells))

@@ -1,8 +1,8 @@
 //! The cells of pages.
 ghost use Rattle.std.specs.Prelude.{◌≡◌, ℕ, ◌*◌, ◌<◌, ◌≤◌, ◌^◌, Some, true, length, slice_get, IfSome, IfNone};
 ghost use Rattle.std.specs.List.{IsDistinct};
-ghost use Rattle.ide_wire.specs.Key.{node_of, same_key};
-ghost use Rattle.ide_pages.specs.Pages.{IsPage, TellPages, cell_number, cell_on, key_at, page_at};
+ghost use Rattle.ide_wire.specs.Key.{same_key};
+ghost use Rattle.ide_pages.specs.Pages.{IsPage, IsSmall, TellPages, cell_number, cell_on, key_at, page_at};
 
 use crate::cell_numbers::CellNumbers;
 use crate::keys;
@@ -46,7 +46,7 @@ pub(crate) fn is_page_at(pages: &[Key], index: usize, page: Key) -> bool
 
 // The key of the cell, or `None` behind the last cell. No look-up.
 pub(crate) fn key_at(pages: &[Key], cell: usize) -> Option<Key>
-    requires { (index : ℕ) → node_of (page_at pages.now index) < 2 ^ 26 }
+    requires { (index : ℕ) → IsSmall (page_at pages.now index) }
     ensures key { IfSome result (λ key. key ≡ key_at pages.now cell) }
     ensures there { IfSome result (λ _. cell < 64 * length pages.now) }
     ensures end { IfNone result (64 * length pages.now ≤ cell) }

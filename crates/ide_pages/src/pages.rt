@@ -5,8 +5,8 @@ ghost use Rattle.std.specs.Map.{keys_of};
 ghost use Rattle.ide_wire.specs.declared.key.Key.{Key};
 ghost use Rattle.ide_wire.specs.declared.key.Key.TheVariants.{Jump, Summary};
 ghost use Rattle.ide_wire.specs.declared.refused.Refused.TheVariants.{NoMemory};
-ghost use Rattle.ide_wire.specs.Key.{node_of, same_key};
-ghost use Rattle.ide_pages.specs.Pages.{ArePaged, AreRow, GrowsFor, IsPage, IsRowOfJumps, IsRowOfSummaries, IsNumberIn, Puts, cell_of, entries, key_beside, listed_fact, number_at, number_in, read_at, row_of, slot_at, weight};
+ghost use Rattle.ide_wire.specs.Key.{same_key};
+ghost use Rattle.ide_pages.specs.Pages.{AreBlocks, ArePaged, Fits, GrowsFor, IsPage, IsRowOfJumps, IsRowOfSummaries, IsNumberIn, IsSmall, Puts, cell_of, entries, listed_fact, number_at, number_in, read_at, read_blocks, row_of, slot_at, weight};
 ghost use Rattle.ide_pages.specs.Alike.{EndsAtOther, HaveNumber};
 ghost use Rattle.ide_pages.specs.Rows.{KeepsPages, ListsIn, page_in, row_at};
 
@@ -23,9 +23,10 @@ const MOST_PAGES: usize = 4_294_967_295;
 /// A finite map from keys to numbers, where an absent key has 0. It has 4,294,967,295 pages at most. A cell has room for
 /// a number of one byte at first, and for greater ones once [`Pages::widen`] was called.
 ///
-/// A look-up finds the row of a key's page, by a number, and a search in the row finds the page: a row has those of one
-/// kind and one block of nodes that have one fact in common, a jump's its end and a summary's its start. None is
-/// needed for the page that was asked for last, nor for a row that is known: 1,024 of those that were asked for are,
+/// A page has the keys of 64 cells: of jumps those between two facts at the nodes of a block of 64, of summaries those
+/// over one call from one fact to the facts of a block of 64. A look-up finds the row of a key's page, by a number, and a
+/// search in the row finds the page: a row has those of jumps to one fact at one block, or those of summaries over one call
+/// from one fact. None is needed for the page that was asked for last, nor for a row that is known: 1,024 of those that were asked for are,
 /// at most.
 #[derive(Drop)]
 pub struct Pages {
@@ -152,6 +153,7 @@ impl Pages {
     /// The cell's key, or `None` behind the last cell. No look-up.
     pub fn key_in(&self, cell: usize) -> Option<Key>
         ensures key { IfSome result (λ key. cell_of self.now key ≡ Some cell) }
+        ensures fits { IfSome result Fits }
         ensures end { (result ≡ None) ↔ (length self.now.slots ≤ cell) }
     {
         cells::key_at(&self.pages, cell)
@@ -258,24 +260,17 @@ impl Pages {
     pub fn pages_of_jumps(&self, node: Node, fact: Fact) -> &[(Fact, u32)]
         ensures row { IsRowOfJumps node fact self.now (read_at self.now (node % 64) result.now) }
     {
-        self.row_pages(Key::Jump(node, 0, fact))
+        self.rows.row(keys::row_of(Key::Jump(node / 64, 0, fact)))
     }
 
-    /// The pages that have the summaries at the call from the fact: for each the fact at the return
-    /// site, and the page's index, ascending by fact. The number of such a summary is that in the cell
-    /// at 64 times the index and the call's offset, its remainder by 64. They are lent: it takes one
-    /// look-up and no memory.
+    /// The pages that have the summaries over the call from the fact: for each a block of 64 facts at the return site,
+    /// and the page's index, ascending by block. The number of the summary to the fact at an offset of its block is that in
+    /// the cell at 64 times the index and the offset. They are lent: it takes one look-up and no memory.
     pub fn pages_of_summaries(&self, call: Node, fact: Fact) -> &[(Fact, u32)]
-        ensures row { IsRowOfSummaries call fact self.now (read_at self.now (call % 64) result.now) }
+        ensures row { IsRowOfSummaries call fact self.now (read_blocks self.now result.now) }
+        ensures few { AreBlocks result.now }
     {
-        self.row_pages(Key::Summary(call, fact, 0))
-    }
-
-    /// The facts of the key's row, each with the index of its page.
-    fn row_pages(&self, key: Key) -> &[(Fact, u32)]
-        ensures { AreRow (key_beside key) self.now (read_at self.now (node_of key % 64) result.now) }
-    {
-        self.rows.row(keys::row_of(keys::page_of(key)))
+        self.rows.row(keys::row_of(Key::Summary(call, fact, 0)))
     }
 
     /// A map with the same numbers in the same cells.
@@ -313,6 +308,7 @@ fn add_page(
     page: Key,
 ) -> Result<usize, Refused>
     requires page { IsPage page }
+    requires small { IsSmall page }
     requires absent { page_in (row_at rows.old (row_of page)) (listed_fact page) ≡ None }
     ensures index { IfOk result (λ index. index ≡ length pages.old.items) }
     ensures few { IfOk result (λ index. index + 1 < 2 ^ 32) }

@@ -42,9 +42,10 @@ impl Row {
     }
 
     /// Where the fact stands, or would stand: facts are looked for in their order more often than not, so the place
-    /// where one was found last and the one behind it are looked at first.
+    /// where one was found last and the one behind it are looked at first; and then where one was found in the row that was
+    /// asked for before, as facts that many rows have stand at the same places of these.
     #[inline(always)]
-    pub(crate) fn place(&self, last: usize, fact: Fact) -> usize
+    pub(crate) fn place(&self, last: usize, beside: usize, fact: Fact) -> usize
         ensures { IsPlace fact self.now result }
     {
         if self.is_at(last, fact) {
@@ -53,6 +54,9 @@ impl Row {
         let next = last.saturating_add(1);
         if self.is_at(next, fact) {
             return next;
+        }
+        if self.is_at(beside, fact) {
+            return beside;
         }
         self.search(fact)
     }

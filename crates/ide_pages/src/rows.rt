@@ -18,6 +18,8 @@ pub(crate) struct Rows {
     /// found with no look-up, and a fact in it that stands where the last one did, or behind it, with no search. There
     /// is no seat before a row is made, in a copy either.
     known: Vec<KnownRow>,
+    /// The place of the fact that was asked for last, in whichever row.
+    last: usize,
 }
 
 /// A row that was asked for: its index, and the place of the fact that was asked for in it. Both are looked at before
@@ -38,7 +40,7 @@ const UNKNOWN: KnownRow = KnownRow { index: 0, place: 0 };
 /// seat: those of facts side by side at one block do not.
 #[inline(always)]
 fn seat_of(number: u64) -> usize {
-    (number ^ (number >> 10) ^ (number >> 37)) as usize % KNOWN
+    (number ^ (number >> 10) ^ (number >> 43)) as usize % KNOWN
 }
 
 impl Model for Rows {
@@ -62,6 +64,7 @@ impl Rows {
             numbers: IndexSet::new(alloc),
             rows: Vec::new(alloc),
             known: Vec::new(alloc),
+            last: 0,
         }
     }
 
@@ -71,7 +74,7 @@ impl Rows {
     {
         let known = self.known_row(number);
         let row = &self.rows[self.index_by(known, number)?];
-        row.page_at(row.place(known.place as usize, fact), fact)
+        row.page_at(row.place(known.place as usize, self.last, fact), fact)
     }
 
     /// The same, where it is remembered which row and which place were asked for.
@@ -83,8 +86,9 @@ impl Rows {
         let known = self.known_row(number);
         let index = self.index_by(known, number)?;
         let row = &self.rows[index];
-        let place = row.place(known.place as usize, fact);
+        let place = row.place(known.place as usize, self.last, fact);
         let page = row.page_at(place, fact);
+        self.last = place;
         remember(&mut self.known, number, index, place);
         page
     }
@@ -97,7 +101,8 @@ impl Rows {
         ensures same { OnErr result (KeepsPages self.old self.new) }
     {
         let index = self.make_row(number)?;
-        let place = self.rows[index].place(self.known_row(number).place as usize, fact);
+        let known = self.known_row(number);
+        let place = self.rows[index].place(known.place as usize, self.last, fact);
         insert_in(&mut self.rows, index, place, fact, page)?;
         remember(&mut self.known, number, index, place);
         Ok(())
@@ -172,6 +177,7 @@ impl Rows {
             numbers: copied_numbers(&self.numbers)?,
             rows: copied_rows(alloc, &self.rows)?,
             known: Vec::new(alloc),
+            last: 0,
         })
     }
 }

@@ -147,16 +147,17 @@ fn expect_tables(rt: &impl Abort, image: Image) {
     assert!(rt; tables.cell_count() == 128);
     assert!(rt; tables.entry_in(0).is_none());
     assert!(rt; tables.entry_in(1) == Some((FIRST, ConstFn::id())));
-    assert!(rt; tables.entry_in(65) == Some((SECOND, ConstFn::id())));
+    assert!(rt; tables.entry_in(66) == Some((SECOND, ConstFn::id())));
     assert!(rt; tables.entry_in(129).is_none());
     assert!(rt; tables.get(SECOND) == Some(ConstFn::id()));
     expect_pages(rt, &tables);
 }
 
-/// Asserts of these tables that each page begins with the key at node 0, and which cells have functions.
+/// Asserts of these tables that the page of the jump begins at node 0, and that of the summary with fact 0; and which cells
+/// have functions.
 fn expect_pages(rt: &impl Abort, tables: &Tables<ConstFn>) {
     assert!(rt; tables.first_key(0) == Some(Key::Jump(0, 0, 2)));
-    assert!(rt; tables.first_key(1) == Some(Key::Summary(0, 0, 2)));
+    assert!(rt; tables.first_key(1) == Some(Key::Summary(1, 0, 0)));
     assert!(rt; tables.first_key(2).is_none());
     assert!(rt; tables.function_in(0).is_none());
     assert!(rt; tables.function_in(1) == Some(ConstFn::id()));

@@ -1,4 +1,4 @@
-use Rattle.std.proofs.Common.{◌≡◌, ◌++◌, ◌∷◌, [], ap, ◌∙◌}
+use Rattle.std.proofs.Common.{◌++◌, ◌∷◌, [], ap, ◌∙◌}
 use Rattle.ide_image.specs.Changes.{Changes, notes_by}
 use Rattle.ide_image.proofs.Codes.{note-more}
 use Rattle.ide_image.proofs.changes.Changes.push.Goals as goal

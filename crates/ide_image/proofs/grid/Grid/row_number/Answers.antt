@@ -1,8 +1,8 @@
-use Rattle.std.proofs.Common.{◌≡◌, ◌%◌, ◌∙◌, ap, arith, length, subst}
+use Rattle.std.proofs.Common.{◌≡◌, ◌∙◌, ap, arith, length, subst}
 use Rattle.std.proofs.lemmas.Grind.{get_or_default_zero}
 use Rattle.std.specs.Prelude.{slice_index}
 use Rattle.std.proofs.lemmas.Bool.Decides.{nat_tests}
-use Rattle.ide_wire.specs.Key.{node_of}
+use Rattle.ide_pages.specs.Pages.{offset_of}
 use Rattle.ide_image.specs.Cells.{BeginsWith, tables_of}
 use Rattle.ide_image.proofs.Rows.{row-numbered}
 use Rattle.ide_image.proofs.grid.Grid.row_number.Goals as goal
@@ -18,5 +18,5 @@ returns-clause-number g c =
     (c.index.ensures ∙ get_or_default_zero c.self.inside.pages.items c.args.row c.index.result.now (omega (arith, same, c.requires.there))
     ∙ ap (λ pages. slice_index pages c.args.row) c.self.view_is)
     c.in_ok-key.ensures.first in
-    let whole : node_of key % 64 ≡ 0 = grind (arith, nat_tests, c.node.ensures, c.if-node-ne0.false) in
+    let whole : offset_of key ≡ 0 = grind (arith, nat_tests, c.offset_of.ensures.offset, c.if-offset_of-ne0.false) in
     row-numbered indexed pages c.args.row key c.number_of.result c.requires.there begins whole c.number_of.ensures

@@ -1,6 +1,6 @@
-use Rattle.std.proofs.Common.{◌%◌, sym, subst}
+use Rattle.std.proofs.Common.{sym, subst}
 use Rattle.ide_wire.specs.declared.key.Key.TheVariants.{Summary}
-use Rattle.ide_pages.specs.Pages.{read_at}
+use Rattle.ide_pages.specs.Pages.{read_blocks}
 use Rattle.ide_image.specs.Tables.{ArePartners}
 use Rattle.ide_image.specs.Indexed.{cells_by, table_of}
 use Rattle.ide_image.proofs.Columns.{are-partners}
@@ -12,6 +12,6 @@ returns-clause-partners g c =
     let functions = c.self.inside.functions.items in
     let are = c.self.invariant in
     rw (← c.self.view_is)
-    (subst (ArePartners (Summary c.args.call c.args.fact) (table_of (cells_by numbers functions))) (sym c.in_ok-fill_partners.ensures)
-    (are-partners numbers functions are.paged are.kept g.F.EdgeFn.edge.all_top (Summary c.args.call c.args.fact) (read_at numbers (c.args.call % 64) c.pages_of_summaries-pages.result.now)
+    (subst (ArePartners (Summary c.args.call c.args.fact) (table_of (cells_by numbers functions))) (sym c.in_ok-fill_from_blocks.ensures)
+    (are-partners numbers functions are.paged are.kept g.F.EdgeFn.edge.all_top (Summary c.args.call c.args.fact) (read_blocks numbers c.pages_of_summaries-pages.result.now)
     c.pages_of_summaries-pages.ensures.row))

@@ -16,7 +16,7 @@ pub invariant_of-self-2 : goal.invariant_of-self-2
 invariant_of-self-2 c =
     are-grown c.self.invariant c.page_of-page.result c.add_page.new.pages.items c.add_page.new.cells.items
     c.in_ok-index.ensures.pages c.in_ok-index.ensures.cells
-    c.add_page.new.rows c.in_ok-index.index c.page_of-page.ensures.is (absent c)
+    c.add_page.new.rows c.in_ok-index.index c.page_of-page.ensures.is c.page_of-page.ensures.small (absent c)
     c.in_ok-index.ensures.index c.in_ok-index.ensures.few
     c.in_ok-index.ensures.rows
 
