@@ -37,8 +37,7 @@ pub record IsGrid (has_row : List Bool) (pages : List ℕ) : Type 0 where
 
 -- ---- the order of rows, each told by a number that has the rank of its first key and its index
 
--- the kind of a row, 0 of jumps and else of summaries, from which the step from the rank of a key on its page to the next one follows: keys of
--- jumps are a node apart, and those of summaries a fact
+-- how far the ranks of keys are apart that stand side by side on a page: of kind 0, jumps, a node, and of the other, summaries, a fact
 abbrev pub step_of : (kind : ℕ) → ℕ
 step_of zero = 16777216
 step_of (suc n) = 1
@@ -47,11 +46,12 @@ step_of (suc n) = 1
 abbrev pub rank_at : (number offset : ℕ) → ℕ
 rank_at number offset = number / 65536 + offset * step_of (number / 9223372036854775808)
 
--- what rows of a block have in common: of jumps the node of the first key; and a row of summaries is a block of its own
+-- what rows of one kind and one block have in common: of jumps the node of the first key, and of summaries its rank, which no other row has
 abbrev pub block_by : (kind number : ℕ) → ℕ
 block_by zero number = number / 1099511627776
 block_by (suc n) number = number / 65536
 
+-- the same of a number, which tells its kind
 abbrev pub block_of : ℕ → ℕ
 block_of number = block_by (number / 9223372036854775808) number
 
@@ -63,7 +63,7 @@ bound_at number offset = (block_of number + offset) * step_of (number / 92233720
 abbrev pub RanksAscend : List ℕ → Type 0
 RanksAscend numbers = (i j : ℕ) → i < j → j < length numbers → slice_index numbers i / 65536 < slice_index numbers j / 65536
 
--- and the rows are those of pages, with blocks 64 steps apart, of which those of jumps come first
+-- and the rows are those of pages, with blocks 64 steps apart
 pub record AreRows (pages numbers : List ℕ) : Type 0 where
   pub ascend : RanksAscend numbers
   pub there : All (λ number. number % 65536 < length pages) numbers

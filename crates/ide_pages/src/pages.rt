@@ -26,8 +26,8 @@ const MOST_PAGES: usize = 4_294_967_295;
 /// A page has the keys of 64 cells: of jumps those between two facts at the nodes of a block of 64, of summaries those
 /// over one call from one fact to the facts of a block of 64. A look-up finds the row of a key's page, by a number, and a
 /// search in the row finds the page: a row has those of jumps to one fact at one block, or those of summaries over one call
-/// from one fact. None is needed for the page that was asked for last, nor for a row that is known: 1,024 of those that were asked for are,
-/// at most.
+/// from one fact. None is needed for the page that was asked for last, nor for a row that is known: 1,024 of those that
+/// were asked for are, at most.
 #[derive(Drop)]
 pub struct Pages {
     /// The key of each page.
