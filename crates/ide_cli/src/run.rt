@@ -220,7 +220,7 @@ fn once<'a, R: Files<File = File> + AllocGlobal + Threads + Sync, O: Write>(
 {
     let text = read_file(rt, file)?;
     let root = procedure.as_bytes();
-    Ok(solve_by(rt, instance, text.as_slice(), root, workers, out)?)
+    Ok(solve_by(rt, instance, text, root, workers, out)?)
 }
 
 /// Writes the dump of the program that the text spells, by that analysis and with that root. So many
@@ -228,12 +228,12 @@ fn once<'a, R: Files<File = File> + AllocGlobal + Threads + Sync, O: Write>(
 fn solve_by<R: AllocGlobal + Threads + Sync, O: Write>(
     rt: &R,
     instance: Instance,
-    text: &[u8],
+    text: Vec<u8>,
     root: &[u8],
     workers: usize,
     out: &mut O,
 ) -> Result<io::Result<()>, Refused>
-    ensures written { WritesBest instance text.now root.now result O.contents out.old out.new }
+    ensures written { WritesBest instance text.items root.now result O.contents out.old out.new }
     ensures unchanged { OnErr result (out.new ≡ out.old) }
 {
     let alloc = rt.alloc();

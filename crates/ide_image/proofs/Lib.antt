@@ -10,6 +10,7 @@ pub mod Keys
 pub mod Left
 pub mod Listed
 pub mod Marked
+pub mod OfBits
 pub mod Picked
 pub mod Places
 pub mod Ranges

@@ -1,14 +1,15 @@
 -- Slots on the stack of those that wait, and those that are taken off it.
 use Rattle.std.proofs.Common.{◌≡◌, ℕ, zero, suc, ◌+◌, ◌<◌, ◌≤◌, ◌++◌, refl, sym, ap, ◌∙◌, arith, List, [], ◌∷◌, get_or, length, Bool, true, false, cond, Some, ⊎_elim}
 use Rattle.std.specs.Prelude.{nat_eq, slice_get, slice_set}
-use Rattle.std.specs.List.{count_by, swap_remove}
+use Rattle.std.specs.List.{count_by, sum_by, swap_remove}
 use Rattle.std.proofs.lemmas.Bool.{both_ways, cases_Bool, cases_eq, eq-eqb, eqb-true, ne_eqb}
 use Rattle.std.proofs.lemmas.Grind.{common_steps}
 use Rattle.std.proofs.lemmas.List.Sums.{count_by-le-length, get_or-le-sum_by, sum_by-set, sum_by-swap_remove, sum_by_push}
+use Rattle.std.proofs.lemmas.List.{get_or-set_other, length-set}
 use Rattle.std.proofs.lemmas.Option.{get_or_from_slice_get, slice_get_within}
 use Rattle.ide_image.specs.declared.mark.Mark.{Mark}
-use Rattle.ide_image.specs.declared.mark.Mark.TheVariants.{Settled}
-use Rattle.ide_image.specs.Queue.{AreStacked, KeepsMarks, SetsMark, held_at, is_owed, is_pending_mark, is_stacked, mark_in, one_if, owed_count, pending_at, pending_count, stacked_at}
+use Rattle.ide_image.specs.declared.mark.Mark.TheVariants.{Settled, Left, Waiting, Held, HeldLeft}
+use Rattle.ide_image.specs.Queue.{AreStacked, KeepsMarks, SetsMark, held_at, is_owed, is_pending_mark, is_stacked, is_waiting_mark, mark_in, one_if, owed_count, pending_at, pending_count, stacked_at, waiting_at}
 
 -- ---- marks
 -- a slot whose mark is not that of a settled one has a mark of its own
@@ -42,6 +43,28 @@ keeps-both old mid new first second = record {
   count = second.count ∙ first.count;
   covered = second.covered ∙ first.covered;
 }
+
+-- what sums over the marks a slot that waits adds is there still once another one, which was settled, waits in its place
+waiting-is : (mark : Mark) → is_waiting_mark mark ≡ true → mark ≡ Waiting
+waiting-is Settled is = absurd (cc (is))
+waiting-is Left is = absurd (cc (is))
+waiting-is Waiting is = refl
+waiting-is Held is = absurd (cc (is))
+waiting-is HeldLeft is = absurd (cc (is))
+
+settled-still : (marks : List Mark) (from to : ℕ) → mark_in marks to ≡ Settled → mark_in (slice_set marks from Settled) to ≡ Settled
+settled-still marks from to is =
+    ⊎_elim (λ e. grind (arith, common_steps)) (λ apart. get_or-set_other marks from to Settled Settled (λ e. apart (sym e)) ∙ is) (cases_eq from to)
+
+pub sum-moved : (f : Mark → ℕ) → f Settled ≡ 0 → (marks : List Mark) (from to : ℕ) → waiting_at marks from ≡ true → mark_in marks to ≡ Settled → to < length marks
+    → sum_by f (slice_set (slice_set marks from Settled) to Waiting) ≡ sum_by f marks
+sum-moved f none marks from to waits settled there =
+    let within = mark-there is_waiting_mark refl marks from waits in
+    let out = sum_by-set f marks from Settled Settled within in
+    let put = sum_by-set f (slice_set marks from Settled) to Waiting Settled (omega (arith, there, length-set marks from Settled)) in
+    let was : f (mark_in marks from) ≡ f Waiting = ap f (waiting-is (mark_in marks from) waits) in
+    let free : f (mark_in (slice_set marks from Settled) to) ≡ 0 = ap f (settled-still marks from to settled) ∙ none in
+    omega (arith, out, put, was, free, none)
 
 -- ---- the stack
 some-one : (b : Bool) → 1 ≤ one_if b → b ≡ true

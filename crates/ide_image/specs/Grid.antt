@@ -37,6 +37,10 @@ pub record IsGrid (has_row : List Bool) (pages : List ℕ) : Type 0 where
 
 -- ---- the order of rows, each told by a number that has the rank of its first key and its index
 
+-- the kind of a row's keys, by the highest bit of its number: 0 for jumps, 1 for summaries
+abbrev pub kind_of : ℕ → ℕ
+kind_of number = number / 9223372036854775808
+
 -- how far the ranks of keys are apart that stand side by side on a page: of kind 0, jumps, a node, and of the other, summaries, a fact
 abbrev pub step_of : (kind : ℕ) → ℕ
 step_of zero = 16777216
@@ -44,7 +48,7 @@ step_of (suc n) = 1
 
 -- the rank of the key at the offset
 abbrev pub rank_at : (number offset : ℕ) → ℕ
-rank_at number offset = number / 65536 + offset * step_of (number / 9223372036854775808)
+rank_at number offset = number / 65536 + offset * step_of (kind_of number)
 
 -- what rows of one kind and one block have in common: of jumps the node of the first key, and of summaries its rank, which no other row has
 abbrev pub block_by : (kind number : ℕ) → ℕ
@@ -53,11 +57,11 @@ block_by (suc n) number = number / 65536
 
 -- the same of a number, which tells its kind
 abbrev pub block_of : ℕ → ℕ
-block_of number = block_by (number / 9223372036854775808) number
+block_of number = block_by (kind_of number) number
 
 -- keys of the number's block at offsets before this one have ranks below this
 abbrev pub bound_at : (number offset : ℕ) → ℕ
-bound_at number offset = (block_of number + offset) * step_of (number / 9223372036854775808)
+bound_at number offset = (block_of number + offset) * step_of (kind_of number)
 
 -- the ranks of the first keys ascend
 abbrev pub RanksAscend : List ℕ → Type 0

@@ -1,3 +1,4 @@
+pub mod Bits
 pub mod Cells
 pub mod ChangeLog
 pub mod Changes

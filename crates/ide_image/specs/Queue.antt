@@ -1,5 +1,5 @@
 -- What contracts say of the slots' marks: which slots are pending, and which of these a hand has claimed.
-use Rattle.std.specs.Prelude.{◌≡◌, ℕ, ◌+◌, ◌-◌, ◌<◌, ◌≤◌, ◌^◌, Bool, true, false, List, Some, length, nat_eq, slice_get, if◌then◌else◌}
+use Rattle.std.specs.Prelude.{◌≡◌, ℕ, ◌+◌, ◌-◌, ◌≤◌, ◌^◌, Bool, true, false, List, Some, length, nat_eq, slice_get, if◌then◌else◌}
 use Rattle.std.specs.List.{count_by, slice_index_or, sum_by}
 use Rattle.ide_image.specs.declared.mark.Mark.{Mark}
 use Rattle.ide_image.specs.declared.mark.Mark.TheVariants.{Settled, Left, Waiting, Held, HeldLeft}
@@ -52,10 +52,6 @@ is_owed Left = false
 is_owed Waiting = false
 is_owed Held = true
 is_owed HeldLeft = false
-
--- whether it was left on the stack: it is there, and does not wait
-abbrev pub IsLeftMark : Mark → Type 0
-IsLeftMark mark = (is_stacked mark ≡ true) × (is_waiting_mark mark ≡ false)
 
 -- how many pending slots a mark makes
 abbrev pub one_if : Bool → ℕ
@@ -125,10 +121,6 @@ CountsSettled slot old new = pending_count new + one_if (pending_at old slot) �
 abbrev pub CountsReturned : ℕ → (old new : List Mark) → Type 0
 CountsReturned slot old new = owed_count new + one_if (is_owed (mark_in old slot)) ≡ owed_count old
 
--- a pending slot has this mark now: one slot fewer is pending, unless the mark is a pending one's
-abbrev pub CountsPendingMark : Mark → (old new : List Mark) → Type 0
-CountsPendingMark mark old new = pending_count new + 1 ≡ pending_count old + one_if (is_pending_mark mark)
-
 -- each sum over the marks to which settled slots add nothing is as it was
 abbrev pub SameSums : (old new : List Mark) → Type 0
 SameSums old new = (f : Mark → ℕ) → f Settled ≡ 0 → sum_by f new ≡ sum_by f old
@@ -152,7 +144,7 @@ TopWaits marks stack = (slot : ℕ) → slice_get stack (length stack - 1) ≡ S
 pub record IsStack (marks : List Mark) (stack : List ℕ) (held : ℕ) : Type 0 where
   pub stacked : AreStacked marks stack
   pub owed : owed_count marks ≡ held
-  pub few : length marks < 2 ^ 32
+  pub few : length marks ≤ 2 ^ 32
 
 -- what holds of the fields: marks and stack agree, the top waits, the count is that of the marks, and there is room to put
 -- each slot that a hand has claimed back on the stack

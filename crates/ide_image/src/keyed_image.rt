@@ -317,7 +317,7 @@ impl<F: EdgeFn, T: Drop> KeyedImage<F, T> {
     {
         claims::grow(&mut self.claims, hand)?;
         let slot = self.indexed.place(key) - 1;
-        self.queue.hold(slot);
+        self.queue.hold(slot)?;
         let claim = Claim {
             key,
             task,

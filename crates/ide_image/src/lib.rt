@@ -9,6 +9,7 @@
 //! left to be read.
 #![tactic(auto)]
 
+mod bits;
 mod change;
 mod change_log;
 mod changed_items;
@@ -21,6 +22,7 @@ mod grid;
 mod indexed;
 mod keyed_image;
 mod mark;
+mod marks;
 mod noted_marks;
 mod noted_slots;
 mod ordered;

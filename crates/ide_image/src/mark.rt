@@ -1,8 +1,9 @@
 //! How a slot stands.
 ghost use Rattle.std.specs.Prelude.{◌≡◌};
+ghost use Rattle.ide_image.specs.Bits.{mark_of};
 ghost use Rattle.ide_image.specs.Queue.{is_pending_mark, is_held, is_stacked};
 
-/// How a slot stands, in one byte: whether its key is pending, whether a hand has claimed it, and whether the
+/// How a slot stands: whether its key is pending, whether a hand has claimed it, and whether the
 /// slot is on the stack of those that wait.
 #[derive(Clone, Copy, PartialEq, Eq, Debug)]
 pub(crate) enum Mark {
@@ -19,6 +20,20 @@ pub(crate) enum Mark {
 }
 
 impl Mark {
+    /// The mark of a slot that is pending or not, set down as one on the stack or not, and claimed or not.
+    #[inline(always)]
+    pub(crate) fn of(pending: bool, stacked: bool, held: bool) -> Mark
+        ensures { result ≡ mark_of pending stacked held }
+    {
+        match (pending, stacked, held) {
+            (false, false, _) => Mark::Settled,
+            (false, true, _) => Mark::Left,
+            (true, _, false) => Mark::Waiting,
+            (true, false, true) => Mark::Held,
+            (true, true, true) => Mark::HeldLeft,
+        }
+    }
+
     /// Whether the key is pending.
     pub(crate) fn is_pending(self) -> bool
         ensures { result ≡ is_pending_mark self }

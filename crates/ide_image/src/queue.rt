@@ -4,25 +4,26 @@
 //! A mark does not say where its slot is on the stack. One that is settled or claimed is looked for among the
 //! slots near the top, where it nearly always is. Elsewhere it is left on the stack, and forgotten once it
 //! comes to the top.
-ghost use Rattle.std.specs.Prelude.{◌≡◌, ℕ, ◌+◌, ◌-◌, ◌<◌, ◌≤◌, ◌^◌, [], true, false, length, slice_get, Some, IfSome, IfNone, OnOk, IsTrue, vec_capacity, vec_len};
+ghost use Rattle.std.specs.Prelude.{◌≡◌, ℕ, ◌+◌, ◌-◌, ◌<◌, ◌≤◌, ◌^◌, [], true, false, length, slice_get, Some, IfSome, IfNone, OnErr, OnOk, IsTrue, vec_capacity, vec_len};
 ghost use Rattle.ide_image.specs.declared.mark.Mark.TheVariants.{Settled};
-ghost use Rattle.ide_image.specs.Queue.{AreStacked, CountsPendingMark, CountsPushed, CountsReturned, CountsSettled, IsLeftMark, IsStack, KeepsMarks, MarksHeld, MovesOn, SameMarks, SameSums, SetsHeldSlot, SetsMark, SetsPendingSlot, TopWaits, held_at, is_held, is_pending_mark, mark_in, owed_count, pending_at, pending_count, one_if, stacked_at, waiting_at};
+ghost use Rattle.ide_image.specs.Queue.{AreStacked, CountsPushed, CountsReturned, CountsSettled, IsStack, KeepsMarks, MarksHeld, MovesOn, SameMarks, SameSums, SetsHeldSlot, SetsMark, SetsPendingSlot, TopWaits, held_at, is_held, is_pending_mark, mark_in, owed_count, pending_at, pending_count, one_if, stacked_at, waiting_at};
 
 use crate::mark::Mark;
+use crate::marks::Marks;
 use std::alloc::{AllocError, Global};
 use std::marker::Model;
 
 /// How many slots, from the top of the stack down, are looked through for one that is taken off.
 const NEAR: usize = 8;
 
-/// A mark for each slot, in one byte, and the slots that wait. A slot behind the last mark is settled, and
+/// A mark for each slot, in bits, and the slots that wait. A slot behind the last mark is settled, and
 /// each slot is below 2^32.
 ///
 /// Each call takes a constant time, but for `reserve`, `cover`, `clear`, and for the slots that `settle` and
 /// `hold` take off the top of the stack, each of which one call before left there.
 #[derive(Drop)]
 pub(crate) struct Queue {
-    marks: Vec<Mark>,
+    marks: Marks,
     /// The slots that wait and those that were left here, each once. The top one waits. It has room for those
     /// that `held` counts.
     stack: Vec<u32>,
@@ -38,9 +39,9 @@ impl Model for Queue {
 
     ghost Value = { SlotMarks };
 
-    ghost view = { λ q. record { list = q.marks.items; spare = vec_capacity q.stack - (vec_len q.stack + q.held) } };
+    ghost view = { λ q. record { list = q.marks; spare = vec_capacity q.stack - (vec_len q.stack + q.held) } };
 
-    ghost invariant = { λ q. IsQueue q.marks.items q.stack.items (vec_capacity q.stack) q.held q.pending };
+    ghost invariant = { λ q. IsQueue q.marks q.stack.items (vec_capacity q.stack) q.held q.pending };
 }
 
 impl Queue {
@@ -49,21 +50,10 @@ impl Queue {
         ensures { result.list ≡ [] }
     {
         Queue {
-            marks: Vec::new(alloc),
+            marks: Marks::new(alloc),
             stack: Vec::new(alloc),
             held: 0,
             pending: 0,
-        }
-    }
-
-    /// The mark of the slot: settled, where it has none.
-    #[inline(always)]
-    fn mark_of(&self, slot: usize) -> Mark
-        ensures { result ≡ mark_in self.now.list slot }
-    {
-        match self.marks.get(slot) {
-            Some(mark) => *mark,
-            None => Mark::Settled,
         }
     }
 
@@ -72,7 +62,7 @@ impl Queue {
     pub(crate) fn is_pending(&self, slot: usize) -> bool
         ensures { result ≡ pending_at self.now.list slot }
     {
-        self.mark_of(slot).is_pending()
+        self.marks.is_pending(slot)
     }
 
     /// How many slots are pending.
@@ -132,7 +122,7 @@ impl Queue {
         ensures count { pending_count self.new.list ≡ pending_count self.old.list }
         ensures room { self.new.spare ≡ self.old.spare }
     {
-        grow(&mut self.marks, count)
+        self.marks.cover(count)
     }
 
     /// Makes the slot pending: if it is not, it waits then. Answers whether a hand has claimed it.
@@ -147,8 +137,8 @@ impl Queue {
         ensures covered { length self.new.list ≡ length self.old.list }
         ensures room { self.old.spare ≤ self.new.spare + 1 }
     {
-        let is_held = self.marks[slot].is_held();
-        if !self.marks[slot].is_pending() {
+        let is_held = self.marks.is_held(slot);
+        if !self.marks.is_pending(slot) {
             make_wait(&mut self.marks, &mut self.stack, slot);
             self.pending += 1;
         }
@@ -165,7 +155,7 @@ impl Queue {
         ensures covered { length self.new.list ≡ length self.old.list }
         ensures room { self.old.spare ≤ self.new.spare }
     {
-        if self.marks[slot].is_pending() {
+        if self.marks.is_pending(slot) {
             make_settled(&mut self.marks, &mut self.stack, &mut self.held, slot);
             self.pending -= 1;
         }
@@ -185,7 +175,7 @@ impl Queue {
         ensures covered { length self.new.list ≡ length self.old.list }
         ensures room { self.old.spare ≤ self.new.spare + 1 }
     {
-        if is_top(&self.stack, from) && self.marks[to] == Mark::Settled {
+        if is_top(&self.stack, from) && self.marks.get(to) == Mark::Settled {
             move_top(&mut self.marks, &mut self.stack, from, to);
         } else {
             self.settle(from);
@@ -209,17 +199,14 @@ impl Queue {
     }
 
     /// Gives the slot, which waits, to a hand.
-    pub(crate) fn hold(&mut self, slot: usize)
+    pub(crate) fn hold(&mut self, slot: usize) -> Result<(), AllocError>
         requires waits { waiting_at self.old.list slot ≡ true }
-        ensures { MarksHeld slot true self.old self.new }
+        ensures held { OnOk result (MarksHeld slot true self.old self.new) }
+        ensures err { OnErr result (self.new ≡ self.old) }
     {
-        leave(
-            &mut self.marks,
-            &mut self.stack,
-            &mut self.held,
-            slot,
-            Mark::HeldLeft,
-        );
+        self.marks.hold(slot, Mark::HeldLeft)?;
+        tidy(&mut self.marks, &mut self.stack, &mut self.held, slot);
+        Ok(())
     }
 
     /// Takes the slot, which a hand has claimed, back: it waits then. It takes no memory.
@@ -227,7 +214,7 @@ impl Queue {
         requires held { held_at self.old.list slot ≡ true }
         ensures { MarksHeld slot false self.old self.new }
     {
-        if !self.marks[slot].is_stacked() {
+        if !self.marks.is_stacked(slot) {
             self.held -= 1;
         }
         make_wait(&mut self.marks, &mut self.stack, slot);
@@ -244,42 +231,26 @@ impl Queue {
     }
 }
 
-/// Makes a mark for each of the first slots, up to this count: those that are new are settled.
-#[inline(always)]
-fn grow(marks: &mut Vec<Mark>, count: usize) -> Result<(), AllocError>
-    requires few { count < 2 ^ 32 }
-    requires marks { length marks.old.items < 2 ^ 32 }
-    ensures covered { OnOk result (count ≤ length marks.new.items) }
-    ensures few { length marks.new.items < 2 ^ 32 }
-    ensures same { (n : ℕ) → mark_in marks.new.items n ≡ mark_in marks.old.items n }
-    ensures counts { SameSums marks.old.items marks.new.items }
-{
-    if marks.len() < count {
-        marks.resize(count, Mark::Settled)?;
-    }
-    Ok(())
-}
-
 /// Makes the slot, which does not wait, wait: it goes on the stack, unless it was left there.
 #[inline(always)]
-fn make_wait(marks: &mut Vec<Mark>, stack: &mut Vec<u32>, slot: usize)
-    requires there { slot < length marks.old.items }
-    requires few { length marks.old.items < 2 ^ 32 }
-    requires room { stacked_at marks.old.items slot ≡ false → vec_len stack.old < vec_capacity stack.old }
-    requires stacked { AreStacked marks.old.items stack.old.items }
-    requires top { TopWaits marks.old.items stack.old.items }
-    ensures stacked { AreStacked marks.new.items stack.new.items }
-    ensures top { TopWaits marks.new.items stack.new.items }
-    ensures pending { SetsPendingSlot slot true marks.old.items marks.new.items }
-    ensures held { SetsHeldSlot slot false marks.old.items marks.new.items }
-    ensures count { CountsPushed slot marks.old.items marks.new.items }
-    ensures returned { CountsReturned slot marks.old.items marks.new.items }
-    ensures covered { length marks.new.items ≡ length marks.old.items }
-    ensures len { vec_len stack.new + one_if (stacked_at marks.old.items slot) ≡ vec_len stack.old + 1 }
+fn make_wait(marks: &mut Marks, stack: &mut Vec<u32>, slot: usize)
+    requires there { slot < length marks.old }
+    requires few { length marks.old ≤ 2 ^ 32 }
+    requires room { stacked_at marks.old slot ≡ false → vec_len stack.old < vec_capacity stack.old }
+    requires stacked { AreStacked marks.old stack.old.items }
+    requires top { TopWaits marks.old stack.old.items }
+    ensures stacked { AreStacked marks.new stack.new.items }
+    ensures top { TopWaits marks.new stack.new.items }
+    ensures pending { SetsPendingSlot slot true marks.old marks.new }
+    ensures held { SetsHeldSlot slot false marks.old marks.new }
+    ensures count { CountsPushed slot marks.old marks.new }
+    ensures returned { CountsReturned slot marks.old marks.new }
+    ensures covered { length marks.new ≡ length marks.old }
+    ensures len { vec_len stack.new + one_if (stacked_at marks.old slot) ≡ vec_len stack.old + 1 }
     ensures capacity { vec_capacity stack.new ≡ vec_capacity stack.old }
 {
-    let was_stacked = marks[slot].is_stacked();
-    marks[slot] = Mark::Waiting;
+    let was_stacked = marks.is_stacked(slot);
+    marks.set(slot, Mark::Waiting);
     if !was_stacked {
         stack.push_reserved(slot as u32);
     }
@@ -299,84 +270,98 @@ fn is_top(stack: &[u32], slot: usize) -> bool
 /// Makes the slot `to`, which is settled and not on the stack, wait on top of it, where `from` waits, which is settled
 /// then.
 #[inline(always)]
-fn move_top(marks: &mut Vec<Mark>, stack: &mut Vec<u32>, from: usize, to: usize)
+fn move_top(marks: &mut Marks, stack: &mut Vec<u32>, from: usize, to: usize)
     requires top { slice_get stack.old.items (length stack.old.items - 1) ≡ Some from }
-    requires waits { waiting_at marks.old.items from ≡ true }
-    requires settled { mark_in marks.old.items to ≡ Settled }
-    requires there { to < length marks.old.items }
-    requires few { length marks.old.items < 2 ^ 32 }
-    requires stacked { AreStacked marks.old.items stack.old.items }
-    ensures stacked { AreStacked marks.new.items stack.new.items }
-    ensures top { TopWaits marks.new.items stack.new.items }
-    ensures pending { MovesOn from to marks.old.items marks.new.items }
-    ensures held { SameMarks (held_at marks.old.items) (held_at marks.new.items) }
-    ensures count { pending_count marks.new.items ≡ pending_count marks.old.items }
-    ensures owed { owed_count marks.new.items ≡ owed_count marks.old.items }
-    ensures covered { length marks.new.items ≡ length marks.old.items }
+    requires waits { waiting_at marks.old from ≡ true }
+    requires settled { mark_in marks.old to ≡ Settled }
+    requires there { to < length marks.old }
+    requires few { length marks.old ≤ 2 ^ 32 }
+    requires stacked { AreStacked marks.old stack.old.items }
+    ensures stacked { AreStacked marks.new stack.new.items }
+    ensures top { TopWaits marks.new stack.new.items }
+    ensures pending { MovesOn from to marks.old marks.new }
+    ensures held { SameMarks (held_at marks.old) (held_at marks.new) }
+    ensures count { pending_count marks.new ≡ pending_count marks.old }
+    ensures owed { owed_count marks.new ≡ owed_count marks.old }
+    ensures covered { length marks.new ≡ length marks.old }
     ensures len { vec_len stack.new ≡ vec_len stack.old }
     ensures capacity { vec_capacity stack.new ≡ vec_capacity stack.old }
 {
     let top = stack.len() - 1;
     stack[top] = to as u32;
-    marks[from] = Mark::Settled;
-    marks[to] = Mark::Waiting;
+    marks.set(from, Mark::Settled);
+    marks.set(to, Mark::Waiting);
 }
 
 /// Makes the slot settled.
 #[inline(always)]
-fn make_settled(marks: &mut Vec<Mark>, stack: &mut Vec<u32>, held: &mut usize, slot: usize)
-    requires there { slot < length marks.old.items }
-    requires stack { IsStack marks.old.items stack.old.items held.old }
-    requires top { TopWaits marks.old.items stack.old.items }
-    ensures stack { IsStack marks.new.items stack.new.items held.new }
-    ensures top { TopWaits marks.new.items stack.new.items }
-    ensures pending { SetsPendingSlot slot false marks.old.items marks.new.items }
-    ensures held { SetsHeldSlot slot false marks.old.items marks.new.items }
-    ensures count { CountsSettled slot marks.old.items marks.new.items }
-    ensures covered { length marks.new.items ≡ length marks.old.items }
+fn make_settled(marks: &mut Marks, stack: &mut Vec<u32>, held: &mut usize, slot: usize)
+    requires there { slot < length marks.old }
+    requires stack { IsStack marks.old stack.old.items held.old }
+    requires top { TopWaits marks.old stack.old.items }
+    ensures stack { IsStack marks.new stack.new.items held.new }
+    ensures top { TopWaits marks.new stack.new.items }
+    ensures pending { SetsPendingSlot slot false marks.old marks.new }
+    ensures held { SetsHeldSlot slot false marks.old marks.new }
+    ensures count { CountsSettled slot marks.old marks.new }
+    ensures covered { length marks.new ≡ length marks.old }
     ensures room { vec_len stack.new + held.new ≤ vec_len stack.old + held.old }
     ensures capacity { vec_capacity stack.new ≡ vec_capacity stack.old }
 {
-    match marks[slot] {
+    match marks.get(slot) {
         Mark::Settled | Mark::Left => {}
-        Mark::Waiting => leave(marks, stack, held, slot, Mark::Left),
+        Mark::Waiting => leave(marks, stack, held, slot),
         Mark::Held => {
             *held -= 1;
-            marks[slot] = Mark::Settled;
+            marks.set(slot, Mark::Settled);
         }
-        Mark::HeldLeft => marks[slot] = Mark::Left,
+        Mark::HeldLeft => marks.set(slot, Mark::Left),
     }
 }
 
-/// Gives the slot, which waits, a mark of those that were left on the stack, and takes it off where it is near
-/// the top.
+/// Makes the slot, which waits, settled, and takes it off the stack where it is near the top.
 #[inline(always)]
-fn leave(marks: &mut Vec<Mark>, stack: &mut Vec<u32>, held: &mut usize, slot: usize, mark: Mark)
-    requires waits { waiting_at marks.old.items slot ≡ true }
-    requires left { IsLeftMark mark }
-    requires stack { IsStack marks.old.items stack.old.items held.old }
-    ensures stack { IsStack marks.new.items stack.new.items held.new }
-    ensures top { TopWaits marks.new.items stack.new.items }
-    ensures pending { SetsPendingSlot slot (is_pending_mark mark) marks.old.items marks.new.items }
-    ensures held { SetsHeldSlot slot (is_held mark) marks.old.items marks.new.items }
-    ensures count { CountsPendingMark mark marks.old.items marks.new.items }
-    ensures covered { length marks.new.items ≡ length marks.old.items }
+fn leave(marks: &mut Marks, stack: &mut Vec<u32>, held: &mut usize, slot: usize)
+    requires waits { waiting_at marks.old slot ≡ true }
+    requires stack { IsStack marks.old stack.old.items held.old }
+    ensures stack { IsStack marks.new stack.new.items held.new }
+    ensures top { TopWaits marks.new stack.new.items }
+    ensures pending { SetsPendingSlot slot false marks.old marks.new }
+    ensures held { SetsHeldSlot slot false marks.old marks.new }
+    ensures count { CountsSettled slot marks.old marks.new }
+    ensures covered { length marks.new ≡ length marks.old }
     ensures room { vec_len stack.new + held.new ≤ vec_len stack.old + held.old }
     ensures capacity { vec_capacity stack.new ≡ vec_capacity stack.old }
 {
-    marks[slot] = mark;
+    marks.set(slot, Mark::Left);
+    tidy(marks, stack, held, slot);
+}
+
+/// Takes the slot, which was left on the stack, off it where it is near the top, and then those that were left on top, so
+/// that one that waits is on top.
+#[inline(always)]
+fn tidy(marks: &mut Marks, stack: &mut Vec<u32>, held: &mut usize, slot: usize)
+    requires there { slot < length marks.old }
+    requires left { waiting_at marks.old slot ≡ false }
+    requires stack { IsStack marks.old stack.old.items held.old }
+    ensures stack { IsStack marks.new stack.new.items held.new }
+    ensures top { TopWaits marks.new stack.new.items }
+    ensures same { KeepsMarks marks.old marks.new }
+    ensures room { vec_len stack.new + held.new ≤ vec_len stack.old + held.old }
+    ensures capacity { vec_capacity stack.new ≡ vec_capacity stack.old }
+{
     take_near(marks, stack, held, slot);
     clear_top(marks, stack, held);
 }
 
 /// Takes the slot, which was left on the stack, off it, where it is near the top.
 #[inline(always)]
-fn take_near(marks: &mut Vec<Mark>, stack: &mut Vec<u32>, held: &mut usize, slot: usize)
-    requires there { slot < length marks.old.items }
-    requires left { waiting_at marks.old.items slot ≡ false }
-    requires stack { IsStack marks.old.items stack.old.items held.old }
-    ensures stack { IsStack marks.new.items stack.new.items held.new }
-    ensures same { KeepsMarks marks.old.items marks.new.items }
+fn take_near(marks: &mut Marks, stack: &mut Vec<u32>, held: &mut usize, slot: usize)
+    requires there { slot < length marks.old }
+    requires left { waiting_at marks.old slot ≡ false }
+    requires stack { IsStack marks.old stack.old.items held.old }
+    ensures stack { IsStack marks.new stack.new.items held.new }
+    ensures same { KeepsMarks marks.old marks.new }
     ensures room { vec_len stack.new + held.new ≤ vec_len stack.old + held.old }
     ensures capacity { vec_capacity stack.new ≡ vec_capacity stack.old }
 {
@@ -388,11 +373,11 @@ fn take_near(marks: &mut Vec<Mark>, stack: &mut Vec<u32>, held: &mut usize, slot
 
 /// Takes the slots that were left on top of the stack off it, so that one that waits is on top.
 #[inline(always)]
-fn clear_top(marks: &mut Vec<Mark>, stack: &mut Vec<u32>, held: &mut usize)
-    requires stack { IsStack marks.old.items stack.old.items held.old }
-    ensures stack { IsStack marks.new.items stack.new.items held.new }
-    ensures top { TopWaits marks.new.items stack.new.items }
-    ensures same { KeepsMarks marks.old.items marks.new.items }
+fn clear_top(marks: &mut Marks, stack: &mut Vec<u32>, held: &mut usize)
+    requires stack { IsStack marks.old stack.old.items held.old }
+    ensures stack { IsStack marks.new stack.new.items held.new }
+    ensures top { TopWaits marks.new stack.new.items }
+    ensures same { KeepsMarks marks.old marks.new }
     ensures room { vec_len stack.new + held.new ≤ vec_len stack.old + held.old }
     ensures capacity { vec_capacity stack.new ≡ vec_capacity stack.old }
 {
@@ -404,14 +389,14 @@ fn clear_top(marks: &mut Vec<Mark>, stack: &mut Vec<u32>, held: &mut usize)
 
 /// The slot on top of the stack, if it was left there.
 #[inline(always)]
-fn left_on_top(marks: &[Mark], stack: &[u32]) -> Option<usize>
+fn left_on_top(marks: &Marks, stack: &[u32]) -> Option<usize>
     requires { AreStacked marks.now stack.now }
     ensures at { IfSome result (λ slot. slice_get stack.now (length stack.now - 1) ≡ Some slot) }
     ensures left { IfSome result (λ slot. waiting_at marks.now slot ≡ false) }
     ensures none { IfNone result (TopWaits marks.now stack.now) }
 {
     let slot = *stack.last()? as usize;
-    if marks[slot] == Mark::Waiting {
+    if marks.is_waiting(slot) {
         None
     } else {
         Some(slot)
@@ -434,20 +419,20 @@ fn position_near(stack: &[u32], slot: u32) -> Option<usize>
 
 /// Gives the slot, which was left on the stack and is taken off it, the mark of one that is not there.
 #[inline(always)]
-fn take_off(marks: &mut Vec<Mark>, held: &mut usize, slot: usize)
-    requires stacked { stacked_at marks.old.items slot ≡ true }
-    requires left { waiting_at marks.old.items slot ≡ false }
-    requires owed { owed_count marks.old.items ≡ held.old }
-    requires few { length marks.old.items < 2 ^ 32 }
-    ensures stacked { SetsMark slot false (stacked_at marks.old.items) (stacked_at marks.new.items) }
-    ensures owed { owed_count marks.new.items ≡ held.new }
-    ensures same { KeepsMarks marks.old.items marks.new.items }
+fn take_off(marks: &mut Marks, held: &mut usize, slot: usize)
+    requires stacked { stacked_at marks.old slot ≡ true }
+    requires left { waiting_at marks.old slot ≡ false }
+    requires owed { owed_count marks.old ≡ held.old }
+    requires few { length marks.old ≤ 2 ^ 32 }
+    ensures stacked { SetsMark slot false (stacked_at marks.old) (stacked_at marks.new) }
+    ensures owed { owed_count marks.new ≡ held.new }
+    ensures same { KeepsMarks marks.old marks.new }
     ensures room { held.new ≤ held.old + 1 }
 {
-    if marks[slot].is_pending() {
-        marks[slot] = Mark::Held;
+    if marks.is_pending(slot) {
+        marks.set(slot, Mark::Held);
         *held += 1;
     } else {
-        marks[slot] = Mark::Settled;
+        marks.set(slot, Mark::Settled);
     }
 }

@@ -36,3 +36,7 @@ module _ {F L : Type 0} (A : LatticeAlgebra L) (B : EdgeAlgebra F L) (targets : 
 -- the same by the analysis, with some graph and for the roots of the names that are lent
 abbrev pub IsPreparedFor : {F L : Type 0} → ShownAnalysis F L → List ℕ → List (Bor (List ℕ)) → CoreData F → Type 0
 IsPreparedFor a text roots core = (graph : Supergraph) × IsPrepared a.lattice a.functions a.targets text (names_of roots) core graph
+
+-- what holds for each text and names of roots that the core is ready for
+abbrev pub ForStarted : {F L : Type 0} → ShownAnalysis F L → CoreData F → (List ℕ → List (Bor (List ℕ)) → Type 0) → Type 0
+ForStarted a core Holds = (text : List ℕ) (roots : List (Bor (List ℕ))) → IsPreparedFor a text roots core → Holds text roots

@@ -3,7 +3,7 @@ ghost use Rattle.std.specs.Prelude.{◌≡◌, IfErr, IfOk, OnErr, OnOk};
 ghost use Rattle.ide_solver.specs.Begun.{AreBegunFor};
 ghost use Rattle.ide_solver.specs.Refusal.{BarsRoots, IsSharedRefusal, IsSolveRefusal};
 ghost use Rattle.ide_solver.specs.Solve.{AreSolvedFor, LeadsToSolved, SolvesFor, WritesFor, names_of};
-ghost use Rattle.ide_solver.specs.Started.{IsPreparedFor};
+ghost use Rattle.ide_solver.specs.Started.{ForStarted, IsPreparedFor};
 ghost use Rattle.ide_values.specs.Refusal.{AreWorkers};
 
 use crate::shown::Shown;
@@ -68,14 +68,14 @@ where
 }
 
 /// Writes the dump that [`solve_shared`] appends: neither it nor all values stand in memory whole
-/// ([`ValuePhase::write_values`]). Nothing is written before the image is whole, of which each value follows.
-/// Inside is how the output did.
+/// ([`ValuePhase::write_values`]), and the text no longer once it is parsed. Nothing is written before the image is whole, of
+/// which each value follows. Inside is how the output did.
 ///
 /// Refusals: those of [`solve_shared`]. After each nothing is written.
 pub fn solve_onto<R: Threads + Sync, P: Problem, W: Write>(
     rt: &R,
     alloc: Global,
-    text: &[u8],
+    text: Vec<u8>,
     roots: &[&[u8]],
     workers: usize,
     out: &mut W,
@@ -83,12 +83,14 @@ pub fn solve_onto<R: Threads + Sync, P: Problem, W: Write>(
 where
     P::F: Sync,
     P::L: Send + Sync,
-    ensures solution { IfOk result (λ end. WritesFor ⟦<P as Shown>⟧.analysis text.now roots.now end (W.contents out.old) (W.contents out.new)) }
-    ensures refused { IfErr result (IsSharedRefusal workers text.now (names_of roots.now)) }
+    ensures solution { IfOk result (λ end. WritesFor ⟦<P as Shown>⟧.analysis text.items roots.now end (W.contents out.old) (W.contents out.new)) }
+    ensures refused { IfErr result (IsSharedRefusal workers text.items (names_of roots.now)) }
     ensures unchanged { OnErr result (out.new ≡ out.old) }
 {
     check_workers(workers)?;
-    let closed = closed_of::<P>(alloc, text, roots)?;
+    let core = started::<P>(alloc, &text, roots)?;
+    drop(text);
+    let closed = drained(core)?;
     closed.write_values(rt, alloc, workers, out)
 }
 
@@ -132,9 +134,19 @@ fn closed_of<P: Problem>(alloc: Global, text: &[u8], roots: &[&[u8]]) -> Result<
     ensures leads { IfOk result (LeadsToSolved ⟦<P as Shown>⟧.analysis text.now roots.now) }
     ensures refused { IfErr result (IsSolveRefusal text.now (names_of roots.now)) }
 {
+    let core = started::<P>(alloc, text, roots)?;
+    drained(core)
+}
+
+/// The quiet image of a core that was started. For each text and each names of roots that it was started with, the
+/// image's best values are theirs, and it is refused for want of memory alone.
+fn drained<P: Problem>(core: Core<P>) -> Result<Closed<P>, Refused>
+    ensures leads { ForStarted ⟦<P as Shown>⟧.analysis core (λ text roots. IfOk result (LeadsToSolved ⟦<P as Shown>⟧.analysis text roots)) }
+    ensures refused { ForStarted ⟦<P as Shown>⟧.analysis core (λ text roots. IfErr result (IsSolveRefusal text (names_of roots))) }
+{
     sites_make_a_graph::<P>();
     runs_go_on::<P>();
-    let mut core = started::<P>(alloc, text, roots)?;
+    let mut core = core;
     core.drain()?;
     match core.close() {
         Ok(closed) => Ok(closed),

@@ -17,7 +17,7 @@ use std::io;
 use std::io::Write;
 
 /// At how many bytes a piece of the dump is written.
-pub(crate) const PIECE: usize = 262_144;
+pub(crate) const PIECE: usize = 65_536;
 
 impl<P: Problem> Values<P> {
     /// Appends the dump: by ascending node and fact, each fact that has a name at the node, the
@@ -38,7 +38,7 @@ impl<P: Problem> Values<P> {
         Ok(())
     }
 
-    /// Writes the dump, as [`Values::dump`] makes it, in pieces of some 256 KiB. It takes memory for one
+    /// Writes the dump, as [`Values::dump`] makes it, in pieces of some 64 KiB. It takes memory for one
     /// piece and the lines of one node, however long the dump is, and most of it before it writes anything.
     ///
     /// It fails where the output does, and with `OutOfMemory` where the lines of a node want memory: then

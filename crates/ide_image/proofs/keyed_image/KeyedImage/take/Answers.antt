@@ -1,4 +1,5 @@
-use Rattle.std.proofs.Common.{◌≡◌, ◌+◌, ◌-◌, false, ap, refl, sym, ◌∙◌, arith}
+use Rattle.std.proofs.Common.{◌≡◌, ◌+◌, ◌-◌, false, ap, refl, subst, sym, ◌∙◌, arith}
+use Rattle.ide_image.specs.KeyedImage.{AreParts}
 use Rattle.ide_image.specs.Worklist.{is_claim_of}
 use Rattle.ide_image.specs.Indexed.{place_of_key}
 use Rattle.ide_image.specs.Queue.{held_at, mark_in, pending_at}
@@ -33,6 +34,13 @@ hold-requires g c =
           (sym (at-index (held_at inside.queue.list) (place_of_key inside.indexed c.args.key) (c.place-slot.result - 1) stands) ∙ free);
     }
 
+pub invariant_of-self-in_err-hold : goal.invariant_of-self-in_err-hold
+invariant_of-self-in_err-hold g c =
+    let inside = c.self.inside in
+    subst (λ queue. AreParts inside.indexed queue c.grow.new.claims.items inside.changes) (sym c.in_err-hold.ensures.err)
+    (whole-claims inside.indexed inside.queue inside.claims.items c.grow.new.claims.items inside.changes
+    (λ h q. ap (is_claim_of q) (c.grow.ensures.same h)) (λ h d is. (d, sym (c.grow.ensures.same h) ∙ is, refl)) c.self.invariant)
+
 pub invariant_of-self-2 : goal.invariant_of-self-2
 invariant_of-self-2 g c =
     let inside = c.self.inside in
@@ -42,11 +50,11 @@ invariant_of-self-2 g c =
     let stands : (c.place-slot.result - 1) + 1 ≡ place_of_key inside.indexed c.args.key = omega (arith, some, c.place-slot.ensures.place) in
     whole-taken inside.indexed inside.queue c.hold.new.self c.grow.new.claims.items c.set_claim.new.claims.items inside.changes c.args.hand
     (record { key = c.args.key; task = c.args.task; done = 0; lowered = false }) (c.place-slot.result - 1) stands
-    (c.grow.ensures.same c.args.hand ∙ (rw (← c.self.view_is) at c.requires.free)) c.set_claim.ensures pends free c.hold.ensures.held c.hold.ensures.pending
+    (c.grow.ensures.same c.args.hand ∙ (rw (← c.self.view_is) at c.requires.free)) c.set_claim.ensures pends free c.in_ok-hold.ensures.held.held c.in_ok-hold.ensures.held.pending
     (whole-claims inside.indexed inside.queue inside.claims.items c.grow.new.claims.items inside.changes
     (λ h q. ap (is_claim_of q) (c.grow.ensures.same h)) (λ h d is. (d, sym (c.grow.ensures.same h) ∙ is, refl)) c.self.invariant)
 
 pub returns-clause-pending : goal.returns-clause-pending
 returns-clause-pending g c =
     let inside = c.self.inside in
-    rw (← c.self.view_is) (keys-same (pending_at inside.queue.list) (pending_at c.hold.new.self.list) inside.indexed.cells c.hold.ensures.pending)
+    rw (← c.self.view_is) (keys-same (pending_at inside.queue.list) (pending_at c.hold.new.self.list) inside.indexed.cells c.in_ok-hold.ensures.held.pending)
