@@ -12,7 +12,7 @@ use Rattle.std.proofs.lemmas.List.{append-nil, get_or_append_left, get_or_past, 
 use Rattle.std.proofs.lemmas.List.FromFn.{get_or-map-range_with_len, length-map-range_with_len}
 use Rattle.std.proofs.lemmas.Map.Entries.{length-keys_of}
 use Rattle.std.proofs.lemmas.Option.{same_Some, slice_get-get_or, slice_get_past, slice_get_within}
-use Rattle.ide_pages.specs.Pages.{AddsPage, ArePaged, AreRow, Fits, IsNumberIn, KeepsCells, Numbers, Puts, cell_of, cell_on, entries, key_at, key_on, nonzero, number_at, number_in, offset_of, page_at, page_of, shown, slot_by}
+use Rattle.ide_pages.specs.Pages.{AddsPage, ArePaged, AreRow, Fits, IsAside, IsNumberIn, KeepsCells, Numbers, Puts, cell_of, cell_on, entries, key_at, key_on, nonzero, number_at, number_in, offset_of, page_at, page_of, shown, slot_by}
 use Rattle.ide_pages.proofs.KeyCells.{cell-back, mapped}
 use Rattle.ide_pages.proofs.Numbering.{IsNumbering, apart-at, same-at}
 use Rattle.ide_wire.specs.declared.key.Key.{Key}
@@ -21,7 +21,7 @@ use Rattle.ide_wire.specs.Key.{same_key}
 use Rattle.ide_image.specs.Functions.{MayKeep}
 use Rattle.ide_image.specs.Indexed.{AreIndexed, cell_by, cells_by, empty_cells, entries_in, entry_in, function_of, kept_at, kept_in, entry_of_cell, table_of}
 use Rattle.ide_image.specs.Tables.{ArePartners, found, partner_at, place_in, with_entry}
-use Rattle.ide_image.specs.Cells.{BeginsWith, HasRoomBehind, ShowTable, key_behind, tables_of}
+use Rattle.ide_image.specs.Cells.{BeginsWith, HasOthers, HasRoomBehind, IsAtOther, ShowTable, key_behind, tables_of}
 use Rattle.ide_image.proofs.Shown.{distinct-shown, found-shown}
 use Rattle.ide_image.specs.Walk.{jump_behind, with_walked}
 use Rattle.ide_image.proofs.Ranges.{distinct-range, lookup-none, lookup-one, map-more, map-same, place-none, place-one, with-one}
@@ -114,6 +114,11 @@ module _ (numbers : Numbers) (own : HasOwnCells numbers) where
   apart-cells i j less l = one-cell (key_at numbers.pages i) i j (own i (omega (arith, less, l))) l ∙ ne_eqb i j (λ e. absurd (omega (arith, e, less)))
 
 -- a key on a page is so many cells behind the page's first
+-- a key on a page that has no jumps at some blocks is none at their nodes
+at-other : (begin end : ℕ) (page : Key) (offset : ℕ) → offset < 64 → IsAside begin end page → IsAtOther begin end (key_on page offset)
+at-other begin end (Jump block a b) offset low aside = ⊎_elim (λ less. inl (omega (arith, less, low))) (λ more. inr (omega (arith, more))) aside
+at-other begin end (Summary n a block) offset low aside = aside
+
 key-on-behind : (page : Key) (offset : ℕ) → key_on page offset ≡ key_behind (key_on page 0) offset
 key-on-behind (Jump block a b) offset = let same : 64 * block + offset ≡ 64 * block + 0 + offset = omega arith in ap (λ n. Jump n a b) same
 key-on-behind (Summary n a block) offset = let same : 64 * block + offset ≡ 64 * block + 0 + offset = omega arith in ap (Summary n a) same
@@ -291,6 +296,16 @@ module _ {F : Type 0} (numbers : Numbers) (functions : List F) where
         → IfSome first (BeginsWith (tables_of (record { cells = cells_by numbers functions; room = room })) page)
     begins-if page room None is = tt
     begins-if page room (Some key) is = begins page room key is
+
+    -- nor does a page show a jump at nodes that it is not at
+    pub has-others : (begin end room page : ℕ) → IsAside begin end (page_at numbers.pages page)
+        → HasOthers (tables_of (record { cells = cells_by numbers functions; room = room })) begin end page
+    has-others begin end room page aside cell e on shows =
+        ⊎_elim
+        (λ l. let own = key-shown (key_at numbers.pages cell) (kept_at functions (number_at numbers (key_at numbers.pages cell))) e (sym (entry-there cell l) ∙ shown-at (cells_by numbers functions) cell ∙ shows) in
+        subst (IsAtOther begin end) own (at-other begin end (page_at numbers.pages (cell / 64)) (cell % 64) (omega arith) (subst (λ n. IsAside begin end (page_at numbers.pages n)) (sym on) aside)))
+        (λ m. absurd (cc (sym (entry-past cell m) ∙ shown-at (cells_by numbers functions) cell ∙ shows)))
+        (cases_lt cell (64 * length numbers.pages))
 
     -- ---- the entries, where each number has its function
 

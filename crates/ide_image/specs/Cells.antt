@@ -1,5 +1,5 @@
 -- Tables as they are read: by cells, of which each page has 64 side by side.
-use Rattle.std.specs.Prelude.{◌≡◌, ℕ, ◌+◌, ◌/◌, ◌%◌, ◌<◌, ◌≤◌, ◌^◌, List, Option, None, Some, map}
+use Rattle.std.specs.Prelude.{◌≡◌, ◌⊎◌, ℕ, ◌+◌, ◌*◌, ◌/◌, ◌%◌, ◌<◌, ◌≤◌, ◌^◌, List, Option, None, Some, map}
 use Rattle.std.specs.List.{IsDistinct, filter_map, slice_index_or}
 use Rattle.std.specs.Map.{keys_of, lookup}
 use Rattle.std.specs.Option.{option_map}
@@ -23,6 +23,11 @@ key_behind (Summary n a b) k = Summary n a (b + k)
 abbrev pub HasRoomBehind : Key → Type 0
 HasRoomBehind (Jump n a b) = n + 64 ≤ 2 ^ 32
 HasRoomBehind (Summary n a b) = b + 64 ≤ 2 ^ 16
+
+-- the key is a summary, or a jump at a node that is in none of the blocks of 64 from one to before another
+abbrev pub IsAtOther : (begin end : ℕ) → Key → Type 0
+IsAtOther begin end (Jump n a b) = (n < 64 * begin) ⊎ (64 * end ≤ n)
+IsAtOther begin end (Summary n a b) = Unit {0}
 
 module _ {F : Type 0} where
   -- the entries that cells show
@@ -49,6 +54,10 @@ module _ {F : Type 0} where
   -- the page's first cell is that of the key: each entry that a cell of the page shows has the key so many nodes behind it
   abbrev pub BeginsWith : TablesData F → (page : ℕ) → (first : Key) → Type 0
   BeginsWith tables page first = (cell : ℕ) (e : Key × F) → cell / 64 ≡ page → shown_in tables cell ≡ Some e → e.0 ≡ key_behind first (cell % 64)
+
+  -- so is the key of each entry that a cell of the page shows
+  abbrev pub HasOthers : TablesData F → (begin end : ℕ) → (page : ℕ) → Type 0
+  HasOthers tables begin end page = (cell : ℕ) (e : Key × F) → cell / 64 ≡ page → shown_in tables cell ≡ Some e → IsAtOther begin end e.0
 
   -- tables whose keys have these cells
   abbrev pub tables_of : Indexed F → TablesData F

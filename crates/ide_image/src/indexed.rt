@@ -1,5 +1,5 @@
 //! Functions at keys, in the cells of pages.
-ghost use Rattle.std.specs.Prelude.{◌≡◌, ◌+◌, ◌*◌, ◌%◌, ◌<◌, ◌≤◌, ◌^◌, ◌++◌, [], None, Some, length, IfOk, IfSome, OnOk, IsOkUnless};
+ghost use Rattle.std.specs.Prelude.{◌≡◌, ℕ, ◌+◌, ◌*◌, ◌%◌, ◌<◌, ◌≤◌, ◌^◌, ◌++◌, [], None, Some, length, IfOk, IfSome, OnOk, IsOkUnless};
 ghost use Rattle.std.specs.List.{IsDistinct};
 ghost use Rattle.std.specs.Map.{keys_of};
 ghost use Rattle.std.specs.Option.{is_some};
@@ -11,7 +11,7 @@ ghost use Rattle.ide_wire.specs.KeyOrder.{key_cmp};
 ghost use Rattle.ide_pages.specs.Pages.{AreBlocks, number_on_page, partner_of, read_at, read_block, read_blocks};
 ghost use Rattle.ide_image.specs.Tables.{AreJumpsTo, AreKeys, AreSummariesFrom, or_top, partner_at, partners_at};
 ghost use Rattle.ide_image.specs.Indexed.{ForKeyAt, HasCell, HasDistinctKeys, HaveCells, PutsEntry, Widens, entries_in, entry_in, function_of, kept_in, place_of_key, table_of};
-ghost use Rattle.ide_image.specs.Cells.{AreAlike, BeginsWith, HasRoomBehind, tables_of};
+ghost use Rattle.ide_image.specs.Cells.{AreAlike, BeginsWith, HasOthers, HasRoomBehind, tables_of};
 ghost use Rattle.ide_image.specs.Walk.{AreAbsent, StandBehind, jump_behind, with_walked};
 
 use crate::functions::Functions;
@@ -169,6 +169,14 @@ impl<F: EdgeFn> Indexed<F> {
             return None;
         }
         self.places.key_in(64 * page)
+    }
+
+    /// The first page, from one on, that may have jumps at nodes of the blocks of 64 from `begin` to before `end`. No look-up.
+    pub(crate) fn next_page(&self, page: usize, begin: usize, end: usize) -> usize
+        ensures from { page ≤ result }
+        ensures others { (n : ℕ) → page ≤ n → n < result → HasOthers (tables_of self.now) begin end n }
+    {
+        self.places.next_page(page, begin, end)
     }
 
     /// The present keys, ascending.

@@ -209,6 +209,7 @@ impl<F: EdgeFn, T: Drop> KeyedImage<F, T> {
     }
 
     /// The key of [`KeyedImage::unclaimed`], with its function. No look-up.
+    #[inline(always)]
     pub fn unclaimed_entry(&self) -> Option<(Key, F)>
         ensures pending { IfSome result (λ entry. is_pending self.now.pile entry.0 ≡ true) }
         ensures unclaimed { IfSome result (λ entry. is_claimed self.now.pile entry.0 ≡ false) }

@@ -1,9 +1,9 @@
 //! The functions of an image's keys, to be read.
-ghost use Rattle.std.specs.Prelude.{◌≡◌, ◌*◌, ◌%◌, ◌<◌, ◌≤◌, None, Some, length, IfSome};
+ghost use Rattle.std.specs.Prelude.{◌≡◌, ℕ, ◌*◌, ◌%◌, ◌<◌, ◌≤◌, None, Some, length, IfSome};
 ghost use Rattle.std.specs.List.{IsDistinct, slice_index_or};
 ghost use Rattle.std.specs.Map.{keys_of};
 ghost use Rattle.ide_wire.specs.Key.{same_key};
-ghost use Rattle.ide_image.specs.Cells.{AreAlike, BeginsWith, HasRoomBehind, ShowTable, function_shown_in};
+ghost use Rattle.ide_image.specs.Cells.{AreAlike, BeginsWith, HasOthers, HasRoomBehind, ShowTable, function_shown_in};
 ghost use Rattle.ide_image.specs.Indexed.{table_of};
 ghost use Rattle.ide_image.specs.Tables.{found};
 
@@ -98,6 +98,16 @@ impl<F: EdgeFn> Tables<F> {
         ensures alike { AreAlike self.now cell result }
     {
         self.indexed.alike_to(cell, end)
+    }
+
+    /// The first page, from one on, that may have jumps at nodes of the blocks of 64 from `begin` to before `end`: none of the
+    /// pages in front of it has. It is the index of no page where there is none. It looks at each page up to there, and at
+    /// no cell. No look-up.
+    pub fn next_page(&self, page: usize, begin: usize, end: usize) -> usize
+        ensures from { page ≤ result }
+        ensures others { (n : ℕ) → page ≤ n → n < result → HasOthers self.now begin end n }
+    {
+        self.indexed.next_page(page, begin, end)
     }
 
     /// The key of the page's first cell, be it present or absent, where a page is given by its index:

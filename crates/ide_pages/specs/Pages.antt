@@ -106,6 +106,11 @@ abbrev pub Fits : Key → Type 0
 Fits (Jump n a b) = n < 2 ^ 32
 Fits (Summary n a b) = b < 2 ^ 16
 
+-- the page has no jumps at the blocks of 64 nodes from one to before another
+abbrev pub IsAside : (begin end : ℕ) → Key → Type 0
+IsAside begin end (Jump block a b) = (block < begin) ⊎ (end ≤ block)
+IsAside begin end (Summary n a block) = Unit {0}
+
 -- the page at an index, where one that is not there stands for any page
 abbrev pub page_at : List Key → ℕ → Key
 page_at pages index = slice_index_or pages index (Jump 0 0 0)

@@ -1,12 +1,12 @@
 //! The map from keys to numbers.
-ghost use Rattle.std.specs.Prelude.{◌≡◌, ◌≢◌, Some, Ok, ◌+◌, ◌*◌, ◌%◌, ◌<◌, ◌≤◌, ◌^◌, ◌↔◌, ◌++◌, [], ◌∷◌, length, replicate, None, IfSome, IfOk, OnOk, OnErr, IsOkUnless};
+ghost use Rattle.std.specs.Prelude.{◌≡◌, ◌≢◌, ℕ, Some, Ok, true, ◌+◌, ◌*◌, ◌%◌, ◌<◌, ◌≤◌, ◌^◌, ◌↔◌, ◌++◌, [], ◌∷◌, length, replicate, None, IfSome, IfOk, OnOk, OnErr, IsOkUnless};
 ghost use Rattle.std.specs.List.{AllByRecursion, IsDistinct};
 ghost use Rattle.std.specs.Map.{keys_of};
 ghost use Rattle.ide_wire.specs.declared.key.Key.{Key};
 ghost use Rattle.ide_wire.specs.declared.key.Key.TheVariants.{Jump, Summary};
 ghost use Rattle.ide_wire.specs.declared.refused.Refused.TheVariants.{NoMemory};
 ghost use Rattle.ide_wire.specs.Key.{same_key};
-ghost use Rattle.ide_pages.specs.Pages.{AreBlocks, ArePaged, Fits, GrowsFor, IsPage, IsRowOfJumps, IsRowOfSummaries, IsNumberIn, IsSmall, Puts, cell_of, entries, listed_fact, number_at, number_in, read_at, read_blocks, row_of, slot_at, weight};
+ghost use Rattle.ide_pages.specs.Pages.{AreBlocks, ArePaged, Fits, GrowsFor, IsAside, IsPage, IsRowOfJumps, IsRowOfSummaries, IsNumberIn, IsSmall, Puts, cell_of, entries, listed_fact, number_at, number_in, page_at, read_at, read_blocks, row_of, slot_at, weight};
 ghost use Rattle.ide_pages.specs.Alike.{EndsAtOther, HaveNumber};
 ghost use Rattle.ide_pages.specs.Rows.{KeepsPages, ListsIn, page_in, row_at};
 
@@ -157,6 +157,20 @@ impl Pages {
         ensures end { (result ≡ None) ↔ (length self.now.slots ≤ cell) }
     {
         cells::key_at(&self.pages, cell)
+    }
+
+    /// The first page, from one on, that has jumps at the blocks of 64 nodes from `begin` to before `end`, by its index, that of its
+    /// first cell over 64: none where that is no page's. It looks at each page up to there, and at no cell. No look-up.
+    pub fn next_page(&self, page: usize, begin: usize, end: usize) -> usize
+        ensures from { page ≤ result }
+        ensures aside { (n : ℕ) → page ≤ n → n < result → IsAside begin end (page_at self.now.pages n) }
+    {
+        for index in page..self.pages.len() {
+            if !is_aside(self.pages[index], begin, end) {
+                return index;
+            }
+        }
+        page.max(self.pages.len())
     }
 
     /// The cell's key with its number, or `None` where the number is 0, and behind the last cell.
@@ -331,4 +345,15 @@ fn add_page(
     cells.add_page();
     pages.push_reserved(page);
     Ok(index)
+}
+
+/// Whether the page has no jumps at the blocks of 64 nodes from one to before another.
+#[inline(always)]
+fn is_aside(page: Key, begin: usize, end: usize) -> bool
+    ensures { result ≡ true → IsAside begin end page }
+{
+    match page {
+        Key::Jump(block, _, _) => (block as usize) < begin || end <= block as usize,
+        Key::Summary(_, _, _) => true,
+    }
 }

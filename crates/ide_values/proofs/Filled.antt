@@ -17,7 +17,7 @@ use Rattle.ide_wire.specs.declared.key.Key.{Key}
 use Rattle.ide_wire.specs.declared.key.Key.TheVariants.{Jump, Summary}
 use Rattle.ide_wire.specs.Key.{node_of, same_key, same_key_laws, same_key_exact}
 use Rattle.ide_graph.specs.Supergraph.{Supergraph}
-use Rattle.ide_image.specs.Cells.{AreAlike, BeginsWith, ShowTable, TablesData, function_shown_in, shown_entries}
+use Rattle.ide_image.specs.Cells.{AreAlike, BeginsWith, HasOthers, IsAtOther, ShowTable, TablesData, function_shown_in, shown_entries}
 use Rattle.ide_image.specs.Tables.{Table, found}
 use Rattle.ide_values.specs.Fill.{Fills, FillsFrom, IsFilledAt, IsFilledBy, Meets, lowered, value_from}
 use Rattle.ide_values.specs.Near.{AreNear, HasNoJump}
@@ -227,6 +227,26 @@ module _ {F L : Type 0} (A : LatticeAlgebra L) (B : EdgeAlgebra F L) (graph : Su
         passed_all 64 (64 * page)
         (λ i e from to shows. meets_summary A B graph starts first e.0 e.1 rows (none i e (omega (arith, from, to)) shows))
         so_far
+
+    -- nor are pages side by side that have jumps at the nodes of other blocks alone
+    pub passed_pages : (more : ℕ) → (0 < graph.facts → length rows < (more + 1) * graph.facts) → (from to begin end : ℕ) → from ≤ to
+        → 64 * begin ≤ first → first + more < 64 * end → ((page : ℕ) → from ≤ page → page < to → HasOthers tables begin end page)
+        → IsFilledBy A B graph tables starts first (64 * from) rows → IsFilledBy A B graph tables starts first (64 * to) rows
+    passed_pages more few from to begin end order low high others so_far =
+        let whole : 64 * from + 64 * (to - from) ≡ 64 * to = omega (arith, order) in
+        subst (λ n. IsFilledBy A B graph tables starts first n rows) whole
+        (passed_all (64 * (to - from)) (64 * from)
+        (λ i e least most shows. meets_other e.0 e.1 (others (i / 64) (omega (arith, least)) (omega (arith, most, order)) i e refl shows))
+        so_far)
+      where
+        meets_other : (key : Key) (f : F) → IsAtOther begin end key → Meets A B graph starts first key f rows rows
+        meets_other (Jump n a b) f other =
+            meets_elsewhere A B graph starts first more (Jump n a b) f rows few
+            (λ has. elim other [
+              | inl less ↦ omega (arith, less, low, has.0)
+              | inr past ↦ omega (arith, past, high, has.1)
+            ])
+        meets_other (Summary n a b) f other = meets_summary A B graph starts first (Summary n a b) f rows tt
 
     module _ (more : ℕ) (few : 0 < graph.facts → length rows < (more + 1) * graph.facts)
         (page node from to begin end : ℕ) (at : BeginsWith tables page (Jump node from to)) (near : AreNear first more node begin end) where

@@ -14,13 +14,13 @@ use std::io;
 use std::io::Write;
 use std::thread::Threads;
 
-/// How many values a chunk has at least, where there are so many: 512 KiB, where each takes 16 bytes.
-const LEAST_VALUES: usize = 32_768;
+/// How many values a chunk has at least, where there are so many: 256 KiB, where each takes 16 bytes.
+const LEAST_VALUES: usize = 16_384;
 
 /// How many chunks there are at most, since each passes over the tables.
-const MOST_CHUNKS: usize = 32;
+const MOST_CHUNKS: usize = 64;
 
-/// How many nodes a chunk has: a part in 32 of all, or as many as have 32,768 values, if these are more.
+/// How many nodes a chunk has: a part in 64 of all, or as many as have 16,384 values, if these are more.
 pub(crate) fn chunk_size(graph: &Graph) -> Node
     ensures some { 0 < result }
     ensures few { result ≤ max graph.now.nodes 1 }

@@ -43,8 +43,8 @@ pub fn fill<F: EdgeFn>(
     Ok(values)
 }
 
-/// Fills rows of tops, of which the first is that of a node. It passes over each page of the tables that
-/// has summaries or is at other nodes, and reads the cells of the others that are at the nodes of the rows.
+/// Fills rows of tops, of which the first is that of a node. Of each page of the tables that has summaries, or jumps at the
+/// nodes of other blocks, it looks at the key alone, and of the others it reads the cells that are at the nodes of the rows.
 pub(crate) fn fill_rows<F: EdgeFn>(
     graph: &Graph,
     tables: &Tables<F>,
@@ -57,8 +57,13 @@ pub(crate) fn fill_rows<F: EdgeFn>(
     ensures filled { FillsFrom F.L.algebra F.edge graph.now tables.now.table starts.now first rows.new }
 {
     let more = whole_rows(graph, rows.len());
+    // Blocks of nodes that have all rows, and at most one more.
+    let begin = first as usize / PAGE;
+    let end = begin + more / PAGE + 2;
+    let pages = tables.cell_count() / PAGE;
     let mut stretches = Stretches::unscanned(graph);
-    for page in 0..tables.cell_count() / PAGE {
+    let mut page = tables.next_page(0, begin, end);
+    while page < pages {
         fill_page(
             graph,
             tables,
@@ -69,6 +74,7 @@ pub(crate) fn fill_rows<F: EdgeFn>(
             &mut stretches,
             rows,
         );
+        page = tables.next_page(page + 1, begin, end);
     }
 }
 

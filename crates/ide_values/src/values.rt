@@ -131,11 +131,11 @@ pub trait ValuePhase<P: Problem> {
     }
 
     /// Writes the dump of the image's values, as [`Values::write_dump`] does, by so many workers, with no more
-    /// of the values in memory than those of a part in 32 of the nodes, or 32,768 of them, if these are more: rows
+    /// of the values in memory than those of a part in 64 of the nodes, or 16,384 of them, if these are more: rows
     /// are filled and written, and then the next ones. Start values are found before anything is written.
     /// Inside is how the output did, or the lines of a node for want of memory.
     ///
-    /// It passes over the pages of the tables as often as there are chunks, 32 times at most, and reads
+    /// It passes over the pages of the tables as often as there are chunks, 64 times at most, and reads
     /// the cells that are at the nodes of a chunk for that one alone.
     ///
     /// Refusals, in this order: `Limit` where there are no workers or more than 64; `NoMemory`. Nothing is
