@@ -7,12 +7,12 @@ use Rattle.std.specs.List.Sorted.{IsStrictlySortedBy}
 use Rattle.std.specs.Map.{keys_of, lookup}
 use Rattle.std.specs.Option.{option_flatten, option_map, option_to_list}
 use Rattle.std.specs.Ordering.{nat_cmp}
-use Rattle.std.proofs.lemmas.Bool.{cases_lt, ne_eqb}
+use Rattle.std.proofs.lemmas.Bool.{cases_lt, eqb-false, eqb-true, ne_eqb}
 use Rattle.std.proofs.lemmas.List.{append-nil, get_or_append_left, get_or_past, length-append, length-replicate}
 use Rattle.std.proofs.lemmas.List.FromFn.{get_or-map-range_with_len, length-map-range_with_len}
 use Rattle.std.proofs.lemmas.Map.Entries.{length-keys_of}
 use Rattle.std.proofs.lemmas.Option.{same_Some, slice_get-get_or, slice_get_past, slice_get_within}
-use Rattle.ide_pages.specs.Pages.{AddsPage, ArePaged, AreRow, Fits, IsAside, IsNumberIn, KeepsCells, Numbers, Puts, cell_of, cell_on, entries, key_at, key_on, nonzero, number_at, number_in, offset_of, page_at, page_of, shown, slot_by}
+use Rattle.ide_pages.specs.Pages.{AddsPage, ArePaged, AreRow, Fits, IsAside, IsNumberIn, KeepsCells, Numbers, Puts, PutsRun, cell_of, cell_on, entries, key_at, key_on, nonzero, number_at, number_in, offset_of, page_at, no_key, one_more, page_of, shown, slot_by}
 use Rattle.ide_pages.proofs.KeyCells.{cell-back, mapped}
 use Rattle.ide_pages.proofs.Numbering.{IsNumbering, apart-at, same-at}
 use Rattle.ide_wire.specs.declared.key.Key.{Key}
@@ -23,8 +23,13 @@ use Rattle.ide_image.specs.Indexed.{AreIndexed, cell_by, cells_by, empty_cells, 
 use Rattle.ide_image.specs.Tables.{ArePartners, found, partner_at, place_in, with_entry}
 use Rattle.ide_image.specs.Cells.{BeginsWith, HasOthers, HasRoomBehind, IsAtOther, ShowTable, key_behind, tables_of}
 use Rattle.ide_image.proofs.Shown.{distinct-shown, found-shown}
-use Rattle.ide_image.specs.Walk.{jump_behind, with_walked}
+use Rattle.ide_image.specs.Walk.{AreAbsent, jump_behind, with_walked}
 use Rattle.ide_image.proofs.Ranges.{distinct-range, lookup-none, lookup-one, map-more, map-same, place-none, place-one, with-one}
+
+past-none : {X : Type 0} (xs : List X) (n : ℕ) → slice_get xs n ≡ None → length xs ≤ n
+past-none [] n is = omega arith
+past-none (x ∷ xs) zero is = absurd (cc (is))
+past-none (x ∷ xs) (suc n) is = let rest = past-none xs n is in omega (arith, rest)
 
 -- ---- any cells
 
@@ -147,6 +152,13 @@ positive-of zero some = absurd (cc (some))
 positive-of (suc n) some = omega arith
 
 -- the function of number 0, and of another
+none-kept : {F : Type 0} (functions : List F) (n : ℕ) → n ≤ length functions → kept_at functions n ≡ None → n ≡ 0
+none-kept functions n few none =
+    elim (nat_eq n 0) as (λ b. nat_eq n 0 ≡ b → cond b None (slice_get functions (n - 1)) ≡ None → n ≡ 0) [
+      | true ↦ λ e is. eqb-true n 0 e
+      | false ↦ λ e is. absurd (let past = past-none functions (n - 1) is in let some = eqb-false n 0 e in omega (arith, past, few, some))
+    ] refl none
+
 kept-zero : {F : Type 0} (functions : List F) (n : ℕ) → n ≡ 0 → kept_at functions n ≡ None
 kept-zero functions n is = ap (kept_at functions) is
 
@@ -214,6 +226,13 @@ module _ {F : Type 0} (numbers : Numbers) (functions : List F) where
 
     pub found-none : (key : Key) → number_at numbers key ≡ 0 → found (table_of (cells_by numbers functions)) key ≡ None
     found-none key is = found-is key ∙ kept-zero functions (number_at numbers key) is
+
+    pub slots-long : length numbers.slots ≡ 64 * length numbers.pages
+    slots-long = ap length paged.slots ∙ length-map-range_with_len (slot_by numbers) 0 (64 * length numbers.pages)
+
+    -- an absent key has the number 0, where each number has its function
+    pub absent-zero : (key : Key) → number_at numbers key ≤ length functions → found (table_of (cells_by numbers functions)) key ≡ None → number_at numbers key ≡ 0
+    absent-zero key kept none = none-kept functions (number_at numbers key) kept (sym (found-is key) ∙ none)
 
     -- ---- what cells show
 
@@ -559,3 +578,55 @@ module _ (node from to : ℕ) where
       put ∙ ap (λ cells. with_entry cells (Jump (node + 1 + n) from to) (Some f)) is
       ∙ ap (λ key. with_entry (with_walked before (jump_behind node from to) f n) key (Some f)) (sym (next-key n))
       ∙ ap (with_walked before (jump_behind node from to) f) more
+
+  -- and so at many, one after the other
+  module _ {F : Type 0} (numbers : Numbers) (functions : List F) (own : HasOwnCells numbers) (cell count number : ℕ) (f : F)
+      (is : cell_of numbers (Jump node from to) ≡ Some cell) (page : node % 64 + count < 64) (there : kept_at functions number ≡ Some f) where
+    own-run : (n : ℕ) → n < count → key_at numbers.pages (cell + 1 + n) ≡ Jump (node + 1 + n) from to
+    own-run n less = (cell-back numbers.pages (Jump (node + 1 + n) from to) (cell + 1 + n) (next-cell numbers numbers cell n is (omega (arith, less, page)) refl)).0
+
+    put-at : (n : ℕ) (mid now : Numbers) → n < count → Puts mid now (key_at numbers.pages (cell + 1 + n)) number → Puts mid now (Jump (node + 1 + n) from to) number
+    put-at n mid now less puts = subst (λ key. Puts mid now key number) (own-run n less) puts
+
+    pub run-pages : (n : ℕ) (now : Numbers) → n ≤ count → PutsRun (λ k. key_at numbers.pages (cell + 1 + k)) number numbers n now → now.pages ≡ numbers.pages
+    run-pages zero now order no_key = refl
+    run-pages (suc n) now order (one_more before puts) = puts.pages ∙ run-pages n _ (omega (arith, order)) before
+
+    pub run-walked : (n : ℕ) (now : Numbers) → n ≤ count → PutsRun (λ k. key_at numbers.pages (cell + 1 + k)) number numbers n now
+        → cells_by now functions ≡ with_walked (cells_by numbers functions) (jump_behind node from to) f n
+    run-walked zero now order no_key = refl
+    run-walked (suc n) now order (one_more {mid = mid} before puts) =
+        let same = run-pages n mid (omega (arith, order)) before in
+        let at = next-cell numbers mid cell n is (omega (arith, order, page)) same in
+        let next : n + 1 ≡ suc n = omega arith in
+        walked-more f (cells_by numbers functions) (cells_by mid functions) (cells_by now functions) n (run-walked n mid (omega (arith, order)) before)
+        (put-cells mid now functions (own-same numbers mid same own) (Jump (node + 1 + n) from to) (cell + 1 + n) number f at (put-at n mid now (omega (arith, order)) puts) there)
+        ∙ ap (with_walked (cells_by numbers functions) (jump_behind node from to) f) next
+
+    pub run-kept : number ≤ length functions → ((q : Key) → number_at numbers q ≤ length functions) → (n : ℕ) (now : Numbers) → n ≤ count
+        → PutsRun (λ k. key_at numbers.pages (cell + 1 + k)) number numbers n now → (q : Key) → number_at now q ≤ length functions
+    run-kept few kept zero now order no_key = kept
+    run-kept few kept (suc n) now order (one_more {mid = mid} before puts) =
+        let same = run-pages n mid (omega (arith, order)) before in
+        let at = next-cell numbers mid cell n is (omega (arith, order, page)) same in
+        put-kept mid now functions (own-same numbers mid same own) (Jump (node + 1 + n) from to) (cell + 1 + n) number f at (put-at n mid now (omega (arith, order)) puts) there
+        few (run-kept few kept n mid (omega (arith, order)) before)
+
+  -- the cells behind that of a jump are there
+  pub run-within : (numbers : Numbers) (cell count : ℕ) → length numbers.slots ≡ 64 * length numbers.pages → cell_of numbers (Jump node from to) ≡ Some cell → node % 64 + count < 64
+      → cell + 1 + count ≤ length numbers.slots
+  run-within numbers cell zero long is page = let within = (cell-back numbers.pages (Jump node from to) cell is).1 in omega (arith, within, long)
+  run-within numbers cell (suc n) long is page =
+      let at = next-cell numbers numbers cell n is page refl in
+      let within = (cell-back numbers.pages (Jump (node + 1 + n) from to) (cell + 1 + n) at).1 in
+      omega (arith, within, long)
+
+  -- where the jumps behind a jump are absent, their numbers are 0
+  pub absent-run : {F : Type 0} (numbers : Numbers) (functions : List F) (paged : ArePaged numbers) (cell count : ℕ) → cell_of numbers (Jump node from to) ≡ Some cell
+      → node % 64 + count < 64 → ((key : Key) → number_at numbers key ≤ length functions) → AreAbsent (table_of (cells_by numbers functions)) (jump_behind node from to) count
+      → (n : ℕ) → n < count → number_at numbers (key_at numbers.pages (cell + 1 + n)) ≡ 0
+  absent-run numbers functions paged cell count is page kept absent n less =
+      let key = Jump (node + 1 + n) from to in
+      let own = (cell-back numbers.pages key (cell + 1 + n) (next-cell numbers numbers cell n is (omega (arith, less, page)) refl)).0 in
+      ap (number_at numbers) own
+      ∙ absent-zero numbers functions paged key (kept key) (ap (found (table_of (cells_by numbers functions))) (sym (next-key n)) ∙ absent n less)

@@ -385,7 +385,7 @@ impl<F: EdgeFn> Indexed<F> {
         self.places.alike_to(cell + 1, cell + 1 + most, 0) - (cell + 1)
     }
 
-    /// Puts the function into the cells of the jumps between the facts at so many nodes behind this one, which are on
+    /// Puts the function into the cells of the jumps between the facts at so many nodes behind this one, which are absent and on
     /// its page. The cell is that of the jump at the node. No look-up.
     #[inline(always)]
     pub(crate) fn put_behind(
@@ -399,6 +399,7 @@ impl<F: EdgeFn> Indexed<F> {
     )
         requires cell { cell + 1 ≡ place_of_key self.old (Jump node from to) }
         requires page { node % 64 + count < 64 }
+        requires absent { AreAbsent (table_of self.old.cells) (jump_behind node from to) count }
         requires room { 0 < self.old.room }
         ensures cells { self.new.cells ≡ with_walked self.old.cells (jump_behind node from to) function count }
         ensures stands { StandBehind cell (jump_behind node from to) count self.old }
@@ -406,13 +407,7 @@ impl<F: EdgeFn> Indexed<F> {
     {
         let likely = self.index_in(cell);
         let number = self.functions.keep_likely(likely, function) + 1;
-        for step in 0..count {
-            self.places.set(
-                cell + 1 + step,
-                Key::Jump(node + 1 + step as u32, from, to),
-                number,
-            );
-        }
+        self.places.set_run(cell + 1, count, number);
         // The pages have their cells as before.
         let _ = self.places.cell_count();
     }

@@ -1,16 +1,18 @@
 -- The cells of pages that differ: each has a key of its own, so that a key's number is that of its cell.
-use Rattle.std.proofs.Common.{◌≡◌, ℕ, ◌+◌, ◌*◌, ◌/◌, ◌%◌, ◌<◌, ◌≤◌, ◌^◌, refl, sym, ap, subst, ◌∙◌, arith, List, ◌++◌, length, take, drop, suc, get_or, Option, Some, None}
+use Rattle.std.proofs.Common.{◌≡◌, ℕ, ◌+◌, ◌*◌, ◌/◌, ◌%◌, ◌<◌, ◌≤◌, ◌^◌, refl, sym, ap, subst, ◌∙◌, arith, List, ◌++◌, length, take, drop, zero, suc, cond, get_or, Option, Some, None}
 use Rattle.std.specs.Prelude.{IfNone, IfSome, position, slice_set, if◌then◌else◌}
 use Rattle.std.specs.List.{IsDistinct}
 use Rattle.std.specs.Map.{keys_of}
 use Rattle.std.specs.Option.{option_map, option_to_list, unwrap_or}
-use Rattle.std.proofs.lemmas.List.{length-append, length-set}
+use Rattle.std.proofs.lemmas.Bool.{ne_eqb}
+use Rattle.std.proofs.lemmas.List.{get_or-set_other, length-append, length-set}
 use Rattle.std.proofs.lemmas.List.FromFn.{fill_by_all}
 use Rattle.std.proofs.lemmas.List.Quantifiers.{position-Some}
 use Rattle.ide_wire.specs.declared.key.Key.{Key}
 use Rattle.ide_wire.specs.declared.key.Key.TheVariants.{Jump, Summary}
 use Rattle.ide_wire.specs.Key.{same_key, same_key_exact}
-use Rattle.ide_pages.specs.Pages.{ArePaged, ArePages, Fits, IsSmall, Puts, cell_of, cell_on, entries, key_at, key_on, number_at, number_in, cell_number, numbers_of, numbers_within, offset_of, own, page_at, page_of, shown, slot_at, slot_by, slots_from, weight}
+use Rattle.ide_pages.specs.Pages.{ArePaged, ArePages, Fits, IsSmall, Puts, PutsRun, cell_of, cell_on, entries, key_at, key_on, number_at, number_in, cell_number, numbers_of, numbers_within, offset_of, own, page_at, page_of, shown, slot_at, slot_by, slots_from, weight}
+use Rattle.ide_pages.specs.CellNumbers.{with_run}
 use Rattle.ide_pages.specs.Rows.{RowsData}
 use Rattle.ide_pages.proofs.Places.{key_on-page_of, offset-key_on, offset-within, page_of-key_on, position-at}
 use Rattle.ide_pages.proofs.Numbering.{IsNumbering, distinct-entries, number-after, number-is}
@@ -135,6 +137,10 @@ module _ {pages : List Key} {cells : List ℕ} {rows : RowsData} {count : ℕ} (
       let p = are.paged in
       sym (number-of-cell key cell (ap (cell_in pages) is ∙ key-of-cell cell (omega (arith, p, l))))
 
+  length-run : (number first n : ℕ) → length (with_run cells first number n) ≡ length cells
+  length-run number first zero = refl
+  length-run number first (suc n) = length-set (with_run cells first number n) (first + n) number ∙ length-run number first n
+
   -- ---- one cell is written
 
   module _ (key : Key) (cell number : ℕ) (is : cell_in pages key ≡ Some cell) where
@@ -223,3 +229,53 @@ module _ {pages : List Key} {cells : List ℕ} {rows : RowsData} {count : ℕ} (
             let n = count-now in
             omega (arith, w, o, n, is_after);
       }
+
+-- ---- so many cells that had 0 are written
+
+pub there-in : (pages : List Key) (cells : List ℕ) (end : ℕ) → end ≤ length (numbers_of pages cells).slots → end ≤ length cells
+there-in pages cells end there = let long = length-slots (key_at pages) 0 cells in omega (arith, there, long)
+
+-- a cell behind the run is as it was
+unwritten : (cells : List ℕ) (first number n k : ℕ) → n ≤ k → get_or (with_run cells first number n) (first + k) 0 ≡ get_or cells (first + k) 0
+unwritten cells first number zero k order = refl
+unwritten cells first number (suc n) k order =
+    get_or-set_other (with_run cells first number n) (first + n) (first + k) number 0 (λ e. omega (arith, order, e))
+    ∙ unwritten cells first number n k (omega (arith, order))
+
+module _ {pages : List Key} {cells : List ℕ} {rows : RowsData} {count : ℕ} (are : ArePages pages cells rows count) (first number length_of : ℕ)
+    (some : 0 < number) (there : first + length_of ≤ length cells)
+    (absent : (n : ℕ) → n < length_of → number_at (numbers_of pages cells) (key_at pages (first + n)) ≡ 0) where
+  zero-there : (n : ℕ) → n < length_of → get_or cells (first + n) 0 ≡ 0
+  zero-there n less = number-of-cell are (key_at pages (first + n)) (first + n) (key-of-cell are (first + n) (omega (arith, less, there))) ∙ absent n less
+
+  weight-some : weight number ≡ 1
+  weight-some = ap (λ b. cond b 0 1) (ne_eqb number 0 (λ e. omega (arith, e, some)))
+
+  pub run-written : (n : ℕ) → n ≤ length_of → ArePages pages (with_run cells first number n) rows (count + n)
+  run-written zero order = let same : count ≡ count + zero = omega arith in subst (λ c. ArePages pages cells rows c) same are
+  run-written (suc n) order =
+      let before = run-written n (omega (arith, order)) in
+      let cell = first + n in
+      let within : cell < length (with_run cells first number n) = omega (arith, order, there, length-run are number first n) in
+      are-written before (key_at pages cell) cell number (key-of-cell before cell within) 0
+      (sym (unwritten cells first number n n (omega arith) ∙ zero-there n (omega (arith, order)))) (count + suc n) (omega (arith, weight-some))
+
+  pub run-puts : (most n : ℕ) → n ≤ length_of
+      → PutsRun (λ k. key_at pages (first + k)) number (numbers_within most pages cells) n (numbers_within most pages (with_run cells first number n))
+  run-puts most zero order = PutsRun.no_key
+  run-puts most (suc n) order =
+      let before = run-written n (omega (arith, order)) in
+      let cell = first + n in
+      let within : cell < length (with_run cells first number n) = omega (arith, order, there, length-run are number first n) in
+      PutsRun.one_more (run-puts most n (omega (arith, order))) (puts before (key_at pages cell) cell number (key-of-cell before cell within) most)
+
+  pub run-few : count + length_of < 2 ^ 64
+  run-few =
+      let last = run-written length_of (omega arith) in
+      let counted = last.counted in
+      let slots = length-full (slots_from (key_at pages) 0 (with_run cells first number length_of)) in
+      let long = length-slots (key_at pages) 0 (with_run cells first number length_of) in
+      let same = length-run are number first length_of in
+      let paged = are.paged in
+      let few = are.few in
+      omega (arith, counted, slots, long, same, paged, few)

@@ -1,5 +1,5 @@
 -- The numbers of cells, and how great they may be.
-use Rattle.std.specs.Prelude.{◌-◌, ℕ, List, vec_capacity, vec_len}
+use Rattle.std.specs.Prelude.{◌+◌, ◌-◌, ℕ, zero, suc, List, slice_set, vec_capacity, vec_len}
 use Rattle.std.specs.Global.{Vec}
 use Rattle.ide_pages.specs.declared.cell_numbers.Width.{Width}
 
@@ -8,6 +8,11 @@ pub record CellNumbersData : Type 0 where
   pub items : List ℕ
   pub most : ℕ
   pub room : ℕ
+
+-- the cells where so many of them, from the first on, have the number
+abbrev pub with_run : {X : Type 0} → List X → (first : ℕ) → X → ℕ → List X
+with_run cells first number zero = cells
+with_run cells first number (suc n) = slice_set (with_run cells first number n) (first + n) number
 
 -- the numbers of that width
 abbrev pub cell_numbers : Width → (bytes narrow wide : Vec ℕ) → CellNumbersData

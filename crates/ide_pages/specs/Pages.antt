@@ -1,5 +1,5 @@
 -- What contracts say of numbers at keys: the number of each key, the cell that has it, and the pages that there are.
-use Rattle.std.specs.Prelude.{◌≡◌, ◌⊎◌, ℕ, ◌+◌, ◌*◌, ◌/◌, ◌%◌, ◌<◌, ◌≤◌, ◌^◌, List, [], ◌∷◌, ◌++◌, length, map, nat_eq, position, Option, None, Some, if◌then◌else◌}
+use Rattle.std.specs.Prelude.{◌≡◌, ◌⊎◌, ℕ, zero, suc, ◌+◌, ◌*◌, ◌/◌, ◌%◌, ◌<◌, ◌≤◌, ◌^◌, List, [], ◌∷◌, ◌++◌, length, map, nat_eq, position, Option, None, Some, if◌then◌else◌}
 use Rattle.std.specs.List.{AllByRecursion, IsDistinct, filter_map, range_with_len, slice_index_or}
 use Rattle.std.specs.List.Sorted.{IsStrictlySortedBy}
 use Rattle.std.specs.Map.{lookup, keys_of}
@@ -77,6 +77,11 @@ pub record Puts (old new : Numbers) (key : Key) (number : ℕ) : Type 0 where
   pub was : entries old ≡ before ++ own key (number_at old key) ++ after
   pub is : entries new ≡ before ++ own key number ++ after
   pub pages : new.pages ≡ old.pages
+
+-- the number is put in place of those of so many keys, one after the other
+pub data PutsRun (at : ℕ → Key) (number : ℕ) (old : Numbers) : ℕ → Numbers → Type 0 where
+  no_key : PutsRun at number old zero old
+  one_more : {n : ℕ} {mid new : Numbers} → PutsRun at number old n mid → Puts mid new (at n) number → PutsRun at number old (suc n) new
 
 -- each key that had a cell has the same one
 abbrev pub KeepsCells : (old new : Numbers) → Type 0

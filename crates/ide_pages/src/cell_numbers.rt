@@ -1,6 +1,7 @@
 //! The numbers in the cells of pages: of one byte each, until there has to be room for greater ones.
-ghost use Rattle.std.specs.Prelude.{◌≡◌, ◌≤◌, ◌<◌, ◌++◌, [], length, replicate, slice_index_or, slice_set, IfOk, OnOk, OnErr};
+ghost use Rattle.std.specs.Prelude.{◌≡◌, ◌≤◌, ◌<◌, ◌+◌, ◌++◌, [], length, replicate, slice_index_or, slice_set, IfOk, OnOk, OnErr};
 ghost use Rattle.ide_pages.specs.Alike.{AreSameUpTo};
+ghost use Rattle.ide_pages.specs.CellNumbers.{with_run};
 
 use std::alloc::{AllocError, Global};
 use std::marker::Model;
@@ -138,6 +139,21 @@ impl CellNumbers {
         }
     }
 
+    /// Puts the number into so many cells from the first on, which have room for it.
+    #[inline(always)]
+    pub(crate) fn fill(&mut self, first: usize, count: usize, number: u32)
+        requires there { first + count ≤ length self.old.items }
+        requires fits { number ≤ self.old.most }
+        ensures items { self.new.items ≡ with_run self.old.items first number count }
+        ensures most { self.new.most ≡ self.old.most }
+    {
+        match self.width {
+            Width::One => fill_run(&mut self.bytes, first, count, number as u8),
+            Width::Two => fill_run(&mut self.narrow, first, count, number as u16),
+            Width::Four => fill_run(&mut self.wide, first, count, number),
+        }
+    }
+
     /// Makes room for so many cells more.
     pub(crate) fn reserve(&mut self, additional: usize) -> Result<(), AllocError>
         ensures items { self.new.items ≡ self.old.items }
@@ -211,6 +227,17 @@ impl CellNumbers {
             narrow: self.narrow.to_vec(alloc)?,
             wide: self.wide.to_vec(alloc)?,
         })
+    }
+}
+
+/// Puts the number into so many cells from the first on.
+#[inline(always)]
+fn fill_run<T: Copy>(numbers: &mut [T], first: usize, count: usize, number: T)
+    requires there { first + count ≤ length numbers.old }
+    ensures { numbers.new ≡ with_run numbers.old first number count }
+{
+    for step in 0..count {
+        numbers[first + step] = number;
     }
 }
 

@@ -6,7 +6,7 @@ ghost use Rattle.ide_wire.specs.declared.key.Key.{Key};
 ghost use Rattle.ide_wire.specs.declared.key.Key.TheVariants.{Jump, Summary};
 ghost use Rattle.ide_wire.specs.declared.refused.Refused.TheVariants.{NoMemory};
 ghost use Rattle.ide_wire.specs.Key.{same_key};
-ghost use Rattle.ide_pages.specs.Pages.{AreBlocks, ArePaged, Fits, GrowsFor, IsAside, IsPage, IsRowOfJumps, IsRowOfSummaries, IsNumberIn, IsSmall, Puts, cell_of, entries, listed_fact, number_at, number_in, page_at, read_at, read_blocks, row_of, slot_at, weight};
+ghost use Rattle.ide_pages.specs.Pages.{AreBlocks, ArePaged, Fits, GrowsFor, IsAside, IsPage, IsRowOfJumps, IsRowOfSummaries, IsNumberIn, IsSmall, Puts, PutsRun, cell_of, entries, key_at, listed_fact, number_at, number_in, page_at, read_at, read_blocks, row_of, slot_at, weight};
 ghost use Rattle.ide_pages.specs.Alike.{EndsAtOther, HaveNumber};
 ghost use Rattle.ide_pages.specs.Rows.{KeepsPages, ListsIn, page_in, row_at};
 
@@ -265,6 +265,21 @@ impl Pages {
     {
         let old = self.cells.replace(cell, number);
         self.count = counted(self.count, old, number);
+    }
+
+    /// Puts the number, which is not 0, into so many cells from one on, which have room for it and 0 so far. The cells are of
+    /// pages that there are. No look-up, and no memory.
+    #[inline(always)]
+    pub fn set_run(&mut self, cell: usize, count: usize, number: u32)
+        requires there { cell + count ≤ length self.old.slots }
+        requires absent { (n : ℕ) → n < count → number_at self.old (key_at self.old.pages (cell + n)) ≡ 0 }
+        requires some { 0 < number }
+        requires fits { number ≤ self.old.most }
+        ensures puts { PutsRun (λ n. key_at self.old.pages (cell + n)) number self.old count self.new }
+        ensures most { self.new.most ≡ self.old.most }
+    {
+        self.cells.fill(cell, count, number);
+        self.count += count;
     }
 
     /// The pages that have the jumps at the node to the fact: for each the fact at the start of its

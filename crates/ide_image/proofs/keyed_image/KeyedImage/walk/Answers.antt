@@ -1,11 +1,11 @@
-use Rattle.std.proofs.Common.{subst, sym, ap, ◌∙◌, arith}
+use Rattle.std.proofs.Common.{subst, suc, sym, ap, ◌∙◌, arith}
 use Rattle.std.specs.Prelude.{◌||◌, ◌&&◌, not}
 use Rattle.ide_wire.specs.Key.{same_key}
 use Rattle.ide_wire.specs.declared.key.Key.TheVariants.{Jump}
 use Rattle.ide_image.specs.Indexed.{place_of_key, table_of}
 use Rattle.ide_image.specs.Notes.{with_note}
 use Rattle.ide_image.specs.Queue.{held_at, mark_in, pending_at}
-use Rattle.ide_image.specs.Tables.{Table}
+use Rattle.ide_image.specs.Tables.{Table, found}
 use Rattle.ide_image.specs.Walk.{EntersWalked, jump_behind, with_entered}
 use Rattle.ide_image.proofs.Agree.{at-index, cell-same, image-same, is-pending, on-err, pending-long, table-same, unclaimed-free, whole-same}
 use Rattle.ide_image.proofs.Before.{at-some, note-before, pending-before, waits-is}
@@ -39,6 +39,11 @@ pub put_behind-requires-clause-cell : goal.put_behind-requires-clause-cell
 put_behind-requires-clause-cell g c =
     let inside = c.self.inside in
     cell-same inside.indexed c.make_room.new.indexed (Jump c.args.node c.args.from c.args.to) c.cell_of-cell.result c.make_room.ensures.same.cells c.cell_of-cell.ensures.place
+
+pub put_behind-requires-clause-absent : goal.put_behind-requires-clause-absent
+put_behind-requires-clause-absent g c = λ n less.
+    ap (λ table. found table (jump_behind c.args.node c.args.from c.args.to (suc n))) (table-same c.self.inside.indexed c.make_room.new.indexed c.make_room.ensures.same.cells)
+    ∙ (rw (← c.self.view_is) at c.requires.absent) n less
 
 pub note_walk-requires-clause-cell : goal.note_walk-requires-clause-cell
 note_walk-requires-clause-cell g c =
