@@ -17,7 +17,15 @@ use std::io;
 use std::io::Write;
 
 /// At how many bytes a piece of the dump is written.
-pub(crate) const PIECE: usize = 65_536;
+const PIECE: usize = 65_536;
+
+/// No line of the dump has more bytes, where a value is shown in some 30.
+const LINE: usize = 80;
+
+/// For how many bytes a piece has room: those at which it is written, and the lines of one node.
+pub(crate) fn piece_room(graph: &Graph) -> usize {
+    PIECE + LINE * graph.fact_count()
+}
 
 impl<P: Problem> Values<P> {
     /// Appends the dump: by ascending node and fact, each fact that has a name at the node, the
@@ -46,8 +54,8 @@ impl<P: Problem> Values<P> {
     pub fn write_dump<W: Write>(&self, alloc: Global, out: &mut W) -> io::Result<()>
         ensures { OnOk result (WritesOut (W.contents out.old) (W.contents out.new) (dump_of_values P.L.algebra P.L.shown self.now)) }
     {
-        let mut piece = Vec::with_capacity(alloc, 2 * PIECE)?;
         let graph = &self.loaded.graph;
+        let mut piece = Vec::with_capacity(alloc, piece_room(graph))?;
         write_nodes(
             graph,
             0,

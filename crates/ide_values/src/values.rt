@@ -11,7 +11,7 @@ ghost use Rattle.ide_values.specs.Settled.{AreStartRows};
 ghost use Rattle.ide_values.specs.Values.{AreValues, IsOutside, value_there};
 
 use crate::chunks::{chunk_size, write_chunks};
-use crate::dump::PIECE;
+use crate::dump::piece_room;
 use crate::fill::fill;
 use crate::laws::following_values_are_best;
 use crate::rows::{place_of, tops, value_at_place};
@@ -163,7 +163,7 @@ pub trait ValuePhase<P: Problem> {
         let starts = leading_starts::<P>(alloc, graph, tables, closed.roots.as_slice())?;
         let size = chunk_size(graph);
         let mut rows = tops(alloc, size as usize * graph.fact_count())?;
-        let mut piece = Vec::with_capacity(alloc, 2 * PIECE)?;
+        let mut piece = Vec::with_capacity(alloc, piece_room(graph))?;
         Ok(write_chunks(
             rt,
             graph,
