@@ -153,12 +153,16 @@ fn expect_tables(rt: &impl Abort, image: Image) {
     expect_pages(rt, &tables);
 }
 
-/// Asserts of these tables that the page of the jump begins at node 0, and that of the summary with fact 0; and which cells
-/// have functions.
+/// Asserts of these tables that the page of the jump begins at node 0, and that of the summary with fact 0; which page is the
+/// next one with jumps at some nodes; and which cells have functions.
 fn expect_pages(rt: &impl Abort, tables: &Tables<ConstFn>) {
     assert!(rt; tables.first_key(0) == Some(Key::Jump(0, 0, 2)));
     assert!(rt; tables.first_key(1) == Some(Key::Summary(1, 0, 0)));
     assert!(rt; tables.first_key(2).is_none());
+    // A page of summaries is passed over, and one of jumps at other nodes.
+    assert!(rt; tables.next_page(0, 0, 1) == 0);
+    assert!(rt; tables.next_page(1, 0, 1) == 2);
+    assert!(rt; tables.next_page(0, 1, 2) == 2);
     assert!(rt; tables.function_in(0).is_none());
     assert!(rt; tables.function_in(1) == Some(ConstFn::id()));
     assert!(rt; tables.function_in(129).is_none());
