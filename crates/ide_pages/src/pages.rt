@@ -1,5 +1,5 @@
 //! The map from keys to numbers.
-ghost use Rattle.std.specs.Prelude.{◌≡◌, ◌≢◌, ℕ, Some, Ok, true, ◌+◌, ◌*◌, ◌%◌, ◌<◌, ◌≤◌, ◌^◌, ◌↔◌, ◌++◌, [], ◌∷◌, length, replicate, None, IfSome, IfOk, OnOk, OnErr, IsOkUnless};
+ghost use Rattle.std.specs.Prelude.{◌≡◌, ◌≢◌, ℕ, Some, Ok, false, true, ◌+◌, ◌*◌, ◌%◌, ◌<◌, ◌≤◌, ◌^◌, ◌↔◌, ◌++◌, [], ◌∷◌, length, replicate, None, IfSome, IfOk, OnOk, OnErr, IsOkUnless};
 ghost use Rattle.std.specs.List.{AllByRecursion, IsDistinct};
 ghost use Rattle.std.specs.Map.{keys_of};
 ghost use Rattle.ide_wire.specs.declared.key.Key.{Key};
@@ -164,6 +164,7 @@ impl Pages {
     pub fn next_page(&self, page: usize, begin: usize, end: usize) -> usize
         ensures from { page ≤ result }
         ensures aside { (n : ℕ) → page ≤ n → n < result → IsAside begin end (page_at self.now.pages n) }
+        ensures near { result < length self.now.pages → IsAside begin end (page_at self.now.pages result) → ⊥ }
     {
         for index in page..self.pages.len() {
             if !is_aside(self.pages[index], begin, end) {
@@ -365,7 +366,8 @@ fn add_page(
 /// Whether the page has no jumps at the blocks of 64 nodes from one to before another.
 #[inline(always)]
 fn is_aside(page: Key, begin: usize, end: usize) -> bool
-    ensures { result ≡ true → IsAside begin end page }
+    ensures aside { result ≡ true → IsAside begin end page }
+    ensures near { result ≡ false → IsAside begin end page → ⊥ }
 {
     match page {
         Key::Jump(block, _, _) => (block as usize) < begin || end <= block as usize,
