@@ -141,16 +141,16 @@ impl CellNumbers {
 
     /// Puts the number into so many cells from the first on, which have room for it.
     #[inline(always)]
-    pub(crate) fn fill(&mut self, first: usize, count: usize, number: u32)
+    pub(crate) fn write_run(&mut self, first: usize, count: usize, number: u32)
         requires there { first + count ≤ length self.old.items }
         requires fits { number ≤ self.old.most }
         ensures items { self.new.items ≡ with_run self.old.items first number count }
         ensures most { self.new.most ≡ self.old.most }
     {
         match self.width {
-            Width::One => fill_run(&mut self.bytes, first, count, number as u8),
-            Width::Two => fill_run(&mut self.narrow, first, count, number as u16),
-            Width::Four => fill_run(&mut self.wide, first, count, number),
+            Width::One => write_cells(&mut self.bytes, first, count, number as u8),
+            Width::Two => write_cells(&mut self.narrow, first, count, number as u16),
+            Width::Four => write_cells(&mut self.wide, first, count, number),
         }
     }
 
@@ -232,7 +232,7 @@ impl CellNumbers {
 
 /// Puts the number into so many cells from the first on.
 #[inline(always)]
-fn fill_run<T: Copy>(numbers: &mut [T], first: usize, count: usize, number: T)
+fn write_cells<T: Copy>(numbers: &mut [T], first: usize, count: usize, number: T)
     requires there { first + count ≤ length numbers.old }
     ensures { numbers.new ≡ with_run numbers.old first number count }
 {

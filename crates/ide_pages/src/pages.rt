@@ -279,7 +279,7 @@ impl Pages {
         ensures puts { PutsRun (λ n. key_at self.old.pages (cell + n)) number self.old count self.new }
         ensures most { self.new.most ≡ self.old.most }
     {
-        self.cells.fill(cell, count, number);
+        self.cells.write_run(cell, count, number);
         self.count += count;
     }
 

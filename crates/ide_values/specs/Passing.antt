@@ -14,7 +14,7 @@ use Rattle.ide_values.specs.Pass.{IsSteadyBy, IsSteadyOver, Passes, by_entry, lo
 use Rattle.ide_values.specs.Settled.{ComesTo, IsSteady}
 
 -- where no fall is marked after it, nothing changed, and none was marked before
-pub record Marks {P L F : Type 0} (old new : Starts P L F) : Type 0 where
+pub record MarksFalls {P L F : Type 0} (old new : Starts P L F) : Type 0 where
   pub same : new.has_fallen ≡ false → new.values.items ≡ old.values.items
   pub before : new.has_fallen ≡ false → old.has_fallen ≡ false
 

@@ -4,7 +4,7 @@ ghost use Rattle.std.specs.List.{All};
 ghost use Rattle.ide_graph.specs.Edges.{EndsWithin};
 ghost use Rattle.ide_values.specs.Falling.{StartsFall};
 ghost use Rattle.ide_values.specs.Pass.{calls_of};
-ghost use Rattle.ide_values.specs.Passing.{LowersAt, Marks, PassesAll, PassesOver, PassesTo, WaitsLess};
+ghost use Rattle.ide_values.specs.Passing.{LowersAt, MarksFalls, PassesAll, PassesOver, PassesTo, WaitsLess};
 
 use crate::rows::{procedure_at, start_place, value_at_place, value_before};
 use ide_graph::{EdgeData, Graph, Site};
@@ -100,7 +100,7 @@ impl<P: Problem> Starts<P> {
     /// Meets the value at a place with another. A place whose value fell waits.
     fn lower(&mut self, place: usize, value: P::L) -> Result<(), AllocError>
         ensures lowered { OnOk result (LowersAt P.L.algebra place value self.old self.new) }
-        ensures marks { OnOk result (Marks self.old self.new) }
+        ensures marks { OnOk result (MarksFalls self.old self.new) }
         ensures falls { OnOk result (StartsFall P.L.algebra self.old self.new) }
     {
         if place >= self.values.len() {
@@ -131,7 +131,7 @@ impl<P: Problem> Starts<P> {
         requires node { jump.now.node < graph.now.nodes }
         requires start { start < graph.now.nodes }
         ensures passed { OnOk result (PassesTo P.L.algebra P.F.edge P.targets graph.now jump.now start (target, function) self.old self.new) }
-        ensures marks { OnOk result (Marks self.old self.new) }
+        ensures marks { OnOk result (MarksFalls self.old self.new) }
         ensures falls { OnOk result (StartsFall P.L.algebra self.old self.new) }
     {
         let value = value_before(graph, self.values.as_slice(), jump.node, jump.from);

@@ -1,7 +1,7 @@
 use Rattle.std.proofs.Common.{◌≡◌, ◌+◌, ap, arith, refl, suc, sym, ◌∙◌}
 use Rattle.std.specs.Prelude.{slice_set}
 use Rattle.ide_pages.specs.CellNumbers.{with_run}
-use Rattle.ide_pages.proofs.cell_numbers.fill_run.Goals as goal
+use Rattle.ide_pages.proofs.cell_numbers.write_cells.Goals as goal
 
 pub loop-step-init : goal.loop-step-init
 loop-step-init g c = refl
