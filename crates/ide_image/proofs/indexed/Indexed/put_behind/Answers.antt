@@ -1,4 +1,4 @@
-use Rattle.std.proofs.Common.{◌≡◌, suc, ◌+◌, refl, ap, sym, ◌∙◌, arith, length}
+use Rattle.std.proofs.Common.{◌+◌, ap, ◌∙◌, arith, length}
 use Rattle.std.proofs.lemmas.Option.{slice_get_within}
 use Rattle.ide_pages.proofs.KeyCells.{cell-back}
 use Rattle.ide_wire.specs.declared.key.Key.TheVariants.{Jump}

@@ -1,5 +1,4 @@
-use Rattle.std.proofs.Common.{◌≡◌, ◌+◌, ◌≤◌, arith, length}
-use Rattle.ide_pages.specs.Pages.{key_at}
+use Rattle.std.proofs.Common.{◌+◌, arith}
 use Rattle.ide_pages.proofs.KeyCells.{run-few, run-puts, run-written, there-in}
 use Rattle.ide_pages.proofs.pages.Pages.set_run.Goals as goal
 
