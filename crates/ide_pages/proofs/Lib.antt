@@ -6,4 +6,5 @@ pub mod Partners
 pub mod Places
 pub mod RowLemmas
 pub mod RowsByNumber
+pub mod Runs
 pub mod Slots

@@ -9,7 +9,7 @@ pub record CellNumbersData : Type 0 where
   pub most : ℕ
   pub room : ℕ
 
--- the cells where so many of them, from the first on, have the number
+-- the cells where so many of them, from the first on, have the number, and the others what they had (`run-cell`, `run-elsewhere`)
 abbrev pub with_run : {X : Type 0} → List X → (first : ℕ) → X → ℕ → List X
 with_run cells first number zero = cells
 with_run cells first number (suc n) = slice_set (with_run cells first number n) (first + n) number

@@ -78,7 +78,8 @@ pub record Puts (old new : Numbers) (key : Key) (number : ℕ) : Type 0 where
   pub is : entries new ≡ before ++ own key number ++ after
   pub pages : new.pages ≡ old.pages
 
--- the number is put in place of those of so many keys, one after the other
+-- the number is put in place of those of so many keys, one after the other: each of them has it then (`run-own`), and each other key what it
+-- had (`run-others`)
 pub data PutsRun (at : ℕ → Key) (number : ℕ) (old : Numbers) : ℕ → Numbers → Type 0 where
   no_key : PutsRun at number old zero old
   one_more : {n : ℕ} {mid new : Numbers} → PutsRun at number old n mid → Puts mid new (at n) number → PutsRun at number old (suc n) new
