@@ -5,13 +5,14 @@ use Rattle.std.specs.Option.{IsSomeAnd}
 use Rattle.std.proofs.Common.{ap, sym, subst, refl, ◌∙◌, inl, inr, arith}
 use Rattle.std.proofs.lemmas.Bool.Decides.{nat_tests}
 use Rattle.std.proofs.lemmas.List.Elements.{All-from_recursion}
-use Rattle.ide_graph.specs.GraphOf.{IsGraphOf}
 use Rattle.ide_journal.specs.declared.version.Version.{Version}
 use Rattle.ide_journal.specs.declared.version.Version.TheVariants.{One, Two}
+use Rattle.ide_lattice.specs.Algebra.{EdgeAlgebra}
+use Rattle.ide_problem.specs.Flow.{Targets}
 use Rattle.ide_steps.specs.Core.{CoreData}
+use Rattle.ide_steps.specs.Loading.{HasLoaded}
 use Rattle.ide_steps.specs.Refusal.{IsRootName, IsRootRefusal, RootFault, no_program, fault, memory, unnamed, parameters, already}
 use Rattle.ide_text.specs.Parsed.{IsParsed}
-use Rattle.ide_text.specs.Program.{value_of}
 use Rattle.ide_text.specs.declared.program.Program.{Program}
 use Rattle.ide_wire.specs.declared.refused.Refused.{Refused}
 use Rattle.ide_wire.specs.declared.refused.Refused.TheVariants.{NoMemory}
@@ -70,21 +71,20 @@ some_is : {X : Type 0} (x y : X) → Some x ≡ Some y → x ≡ y
 some_is x y same = cc (same)
 
 module _ {F : Type 0} where
-  pub loads : {T E : Type 0} (result : Result T E) (text : List ℕ) (p : Program) (core : CoreData F) → IsParsed text p
-      → OnOk result (core.program ≡ Some (value_of p)) → OnOk result (IsSomeAnd core.graph (IsGraphOf p)) → OnOk result (core.roots ≡ [])
-      → OnOk result (core.table.entries ≡ []) → OnOk result (core.pile.pending ≡ []) → OnOk result (core.pile.claims ≡ [])
-      → OnOk result (LoadsText text core)
-  loads (Ok x) text p core parsed program graph roots entries pending claims =
-      (p, parsed, record { program = program; graph = graph; roots = roots; entries = entries; pending = pending; claims = claims })
-  loads (Err e) text p core parsed program graph roots entries pending claims = tt
+  module _ {L : Type 0} (B : EdgeAlgebra F L) (targets : Targets F) where
+    pub loads : {T E : Type 0} (result : Result T E) (text : List ℕ) (p : Program) (old new : CoreData F) → IsParsed text p
+        → OnOk result (HasLoaded B targets p old new) → OnOk result (LoadsText text new)
+    loads (Ok x) text p old new parsed has =
+        (p, parsed, record { program = has.program; graph = has.graph; roots = has.roots; entries = has.entries; pending = has.pending; claims = has.claims })
+    loads (Err e) text p old new parsed has = tt
 
   pub no_claims : (core : CoreData F) → core.pile.claims ≡ [] → IsFree core.pile
   no_claims core nothing hand = ap (λ claims. slice_index_or claims hand None) nothing
 
-  pub free_after : {T E : Type 0} (result : Result T E) (old new : CoreData F) → IsFree old.pile → OnOk result (new.pile.claims ≡ []) → OnErr result (new ≡ old)
-      → IsFree new.pile
-  free_after (Ok x) old new free claims same = no_claims new claims
-  free_after (Err e) old new free claims same = subst (λ (core : CoreData F). IsFree core.pile) (sym same) free
+  pub free_after : {T E L : Type 0} (B : EdgeAlgebra F L) (targets : Targets F) (result : Result T E) (p : Program) (old new : CoreData F) → IsFree old.pile
+      → OnOk result (HasLoaded B targets p old new) → OnErr result (new ≡ old) → IsFree new.pile
+  free_after B targets (Ok x) p old new free has same = no_claims new has.claims
+  free_after B targets (Err e) p old new free has same = subst (λ (core : CoreData F). IsFree core.pile) (sym same) free
 
   pub root_refused : (n : ℕ) (core : CoreData F) (name : List ℕ) (e : Refused) → IsRootRefusal core.graph core.roots name e
       → RefusesRecord n (MayBeRoot core name) (refusal_of n e)

@@ -88,7 +88,7 @@ fn apply_load<P: Problem>(
         Err(Refused::NoMemory) => return Err(Refused::NoMemory),
         Err(_) => return Err(Refused::Damaged(n)),
     };
-    core.load(program)
+    core.load_spelled(program, Vec::from_slice(alloc, text)?)
 }
 
 /// Makes the procedure of the name a root, as a record of that number says, if it may be one.

@@ -76,6 +76,7 @@ impl Graph {
         let sites = Builder::new(alloc, &globals, &directory, &numbering, facts).sites()?;
         let Numbering { spots, layouts, .. } = numbering;
         let owners = owners_of(alloc, &spots)?;
+        drop_shrunk(spots);
         let steps = steps_of(alloc, &sites, facts)?;
         let sites = Arc::new(alloc, sites)?;
         Ok(Graph {
@@ -240,6 +241,14 @@ fn owners_of(alloc: Global, spots: &[Spot]) -> Result<Vec<u32>, AllocError>
     ensures { IfOk result (λ owners. owners.items ≡ map (λ spot. spot.procedure) spots.now) }
 {
     spots.iter().map(|spot| spot.procedure).collect(alloc)
+}
+
+/// Drops the spots, once nearly all of their memory is given back where it is. The C library takes a freed block, if that
+/// was mapped apart for its size, as a sign that such sizes come and go, and has blocks up to that size in its heap from then
+/// on: there each list that grows leaves holes, where it would have been mapped apart.
+fn drop_shrunk(mut spots: Vec<Spot>) {
+    spots.truncate(1);
+    spots.shrink_to_fit();
 }
 
 /// The most parameters and locals that one of the procedures has.

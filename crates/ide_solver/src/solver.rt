@@ -68,8 +68,8 @@ where
 }
 
 /// Writes the dump that [`solve_shared`] appends: neither it nor all values stand in memory whole
-/// ([`ValuePhase::write_values`]), and the text no longer once it is parsed. Nothing is written before the image is whole, of
-/// which each value follows. Inside is how the output did.
+/// ([`ValuePhase::write_values`]), nor do the program's statements once its graph is made. Nothing
+/// is written before the image is whole, of which each value follows. Inside is how the output did.
 ///
 /// Refusals: those of [`solve_shared`]. After each nothing is written.
 pub fn solve_onto<R: Threads + Sync, P: Problem, W: Write>(
@@ -88,8 +88,7 @@ where
     ensures unchanged { OnErr result (out.new ≡ out.old) }
 {
     check_workers(workers)?;
-    let core = started::<P>(alloc, &text, roots)?;
-    drop(text);
+    let core = started::<P>(alloc, text, roots)?;
     let closed = drained(core)?;
     closed.write_values(rt, alloc, workers, out)
 }
@@ -134,7 +133,7 @@ fn closed_of<P: Problem>(alloc: Global, text: &[u8], roots: &[&[u8]]) -> Result<
     ensures leads { IfOk result (LeadsToSolved ⟦<P as Shown>⟧.analysis text.now roots.now) }
     ensures refused { IfErr result (IsSolveRefusal text.now (names_of roots.now)) }
 {
-    let core = started::<P>(alloc, text, roots)?;
+    let core = started::<P>(alloc, Vec::from_slice(alloc, text)?, roots)?;
     drained(core)
 }
 
@@ -155,9 +154,9 @@ fn drained<P: Problem>(core: Core<P>) -> Result<Closed<P>, Refused>
 }
 
 /// A core with the program that the text spells, and the procedures of these names as its roots.
-fn started<P: Problem>(alloc: Global, text: &[u8], roots: &[&[u8]]) -> Result<Core<P>, Refused>
-    ensures started { IfOk result (IsPreparedFor ⟦<P as Shown>⟧.analysis text.now roots.now) }
-    ensures refused { IfErr result (IsSolveRefusal text.now (names_of roots.now)) }
+fn started<P: Problem>(alloc: Global, text: Vec<u8>, roots: &[&[u8]]) -> Result<Core<P>, Refused>
+    ensures started { IfOk result (IsPreparedFor ⟦<P as Shown>⟧.analysis text.items roots.now) }
+    ensures refused { IfErr result (IsSolveRefusal text.items (names_of roots.now)) }
 {
     graphs_are_supergraphs::<P>();
     sites_of_programs_are_joined();
@@ -167,8 +166,8 @@ fn started<P: Problem>(alloc: Global, text: &[u8], roots: &[&[u8]]) -> Result<Co
     sites_make_a_graph::<P>();
     runs_go_on::<P>();
     let mut core: Core<P> = Core::new(alloc);
-    let program = parse(alloc, text)?;
-    core.load(program)?;
+    let program = parse(alloc, &text)?;
+    core.load_spelled(program, text)?;
     begin_roots(&mut core, roots)?;
     Ok(core)
 }

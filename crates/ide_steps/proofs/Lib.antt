@@ -3,9 +3,11 @@ pub mod Permuted
 pub mod Room
 pub mod Rooted
 pub mod Running
+pub mod SpelledAgain
 pub mod States
 pub mod Owing
 pub mod Bounded
+pub mod CalledAt
 pub mod Free
 pub mod Going
 pub mod Listed

@@ -5,8 +5,6 @@ use Rattle.std.proofs.lemmas.Option.{same_Some}
 use Rattle.std.specs.Map.{lookup}
 use Rattle.std.specs.Prelude.{Result, Ok, Err, IfErr, OnErr, OnOk, ◌&&◌, not, nat_eq, option_map, unwrap_or}
 use Rattle.std.specs.List.{list_any}
-use Rattle.ide_graph.specs.GraphOf.{IsGraphOf}
-use Rattle.ide_graph.specs.ProgramEdges.{HasEdgesOf}
 use Rattle.ide_graph.specs.Supergraph.{Supergraph}
 use Rattle.ide_lattice.specs.Algebra.{EdgeAlgebra}
 use Rattle.ide_problem.specs.Flow.{Targets}
@@ -21,13 +19,12 @@ use Rattle.ide_wire.specs.Key.{same_key, same_key_exact}
 use Rattle.ide_image.specs.Worklist.{Pile, IsWorklist, is_pending, claim_at, put_hand, with_done, ends, ends_key, marked as marked_claim}
 use Rattle.ide_image.specs.declared.claim.Claim.{Claim as Held}
 use Rattle.ide_image.specs.declared.entry.Entry.{Entry}
-use Rattle.ide_steps.specs.Core.{CoreData, IsUnchanged}
+use Rattle.ide_steps.specs.Core.{CoreData, IsOfProgram, IsUnchanged, of_program}
 use Rattle.ide_steps.specs.declared.part.Parted.{Parted}
 use Rattle.ide_steps.specs.declared.part.Parted.TheVariants as part
 use Rattle.ide_steps.specs.Room.{IsGraphSaid}
 use Rattle.ide_steps.specs.State.{claim_of, state_of}
-use Rattle.ide_text.specs.Program.{value_of}
-use Rattle.ide_text.specs.declared.program.Program.{Program}
+use Rattle.ide_text.specs.Value.{ProgramValue}
 use Rattle.ide_steps.specs.Steps.{Changes, IsClaimOfWork, KeepTasks, progress_at}
 
 pub or-cond : (a b : Bool) → (a || b) ≡ cond a true b
@@ -276,11 +273,13 @@ module _ {F : Type 0} where
   pub tasks-unchanged : (hand done : ℕ) (old mid new : Pile (TaskData F)) → KeepTasks hand done old mid → ((h : ℕ) → claim_at new h ≡ claim_at mid h) → KeepTasks hand done old new
   tasks-unchanged hand done old mid new before same h = ap progress-of (same h) ∙ before h
 
--- the graph of what is loaded is that of a program that says so, if each has a program's graph
-pub said-of : {X : Type 0} (program : X → Program) (graph : X → Supergraph) (loaded : Option X)
-    → ((x : X) → loaded ≡ Some x → IsGraphOf (program x) (graph x) × HasEdgesOf (program x) (graph x))
-    → (g : Supergraph) → option_map graph loaded ≡ Some g → IsGraphSaid (option_map (λ x. value_of (program x)) loaded) g
-said-of program graph None kept g is = absurd (cc (is))
-said-of program graph (Some x) kept g is =
-    let both = kept x refl in
-    subst (IsGraphSaid (Some (value_of (program x)))) (same_Some _ _ is) (record { program = program x; says = refl; graphed = both.0; edges = both.1 })
+-- a graph of a program that says so, with that program
+pub said-by : (value : ProgramValue) (graph : Supergraph) → IsOfProgram value graph → IsGraphSaid (Some value) graph
+said-by value graph (of_program p says graphed edges) = record { program = p; says = ap (λ v. Some v) says; graphed = graphed; edges = edges }
+
+-- the graph of what is loaded is that of a program that says so, if each has such a graph
+pub said-of : {X : Type 0} (value : X → ProgramValue) (graph : X → Supergraph) (loaded : Option X)
+    → ((x : X) → loaded ≡ Some x → IsGraphSaid (Some (value x)) (graph x))
+    → (g : Supergraph) → option_map graph loaded ≡ Some g → IsGraphSaid (option_map value loaded) g
+said-of value graph None kept g is = absurd (cc (is))
+said-of value graph (Some x) kept g is = subst (IsGraphSaid (Some (value x))) (same_Some _ _ is) (kept x refl)

@@ -12,12 +12,15 @@ use Rattle.ide_tasks.specs.Sources.{AreSourcesOf}
 use Rattle.ide_tasks.specs.declared.sources.Source.{Source}
 use Rattle.ide_image.specs.Tables.{Table}
 use Rattle.ide_tasks.specs.Task.{TaskData}
+use Rattle.ide_text.specs.Program.{value_of}
 use Rattle.ide_text.specs.Value.{ProgramValue}
 use Rattle.ide_text.specs.declared.program.Program.{Program}
 use Rattle.ide_wire.specs.Key.{node_of}
 use Rattle.ide_wire.specs.declared.key.Key.{Key}
 use Rattle.ide_image.specs.declared.entry.Entry.{Entry}
 use Rattle.ide_image.specs.Worklist.{Pile, claim_at, is_pending}
+use Rattle.ide_steps.specs.ProgramText.{said_by}
+use Rattle.ide_steps.specs.declared.program_text.ProgramText.{ProgramText}
 
 -- what the loaded program says, and its graph, if one is loaded; the roots, as indices of procedures; the tables;
 -- the pending keys with the claims; and, if somebody asked for changes, for each key that changed since, the entry
@@ -72,10 +75,14 @@ module _ {F : Type 0} (core : CoreData F) where
   abbrev pub AreInside : List (Key × F) → Type 0
   AreInside entries = (graph : Supergraph) → core.graph ≡ Some graph → AllStandIn graph entries
 
--- what is kept of a loaded program: the graph is the program's, each node has a site, and the sources are those of the graph
-pub record IsProgramKept {F : Type 0} (targets : Targets F) (program : Program) (graph : Supergraph) (sources : List (List (Source F))) : Type 0 where
-  pub counted : IsGraphOf program graph
-  pub edges : HasEdgesOf program graph
+-- the graph is that of a program that says so
+pub data IsOfProgram (value : ProgramValue) (graph : Supergraph) : Type 0 where
+  of_program : (program : Program) → value_of program ≡ value → IsGraphOf program graph → HasEdgesOf program graph → IsOfProgram value graph
+
+-- what is kept of a loaded program that says so: the graph is the program's, each node has a site, and the sources are those of
+-- the graph
+pub record IsProgramKept {F : Type 0} (targets : Targets F) (kept : ProgramText) (graph : Supergraph) (sources : List (List (Source F))) : Type 0 where
+  pub graphed : IsOfProgram (said_by kept) graph
   pub sited : length graph.sites ≡ graph.nodes
   pub inverse : AreSourcesOf targets graph sources
 

@@ -1,6 +1,8 @@
 pub mod Changed
 pub mod Core
+pub mod Loading
 pub mod Owed
+pub mod ProgramText
 pub mod Refusal
 pub mod ClaimRefusal
 pub mod Claiming
@@ -10,6 +12,8 @@ pub mod Frozen
 pub mod Room
 pub mod Rooted
 pub mod Running
+pub mod Said
+pub mod SaidOnce
 pub mod State
 pub mod Calls
 pub mod Drain

@@ -16,6 +16,7 @@ mod laws;
 mod loaded;
 mod machine;
 mod part;
+mod program_text;
 mod root;
 mod sources;
 mod walk;
@@ -27,3 +28,4 @@ pub use laws::{calls_are_steps, cores_are_whole, images_have_room, tasks_owe_the
 pub use loaded::Loaded;
 pub use machine::{Core, HANDS};
 pub use part::Parted;
+pub use program_text::ProgramText;

@@ -1,11 +1,11 @@
 //! The core: its state and what may be asked of it.
-ghost use Rattle.ide_graph.specs.GraphOf.{IsGraphOf};
-ghost use Rattle.ide_graph.specs.ProgramEdges.{HasEdgesOf};
 ghost use Rattle.ide_image.specs.Notes.{noted, noted_count};
 ghost use Rattle.ide_image.specs.KeyedImage.{CountsPending};
 ghost use Rattle.ide_steps.specs.Changed.{HandsOut, Notes, Remembers, standing_entry, entry_then};
 ghost use Rattle.ide_steps.specs.Core.{IsInside, IsSameProblem, IsUnchanged};
 ghost use Rattle.ide_steps.specs.Drain.{HasLess, IsPaidBy};
+ghost use Rattle.ide_steps.specs.Loading.{HasLoaded};
+ghost use Rattle.ide_steps.specs.ProgramText.{said_by};
 ghost use Rattle.std.specs.Prelude.{◌≡◌, ℕ, ◌↔◌, [], None, Some, Ok, length, unwrap_or, IsTrue, IfErr, OnOk, OnErr, IsOkUnless};
 ghost use Rattle.std.specs.List.{IsDistinct};
 ghost use Rattle.std.specs.Map.{keys_of};
@@ -14,17 +14,18 @@ ghost use Rattle.ide_wire.specs.declared.key.Key.{Key};
 ghost use Rattle.ide_steps.specs.State.{state_of};
 ghost use Rattle.ide_steps.specs.Steps.{HasReceived, IsChangedBy, IsLoweredBy, SameState, SameTasks};
 ghost use Rattle.ide_theory.specs.State.{nothing_done};
-ghost use Rattle.std.specs.Option.{is_some, option_copied, option_map, IsSomeAnd};
+ghost use Rattle.std.specs.Option.{is_some, option_copied, option_map};
 ghost use Rattle.ide_image.specs.Tables.{found};
-ghost use Rattle.ide_text.specs.Program.{value_of};
+ghost use Rattle.ide_text.specs.Program.{text_of};
 ghost use Rattle.ide_image.specs.Worklist.{claim_at, is_pending};
 
 use crate::loaded::Loaded;
+use crate::program_text::ProgramText;
 use ide_graph::Graph;
 use ide_image::{Change, Changes, Claim, KeyedImage};
 use ide_problem::Problem;
 use ide_tasks::Task;
-use ide_text::Program;
+use ide_text::{Program, print};
 use ide_wire::{Key, Refused};
 use std::alloc::Global;
 use std::marker::Model;
@@ -43,16 +44,16 @@ pub struct Core<P: Problem> {
 }
 
 impl<P: Problem> Model for Core<P> {
-    ghost use Rattle.ide_text.specs.Program.{value_of};
     ghost use Rattle.std.specs.Option.{option_map};
     ghost use Rattle.std.specs.Arc.{arc_value};
     ghost use Rattle.ide_steps.specs.declared.loaded.Loaded.{Loaded};
     ghost use Rattle.ide_steps.specs.Core.{CoreData};
     ghost use Rattle.ide_steps.specs.Kept.{KeepsLoaded};
+    ghost use Rattle.ide_steps.specs.ProgramText.{said_by};
 
     ghost Value = { CoreData P.F };
 
-    ghost view = { λ c. record { program = option_map (λ loaded. value_of (arc_value {X = Loaded P P.L P.F} loaded).program) c.loaded; graph = option_map (λ loaded. (arc_value {X = Loaded P P.L P.F} loaded).graph) c.loaded; roots = c.roots.items; table = c.image.table; pile = c.image.pile; changes = c.image.changes } };
+    ghost view = { λ c. record { program = option_map (λ loaded. said_by (arc_value {X = Loaded P P.L P.F} loaded).program) c.loaded; graph = option_map (λ loaded. (arc_value {X = Loaded P P.L P.F} loaded).graph) c.loaded; roots = c.roots.items; table = c.image.table; pile = c.image.pile; changes = c.image.changes } };
 
     ghost invariant = { λ c. KeepsLoaded P.F.edge P.targets (option_map (arc_value {X = Loaded P P.L P.F}) c.loaded) c.image.pile };
 }
@@ -78,22 +79,29 @@ impl<P: Problem> Core<P> {
     }
 
     /// Loads a program: the tables are then empty, nothing is a root, pending or claimed, and no
-    /// change is noted. It takes time in proportion to the facts at each call. Where memory is
-    /// wanting (`NoMemory`), the program is dropped and the core as it was.
+    /// change is noted. It takes time in proportion to the program's text and to the facts at each
+    /// call. Where memory is wanting (`NoMemory`), the program is dropped and the core as it was.
     pub fn load(&mut self, program: Program) -> Result<(), Refused>
-        ensures program { OnOk result (self.new.program ≡ Some (value_of program)) }
-        ensures roots { OnOk result (self.new.roots ≡ []) }
-        ensures graph { OnOk result (IsSomeAnd self.new.graph (IsGraphOf program)) }
-        ensures edges { OnOk result (IsSomeAnd self.new.graph (HasEdgesOf program)) }
-        ensures state { OnOk result (state_of P.F.edge P.targets self.new ≡ nothing_done P.F) }
-        ensures entries { OnOk result (self.new.table.entries ≡ []) }
-        ensures pending { OnOk result (self.new.pile.pending ≡ []) }
-        ensures claims { OnOk result (self.new.pile.claims ≡ []) }
-        ensures changes { OnOk result (self.new.changes ≡ option_map (λ _. []) self.old.changes) }
+        ensures loads { OnOk result (HasLoaded P.F.edge P.targets program self.old self.new) }
         ensures refused { IfErr result (λ e. e ≡ Refused.NoMemory) }
         ensures unchanged { OnErr result (self.new ≡ self.old) }
     {
-        let loaded = Loaded::of(self.alloc, program)?;
+        let mut text = Vec::new(self.alloc);
+        print(&program, &mut text)?;
+        // The text grew by doubling, and grows no more.
+        text.shrink_to_fit();
+        self.load_spelled(program, text)
+    }
+
+    /// Loads a program whose text is at hand, as [`Core::load`] does, which spells it. Both are dropped
+    /// where memory is wanting.
+    pub fn load_spelled(&mut self, program: Program, text: Vec<u8>) -> Result<(), Refused>
+        requires { text_of program ≡ text.items }
+        ensures loads { OnOk result (HasLoaded P.F.edge P.targets program self.old self.new) }
+        ensures refused { IfErr result (λ e. e ≡ Refused.NoMemory) }
+        ensures unchanged { OnErr result (self.new ≡ self.old) }
+    {
+        let loaded = Loaded::of(self.alloc, program, text)?;
         let loaded = Arc::new(self.alloc, loaded)?;
         self.loaded = Some(loaded);
         self.image.clear(self.alloc);
@@ -101,9 +109,9 @@ impl<P: Problem> Core<P> {
         Ok(())
     }
 
-    /// The loaded program, if one is loaded.
-    pub fn program(&self) -> Option<&Program>
-        ensures { option_map value_of (option_copied result) ≡ self.now.program }
+    /// The loaded program, if one is loaded, as its text: [`ProgramText::program`] parses it.
+    pub fn program(&self) -> Option<&ProgramText>
+        ensures { option_map said_by (option_copied result) ≡ self.now.program }
     {
         Some(&self.loaded.as_ref()?.program)
     }

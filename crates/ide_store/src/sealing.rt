@@ -61,9 +61,10 @@ impl<P: Problem> TableHalf<P> {
         if self.outbox.sealed >= MOST_RECORDS {
             return Err(Refused::Limit);
         }
-        let raw = self.load_record(&program)?;
+        let text = self.spelled(&program)?;
+        let raw = self.load_record(&program, text.as_slice())?;
         self.outbox.reserve(1)?;
-        self.core.load(program)?;
+        self.core.load_spelled(program, text)?;
         Ok(self.outbox.push(raw))
     }
 
@@ -137,16 +138,27 @@ impl<P: Problem> TableHalf<P> {
         Ok(Some(raw))
     }
 
-    /// The record of a load of the program.
-    fn load_record(&self, program: &Program) -> Result<RawRecord, Refused>
-        ensures spells { IfOk result (λ raw. SpellsRecord ⟦<P as Kept>⟧.analysis self.now (records.Load (text_of program.now)) (entry_of raw)) }
+    /// The text of the program, with no room for more.
+    fn spelled(&self, program: &Program) -> Result<Vec<u8>, Refused>
+        ensures text { IfOk result (λ text. text_of program.now ≡ text.items) }
         ensures parsed { IsParsed (text_of program.now) program.now }
         ensures refused { IfErr result (λ e. e ≡ Refused.NoMemory) }
     {
         parsing_and_printing_undo_each_other();
         let mut text = Vec::new(self.alloc);
         print(program, &mut text)?;
-        match to_raw(self.alloc, &Record::<P::F>::Load(text), self.version)? {
+        text.shrink_to_fit();
+        Ok(text)
+    }
+
+    /// The record of a load of the program, with a copy of its text.
+    fn load_record(&self, program: &Program, text: &[u8]) -> Result<RawRecord, Refused>
+        requires { text_of program.now ≡ text.now }
+        ensures spells { IfOk result (λ raw. SpellsRecord ⟦<P as Kept>⟧.analysis self.now (records.Load text.now) (entry_of raw)) }
+        ensures refused { IfErr result (λ e. e ≡ Refused.NoMemory) }
+    {
+        let copy = Vec::from_slice(self.alloc, text)?;
+        match to_raw(self.alloc, &Record::<P::F>::Load(copy), self.version)? {
             Some(raw) => Ok(raw),
             // A text that was parsed is not too long.
             None => unreachable!(),

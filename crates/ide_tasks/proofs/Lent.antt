@@ -1,10 +1,9 @@
 -- That what is lent of the sources is what reaches the fact over the call.
 use Rattle.std.proofs.Common.{◌≡◌, ◌≢◌, ℕ, ◌+◌, ◌<◌, List, [], Some, length, get_or, map, sym, subst, ap, ◌∙◌, refl, arith}
 use Rattle.std.specs.Prelude.{nat_eq, filter, slice_get, slice_index, slice_index_or}
-use Rattle.std.specs.Global.{Vec}
 use Rattle.std.specs.List.{All}
 use Rattle.std.specs.List.Sorted.{IsNonDecreasingBy}
-use Rattle.std.proofs.lemmas.List.{get_or-map, length-map}
+use Rattle.std.proofs.lemmas.List.{get_or_default}
 use Rattle.std.proofs.lemmas.Option.{same_Some, slice_get_read, get_or_from_slice_get, slice_get_within}
 use Rattle.ide_text.specs.declared.program.Program.{Program}
 use Rattle.ide_graph.specs.declared.site.Caller.{Caller}
@@ -20,20 +19,13 @@ use Rattle.ide_tasks.proofs.Called.{IsAmong, Laws, callers-up, over-caller, over
 use Rattle.ide_tasks.proofs.OverCall.{caller-shown, callers-ascend, same-ascend, same-shown}
 
 -- the sources of a procedure that were read, which ascend by the fact reached
-pub rows-read : {F : Type 0} (ps read : List (Vec (Source F))) (sources : List (List (Source F))) (k : ℕ) (v : Vec (Source F)) (rows : List (Source F))
-    → read ≡ ps → map (λ rows. rows.items) ps ≡ sources → AreAscending (map (λ rows. rows.items) ps) → v ≡ get_or read k v → k < length read → rows ≡ v.items
+pub rows-read : {F : Type 0} (ps read sources : List (List (Source F))) (k : ℕ) (rows : List (Source F))
+    → read ≡ ps → ps ≡ sources → AreAscending ps → rows ≡ get_or read k rows → k < length read
     → (rows ≡ slice_index_or sources k []) × IsNonDecreasingBy (λ source. source.reached) rows
-rows-read {F = F} ps read sources k v rows is view up at within shown =
-    let inside : k < length ps = subst (λ (vs : List (Vec (Source F))). k < length vs) is within in
-    let there : get_or (map (λ (u : Vec (Source F)). u.items) ps) k [] ≡ rows =
-    get_or-map (λ (u : Vec (Source F)). u.items) ps k v [] inside
-    ∙ (ap (λ (u : Vec (Source F)). u.items) (sym (at ∙ ap (λ vs. get_or vs k v) is)) ∙ sym shown) in
-    let long : length (map (λ (u : Vec (Source F)). u.items) ps) ≡ length ps = length-map ps (λ (u : Vec (Source F)). u.items) in
-    (sym there ∙ ap (λ s. slice_index_or s k []) view, subst (IsNonDecreasingBy (λ (s : Source F). s.reached)) there (up k [] (omega (arith, inside, long))))
-
--- as many procedures as were read
-pub rows-counted : {F : Type 0} (ps read : List (Vec (Source F))) (sources : List (List (Source F))) → read ≡ ps → map (λ rows. rows.items) ps ≡ sources → length sources ≡ length read
-rows-counted {F = F} ps read sources is view = sym (ap length view) ∙ (length-map ps (λ (u : Vec (Source F)). u.items) ∙ sym (ap length is))
+rows-read {F = F} ps read sources k rows is view up at within =
+    let inside : k < length ps = subst (λ (vs : List (List (Source F))). k < length vs) is within in
+    let there : rows ≡ get_or ps k [] = at ∙ ap (λ vs. get_or vs k rows) is ∙ get_or_default ps k rows [] inside in
+    (there ∙ ap (λ s. slice_index_or s k []) view, subst (IsNonDecreasingBy (λ (s : Source F). s.reached)) (sym there) (up k [] inside))
 
 module _ (p : Program) (graph : Supergraph) (is : IsGraphOf p graph) (has : HasEdgesOf p graph) (laws : Laws) where
   -- the site that was read at a node

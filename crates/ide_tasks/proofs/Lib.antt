@@ -6,4 +6,5 @@ pub mod Lent
 pub mod OverCall
 pub mod Runs
 pub mod Same
+pub mod Told
 pub mod SameSite

@@ -41,9 +41,20 @@ sources_at targets facts (Exit start callers) = sources_from targets facts 0 cal
 abbrev pub reaching_of : {F : Type 0} → ℕ → List (Source F) → List (Reaching F)
 reaching_of fact sources = map (λ source. source.from) (filter (λ source. nat_eq source.reached fact) sources)
 
+-- the source whose function is the one at the place in the list that is kept of it, or past the last the given one
+abbrev pub told_source : {F : Type 0} → F → List F → Source ℕ → Source F
+told_source none functions place = record {
+  reached = place.reached;
+  from = record { caller = place.from.caller; fact = place.from.fact; function = slice_index_or functions place.from.function none };
+}
+
 -- the sources ascend by the fact reached
 abbrev pub Ascends : {F : Type 0} → List (Source F) → Type 0
 Ascends sources = IsNonDecreasingBy (λ source. source.reached) sources
+
+-- those of the sources that reach the fact ascend by the caller
+abbrev pub CallersAscend : {F : Type 0} → ℕ → List (Source F) → Type 0
+CallersAscend fact sources = IsNonDecreasingBy (λ source. source.from.caller) (filter (λ source. nat_eq source.reached fact) sources)
 
 -- the sources of each procedure ascend by the fact reached
 abbrev pub AreAscending : {F : Type 0} → List (List (Source F)) → Type 0

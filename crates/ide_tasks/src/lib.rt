@@ -13,12 +13,14 @@
 mod part_list;
 mod partners;
 mod parts;
+mod source_list;
 mod sources;
 mod task;
 mod work;
 
 pub use part_list::{PartList, passes_behind};
 pub use partners::{PartnerLists, Partners, Reaching};
+pub use source_list::LentSources;
 pub use sources::{Source, Sources};
 pub use task::Task;
 pub use work::Work;

@@ -1,10 +1,10 @@
 //! The inverse of call flow.
-ghost use Rattle.std.specs.Prelude.{◌≡◌, ◌≤◌, ◌^◌, [], ◌++◌, IfNone, IfOk, IfSome, OnOk, filter, length, map, nat_eq, slice_index_or};
-ghost use Rattle.std.specs.List.Sorted.{IsNonDecreasingBy};
+ghost use Rattle.std.specs.Prelude.{◌≡◌, ◌≤◌, ◌^◌, [], ◌++◌, IfNone, IfOk, IfSome, OnOk, length, map, slice_index_or};
 ghost use Rattle.ide_graph.specs.Exits.{HasFewCallers};
 ghost use Rattle.ide_tasks.specs.Sources.{AreAscending, AreSourcesAt, AreSourcesOf, Ascends, ForSources, HasNoCaller, IsCallAmong, IsCallerAt, IsNoCallAmong, ReachOver, reaching_of, source_of, sources_at, sources_over, sources_from};
 
 use crate::partners::Reaching;
+use crate::source_list::{LentSources, SourceList};
 use ide_graph::{
     Caller, Graph, Site, ends_of_programs_are_nodes, exits_of_programs_are_owned,
     graphs_of_programs_are_closed, sites_of_programs_are_joined,
@@ -22,7 +22,7 @@ use std::marker::Model;
 /// target of a call flow.
 #[derive(Drop)]
 pub struct Sources<P: Problem> {
-    procedures: Vec<Vec<Source<P::F>>>,
+    procedures: Vec<SourceList<P::F>>,
 }
 
 /// That the fact `reached` at a procedure's start depends on a fact at a caller's call node.
@@ -35,15 +35,15 @@ pub struct Source<F> {
 }
 
 impl<P: Problem> Model for Sources<P> {
-    ghost use Rattle.std.specs.Prelude.{List, map};
+    ghost use Rattle.std.specs.Prelude.{List};
     ghost use Rattle.ide_tasks.specs.Sources.{AreAscending};
     ghost use Rattle.ide_tasks.specs.declared.sources.Source.{Source};
 
     ghost Value = { List (List (Source P.F)) };
 
-    ghost view = { λ s. map (λ sources. sources.items) s.procedures.items };
+    ghost view = { λ s. s.procedures.items };
 
-    ghost invariant = { λ s. AreAscending (map (λ sources. sources.items) s.procedures.items) };
+    ghost invariant = { λ s. AreAscending s.procedures.items };
 }
 
 impl<P: Problem> Sources<P> {
@@ -83,7 +83,7 @@ impl<P: Problem> Sources<P> {
         ensures { OnOk result (reaching.new.items ≡ reaching_of fact (slice_index_or self.now procedure [])) }
     {
         match self.procedures.get(procedure) {
-            Some(sources) => fill_origins(of_fact(sources.as_slice(), fact), reaching),
+            Some(sources) => sources.fill_reaching(fact, reaching),
             None => {
                 reaching.clear();
                 Ok(())
@@ -95,22 +95,31 @@ impl<P: Problem> Sources<P> {
     /// sources are of: the facts at the call node, ascending, each with the function on the call
     /// edge. Nothing does where the node is no call of a procedure that begins at `start`. It takes
     /// logarithmic time and no memory.
-    pub fn over_call(&self, graph: &Graph, call: Node, start: Node, fact: Fact) -> &[Source<P::F>]
-        ensures { ForSources P.targets graph.now self.now (ReachOver P.targets graph.now call start fact result.now) }
+    pub fn over_call(
+        &self,
+        graph: &Graph,
+        call: Node,
+        start: Node,
+        fact: Fact,
+    ) -> LentSources<'_, P::F>
+        ensures { ForSources P.targets graph.now self.now (ReachOver P.targets graph.now call start fact result) }
     {
         sites_of_programs_are_joined();
         graphs_of_programs_are_closed();
         exits_of_programs_are_owned();
         ends_of_programs_are_nodes();
         if start as usize >= graph.node_count() {
-            return &[];
+            return LentSources::none();
         }
         let procedure = graph.procedure_of(start);
         let exit = graph.site(graph.exit_of(procedure));
-        match (self.procedures.get(procedure), caller_at(exit, call, start)) {
-            (Some(sources), Some(caller)) => of_caller(of_fact(sources.as_slice(), fact), caller),
-            _ => &[],
-        }
+        let Some(sources) = self.procedures.get(procedure) else {
+            return LentSources::none();
+        };
+        let Some(caller) = caller_at(exit, call, start) else {
+            return LentSources::none();
+        };
+        sources.over(fact, caller)
     }
 }
 
@@ -141,53 +150,19 @@ fn place_of(callers: &[Caller], call: Node) -> Option<usize>
     }
 }
 
-/// Those of the sources that reach the fact: where they ascend by it, these stand together.
-fn of_fact<F: EdgeFn>(sources: &[Source<F>], fact: Fact) -> &[Source<F>]
-    ensures { Ascends sources.now → result.now ≡ filter (λ source. nat_eq source.reached fact) sources.now }
-{
-    let first = sources.partition_point(|source| source.reached < fact);
-    let rest = &sources[first..];
-    let count = rest.partition_point(|source| source.reached <= fact);
-    &rest[..count]
-}
-
-/// Those of the sources that are of the caller: where they ascend by it, these stand together.
-fn of_caller<F: EdgeFn>(sources: &[Source<F>], caller: usize) -> &[Source<F>]
-    ensures { IsNonDecreasingBy (λ source. source.from.caller) sources.now → result.now ≡ filter (λ source. nat_eq source.from.caller caller) sources.now }
-{
-    let first = sources.partition_point(|source| (source.from.caller as usize) < caller);
-    let rest = &sources[first..];
-    let count = rest.partition_point(|source| source.from.caller as usize <= caller);
-    &rest[..count]
-}
-
-/// Makes the list where the sources are from.
-fn fill_origins<F: EdgeFn>(
-    sources: &[Source<F>],
-    origins: &mut Vec<Reaching<F>>,
-) -> Result<(), AllocError>
-    ensures { OnOk result (origins.new.items ≡ map (λ source. source.from) sources.now) }
-{
-    origins.clear();
-    origins.reserve(sources.len())?;
-    for source in sources {
-        origins.push_reserved(source.from);
-    }
-    Ok(())
-}
-
 /// The sources of each procedure.
 fn sources_of<P: Problem>(
     alloc: Global,
     graph: &Graph,
-) -> Result<Vec<Vec<Source<P::F>>>, AllocError>
-    ensures ascending { IfOk result (λ procedures. AreAscending (map (λ sources. sources.items) procedures.items)) }
-    ensures exact { IfOk result (λ procedures. AreSourcesOf P.targets graph.now (map (λ sources. sources.items) procedures.items)) }
+) -> Result<Vec<SourceList<P::F>>, AllocError>
+    ensures ascending { IfOk result (λ procedures. AreAscending procedures.items) }
+    ensures exact { IfOk result (λ procedures. AreSourcesOf P.targets graph.now procedures.items) }
 {
     let mut procedures = Vec::with_capacity(alloc, graph.procedure_count())?;
     for procedure in 0..graph.procedure_count() {
         let exit = graph.exit_of(procedure);
-        procedures.push(sources_at::<P>(alloc, graph, graph.site(exit))?)?;
+        let sources = sources_at::<P>(alloc, graph, graph.site(exit))?;
+        procedures.push(SourceList::of(alloc, &sources)?)?;
     }
     Ok(procedures)
 }
@@ -204,8 +179,6 @@ fn sources_at<P: Problem>(
 {
     let mut sources = unsorted_sources_at::<P>(alloc, graph, site)?;
     sources.sort_by_key(|source| source.reached)?;
-    // The list grew by doubling, and grows no more.
-    sources.shrink_to_fit();
     Ok(sources)
 }
 

@@ -9,7 +9,7 @@ pub mod Falling
 pub mod Fill
 pub mod Frozen
 pub mod Pass
-pub mod Jumps
+pub mod CallPages
 pub mod Lines
 pub mod Near
 pub mod NextCalls

@@ -1,5 +1,5 @@
 -- What passes say of start values before and after them.
-use Rattle.std.specs.Prelude.{◌≡◌, ℕ, ◌+◌, ◌≤◌, false, List, Result, Some, OnOk, length}
+use Rattle.std.specs.Prelude.{◌≡◌, ℕ, ◌+◌, ◌*◌, ◌<◌, ◌≤◌, false, List, Result, Some, OnOk, length}
 use Rattle.ide_graph.specs.Supergraph.{Supergraph}
 use Rattle.ide_graph.specs.declared.edge.EdgeData.{EdgeData}
 use Rattle.ide_lattice.specs.Algebra.{LatticeAlgebra, EdgeAlgebra}
@@ -30,6 +30,11 @@ module _ {P F L : Type 0} (A : LatticeAlgebra L) where
   -- the ranks of start values, all together, do not rise
   abbrev pub RisesNowhere : (old new : Starts P L F) → Type 0
   RisesNowhere old new = ranks A new.values.items ≤ ranks A old.values.items
+
+-- the entry that the cell shows, if it shows one, hands nothing on that would change these start values
+abbrev pub IsSteadyAt : {F L : Type 0} → LatticeAlgebra L → EdgeAlgebra F L → Targets F → Supergraph → TablesData F → List L → ℕ → Type 0
+IsSteadyAt {F} A B targets graph tables values cell =
+    (e : Key × F) → shown_in tables cell ≡ Some e → IsSteadyBy A B graph targets values e.0 e.1
 
 module _ {P F L : Type 0} (A : LatticeAlgebra L) (B : EdgeAlgebra F L) (targets : Targets F) (graph : Supergraph) where
   -- what a target of a call edge to the node m is handed by the jump function
@@ -71,6 +76,14 @@ module _ {P F L : Type 0} (A : LatticeAlgebra L) (B : EdgeAlgebra F L) (targets 
       pub same : new.has_fallen ≡ false → new.values.items ≡ old.values.items
       pub steady : new.has_fallen ≡ false → IsSteady A B targets graph table old.values.items
 
-  -- the function of the entry that the cell shows is passed on, if it shows one
-  abbrev pub PassesAt : TablesData F → ℕ → Starts P L F → Starts P L F → Type 0
-  PassesAt tables cell old new = (e : Key × F) → shown_in tables cell ≡ Some e → PassesBy e.0 e.1 old new
+  module _ (tables : TablesData F) where
+    -- where no fall is marked then, none was marked before, nothing changed, and the cells from one on, up to before another,
+    -- hand nothing on
+    pub record LeavesCells (begin end : ℕ) (old new : Starts P L F) : Type 0 where
+      pub same : new.has_fallen ≡ false → new.values.items ≡ old.values.items
+      pub before : new.has_fallen ≡ false → old.has_fallen ≡ false
+      pub steady : new.has_fallen ≡ false → (cell : ℕ) → begin ≤ cell → cell < end → IsSteadyAt A B targets graph tables old.values.items cell
+
+    -- the same for the cells of a page at offsets from one on, up to before another
+    abbrev pub LeavesOffsets : (page begin end : ℕ) → (old new : Starts P L F) → Type 0
+    LeavesOffsets page begin end = LeavesCells (64 * page + begin) (64 * page + end)

@@ -6,7 +6,7 @@
 //! value where it ends. This fill may be shared by several threads, and the values are the same.
 #![tactic(auto)]
 
-mod call_jumps;
+mod call_pages;
 mod chunks;
 mod columns;
 mod dump;

@@ -1,14 +1,16 @@
 //! Start values: the value of each fact at each procedure's start.
-ghost use Rattle.std.specs.Prelude.{◌≡◌, ◌+◌, ◌*◌, ◌<◌, ◌≤◌, ◌^◌, None, OnOk, IfOk, IfSome};
+ghost use Rattle.std.specs.Prelude.{◌≡◌, ◌+◌, ◌*◌, ◌<◌, ◌≤◌, ◌^◌, OnOk, IfOk};
 ghost use Rattle.ide_values.specs.Falling.{StartsFall};
-ghost use Rattle.ide_values.specs.Jumps.{AreJumps, AreJumpsIn, AreListed, HandsNothing, IsShownAt, Shows};
+ghost use Rattle.ide_image.specs.Cells.{BeginsWith};
+ghost use Rattle.ide_values.specs.CallPages.{AreOnPage, KnowsCalls};
 ghost use Rattle.ide_values.specs.NextCalls.{AreNextCalls, AreNextCallsIn, HaveNoCalls, IsNextCall};
-ghost use Rattle.ide_values.specs.Passing.{Comes, LeavesEach, PassesAt, PassesBy, RisesNowhere, Rests};
+ghost use Rattle.ide_values.specs.Passing.{Comes, LeavesEach, LeavesOffsets, PassesBy, RisesNowhere, Rests};
 ghost use Rattle.ide_values.specs.Settled.{AreStartRows};
+ghost use Rattle.ide_wire.specs.declared.key.Key.TheVariants.{Jump};
 
-use crate::call_jumps::{CallJump, CallJumps};
+use crate::call_pages::{CallPages, PageCells};
 use crate::enter::entered_rows;
-use crate::fill::{PAGE, first_jump};
+use crate::fill::{PAGE, PageJump, first_jump};
 use crate::passes::{JumpAt, Starts, calls_at, is_call};
 use crate::rows::{procedure_at, start_place};
 use ide_graph::Graph;
@@ -47,12 +49,12 @@ impl<P: Problem> Starts<P> {
         ensures comes { Comes P.L.algebra P.F.edge P.targets graph.now tables.now.table result self.old self.new }
         ensures steady { OnOk result (Rests P.L.algebra P.F.edge P.targets graph.now tables.now.table self.new) }
     {
-        let jumps = jumps_at_calls::<P>(alloc, graph, tables, self.values.len())?;
+        let calls = pages_with_calls::<P>(alloc, graph, tables, self.values.len())?;
         let mut targets = TargetList::new(alloc);
         loop {
-            self.settle(graph, tables, &jumps, &mut targets)?;
+            self.settle(graph, tables, &calls, &mut targets)?;
             self.has_fallen = false;
-            self.pass_each(graph, tables, jumps.list.as_slice(), &mut targets)?;
+            self.pass_each(graph, tables, &calls, &mut targets)?;
             if !self.has_fallen {
                 return Ok(());
             }
@@ -65,14 +67,15 @@ impl<P: Problem> Starts<P> {
         &mut self,
         graph: &Graph,
         tables: &Tables<P::F>,
-        jumps: &CallJumps,
+        calls: &CallPages,
         targets: &mut TargetList<P::F>,
     ) -> Result<(), AllocError>
+        requires { KnowsCalls graph.now calls.now }
         ensures comes { Comes P.L.algebra P.F.edge P.targets graph.now tables.now.table result self.old self.new }
         ensures falls { OnOk result (RisesNowhere P.L.algebra self.old self.new) }
     {
         while let Some(place) = self.leave() {
-            self.pass_from(graph, tables, jumps, place, targets)?;
+            self.pass_from(graph, tables, calls, place, targets)?;
         }
         Ok(())
     }
@@ -82,38 +85,19 @@ impl<P: Problem> Starts<P> {
         &mut self,
         graph: &Graph,
         tables: &Tables<P::F>,
-        jumps: &CallJumps,
+        calls: &CallPages,
         place: usize,
         targets: &mut TargetList<P::F>,
     ) -> Result<(), AllocError>
+        requires { KnowsCalls graph.now calls.now }
         ensures comes { Comes P.L.algebra P.F.edge P.targets graph.now tables.now.table result self.old self.new }
         ensures falls { OnOk result (StartsFall P.L.algebra self.old self.new) }
     {
-        let mut index = jumps.last_from(place);
-        while let Some(jump) = jumps.at(index) {
-            self.pass_cell(graph, tables, jump.cell as usize, targets)?;
-            // A link leads to one that was added before.
-            index = jump.before.min(index - 1);
+        let mut index = calls.last_from(place);
+        while let Some(cells) = calls.cells_at(index) {
+            self.pass_cells(graph, tables, calls, cells, targets)?;
+            index = calls.before(index);
         }
-        Ok(())
-    }
-
-    /// Hands on by the entry that a cell of the tables shows.
-    fn pass_cell(
-        &mut self,
-        graph: &Graph,
-        tables: &Tables<P::F>,
-        cell: usize,
-        targets: &mut TargetList<P::F>,
-    ) -> Result<(), AllocError>
-        ensures passes { OnOk result (PassesAt P.L.algebra P.F.edge P.targets graph.now tables.now cell self.old self.new) }
-        ensures comes { Comes P.L.algebra P.F.edge P.targets graph.now tables.now.table result self.old self.new }
-        ensures falls { OnOk result (StartsFall P.L.algebra self.old self.new) }
-    {
-        let Some(entry) = tables.entry_in(cell) else {
-            return Ok(());
-        };
-        self.pass_by(graph, entry.0, entry.1, targets)?;
         Ok(())
     }
 
@@ -123,17 +107,78 @@ impl<P: Problem> Starts<P> {
         &mut self,
         graph: &Graph,
         tables: &Tables<P::F>,
-        jumps: &[CallJump],
+        calls: &CallPages,
         targets: &mut TargetList<P::F>,
     ) -> Result<(), AllocError>
-        requires { AreJumps P.L.algebra P.F.edge P.targets graph.now tables.now jumps.now }
+        requires { KnowsCalls graph.now calls.now }
         ensures comes { Comes P.L.algebra P.F.edge P.targets graph.now tables.now.table result self.old self.new }
         ensures rests { OnOk result (LeavesEach P.L.algebra P.F.edge P.targets graph.now tables.now.table self.old self.new) }
         ensures falls { OnOk result (StartsFall P.L.algebra self.old self.new) }
     {
-        for jump in jumps {
-            self.pass_cell(graph, tables, jump.cell as usize, targets)?;
+        for page in 0..tables.cell_count() / PAGE {
+            let cells = PageCells {
+                page,
+                begin: 0,
+                end: PAGE,
+            };
+            self.pass_cells(graph, tables, calls, cells, targets)?;
         }
+        Ok(())
+    }
+
+    /// Hands on by the jump functions in cells of a page that are at call nodes. The other entries there hand nothing on,
+    /// and a page of summaries is passed over.
+    fn pass_cells(
+        &mut self,
+        graph: &Graph,
+        tables: &Tables<P::F>,
+        calls: &CallPages,
+        cells: PageCells,
+        targets: &mut TargetList<P::F>,
+    ) -> Result<(), AllocError>
+        requires calls { KnowsCalls graph.now calls.now }
+        requires page { AreOnPage cells }
+        ensures leaves { OnOk result (LeavesOffsets P.L.algebra P.F.edge P.targets graph.now tables.now cells.page cells.begin cells.end self.old self.new) }
+        ensures comes { Comes P.L.algebra P.F.edge P.targets graph.now tables.now.table result self.old self.new }
+        ensures falls { OnOk result (StartsFall P.L.algebra self.old self.new) }
+    {
+        let Some(first) = first_jump(tables, cells.page) else {
+            return Ok(());
+        };
+        let mut offset = next_offset(graph, calls.nexts.as_slice(), first.node, cells.begin);
+        while offset < cells.end {
+            self.pass_cell(graph, tables, cells.page, first, offset, targets)?;
+            offset = next_offset(graph, calls.nexts.as_slice(), first.node, offset + 1);
+        }
+        Ok(())
+    }
+
+    /// Hands on by the entry that a cell of a page shows, at an offset there.
+    #[inline(always)]
+    fn pass_cell(
+        &mut self,
+        graph: &Graph,
+        tables: &Tables<P::F>,
+        page: usize,
+        first: PageJump,
+        offset: usize,
+        targets: &mut TargetList<P::F>,
+    ) -> Result<(), AllocError>
+        requires page { 64 * page + 64 < 2 ^ 64 }
+        requires within { offset < 64 }
+        requires first { BeginsWith tables.now page (Jump first.node first.from first.to) }
+        requires few { first.node + 64 ≤ 2 ^ 32 }
+        ensures leaves { OnOk result (LeavesOffsets P.L.algebra P.F.edge P.targets graph.now tables.now page offset (offset + 1) self.old self.new) }
+        ensures comes { Comes P.L.algebra P.F.edge P.targets graph.now tables.now.table result self.old self.new }
+        ensures falls { OnOk result (StartsFall P.L.algebra self.old self.new) }
+    {
+        // No two cells are of one key.
+        let _ = tables.cell_count();
+        let Some(function) = tables.function_in(PAGE * page + offset) else {
+            return Ok(());
+        };
+        let key = Key::Jump(first.node + offset as Node, first.from, first.to);
+        self.pass_by(graph, key, function, targets)?;
         Ok(())
     }
 
@@ -164,21 +209,20 @@ impl<P: Problem> Starts<P> {
     }
 }
 
-/// The jump functions at call nodes, in the order of their cells, where they start from so many places.
-fn jumps_at_calls<P: Problem>(
+/// The cells of pages with jump functions at call nodes, where these start from so many places.
+fn pages_with_calls<P: Problem>(
     alloc: Global,
     graph: &Graph,
     tables: &Tables<P::F>,
     places: usize,
-) -> Result<CallJumps, AllocError>
-    ensures { IfOk result (AreJumpsIn P.L.algebra P.F.edge P.targets graph.now tables.now) }
+) -> Result<CallPages, AllocError>
+    ensures { IfOk result (KnowsCalls graph.now) }
 {
-    let nexts = next_calls(alloc, graph)?;
-    let mut jumps = CallJumps::new(alloc, places)?;
+    let mut calls = CallPages::new(alloc, next_calls(alloc, graph)?, places)?;
     for page in 0..tables.cell_count() / PAGE {
-        list_page::<P>(graph, tables, nexts.as_slice(), page, &mut jumps)?;
+        add_page::<P>(graph, tables, page, &mut calls)?;
     }
-    Ok(jumps)
+    Ok(calls)
 }
 
 /// For each node the first call node that is not before it: where there is none, how many nodes there are.
@@ -204,31 +248,31 @@ fn next_call(graph: &Graph, node: Node, behind: Node) -> Node
     if is_call(graph, node) { node } else { behind }
 }
 
-/// Lists those of a page behind those of the pages before it. A page of summaries is passed over, and so is each
-/// cell that is not at a call.
-fn list_page<P: Problem>(
+/// Adds the cells of a page with jump functions at call nodes. Those that start from one place stand side by side.
+fn add_page<P: Problem>(
     graph: &Graph,
     tables: &Tables<P::F>,
-    nexts: &[Node],
     page: usize,
-    jumps: &mut CallJumps,
+    calls: &mut CallPages,
 ) -> Result<(), AllocError>
-    requires nexts { AreNextCalls graph.now nexts.now }
+    requires calls { KnowsCalls graph.now calls.old }
     requires page { 64 * page + 64 < 2 ^ 64 }
-    requires listed { AreListed P.L.algebra P.F.edge P.targets graph.now tables.now (64 * page) jumps.old.list.items }
-    ensures { OnOk result (AreListed P.L.algebra P.F.edge P.targets graph.now tables.now (64 * page + 64) jumps.new.list.items) }
+    ensures { calls.new.nexts ≡ calls.old.nexts }
 {
     let Some(first) = first_jump(tables, page) else {
         return Ok(());
     };
-    let mut offset = next_offset(graph, nexts, first.node, 0);
+    let mut last = None;
+    let mut offset = next_offset(graph, calls.nexts.as_slice(), first.node, 0);
     while offset < PAGE {
-        let node = first.node + offset as Node;
-        let cell = PAGE * page + offset;
-        if let Some(place) = call_place::<P>(graph, tables, node, first.from, cell) {
-            jumps.add(place, cell)?;
+        let place = place_of_jump::<P>(graph, tables, page, first, offset);
+        if let Some(place) = place
+            && last != Some(place)
+        {
+            calls.add(place, PAGE * page + offset)?;
+            last = Some(place);
         }
-        offset = next_offset(graph, nexts, first.node, offset + 1);
+        offset = next_offset(graph, calls.nexts.as_slice(), first.node, offset + 1);
     }
     Ok(())
 }
@@ -250,23 +294,21 @@ fn next_offset(graph: &Graph, nexts: &[Node], first: Node, offset: usize) -> usi
     (nexts[node] as usize - first as usize).min(PAGE)
 }
 
-/// The place that the jump starts from which a cell shows, from the fact to the node, if that is a call node.
+/// The place that the jump at an offset of a page starts from, if its key is present.
 #[inline(always)]
-fn call_place<P: Problem>(
+fn place_of_jump<P: Problem>(
     graph: &Graph,
     tables: &Tables<P::F>,
-    node: Node,
-    from: Fact,
-    cell: usize,
+    page: usize,
+    first: PageJump,
+    offset: usize,
 ) -> Option<usize>
-    requires { IsShownAt tables.now cell node }
-    ensures shown { IfSome result (λ _. Shows tables.now cell) }
-    ensures nothing { result ≡ None → HandsNothing P.L.algebra P.F.edge P.targets graph.now tables.now cell }
+    requires page { 64 * page + 64 < 2 ^ 64 }
+    requires within { offset < 64 }
+    requires few { first.node + 64 ≤ 2 ^ 32 }
 {
-    if !is_call(graph, node) {
-        return None;
-    }
     // Whether there is a function is enough.
-    let _ = tables.function_in(cell)?;
-    Some(start_place(graph, procedure_at(graph, node), from))
+    let _ = tables.function_in(PAGE * page + offset)?;
+    let procedure = procedure_at(graph, first.node + offset as Node);
+    Some(start_place(graph, procedure, first.from))
 }

@@ -2,7 +2,7 @@
 ghost use Rattle.std.specs.Prelude.{◌≡◌, ◌↔◌, Err, IfErr, IfOk, OnErr, OnOk, IsOkUnless};
 ghost use Rattle.ide_steps.specs.Frozen.{graph_in, program_in};
 ghost use Rattle.ide_steps.specs.declared.closed.Closed.{Closed};
-ghost use Rattle.ide_text.specs.Program.{value_of as program_value};
+ghost use Rattle.ide_steps.specs.ProgramText.{said_by};
 ghost use Rattle.ide_values.specs.Chunks.{WritesDumpOf};
 ghost use Rattle.ide_values.specs.Closed.{FollowFrom, LeadOn};
 ghost use Rattle.ide_values.specs.Frozen.{AreBestOf, AreValuesOf, FollowClosed};
@@ -20,8 +20,7 @@ use crate::starts::start_values;
 use ide_graph::Graph;
 use ide_image::Tables;
 use ide_problem::Problem;
-use ide_steps::{Closed, HANDS, Loaded};
-use ide_text::Program;
+use ide_steps::{Closed, HANDS, Loaded, ProgramText};
 use ide_theory::sites_make_a_graph;
 use ide_wire::{Fact, Node, Refused};
 use std::alloc::{AllocError, Global};
@@ -43,12 +42,12 @@ pub struct Values<P: Problem> {
 impl<P: Problem> Model for Values<P> {
     ghost use Rattle.std.specs.Arc.{arc_value};
     ghost use Rattle.ide_steps.specs.declared.loaded.Loaded.{Loaded};
-    ghost use Rattle.ide_text.specs.Program.{value_of as program_value};
+    ghost use Rattle.ide_steps.specs.ProgramText.{said_by};
     ghost use Rattle.ide_values.specs.Values.{ValuesData};
 
     ghost Value = { ValuesData P.L };
 
-    ghost view = { λ v. record { program = program_value (arc_value {X = Loaded P P.L P.F} v.loaded).program; graph = (arc_value {X = Loaded P P.L P.F} v.loaded).graph; roots = v.roots.items; values = v.values.items } };
+    ghost view = { λ v. record { program = said_by (arc_value {X = Loaded P P.L P.F} v.loaded).program; graph = (arc_value {X = Loaded P P.L P.F} v.loaded).graph; roots = v.roots.items; values = v.values.items } };
 }
 
 /// The phase that turns a quiet image into values.
@@ -62,8 +61,8 @@ pub trait ValuePhase<P: Problem> {
     /// The values of the image, by the calling thread alone.
     ///
     /// Refusal: `NoMemory`. It reads each cell of the tables once, for the fill, after work in proportion
-    /// to how the start values fall; and before that each once, to list the jump functions at calls, and
-    /// each of these again, to see that no start value falls any more.
+    /// to how the start values fall; and before that those at call nodes twice, to list them by where they
+    /// start from, and to see that no start value falls any more.
     final fn values_alone(&self, alloc: Global) -> Result<Values<P>, Refused>
         ensures refused { IsOkUnless result Refused.NoMemory }
         ensures program { IfOk result (λ values. values.program ≡ program_in (image self.now)) }
@@ -339,16 +338,16 @@ impl<P: Problem> Values<P> {
         Ok(value_at_place(self.values.as_slice(), place_of(graph, node, fact)))
     }
 
-    /// The program whose values they are.
-    pub fn program(&self) -> &Program
-        ensures { program_value result.now ≡ self.now.program }
+    /// The program whose values they are, as its text.
+    pub fn program(&self) -> &ProgramText
+        ensures { said_by result.now ≡ self.now.program }
     {
         &self.loaded.program
     }
 
     /// The program and its graph, by which nodes and facts are found.
     pub fn loaded(&self) -> &Loaded<P>
-        ensures program { program_value result.now.program ≡ self.now.program }
+        ensures program { said_by result.now.program ≡ self.now.program }
         ensures graph { result.now.graph ≡ self.now.graph }
     {
         &*self.loaded

@@ -5,6 +5,7 @@ use ide_instances::{ConstFn, CopyConst, Uninit};
 use ide_lattice::EdgeFn;
 use ide_problem::Problem;
 use ide_steps::Core;
+use ide_text::print;
 use ide_wire::{Fact, Key, Node};
 use ide_worked::{CALLEES, COPIES, EMPTY, TWO_CALLS};
 use std::process::Abort;
@@ -234,9 +235,14 @@ fn is_reached_from<P: Problem>(
     start: Node,
     fact: Option<Fact>,
 ) -> bool {
-    match (core.sources(call, start, 2), fact) {
-        ([source], Some(fact)) => { source.from.fact == fact && source.from.function == P::F::id() }
-        (sources, None) => sources.is_empty(),
+    let sources = core.sources(call, start, 2);
+    match (sources.get(0), fact) {
+        (Some(source), Some(fact)) => {
+            sources.len() == 1
+                && source.from.fact == fact
+                && source.from.function == P::F::id()
+        }
+        (None, None) => sources.is_empty(),
         _ => false,
     }
 }
@@ -265,6 +271,34 @@ fn expect_sources_of<P: Problem>(
     expect_sources(rt, core, &[(6, 0, None)]);
     load(rt, core, text);
     expect_sources(rt, core, sources);
+}
+
+/// Appends the text of the program that a core has loaded, if it has one.
+fn print_loaded<P: Problem>(
+    rt: &(impl Abort + AllocGlobal),
+    core: &Core<P>,
+    printed: &mut Vec<u8>,
+) {
+    if let Some(kept) = core.program() {
+        let program = given(rt, kept.program(rt.alloc()));
+        given(rt, print(&program, printed));
+    }
+}
+
+/// Asserts that a core with no program prints nothing, and the text itself once it has loaded one.
+fn expect_kept<P: Problem>(rt: &(impl Abort + AllocGlobal), core: &mut Core<P>, text: &str) {
+    let mut printed = Vec::new(rt.alloc());
+    print_loaded(rt, core, &mut printed);
+    assert!(rt; printed.is_empty(), "no program is loaded");
+    load(rt, core, text);
+    print_loaded(rt, core, &mut printed);
+    assert!(rt; printed.as_slice() == text.as_bytes(), "another text");
+}
+
+#[test]
+fn a_loaded_program_is_kept(rt: HostRuntime) {
+    let mut core: Core<CopyConst> = Core::new(rt.alloc());
+    expect_kept(&rt, &mut core, TWO_CALLS);
 }
 
 // Nothing reaches a parameter over a node that is no call, or at a start that is none.

@@ -3,9 +3,8 @@ use Rattle.ide_batch.proofs.replay.apply_load.Goals as goal
 
 pub returns-clause-loaded : goal.returns-clause-loaded
 returns-clause-loaded g c =
-    loads c.load.result c.args.text.now c.in-Ok.program c.load.new.self c.in-Ok.ensures.parsed c.load.ensures.program c.load.ensures.graph
-    c.load.ensures.roots c.load.ensures.entries c.load.ensures.pending c.load.ensures.claims
+    loads g.P.F.EdgeFn.edge g.P.Problem.targets c.load_spelled.result c.args.text.now c.in-Ok.program c.args.core.now c.load_spelled.new.self c.in-Ok.ensures.parsed c.load_spelled.ensures.loads
 
 pub returns-clause-free : goal.returns-clause-free
 returns-clause-free g c =
-    free_after c.load.result c.args.core.now c.load.new.self c.requires c.load.ensures.claims c.load.ensures.unchanged
+    free_after g.P.F.EdgeFn.edge g.P.Problem.targets c.load_spelled.result c.in-Ok.program c.args.core.now c.load_spelled.new.self c.requires c.load_spelled.ensures.loads c.load_spelled.ensures.unchanged

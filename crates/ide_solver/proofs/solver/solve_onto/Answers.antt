@@ -1,7 +1,6 @@
-use Rattle.std.proofs.Common.{map, refl, subst}
+use Rattle.std.proofs.Common.{map, refl}
 use Rattle.std.proofs.lemmas.Result.{IfErr-weaker, IfOk-weaker, err_from_is_err_and}
-use Rattle.ide_solver.specs.Refusal.{IsSharedRefusal, IsSolveRefusal, not_shared, not_solved}
-use Rattle.ide_solver.specs.Started.{IsPreparedFor}
+use Rattle.ide_solver.specs.Refusal.{IsSharedRefusal, not_shared, not_solved}
 use Rattle.ide_values.specs.Dump.{dump_of}
 use Rattle.ide_values.specs.Values.{value_there}
 use Rattle.ide_solver.proofs.Results.{refused-on}
@@ -18,21 +17,21 @@ returns-in_err-closed-clause-refused g c =
     let p = err_from_is_err_and c.from_residual-in_err-closed.result c.from_residual-in_err-closed.ensures.1 in
     refused-on (IsSharedRefusal c.args.workers c.args.text.items (map (λ name. name.now) c.args.roots.now)) c.from_residual-in_err-closed.result c.in_err-closed.field-0.0 p.0 p.1 p.2
     (not_solved c.in_ok-check_workers.ensures.workers
-    (c.in_err-closed.ensures.refused c.args.text.items c.args.roots.now (subst (λ text. IsPreparedFor (record { lattice = g.P.L.Lattice.algebra; functions = g.P.F.EdgeFn.edge; targets = g.P.Problem.targets; shown = g.P.L.Lattice.shown }) text c.args.roots.now c.in_ok-core.core) c.deref.ensures.value c.in_ok-core.ensures.started)))
+    (c.in_err-closed.ensures.refused c.args.text.items c.args.roots.now c.in_ok-core.ensures.started))
 
 pub returns-in_err-core-clause-refused : goal.returns-in_err-core-clause-refused
 returns-in_err-core-clause-refused g c =
     let names = map (λ name. name.now) c.args.roots.now in
     let p = err_from_is_err_and c.from_residual-in_err-core.result c.from_residual-in_err-core.ensures.1 in
     refused-on (IsSharedRefusal c.args.workers c.args.text.items names) c.from_residual-in_err-core.result c.in_err-core.field-0.0 p.0 p.1 p.2
-    (not_solved c.in_ok-check_workers.ensures.workers (subst (λ text. IsSolveRefusal text names c.in_err-core.field-0.0) c.deref.ensures.value c.in_err-core.ensures.refused))
+    (not_solved c.in_ok-check_workers.ensures.workers c.in_err-core.ensures.refused)
 
 pub returns-clause-solution : goal.returns-clause-solution
 returns-clause-solution g c =
     IfOk-weaker c.write_values.result _ _
     (λ end written.
     let values = written.values in
-    let is = c.in_ok-closed.ensures.leads c.args.text.items c.args.roots.now (subst (λ text. IsPreparedFor (record { lattice = g.P.L.Lattice.algebra; functions = g.P.F.EdgeFn.edge; targets = g.P.Problem.targets; shown = g.P.L.Lattice.shown }) text c.args.roots.now c.in_ok-core.core) c.deref.ensures.value c.in_ok-core.ensures.started) values written.program written.graph written.roots written.best in
+    let is = c.in_ok-closed.ensures.leads c.args.text.items c.args.roots.now c.in_ok-core.ensures.started values written.program written.graph written.roots written.best in
     let value = value_there g.P.L.Lattice.algebra values in
     record {
       dump = dump_of values.graph (λ n d. g.P.L.Lattice.shown (value n d));

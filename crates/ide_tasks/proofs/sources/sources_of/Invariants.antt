@@ -1,4 +1,4 @@
-use Rattle.std.proofs.Common.{◌≡◌, ℕ, ◌<◌, Some, length, map}
+use Rattle.std.proofs.Common.{◌≡◌, ℕ, ◌<◌, Some, length}
 use Rattle.std.specs.Prelude.{slice_get, slice_index, slice_index_or, []}
 use Rattle.ide_graph.specs.declared.site.Site.{Site}
 use Rattle.ide_graph.specs.Exits.{HasFewCallers}
@@ -8,9 +8,9 @@ use Rattle.ide_tasks.proofs.sources.sources_of.Given as goal
 -- the sources of the procedures that were gone over ascend, and are those of their exits
 abbrev pub invariant-loop-procedure : goal.invariant-loop-procedure
 invariant-loop-procedure g l = record {
-  ascending : AreAscending (map (λ sources. sources.items) l.procedures.items);
-  count : length (map (λ sources. sources.items) l.procedures.items) ≡ l.procedure;
+  ascending : AreAscending l.procedures.items;
+  count : length l.procedures.items ≡ l.procedure;
   exact : (k : ℕ) → k < l.procedure → (site : Site) → slice_get l.graph.sites (slice_index l.graph.exits k) ≡ Some site → HasFewCallers site
-      → (fact : ℕ) → reaching_of fact (slice_index_or (map (λ sources. sources.items) l.procedures.items) k [])
+      → (fact : ℕ) → reaching_of fact (slice_index_or l.procedures.items k [])
       ≡ reaching_of fact (sources_at g.P.Problem.targets l.graph.facts site);
 }

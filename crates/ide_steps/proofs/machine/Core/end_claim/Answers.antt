@@ -1,7 +1,7 @@
 use Rattle.std.proofs.Common.{◌∙◌}
 use Rattle.ide_image.specs.Notes.{ended_key}
 use Rattle.ide_image.specs.Worklist.{claim_at, is_pending}
-use Rattle.ide_steps.proofs.Nodes.{kept-finished}
+use Rattle.ide_steps.proofs.Nodes.{kept-equal, kept-finished}
 use Rattle.ide_steps.proofs.Noted.{end-kept, notes-change, remembers-change, remembers-image, same-entry}
 use Rattle.ide_steps.proofs.States.{state-finished}
 use Rattle.ide_steps.proofs.machine.Core.end_claim.Goals as goal
@@ -36,3 +36,8 @@ returns-clause-remembers g c =
 pub returns-in_err-finish-clause-remembers : goal.returns-in_err-finish-clause-remembers
 returns-in_err-finish-clause-remembers g c =
     rw (← c.self.view_is) (remembers-image _ _ c.in_err-finish.ensures.err)
+
+pub invariant_of-self : goal.invariant_of-self
+invariant_of-self g c = λ loaded is.
+    let kept = c.self.invariant loaded is in
+    (kept.0, kept-equal g.P.F.EdgeFn.edge g.P.Problem.targets loaded.graph c.self.inside.image c.finish.new.self kept.1 c.in_err-finish.ensures.err)

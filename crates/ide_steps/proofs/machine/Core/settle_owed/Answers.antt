@@ -2,7 +2,7 @@ use Rattle.std.proofs.Common.{Some, ap, false, ◌∙◌}
 use Rattle.std.specs.Prelude.{◌&&◌, not}
 use Rattle.ide_wire.specs.Key.{same_key}
 use Rattle.ide_image.specs.Worklist.{is_pending}
-use Rattle.ide_steps.proofs.Nodes.{kept-set}
+use Rattle.ide_steps.proofs.Nodes.{kept-equal, kept-set}
 use Rattle.ide_steps.proofs.Noted.{notes-change, remembers-change, remembers-image, same-entry}
 use Rattle.ide_steps.proofs.Running.{not-or-as}
 use Rattle.ide_steps.proofs.machine.Core.settle_owed.Goals as goal
@@ -32,3 +32,8 @@ returns-in_err-settle-clause-remembers g c =
 
 pub returns-clause-notes : goal.returns-clause-notes
 returns-clause-notes g c = rw (← c.self.view_is) (notes-change _ _ (Some c.args.key) c.in_ok-settle.ensures.noted)
+
+pub invariant_of-self : goal.invariant_of-self
+invariant_of-self g c = λ loaded is.
+    let kept = c.self.invariant loaded is in
+    (kept.0, kept-equal g.P.F.EdgeFn.edge g.P.Problem.targets loaded.graph c.self.inside.image c.settle.new.self kept.1 c.in_err-settle.ensures.err)

@@ -1,4 +1,4 @@
-use Rattle.std.proofs.Common.{◌≡◌, ◌+◌, ◌<◌, Some, ap, refl, rules, subst, sym, ◌∙◌}
+use Rattle.std.proofs.Common.{◌≡◌, ◌+◌, ◌<◌, ap, refl, rules, subst, sym, ◌∙◌}
 use Rattle.std.proofs.lemmas.Option.{same_Some}
 use Rattle.ide_graph.specs.Supergraph.{Supergraph}
 use Rattle.ide_image.specs.Tables.{found}
@@ -6,7 +6,7 @@ use Rattle.ide_image.specs.Walk.{jump_behind}
 use Rattle.ide_image.specs.Worklist.{is_claimed, is_pending}
 use Rattle.ide_wire.specs.declared.key.Key.TheVariants.{Jump}
 use Rattle.ide_steps.specs.Core.{CoreData}
-use Rattle.ide_steps.proofs.Nodes.{kept-moved, through}
+use Rattle.ide_steps.proofs.Nodes.{kept-equal, kept-moved, through}
 use Rattle.ide_steps.proofs.machine.Core.walk_owed.Goals as goal
 
 -- the last key is one of the graph
@@ -46,3 +46,8 @@ returns-clause-walks g c = λ some.
       claims = c.walk.ensures.claims;
       changes = c.in_ok-walk.ensures.noted;
     })
+
+pub invariant_of-self : goal.invariant_of-self
+invariant_of-self g c = λ loaded is.
+    let kept = c.self.invariant loaded is in
+    (kept.0, kept-equal g.P.F.EdgeFn.edge g.P.Problem.targets loaded.graph c.self.inside.image c.walk.new.self kept.1 c.in_err-walk.ensures.err)
