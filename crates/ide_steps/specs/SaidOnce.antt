@@ -20,7 +20,7 @@ one_value p q same = sym ((parsed_again p).equal q (subst (λ text. IsParsed tex
 said_once : (text : List ℕ) (v w : ProgramValue) → IsTextOf text v → IsTextOf text w → v ≡ w
 said_once text v w first second =
     ∥∥₁_elim first (values-set v w) (λ a. ∥∥₁_elim second (values-set v w) (λ b.
-      sym a.2 ∙ one_value a.0 b.0 (a.1 ∙ sym b.1) ∙ b.2))
+    sym a.2 ∙ one_value a.0 b.0 (a.1 ∙ sym b.1) ∙ b.2))
 
 pub SaysOnce-prop : (text : List ℕ) → IsProp (SaysOnce text)
 SaysOnce-prop text a b = Σ_prop_path (λ v. ∥∥₁_prop) (said_once text a.0 b.0 a.1 b.1)

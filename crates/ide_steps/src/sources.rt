@@ -22,8 +22,6 @@ impl<P: Problem> Core<P> {
         let Some(loaded) = &self.loaded else {
             return LentSources::none();
         };
-        loaded
-            .sources
-            .over_call(&loaded.graph, call, start, fact)
+        loaded.sources.over_call(&loaded.graph, call, start, fact)
     }
 }

@@ -151,10 +151,7 @@ fn place_of(callers: &[Caller], call: Node) -> Option<usize>
 }
 
 /// The sources of each procedure.
-fn sources_of<P: Problem>(
-    alloc: Global,
-    graph: &Graph,
-) -> Result<Vec<SourceList<P::F>>, AllocError>
+fn sources_of<P: Problem>(alloc: Global, graph: &Graph) -> Result<Vec<SourceList<P::F>>, AllocError>
     ensures ascending { IfOk result (λ procedures. AreAscending procedures.items) }
     ensures exact { IfOk result (λ procedures. AreSourcesOf P.targets graph.now procedures.items) }
 {

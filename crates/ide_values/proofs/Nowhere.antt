@@ -47,27 +47,27 @@ module _ {P F L : Type 0} (A : LatticeAlgebra L) (B : EdgeAlgebra F L) (targets 
   pub leaves_page : (page begin end : ℕ) (starts : Starts P L F) → end ≤ 64 → HasNoJump tables page → LeavesOffsets A B targets graph tables page begin end starts starts
   leaves_page page begin end starts within none =
       leaves_not (64 * page + begin) (64 * page + end) starts (λ cell low high e is.
-        steady-none A B targets graph starts.values.items e.0 e.1 (no-call-summary graph e.0 (none cell e (omega (arith, low, high, within)) is)))
+      steady-none A B targets graph starts.values.items e.0 e.1 (no-call-summary graph e.0 (none cell e (omega (arith, low, high, within)) is)))
 
   -- and cells of a page at nodes that no call edges leave
   pub leaves_over : (page node from to begin end : ℕ) (starts : Starts P L F) → BeginsWith tables page (Jump node from to)
       → begin ≤ end → end ≤ 64 → HaveNoCalls graph (node + begin) (node + end) → LeavesOffsets A B targets graph tables page begin end starts starts
   leaves_over page node from to begin end starts at order within none =
       leaves_not (64 * page + begin) (64 * page + end) starts (λ cell low high e is.
-        let here : cell / 64 ≡ page = omega (arith, low, high, order, within) in
-        let least : node + begin ≤ node + cell % 64 = omega (arith, low, high, order, within) in
-        let most : node + cell % 64 < node + end = omega (arith, low, high, order, within) in
-        steady-none A B targets graph starts.values.items e.0 e.1
-        (no-call-at graph e.0 (node + cell % 64) (ap node_of (at cell e here is)) (none (node + cell % 64) least most)))
+      let here : cell / 64 ≡ page = omega (arith, low, high, order, within) in
+      let least : node + begin ≤ node + cell % 64 = omega (arith, low, high, order, within) in
+      let most : node + cell % 64 < node + end = omega (arith, low, high, order, within) in
+      steady-none A B targets graph starts.values.items e.0 e.1
+      (no-call-at graph e.0 (node + cell % 64) (ap node_of (at cell e here is)) (none (node + cell % 64) least most)))
 
   -- a cell is left where it shows nothing
   pub leaves_empty : (page offset : ℕ) (starts : Starts P L F) → shown_in tables (64 * page + offset) ≡ None
       → LeavesOffsets A B targets graph tables page offset (offset + 1) starts starts
   leaves_empty page offset starts empty =
       leaves_not (64 * page + offset) (64 * page + (offset + 1)) starts (λ cell low high e is.
-        let here : cell ≡ 64 * page + offset = omega (arith, low, high) in
-        let no : None ≡ Some e = sym empty ∙ ap (shown_in tables) (sym here) ∙ is in
-        absurd (cc (no)))
+      let here : cell ≡ 64 * page + offset = omega (arith, low, high) in
+      let no : None ≡ Some e = sym empty ∙ ap (shown_in tables) (sym here) ∙ is in
+      absurd (cc (no)))
 
   -- and where its entry is passed on
   pub leaves_shown : (page offset : ℕ) (key : Key) (f : F) (old new : Starts P L F) → shown_in tables (64 * page + offset) ≡ Some (key, f)

@@ -238,9 +238,7 @@ fn is_reached_from<P: Problem>(
     let sources = core.sources(call, start, 2);
     match (sources.get(0), fact) {
         (Some(source), Some(fact)) => {
-            sources.len() == 1
-                && source.from.fact == fact
-                && source.from.function == P::F::id()
+            sources.len() == 1 && source.from.fact == fact && source.from.function == P::F::id()
         }
         (None, None) => sources.is_empty(),
         _ => false,
