@@ -28,12 +28,15 @@ owed-few marks = count_by-le-length is_owed marks
 pub pending-few : (marks : List Mark) → pending_count marks ≤ length marks
 pending-few marks = count_by-le-length is_pending_mark marks
 
--- a slot that is settled is pending no longer, nor claimed
+-- a slot that is settled is pending no longer, nor claimed, nor on the stack
 pub pending-settled : (marks : List Mark) (slot : ℕ) → slot < length marks → SetsMark slot false (pending_at marks) (pending_at (slice_set marks slot Settled))
 pending-settled marks slot within n = grind (arith, common_steps)
 
 pub held-settled : (marks : List Mark) (slot : ℕ) → slot < length marks → SetsMark slot false (held_at marks) (held_at (slice_set marks slot Settled))
 held-settled marks slot within n = grind (arith, common_steps)
+
+pub stacked-settled : (marks : List Mark) (slot : ℕ) → slot < length marks → SetsMark slot false (stacked_at marks) (stacked_at (slice_set marks slot Settled))
+stacked-settled marks slot within n = grind (arith, common_steps)
 
 -- what stays in each of two steps stays in both
 pub keeps-both : (old mid new : List Mark) → KeepsMarks old mid → KeepsMarks mid new → KeepsMarks old new

@@ -151,10 +151,10 @@ pub(crate) fn end_slot<F: EdgeFn>(
     ensures refused { IsOkUnless result NoMemory }
 {
     let near = queue.near_slot(offset_of(key));
-    let slot = indexed.cell_of(key, near);
+    let slot = indexed.cell_of(key, near.slot);
     changes.make_room(1, slot + 1)?;
     note_now(indexed, queue, changes, slot, key);
-    queue.settle(slot);
+    queue.settle(slot, near.position);
     Ok(())
 }
 

@@ -16,6 +16,13 @@ use std::marker::Model;
 /// How many slots, from the top of the stack down, are looked through for one that is taken off.
 const NEAR: usize = 8;
 
+/// A slot, and where it stands on the stack.
+#[derive(Drop)]
+pub(crate) struct Stacked {
+    pub(crate) slot: usize,
+    pub(crate) position: usize,
+}
+
 /// A mark for each slot, in bits, and the slots that wait. A slot behind the last mark is settled, and
 /// each slot is below 2^32.
 ///
@@ -92,15 +99,18 @@ impl Queue {
     /// The highest of the slots near the top of the stack that is at the offset of a page of 64, where that of a key
     /// whose parts were done is looked for first: the first slot, if none of these is.
     #[inline(always)]
-    pub(crate) fn near_slot(&self, offset: usize) -> usize {
+    pub(crate) fn near_slot(&self, offset: usize) -> Stacked {
         let len = self.stack.len();
         for position in (len.saturating_sub(NEAR)..len).rev() {
             let slot = self.stack[position] as usize;
             if slot % 64 == offset {
-                return slot;
+                return Stacked { slot, position };
             }
         }
-        0
+        Stacked {
+            slot: 0,
+            position: 0,
+        }
     }
 
     /// Makes room for so many more pending slots.
@@ -145,9 +155,9 @@ impl Queue {
         is_held
     }
 
-    /// Makes the slot settled.
+    /// Makes the slot settled. On the stack it is looked for at the likely position first.
     #[inline(always)]
-    pub(crate) fn settle(&mut self, slot: usize)
+    pub(crate) fn settle(&mut self, slot: usize, likely: usize)
         requires there { slot < length self.old.list }
         ensures pending { SetsPendingSlot slot false self.old.list self.new.list }
         ensures held { SetsHeldSlot slot false self.old.list self.new.list }
@@ -156,7 +166,13 @@ impl Queue {
         ensures room { self.old.spare ≤ self.new.spare }
     {
         if self.marks.is_pending(slot) {
-            make_settled(&mut self.marks, &mut self.stack, &mut self.held, slot);
+            make_settled(
+                &mut self.marks,
+                &mut self.stack,
+                &mut self.held,
+                slot,
+                likely,
+            );
             self.pending -= 1;
         }
     }
@@ -178,7 +194,7 @@ impl Queue {
         if is_top(&self.stack, from) && self.marks.get(to) == Mark::Settled {
             move_top(&mut self.marks, &mut self.stack, from, to);
         } else {
-            self.settle(from);
+            self.settle(from, 0);
             let _ = self.push(to);
         }
     }
@@ -194,7 +210,7 @@ impl Queue {
         if pending {
             let _ = self.push(slot);
         } else {
-            self.settle(slot);
+            self.settle(slot, 0);
         }
     }
 
@@ -295,7 +311,13 @@ fn move_top(marks: &mut Marks, stack: &mut Vec<u32>, from: usize, to: usize)
 
 /// Makes the slot settled.
 #[inline(always)]
-fn make_settled(marks: &mut Marks, stack: &mut Vec<u32>, held: &mut usize, slot: usize)
+fn make_settled(
+    marks: &mut Marks,
+    stack: &mut Vec<u32>,
+    held: &mut usize,
+    slot: usize,
+    likely: usize,
+)
     requires there { slot < length marks.old }
     requires stack { IsStack marks.old stack.old.items held.old }
     requires top { TopWaits marks.old stack.old.items }
@@ -310,7 +332,7 @@ fn make_settled(marks: &mut Marks, stack: &mut Vec<u32>, held: &mut usize, slot:
 {
     match marks.get(slot) {
         Mark::Settled | Mark::Left => {}
-        Mark::Waiting => leave(marks, stack, held, slot),
+        Mark::Waiting => leave(marks, stack, held, slot, likely),
         Mark::Held => {
             *held -= 1;
             marks.set(slot, Mark::Settled);
@@ -319,9 +341,10 @@ fn make_settled(marks: &mut Marks, stack: &mut Vec<u32>, held: &mut usize, slot:
     }
 }
 
-/// Makes the slot, which waits, settled, and takes it off the stack where it is near the top.
+/// Makes the slot, which waits, settled, and takes it off the stack where it is near the top, and then those that were left
+/// on top, so that one that waits is on top.
 #[inline(always)]
-fn leave(marks: &mut Marks, stack: &mut Vec<u32>, held: &mut usize, slot: usize)
+fn leave(marks: &mut Marks, stack: &mut Vec<u32>, held: &mut usize, slot: usize, likely: usize)
     requires waits { waiting_at marks.old slot ≡ true }
     requires stack { IsStack marks.old stack.old.items held.old }
     ensures stack { IsStack marks.new stack.new.items held.new }
@@ -333,8 +356,32 @@ fn leave(marks: &mut Marks, stack: &mut Vec<u32>, held: &mut usize, slot: usize)
     ensures room { vec_len stack.new + held.new ≤ vec_len stack.old + held.old }
     ensures capacity { vec_capacity stack.new ≡ vec_capacity stack.old }
 {
-    marks.set(slot, Mark::Left);
-    tidy(marks, stack, held, slot);
+    settle_waiting(marks, stack, slot, likely);
+    clear_top(marks, stack, held);
+}
+
+/// Makes the slot, which waits, settled, and takes it off the stack where it is near the top: elsewhere it is left there.
+#[inline(always)]
+fn settle_waiting(marks: &mut Marks, stack: &mut Vec<u32>, slot: usize, likely: usize)
+    requires waits { waiting_at marks.old slot ≡ true }
+    requires few { length marks.old ≤ 2 ^ 32 }
+    requires stacked { AreStacked marks.old stack.old.items }
+    ensures stacked { AreStacked marks.new stack.new.items }
+    ensures pending { SetsPendingSlot slot false marks.old marks.new }
+    ensures held { SetsHeldSlot slot false marks.old marks.new }
+    ensures count { CountsSettled slot marks.old marks.new }
+    ensures owed { owed_count marks.new ≡ owed_count marks.old }
+    ensures covered { length marks.new ≡ length marks.old }
+    ensures room { vec_len stack.new ≤ vec_len stack.old }
+    ensures capacity { vec_capacity stack.new ≡ vec_capacity stack.old }
+{
+    match position_of(stack, slot as u32, likely) {
+        Some(position) => {
+            let _ = stack.swap_remove(position);
+            marks.set(slot, Mark::Settled);
+        }
+        None => marks.set(slot, Mark::Left),
+    }
 }
 
 /// Takes the slot, which was left on the stack, off it where it is near the top, and then those that were left on top, so
@@ -401,6 +448,17 @@ fn left_on_top(marks: &Marks, stack: &[u32]) -> Option<usize>
     } else {
         Some(slot)
     }
+}
+
+/// Where the slot is on the stack, if it is at the likely place or near the top.
+#[inline(always)]
+fn position_of(stack: &[u32], slot: u32, likely: usize) -> Option<usize>
+    ensures { IfSome result (λ position. slice_get stack.now position ≡ Some slot) }
+{
+    if likely < stack.len() && stack[likely] == slot {
+        return Some(likely);
+    }
+    position_near(stack, slot)
 }
 
 /// Where the slot is on the stack, if it is near the top.

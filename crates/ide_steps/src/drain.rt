@@ -242,9 +242,8 @@ impl<P: Problem> Core<P> {
 }
 
 /// Makes the list the parts that a key owes, at the site of its node and with the partners that are
-/// present now. Most keys are jumps at nodes that are neither calls nor exits: these have no partners. The
-/// partners of the others stand in lists that the list of parts keeps for the next key; where one is refused, their
-/// room is given up.
+/// present now. Most keys are jumps at nodes that are neither calls nor exits: these have no partners.
+#[inline(always)]
 fn fill_parts<P: Problem>(
     alloc: Global,
     loaded: &Loaded<P>,
@@ -264,6 +263,29 @@ fn fill_parts<P: Problem>(
     if parts.fill_alone(key, function, site)? {
         return Ok(());
     }
+    fill_from_partners(alloc, loaded, image, key, function, parts)
+}
+
+/// Makes the list the parts that a key owes, whatever stands at its node. The partners stand in lists that the list of
+/// parts keeps for the next key; where one is refused, their room is given up. It is not inlined, so that keys which have
+/// no partners do without its frame.
+#[inline(never)]
+fn fill_from_partners<P: Problem>(
+    alloc: Global,
+    loaded: &Loaded<P>,
+    image: &KeyedImage<P::F, Task<P>>,
+    key: Key,
+    function: P::F,
+    parts: &mut PartList<P>,
+) -> Result<(), Refused>
+    requires place { StandsIn loaded.now.graph key }
+    requires function { found image.now.table key ≡ Some function }
+    ensures parts { OnOk result (ListsParts P.F.edge P.targets loaded.now image.now.table key parts.new) }
+    ensures inside { OnOk result (AllStandIn loaded.now.graph parts.new) }
+    ensures refused { IsOkUnless result Refused.NoMemory }
+{
+    let node = key.node();
+    let site = loaded.graph.site(node);
     let procedure = loaded.graph.procedure_of(node);
     let mut partners = parts.take_partners(alloc);
     fill_partners(loaded, image, key, procedure, site, &mut partners)?;

@@ -106,6 +106,20 @@ impl<P: Problem> Parts<P> {
             self.list.push(part)?;
             return Ok(());
         }
+        self.add_by_flow(edge, function, from, to)
+    }
+
+    /// The same, by the flow of the edge. It is not inlined, so that edges which pass the fact on do without its frame.
+    #[inline(never)]
+    fn add_by_flow(
+        &mut self,
+        edge: &EdgeData,
+        function: P::F,
+        from: Fact,
+        to: Fact,
+    ) -> Result<(), AllocError>
+        ensures { OnOk result (self.new.list.items ≡ self.old.list.items ++ flat_parts P.F.edge P.targets from to function edge.now) }
+    {
         self.flow(edge, to)?;
         let Parts { list, targets } = self;
         for (target, over) in targets.list.as_slice() {

@@ -1,6 +1,6 @@
 use Rattle.std.proofs.Common.{◌≡◌, ◌++◌, take, map}
 use Rattle.ide_wire.specs.declared.key.Key.TheVariants.{Jump}
-use Rattle.ide_tasks.proofs.parts.Parts.add_edge.Given as goal
+use Rattle.ide_tasks.proofs.parts.Parts.add_by_flow.Given as goal
 
 -- the parts of the targets that were gone over stand at the end
 abbrev pub invariant-loop-target : goal.invariant-loop-target
