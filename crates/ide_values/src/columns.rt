@@ -161,7 +161,7 @@ fn facts_at(alloc: Global, graph: &Graph, node: Node) -> Result<Vec<Vec<u8>>, Al
 fn columns_of(alloc: Global, fact: Fact, name: &[u8]) -> Result<Vec<u8>, AllocError>
     ensures { IfOk result (λ columns. columns.items ≡ fact_columns fact name.now) }
 {
-    let mut columns = Vec::new(alloc);
+    let mut columns = Vec::with_capacity(alloc, FACT_WIDTH + NAME_WIDTH + 2)?;
     append_right(
         Buffer::new().format(fact).as_bytes(),
         FACT_WIDTH,
