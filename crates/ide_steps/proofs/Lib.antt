@@ -12,6 +12,7 @@ pub mod Free
 pub mod Going
 pub mod Listed
 pub mod Entries
+pub mod Entered
 pub mod Nodes
 pub mod Noted
 pub mod Lent

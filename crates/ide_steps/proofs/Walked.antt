@@ -1,11 +1,11 @@
 -- That to walk a function over nodes behind each other is, to a run, a claim of each key, its one part and its end.
 use Rattle.std.proofs.Common.{◌≡◌, ◌≢◌, ℕ, zero, suc, ◌+◌, ◌-◌, ◌*◌, ◌^◌, ◌<◌, ◌≤◌, inl, inr, Bool, true, false, cond, ◌||◌, get_or, List, [], ◌∷◌, ◌++◌, Some, None, length, slice_get, map, option_map, ap, sym, subst, ◌∙◌, refl, add-one, arith, Option}
 use Rattle.std.specs.Prelude.{◌&&◌, not, filter, IsTrue}
-use Rattle.std.specs.List.{All, IsDistinct, flat_map, list_any}
+use Rattle.std.specs.List.{IsDistinct, flat_map, list_any}
 use Rattle.std.specs.List.Sorted.{IsPermutation}
 use Rattle.std.specs.Map.{keys_of, lookup}
 use Rattle.std.specs.Option.{is_some}
-use Rattle.std.proofs.lemmas.List.{append_assoc, append-nil, length-append}
+use Rattle.std.proofs.lemmas.List.{append-nil, length-append}
 use Rattle.std.proofs.lemmas.Option.{same_Some}
 use Rattle.ide_graph.specs.Supergraph.{Supergraph}
 use Rattle.ide_graph.specs.declared.site.Site.{Site}
@@ -23,33 +23,27 @@ use Rattle.ide_image.specs.Changes.{absent_entry}
 use Rattle.ide_image.specs.Walk.{AreAbsent, AreSettled, EntersWalked, GoesTo, walked_entries, jump_behind, with_entered}
 use Rattle.ide_image.specs.Worklist.{IsFree, claim_at, is_pending, marked}
 use Rattle.ide_image.specs.declared.entry.Entry.{Entry}
-use Rattle.ide_image.proofs.Places.{distinct-put, place-absent, put-last}
-use Rattle.ide_image.proofs.Sets.{found-with_entry}
-use Rattle.ide_wire.specs.Key.{node_of, same_key, same_key_exact, same_key_refl, same_key_symm}
+use Rattle.ide_wire.specs.Key.{same_key, same_key_exact, same_key_refl, same_key_symm}
 use Rattle.ide_wire.specs.declared.key.Key.{Key}
 use Rattle.ide_wire.specs.declared.key.Key.TheVariants.{Jump}
 use Rattle.ide_steps.specs.Calls.{CallsAreSteps}
 use Rattle.ide_steps.specs.Changed.{Remembers, standing_entry}
 use Rattle.ide_steps.specs.Core.{CoreData, IsSameProblem}
-use Rattle.ide_steps.specs.Drain.{GoesOnPaid, HasLess}
+use Rattle.ide_steps.specs.Drain.{GoesOnPaid, HasLess, potential}
 use Rattle.ide_steps.specs.Going.{GoesOnByHand}
 use Rattle.ide_steps.specs.Running.{OwesParts, claimed_as, with_held}
 use Rattle.ide_steps.specs.State.{ArePartnersOf, claim_of, state_of}
 use Rattle.ide_steps.specs.Steps.{IsChangedBy, IsLoweredBy}
-use Rattle.ide_steps.specs.Walk.{GoesOnUnchanged, PassesAt, PassesFor, WalksOwed}
-use Rattle.ide_steps.proofs.Going.{goes-nowhere, goes-then}
-use Rattle.ide_steps.proofs.Noted.{after-keeps, noted-with, noting-with, remembers-change, remembers-then}
+use Rattle.ide_steps.specs.Walk.{GoesOnUnchanged, HasWalked, PassesAt, PassesFor, WalksOwed}
+use Rattle.ide_steps.proofs.Entered.{absent-behind, distinct-behind, found-behind, jumps-apart, last-has, more-entered}
+use Rattle.ide_steps.proofs.Going.{goes-nowhere, goes-then, paid-same}
+use Rattle.ide_steps.proofs.Noted.{after-keeps, noted-with, noting-with, remembers-change, remembers-same, remembers-then}
 use Rattle.ide_steps.proofs.Permuted.{found-permuted, long-permuted, spent-permuted}
 use Rattle.ide_steps.proofs.Potential.{falls}
 use Rattle.ide_steps.proofs.Running.{key-begins, key-ended, part-lowers}
 use Rattle.ide_steps.proofs.States.{changes-of, state-lowered}
 
 module _ {F : Type 0} where
-  -- what is found once an entry of an absent key is put behind the others
-  pub found-last : (es : List (Key × F)) (key q : Key) (f : F) → lookup (same_key key) es ≡ None
-      → lookup (same_key q) (es ++ (key, f) ∷ []) ≡ cond (same_key key q) (Some f) (lookup (same_key q) es)
-  found-last es key q f none = ap (lookup (same_key q)) (sym (put-last key es f (place-absent key es none))) ∙ found-with_entry es key q f
-
   -- how many are entered
   length-entered : (at : ℕ → Key) (f : F) (n : ℕ) → length (walked_entries at f n) ≡ n
   length-entered at f zero = refl
@@ -57,10 +51,6 @@ module _ {F : Type 0} where
       let before = length-entered at f n in
       let more = length-append (walked_entries at f n) ((at (suc n), f) ∷ []) in
       omega (arith, before, more)
-
-  -- entries and one more
-  more-entered : (es : List (Key × F)) (at : ℕ → Key) (f : F) (n : ℕ) → es ++ walked_entries at f (suc n) ≡ (es ++ walked_entries at f n) ++ (at (suc n), f) ∷ []
-  more-entered es at f n = sym (append_assoc es (walked_entries at f n) ((at (suc n), f) ∷ []))
 
 module _ {F : Type 0} where
   -- a key that was noted stays so, and is noted once
@@ -221,13 +211,7 @@ module _ {F L : Type 0} (A : LatticeAlgebra L) (B : EdgeAlgebra F L) (targets : 
   first-of-walk = ap (λ n. Jump n from to) (omega arith)
 
   keys-apart : (n m : ℕ) → ((n ≡ m) → ⊥) → same_key (jump_behind node from to n) (jump_behind node from to m) ≡ false
-  keys-apart n m differ =
-      elim (same_key (jump_behind node from to n) (jump_behind node from to m)) as (λ b. same_key (jump_behind node from to n) (jump_behind node from to m) ≡ b → b ≡ false) [
-        | true ↦ λ is.
-            let nodes : node + n ≡ node + m = ap node_of (same_key_exact (jump_behind node from to n) (jump_behind node from to m) is) in
-            absurd (differ (omega (arith, nodes)))
-        | false ↦ λ other. refl
-      ] refl
+  keys-apart n m differ = jumps-apart node from to n m differ
 
   -- the core after so many keys, as it would be, and in the midst of one
   entries_then : ℕ → List (Key × F)
@@ -254,27 +238,18 @@ module _ {F L : Type 0} (A : LatticeAlgebra L) (B : EdgeAlgebra F L) (targets : 
   -- what is found then
   absent-then : (n m : ℕ) → n ≤ m → m < count → lookup (same_key (jump_behind node from to (suc m))) (entries_then n) ≡ None
   unfolding entries_then
-  absent-then zero m above few = ap (lookup (same_key (jump_behind node from to (suc m)))) (append-nil start.table.entries) ∙ absent m few
-  absent-then (suc n) m above few =
-      ap (lookup (same_key (jump_behind node from to (suc m)))) (more-entered start.table.entries (jump_behind node from to) f n)
-      ∙ found-last (entries_then n) (jump_behind node from to (suc n)) (jump_behind node from to (suc m)) f (absent-then n n (omega arith) (omega (arith, above, few)))
-      ∙ ap (λ b. cond b (Some f) (lookup (same_key (jump_behind node from to (suc m))) (entries_then n))) (keys-apart (suc n) (suc m) (λ e. omega (arith, e, above)))
-      ∙ absent-then n m (omega (arith, above)) few
+  absent-then n m above few = absent-behind start.table.entries node from to f count absent n m above few
 
   found-then : (n : ℕ) → n < count → (q : Key)
       → lookup (same_key q) (entries_then (suc n)) ≡ cond (same_key (jump_behind node from to (suc n)) q) (Some f) (lookup (same_key q) (entries_then n))
   unfolding entries_then
-  found-then n few q =
-      ap (lookup (same_key q)) (more-entered start.table.entries (jump_behind node from to) f n)
-      ∙ found-last (entries_then n) (jump_behind node from to (suc n)) q f (absent-then n n (omega arith) few)
+  found-then n few q = found-behind start.table.entries node from to f count absent n few q
 
   has-then : (n : ℕ) → n ≤ count → lookup (same_key (jump_behind node from to n)) (entries_then n) ≡ Some f
   unfolding entries_then
   has-then zero few =
       ap (lookup (same_key (jump_behind node from to 0))) (append-nil start.table.entries) ∙ ap (λ k. lookup (same_key k) start.table.entries) first-of-walk ∙ has
-  has-then (suc n) few =
-      found-then n (omega (arith, few)) (jump_behind node from to (suc n))
-      ∙ ap (λ b. cond b (Some f) (lookup (same_key (jump_behind node from to (suc n))) (entries_then n))) (same_key_refl (jump_behind node from to (suc n)))
+  has-then (suc n) few = last-has start.table.entries node from to f count absent n (omega (arith, few))
 
   -- none of the keys is among the others
   not-other-key : (n : ℕ) → n ≤ count → list_any (same_key (jump_behind node from to n)) (other-keys (jump_behind node from to 0) start.pile.pending) ≡ false
@@ -454,13 +429,7 @@ module _ {F L : Type 0} (A : LatticeAlgebra L) (B : EdgeAlgebra F L) (targets : 
   -- ---- each step of the way
   distinct-then : IsDistinct same_key (keys_of start.table.entries) → (n : ℕ) → n ≤ count → IsDistinct same_key (keys_of (entries_then n))
   unfolding entries_then
-  distinct-then distinct zero few = subst (λ (es : List (Key × F)). IsDistinct same_key (keys_of es)) (sym (append-nil start.table.entries)) distinct
-  distinct-then distinct (suc n) few =
-      let key = jump_behind node from to (suc n) in
-      subst (λ (es : List (Key × F)). IsDistinct same_key (keys_of es))
-      (put-last key (entries_then n) f (place-absent key (entries_then n) (absent-then n n (omega arith) (omega (arith, few))))
-      ∙ sym (more-entered start.table.entries (jump_behind node from to) f n))
-      (distinct-put key (entries_then n) f (distinct-then distinct n (omega (arith, few))))
+  distinct-then distinct n few = distinct-behind start.table.entries node from to f count absent distinct n few
 
   falls-then : length start.table.entries + count < 2 ^ 64 → (n : ℕ) → n < count → HasLess B (core-after n) (core-amid n)
   unfolding core-after core-amid entries_then
@@ -577,6 +546,28 @@ module _ {F L : Type 0} (A : LatticeAlgebra L) (B : EdgeAlgebra F L) (targets : 
       let more = entered-count (with_note old.changes (Jump walk.node walk.from walk.to) (standing_entry old (Jump walk.node walk.from walk.to)))
       (jump_behind walk.node walk.from walk.to) count in
       omega (arith, all, first, more)
+
+-- what follows where so many nodes were walked over, or none
+module _ {F L : Type 0} (A : LatticeAlgebra L) (B : EdgeAlgebra F L) (targets : Targets F) (steps : CallsAreSteps A B targets) (top : B.rank B.all_top ≡ B.height)
+    (old new : CoreData F) (count : ℕ) (free : IsFree old.pile) where
+  pub has-paid : HasWalked B targets old new count → GoesOnPaid A B targets count old new
+  has-paid (inl none) = subst (λ n. GoesOnPaid A B targets n old new) (sym none.0) (paid-same A B targets old new none.1)
+  has-paid (inr some) = walked-pays A B targets steps top old new count free some.1
+
+  pub has-remembered : HasWalked B targets old new count → Remembers old new
+  has-remembered (inl none) =
+      remembers-same old new (ap (λ (core : CoreData F). core.changes) none.1) (ap (λ (core : CoreData F). core.table) none.1) (ap (λ (core : CoreData F). core.pile.pending) none.1)
+  has-remembered (inr some) = walked-remembers A B targets steps top old new count free some.1
+
+  -- no hand has a claim still
+  pub has-free : HasWalked B targets old new count → IsFree new.pile
+  has-free (inl none) = subst (λ (core : CoreData F). IsFree core.pile) (sym none.1) free
+  has-free (inr some) = λ h. ap (λ claims. get_or claims h None) some.1.claims ∙ free h
+
+  -- there is no more to do than before
+  pub has-no-more : HasWalked B targets old new count → potential B new ≤ potential B old
+  has-no-more (inl none) = let same = ap (potential B) none.1 in omega (arith, same)
+  has-no-more (inr some) = let less = walked-falls A B targets steps top old new count free some.1 some.0 in omega (arith, less)
 
 -- a walk is such steps, one after the other
 module _ {F L : Type 0} (A : LatticeAlgebra L) (B : EdgeAlgebra F L) (targets : Targets F) (steps : CallsAreSteps A B targets) (top : B.rank B.all_top ≡ B.height)

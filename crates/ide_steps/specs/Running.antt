@@ -17,7 +17,7 @@ use Rattle.ide_steps.specs.Drain.{HasLess, potential}
 use Rattle.ide_steps.specs.Going.{GoesOnByHand}
 use Rattle.ide_steps.specs.Kept.{IsTaskWhere, WhereKept}
 use Rattle.ide_steps.specs.State.{IsTaskOf}
-use Rattle.ide_steps.specs.Walk.{WalksOwed}
+use Rattle.ide_steps.specs.Walk.{HasWalked, WalksOwed}
 use Rattle.ide_steps.specs.declared.drain.NextKey.{NextKey}
 use Rattle.ide_steps.specs.declared.drain.NextKey.TheVariants.{Walked, Owes, Nothing}
 use Rattle.ide_steps.specs.declared.loaded.Loaded.{Loaded}
@@ -62,11 +62,11 @@ module _ {F L : Type 0} (B : EdgeAlgebra F L) (targets : Targets F) where
     pub owed : OwesParts core key parts
     pub inside : AreInside core parts
 
-  -- what the next key came to: it was walked on from it over so many nodes, up to a count; or it owes the parts, and nothing
-  -- changed; or each pending key is claimed, and nothing changed
+  -- what the next key came to: it, or the one that it was walked to from it over so many nodes, up to a count, owes the parts;
+  -- or so many were walked over alone; or each pending key is claimed, and nothing changed
   abbrev pub TakesUp : (most : ℕ) → (old new : CoreData F) → (parts : List (Key × F)) → NextKey → Type 0
+  TakesUp most old new parts (Owes walked key) = (walked ≤ most) × HasWalked B targets old new walked × IsNextOwed new parts key
   TakesUp most old new parts (Walked count) = (0 < count) × (count ≤ most) × WalksOwed B targets old new count
-  TakesUp most old new parts (Owes key) = (new ≡ old) × IsNextOwed new parts key
   TakesUp most old new parts Nothing = (new ≡ old) × AreAllClaimed new.pile
 
   -- the same of a table over the graph of a program that is kept

@@ -1,5 +1,5 @@
 -- Nodes behind each other, of which each passes a fact on unchanged to the next.
-use Rattle.std.specs.Prelude.{◌≡◌, ℕ, ◌+◌, ◌%◌, ◌<◌, ◌^◌, true, false, Some, length, slice_get}
+use Rattle.std.specs.Prelude.{◌≡◌, ℕ, ◌+◌, ◌%◌, ◌<◌, ◌^◌, ◌⊎◌, true, false, Some, length, slice_get}
 use Rattle.std.specs.List.{IsDistinct}
 use Rattle.std.specs.Map.{keys_of}
 use Rattle.ide_graph.specs.Supergraph.{Supergraph}
@@ -14,6 +14,7 @@ use Rattle.ide_problem.specs.Flow.{Targets}
 use Rattle.ide_tasks.specs.Parts.{PassesBehind}
 use Rattle.ide_tasks.specs.Task.{TaskData}
 use Rattle.ide_wire.specs.Key.{same_key}
+use Rattle.ide_wire.specs.declared.key.Key.{Key}
 use Rattle.ide_wire.specs.declared.key.Key.TheVariants.{Jump}
 use Rattle.ide_steps.specs.Changed.{standing_entry}
 use Rattle.ide_steps.specs.Core.{CoreData, IsSameProblem}
@@ -70,3 +71,13 @@ module _ {F L : Type 0} (B : EdgeAlgebra F L) where
     pub long : length new.pile.pending ≡ length old.pile.pending
     pub claims : new.pile.claims ≡ old.pile.claims
     pub changes : new.changes ≡ with_entered (with_note old.changes (Jump node from to) (standing_entry old (Jump node from to))) (jump_behind node from to) count
+
+  -- so many nodes were walked over; or none, and nothing changed
+  abbrev pub HasWalked : (targets : Targets F) → (old new : CoreData F) → ℕ → Type 0
+  HasWalked targets old new count = ((count ≡ 0) × (new ≡ old)) ⊎ ((0 < count) × WalksOwed targets old new count)
+
+-- the key waits for nobody's claim, and has that function
+pub record WaitsWith {F : Type 0} (function : F) (core : CoreData F) (key : Key) : Type 0 where
+  pub waits : is_pending core.pile key ≡ true
+  pub unclaimed : is_claimed core.pile key ≡ false
+  pub has : found core.table key ≡ Some function

@@ -22,15 +22,16 @@ use ide_wire::{Key, Refused};
 use std::alloc::Global;
 
 /// The hand that drains: that of the steps which a drain is to a run.
-const DRAINING: usize = 0;
+pub(crate) const DRAINING: usize = 0;
 
 /// What the next key came to.
 #[derive(Clone, Copy, PartialEq, Eq, Debug)]
 pub enum NextKey {
-    /// It was walked on from it, over so many nodes.
+    /// This key owes the parts that were listed: the one to which it was walked from the next key, over so many nodes, or that
+    /// one itself, over none.
+    Owes(usize, Key),
+    /// It was walked on from it, over so many nodes, and memory was wanting for the parts of the key that this came to.
     Walked(usize),
-    /// This key owes the parts that were listed.
-    Owes(Key),
     /// Each pending key is claimed.
     Nothing,
 }
@@ -104,8 +105,8 @@ impl<P: Problem> Core<P> {
         }
     }
 
-    /// Runs the key that is next, and with it those behind it to which it only passes its function on; answers how many
-    /// these are, 0 where no key is pending. The list's room is used again.
+    /// Runs the key that is next, with those behind it that only pass its function on, and the one that this comes to; answers
+    /// how many these are, 0 where no key is pending. The list's room is used again.
     fn run_next(&mut self, parts: &mut PartList<P>) -> Result<usize, Refused>
         requires loaded { is_loaded self.old ≡ true }
         requires free { IsFree self.old.pile }
@@ -118,18 +119,18 @@ impl<P: Problem> Core<P> {
         ensures remembers { Remembers self.old self.new }
     {
         calls_are_steps::<P>();
-        match self.next_key(usize::MAX, parts)? {
-            NextKey::Walked(count) => Ok(count),
-            NextKey::Owes(key) => {
+        match self.next_key(usize::MAX - 1, parts)? {
+            NextKey::Owes(walked, key) => {
                 self.run(key, parts.as_slice())?;
-                Ok(1)
+                Ok(walked + 1)
             }
+            NextKey::Walked(count) => Ok(count),
             NextKey::Nothing => Ok(0),
         }
     }
 
-    /// Takes up the next key: walks on from it ([`NextKey::Walked`]) or, where that goes nowhere, makes the list the parts
-    /// that it owes as it stands ([`NextKey::Owes`]). What was in the list is gone then, and its room is used again. With
+    /// Takes up the next key: walks on from it as far as that goes, and makes the list the parts that the key to which this
+    /// came owes as it stands ([`NextKey::Owes`]). What was in the list is gone then, and its room is used again. With
     /// [`Core::lower_owed`] for each part and [`Core::settle_owed`] behind the last one, unless a part lowered
     /// the key itself, that is to a run what a claim of the key, its parts and its end are (`WorksOff`).
     ///
@@ -138,7 +139,8 @@ impl<P: Problem> Core<P> {
     /// image at most, and over at most so many nodes. To a run the key and those behind it, but for the last, are each
     /// claimed in turn, the one part is done, and the claim ended (`WalksOwed`).
     ///
-    /// Refusal: `NoMemory`, which leaves the core as it was.
+    /// Refusal: `NoMemory`, which leaves the core as it was. Where memory is wanting for parts behind a walk, the walk stays, and
+    /// is told ([`NextKey::Walked`]).
     #[inline(always)]
     pub fn next_key(&mut self, most: usize, parts: &mut PartList<P>) -> Result<NextKey, Refused>
         requires loaded { is_loaded self.old ≡ true }
@@ -149,12 +151,12 @@ impl<P: Problem> Core<P> {
         let Some((key, function)) = self.image.unclaimed_entry() else {
             return Ok(NextKey::Nothing);
         };
-        let count = self.walk_owed(key, function, most)?;
-        if count > 0 {
-            return Ok(NextKey::Walked(count));
+        let (walked, key) = self.walk_owed(key, function, most)?;
+        match self.fill(key, function, parts) {
+            Ok(()) => Ok(NextKey::Owes(walked, key)),
+            Err(refused) if walked == 0 => Err(refused),
+            Err(_) => Ok(NextKey::Walked(walked)),
         }
-        self.fill(key, function, parts)?;
-        Ok(NextKey::Owes(key))
     }
 
     /// Makes the list the parts that a pending key owes now.

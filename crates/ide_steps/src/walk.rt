@@ -1,10 +1,11 @@
 //! Walks: keys behind each other along a procedure, of which each does nothing but pass its function on.
 ghost use Rattle.std.specs.Prelude.{◌≡◌, ◌<◌, ◌≤◌, ◌+◌, Ok, Some, true, false, IfOk, OnErr, IsOkUnless};
-ghost use Rattle.ide_steps.specs.Walk.{GoesOnUnchanged, MayWalk, MayWalkIn, PassesAt, PassesFor, WalksOwed};
+ghost use Rattle.ide_steps.specs.Walk.{GoesOnUnchanged, HasWalked, MayWalk, MayWalkIn, PassesAt, PassesFor, WaitsWith};
 ghost use Rattle.ide_image.specs.Tables.{found};
 ghost use Rattle.ide_image.specs.Worklist.{is_claimed, is_pending};
 ghost use Rattle.ide_wire.specs.declared.key.Key.TheVariants.{Jump};
 
+use crate::drain::DRAINING;
 use crate::machine::Core;
 use ide_graph::Graph;
 use ide_image::KeyedImage;
@@ -15,7 +16,8 @@ use ide_wire::{Fact, Key, Node, Refused};
 
 impl<P: Problem> Core<P> {
     /// Walks on from a pending key that has that function, as [`Core::next_key`] does from the next one, and answers over how
-    /// many nodes. Over none nothing changes: the key has other parts then, or parts that meet what is there.
+    /// many nodes, and the key that this came to, which has the function now. Over none nothing changes, and it is the same key:
+    /// that has other parts then, or parts that meet what is there.
     ///
     /// Refusal: `NoMemory`.
     #[inline(always)]
@@ -24,25 +26,27 @@ impl<P: Problem> Core<P> {
         key: Key,
         function: P::F,
         most: usize,
-    ) -> Result<usize, Refused>
+    ) -> Result<(usize, Key), Refused>
         requires pending { is_pending self.old.pile key ≡ true }
         requires unclaimed { is_claimed self.old.pile key ≡ false }
         requires function { found self.old.table key ≡ Some function }
         ensures refused { IsOkUnless result Refused.NoMemory }
-        ensures most { IfOk result (λ count. count ≤ most) }
-        ensures nowhere { result ≡ Ok 0 → self.new ≡ self.old }
-        ensures walks { IfOk result (λ count. 0 < count → WalksOwed P.F.edge P.targets self.old self.new count) }
+        ensures most { IfOk result (λ came. came.0 ≤ most) }
+        ensures walked { IfOk result (λ came. HasWalked P.F.edge P.targets self.old self.new came.0) }
+        ensures waits { IfOk result (λ came. WaitsWith function self.new came.1) }
         ensures unchanged { OnErr result (self.new ≡ self.old) }
     {
         let Key::Jump(node, from, to) = key else {
-            return Ok(0);
+            return Ok((0, key));
         };
         let count = self.walk_length(node, from, to, function, most);
         if count == 0 {
-            return Ok(0);
+            return Ok((0, key));
         }
+        // Each claimed key is pending, so that the last one, which is not, is not claimed.
+        let _ = self.image.claim(DRAINING);
         self.image.walk(node, from, to, function, count)?;
-        Ok(count)
+        Ok((count, Key::Jump(node + count as Node, from, to)))
     }
 
     /// Over how many nodes behind the pending jump at the node its function may be walked, up to a count.

@@ -1,5 +1,5 @@
 -- That a walk of the core is, to the store, a claim of each key by hand 0, its one part and its end.
-use Rattle.std.proofs.Common.{◌≡◌, ◌∙◌, ◌+◌, ◌-◌, ◌<◌, ◌≤◌, ℕ, zero, suc, true, false, List, [], ◌∷◌, Some, add-one, ap, arith, refl, subst, sym, ◌||◌}
+use Rattle.std.proofs.Common.{◌≡◌, ◌∙◌, ◌+◌, ◌-◌, ◌≤◌, ℕ, zero, suc, inl, inr, true, false, List, [], ◌∷◌, add-one, ap, arith, refl, subst, sym, ◌||◌}
 use Rattle.std.specs.Option.{is_some}
 use Rattle.ide_image.specs.Notes.{noted_count}
 use Rattle.ide_image.specs.Worklist.{IsFree}
@@ -9,15 +9,15 @@ use Rattle.ide_steps.specs.Core.{CoreData, IsSameProblem}
 use Rattle.ide_steps.specs.Room.{IsGraphSaid, IsWholeCore}
 use Rattle.ide_steps.specs.State.{state_of}
 use Rattle.ide_steps.specs.Running.{TakesUp}
-use Rattle.ide_steps.specs.Walk.{WalksOwed}
+use Rattle.ide_steps.specs.Walk.{HasWalked, WalksOwed}
 use Rattle.ide_steps.specs.declared.drain.NextKey.{NextKey}
 use Rattle.ide_steps.specs.declared.drain.NextKey.TheVariants.{Walked, Owes, Nothing}
 use Rattle.ide_wire.specs.declared.key.Key.{Key}
-use Rattle.ide_steps.proofs.Walked.{PassesOn, core-first, core-last, core-links, core-same, core_amid, core_then, state-first, state-last, walked-count, walked-falls, walked-remembers}
+use Rattle.ide_steps.proofs.Walked.{PassesOn, core-first, core-last, core-links, core-same, core_amid, core_then, has-no-more, has-remembered, state-first, state-last, walked-count, walked-falls, walked-remembers}
 use Rattle.ide_store.specs.Acting.{CallsAreActs}
 use Rattle.ide_store.specs.Draining.{ComesTo, WorksBy}
 use Rattle.ide_store.specs.Table.{Analysis, KeepsRest, TableData}
-use Rattle.ide_store.proofs.Drained.{unchanged_equal, works_still, works_then, works_unchanged}
+use Rattle.ide_store.proofs.Drained.{works_still, works_then}
 use Rattle.ide_store.proofs.HandActs.{state_is, works_on}
 use Rattle.ide_store.proofs.Owed.{key_works, off_lowered, off_none}
 
@@ -91,12 +91,22 @@ module _ {F L : Type 0} (a : Analysis F L) (acts : CallsAreActs a) where
         (state-last a.lattice a.functions a.targets steps top old.core new.core count free walk)
         (core-last a.lattice a.functions a.targets steps top old.core new.core count free walk)))
 
+  -- where so many nodes were walked over, or none, so many claims of hand 0 lead to that
+  has-works : (steps : CallsAreSteps a.lattice a.functions a.targets) (top : a.functions.rank a.functions.all_top ≡ a.functions.height) (old : TableData F) (core : CoreData F) (count : ℕ)
+      → IsWholeCore old.core → IsFree old.core.pile → is_some old.core.changes ≡ true → HasWalked a.functions a.targets old.core core count → WorksBy a old (record old { core = core }) count 0
+  has-works steps top old core count whole free noting (inl none) =
+      let same : record old { core = core } ≡ old = ap (λ (core : CoreData F). record old { core = core }) none.1 in
+      subst (λ new. WorksBy a old new count 0) (sym same)
+      (subst (λ n. WorksBy a old old n 0) (sym none.0) (works_still a old old (λ place w handed reached on. on)))
+  has-works steps top old core count whole free noting (inr some) =
+      walk-works steps top old (record old { core = core }) count whole free noting (record { version = refl; sealed = refl; waiting = refl; failed = refl }) some.1
+
   -- what the core's next key came to is what the half's came to, whose core alone changes
   module _ (steps : CallsAreSteps a.lattice a.functions a.targets) (top : a.functions.rank a.functions.all_top ≡ a.functions.height) (old : TableData F) (core : CoreData F)
       (most : ℕ) (parts : List (Key × F)) (free : IsFree old.core.pile) where
     pub taken-noting : (next : NextKey) → TakesUp a.functions a.targets most old.core core parts next → is_some old.core.changes ≡ true → is_some core.changes ≡ true
     taken-noting (Walked count) came noting = (walked-remembers a.lattice a.functions a.targets steps top old.core core count free came.2).noting ∙ noting
-    taken-noting (Owes key) came noting = ap (λ (core : CoreData F). is_some core.changes) came.0 ∙ noting
+    taken-noting (Owes walked key) came noting = (has-remembered a.lattice a.functions a.targets steps top old.core core walked free came.1).noting ∙ noting
     taken-noting Nothing came noting = ap (λ (core : CoreData F). is_some core.changes) came.0 ∙ noting
 
     -- no more is noted than there is room for
@@ -107,7 +117,15 @@ module _ {F L : Type 0} (a : Analysis F L) (acts : CallsAreActs a) where
         let least = came.1 in
         let some = came.0 in
         omega (arith, more, room, least, some)
-    taken-few (Owes key) came few room = let same = ap (λ (core : CoreData F). noted_count core.changes) came.0 in omega (arith, same, few)
+    taken-few (Owes walked key) came few room =
+        elim came.1 [
+          | inl none ↦ let same = ap (λ (core : CoreData F). noted_count core.changes) none.1 in omega (arith, same, few)
+          | inr over ↦
+              let more = walked-count a.lattice a.functions a.targets steps top old.core core walked free over.1 in
+              let least = came.0 in
+              let some = over.0 in
+              omega (arith, more, room, least, some)
+        ]
     taken-few Nothing came few room = let same = ap (λ (core : CoreData F). noted_count core.changes) came.0 in omega (arith, same, few)
 
     pub taken-comes : (next : NextKey) → TakesUp a.functions a.targets most old.core core parts next → IsWholeCore old.core → is_some old.core.changes ≡ true
@@ -119,5 +137,11 @@ module _ {F L : Type 0} (a : Analysis F L) (acts : CallsAreActs a) where
           walked-falls a.lattice a.functions a.targets steps top old.core core count free came.2 came.0,
           walk-works steps top old (record old { core = core }) count whole free noting (record { version = refl; sealed = refl; waiting = refl; failed = refl }) came.2,
         )
-    taken-comes (Owes key) came whole noting limit within = (ap (λ (core : CoreData F). record old { core = core }) came.0, came.1)
+    taken-comes (Owes walked key) came whole noting limit within =
+        let least = came.0 in (
+          omega (arith, least, within),
+          has-no-more a.lattice a.functions a.targets steps top old.core core walked free came.1,
+          has-works steps top old core walked whole free noting came.1,
+          came.2,
+        )
     taken-comes Nothing came whole noting limit within = (ap (λ (core : CoreData F). record old { core = core }) came.0, came.1)

@@ -62,11 +62,15 @@ module _ {F L : Type 0} (a : Analysis F L) (old new : TableData F) where
   abbrev pub RunsKeys : ℕ → Type 0
   RunsKeys count = WorksBy count 0
 
-  -- what its next key came to: it claimed so many keys in turn, up to a count, and ended each claim; or the key owes the parts,
-  -- or each pending key is claimed, and nothing changed
+  -- there is no more to do than before
+  abbrev pub HasNoMoreToDo : Type 0
+  HasNoMoreToDo = potential a.functions new.core ≤ potential a.functions old.core
+
+  -- what its next key came to: it claimed so many keys in turn, up to a count, and ended each claim, and the next one owes the
+  -- parts; or so many alone; or each pending key is claimed, and nothing changed
   abbrev pub ComesTo : (most : ℕ) → (parts : List (Key × F)) → NextKey → Type 0
+  ComesTo most parts (Owes walked key) = (walked ≤ most) × HasNoMoreToDo × RunsKeys walked × IsNextOwed a.functions a.targets new.core parts key
   ComesTo most parts (Walked count) = (0 < count) × (count ≤ most) × HasLess a.functions old.core new.core × RunsKeys count
-  ComesTo most parts (Owes key) = (new ≡ old) × IsNextOwed a.functions a.targets new.core parts key
   ComesTo most parts Nothing = (new ≡ old) × AreAllClaimed new.core.pile
 
   -- it claimed so many keys, told up to the largest number of 64 bits, and ended each claim

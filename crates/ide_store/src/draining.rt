@@ -120,8 +120,8 @@ impl<P: Problem> TableHalf<P> {
         Ok(tasks)
     }
 
-    /// Runs the key that is next, and with it those behind it to which it only passes its function on; answers how many
-    /// these are, up to so many, and 0 where no key is pending. The list's room is used again.
+    /// Runs the key that is next, with those behind it that only pass its function on, and the one that this comes to; answers
+    /// how many these are, up to so many, and 0 where no key is pending. The list's room is used again.
     fn run_next(
         &mut self,
         parts: &mut PartList<P>,
@@ -139,12 +139,12 @@ impl<P: Problem> TableHalf<P> {
         ensures rest { seals ≡ false → KeepsRest self.old self.new }
         ensures refused { IfErr result (IsWorkStop ⟦<P as Kept>⟧.analysis seals self.new) }
     {
-        match self.next_key(parts, most)? {
-            NextKey::Walked(count) => Ok(count),
-            NextKey::Owes(key) => {
+        match self.next_key(parts, most - 1)? {
+            NextKey::Owes(walked, key) => {
                 self.run(key, parts.as_slice(), seals)?;
-                Ok(1)
+                Ok(walked + 1)
             }
+            NextKey::Walked(count) => Ok(count),
             NextKey::Nothing => Ok(0),
         }
     }
