@@ -25,8 +25,8 @@ pub found-last : {F : Type 0} (es : List (Key × F)) (key q : Key) (f : F) → l
 found-last es key q f none = ap (lookup (same_key q)) (sym (put-last key es f (place-absent key es none))) ∙ found-with_entry es key q f
 
 -- jumps at different nodes are different keys
-pub jumps-apart : (node from to n m : ℕ) → ((n ≡ m) → ⊥) → same_key (jump_behind node from to n) (jump_behind node from to m) ≡ false
-jumps-apart node from to n m differ =
+pub nodes-apart : (node from to n m : ℕ) → ((n ≡ m) → ⊥) → same_key (jump_behind node from to n) (jump_behind node from to m) ≡ false
+nodes-apart node from to n m differ =
     elim (same_key (jump_behind node from to n) (jump_behind node from to m)) as (λ b. same_key (jump_behind node from to n) (jump_behind node from to m) ≡ b → b ≡ false) [
       | true ↦ λ is.
           let nodes : node + n ≡ node + m = ap node_of (same_key_exact (jump_behind node from to n) (jump_behind node from to m) is) in
@@ -44,7 +44,7 @@ module _ {F : Type 0} (es : List (Key × F)) (node from to : ℕ) (f : F) (count
       ∙ found-last (es ++ walked_entries (jump_behind node from to) f n) (jump_behind node from to (suc n)) (jump_behind node from to (suc m)) f
       (absent-behind n n (omega arith) (omega (arith, above, few)))
       ∙ ap (λ b. cond b (Some f) (lookup (same_key (jump_behind node from to (suc m))) (es ++ walked_entries (jump_behind node from to) f n)))
-      (jumps-apart node from to (suc n) (suc m) (λ e. omega (arith, e, above)))
+      (nodes-apart node from to (suc n) (suc m) (λ e. omega (arith, e, above)))
       ∙ absent-behind n m (omega (arith, above)) few
 
   -- one more has the function

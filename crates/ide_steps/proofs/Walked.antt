@@ -35,7 +35,7 @@ use Rattle.ide_steps.specs.Running.{OwesParts, claimed_as, with_held}
 use Rattle.ide_steps.specs.State.{ArePartnersOf, claim_of, state_of}
 use Rattle.ide_steps.specs.Steps.{IsChangedBy, IsLoweredBy}
 use Rattle.ide_steps.specs.Walk.{GoesOnUnchanged, HasWalked, PassesAt, PassesFor, WalksOwed}
-use Rattle.ide_steps.proofs.Entered.{absent-behind, distinct-behind, found-behind, jumps-apart, last-has, more-entered}
+use Rattle.ide_steps.proofs.Entered.{absent-behind, distinct-behind, found-behind, nodes-apart, last-has, more-entered}
 use Rattle.ide_steps.proofs.Going.{goes-nowhere, goes-then, paid-same}
 use Rattle.ide_steps.proofs.Noted.{after-keeps, noted-with, noting-with, remembers-change, remembers-same, remembers-then}
 use Rattle.ide_steps.proofs.Permuted.{found-permuted, long-permuted, spent-permuted}
@@ -211,7 +211,7 @@ module _ {F L : Type 0} (A : LatticeAlgebra L) (B : EdgeAlgebra F L) (targets : 
   first-of-walk = ap (λ n. Jump n from to) (omega arith)
 
   keys-apart : (n m : ℕ) → ((n ≡ m) → ⊥) → same_key (jump_behind node from to n) (jump_behind node from to m) ≡ false
-  keys-apart n m differ = jumps-apart node from to n m differ
+  keys-apart n m differ = nodes-apart node from to n m differ
 
   -- the core after so many keys, as it would be, and in the midst of one
   entries_then : ℕ → List (Key × F)

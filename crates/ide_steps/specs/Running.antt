@@ -62,8 +62,8 @@ module _ {F L : Type 0} (B : EdgeAlgebra F L) (targets : Targets F) where
     pub owed : OwesParts core key parts
     pub inside : AreInside core parts
 
-  -- what the next key came to: it, or the one that it was walked to from it over so many nodes, up to a count, owes the parts;
-  -- or so many were walked over alone; or each pending key is claimed, and nothing changed
+  -- what the next key came to: so many nodes were walked over, up to a count, or none, and this key waits then and owes the
+  -- parts; or so many were walked over alone; or each pending key is claimed, and nothing changed
   abbrev pub TakesUp : (most : ℕ) → (old new : CoreData F) → (parts : List (Key × F)) → NextKey → Type 0
   TakesUp most old new parts (Owes walked key) = (walked ≤ most) × HasWalked B targets old new walked × IsNextOwed new parts key
   TakesUp most old new parts (Walked count) = (0 < count) × (count ≤ most) × WalksOwed B targets old new count

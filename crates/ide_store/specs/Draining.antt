@@ -66,7 +66,7 @@ module _ {F L : Type 0} (a : Analysis F L) (old new : TableData F) where
   abbrev pub HasNoMoreToDo : Type 0
   HasNoMoreToDo = potential a.functions new.core ≤ potential a.functions old.core
 
-  -- what its next key came to: it claimed so many keys in turn, up to a count, and ended each claim, and the next one owes the
+  -- what its next key came to: it claimed so many keys in turn, up to a count, and ended each claim, and this key owes the
   -- parts; or so many alone; or each pending key is claimed, and nothing changed
   abbrev pub ComesTo : (most : ℕ) → (parts : List (Key × F)) → NextKey → Type 0
   ComesTo most parts (Owes walked key) = (walked ≤ most) × HasNoMoreToDo × RunsKeys walked × IsNextOwed a.functions a.targets new.core parts key
